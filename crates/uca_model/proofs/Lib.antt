@@ -1,0 +1,6 @@
+pub mod MatchingLemmas
+pub mod KeyLemmas
+pub mod ImplicitLemmas
+pub mod RewritingLemmas
+pub mod OrderLemmas
+pub mod KeysLemmas

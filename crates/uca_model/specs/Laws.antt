@@ -1,0 +1,29 @@
+-- Laws of the definitions, which public functions with no body have as their contracts.
+use Rattle.std.specs.Prelude.{◌≡◌, ℕ, ◌<◌, ◌^◌, List, All, map, flat_map, length}
+use Rattle.std.specs.Char.{IsScalar}
+use Rattle.std.specs.List.{AllByRecursion}
+use Rattle.std.specs.Cmp.Lexicographic.{slice_cmp}
+use Rattle.std.specs.Ordering.{nat_cmp}
+use Rattle.uca_weights.specs.declared.settings.Settings.{Settings}
+use Rattle.uca_model.specs.Table.{ElementTable, IsTable}
+use Rattle.uca_model.specs.LevelWeights.{level_list}
+use Rattle.uca_model.specs.SortKey.{weight_bytes, joined, key_order, sort_key}
+use Rattle.uca_model.specs.Reading.{list_order, deciding_level}
+
+-- weights of a level list
+abbrev pub AreWeights : List ℕ → Type 0
+AreWeights = AllByRecursion (λ w. (0 < w) × (w < 2 ^ 16))
+
+-- code points of which three bytes hold each
+abbrev pub AreCodePoints : List ℕ → Type 0
+AreCodePoints = AllByRecursion (λ c. c < 2 ^ 24)
+
+-- keys of as many levels are in the byte order in which their level lists are
+abbrev pub KeysFollowLevels : Type 0
+KeysFollowLevels = (ls ms : List (List ℕ)) → length ls ≡ length ms → AllByRecursion AreWeights ls → AllByRecursion AreWeights ms
+    → key_order (joined (map (flat_map weight_bytes) ls)) (joined (map (flat_map weight_bytes) ms)) ≡ slice_cmp (slice_cmp nat_cmp) ls ms
+
+-- S4: under every table, the byte order of two keys is the order of the first level lists that differ, and Equal where none of their levels do
+abbrev pub KeyOrderIsDecided : Type 0
+KeyOrderIsDecided = (t : ElementTable) (s : Settings) (a b : List ℕ) → IsTable t → All IsScalar a → All IsScalar b
+    → key_order (sort_key t s a) (sort_key t s b) ≡ list_order (level_list t s.weighting a (deciding_level t s a b)) (level_list t s.weighting b (deciding_level t s a b))

@@ -1,0 +1,29 @@
+-- What the commands write.
+use Rattle.std.specs.Prelude.{ℕ, ◌+◌, ◌/◌, ◌%◌, nat_lt, List, [], ◌∷◌, ◌++◌, map, flat_map, chars, if◌then◌else◌}
+use Rattle.std.specs.List.{join_with_byte}
+use Rattle.uca_weights.specs.declared.settings.Settings.{Settings}
+use Rattle.uca_model.specs.Table.{ElementTable}
+use Rattle.uca_model.specs.SortKey.{sort_key}
+use Rattle.uca_model.specs.Lines.{lines_of, line_feed}
+
+abbrev pub blank : ℕ
+blank = 32
+
+-- an upper-case hexadecimal digit, `0` to `9` and `A` to `F`
+abbrev pub hex_digit : ℕ → ℕ
+hex_digit n = if nat_lt n 10 then 48 + n else 55 + n
+
+-- a byte as two digits
+abbrev pub hex_pair : ℕ → List ℕ
+hex_pair b = hex_digit (b / 16) ∷ hex_digit (b % 16) ∷ []
+
+-- bytes as pairs of digits with one blank between
+abbrev pub hex_text : List ℕ → List ℕ
+hex_text bytes = join_with_byte blank (map hex_pair bytes)
+
+-- `key`: the sort key of each line, as pairs of digits, and LF
+abbrev pub key_line : ElementTable → Settings → List ℕ → List ℕ
+key_line t s line = hex_text (sort_key t s (chars line)) ++ line_feed ∷ []
+
+abbrev pub key_output : ElementTable → Settings → List ℕ → List ℕ
+key_output t s bytes = flat_map (key_line t s) (lines_of bytes)

@@ -1,0 +1,75 @@
+-- The collation element table (UTS #10, section 3, Definitions and Notation).
+use Rattle.std.specs.Prelude.{◌≡◌, ℕ, ◌-◌, ◌^◌, ◌<◌, ◌≤◌, ◌⊎◌, max, Bool, List, [], ◌∷◌, length, fold, All, Option}
+use Rattle.std.specs.Char.{IsScalar}
+use Rattle.std.specs.List.{AllByRecursion}
+use Rattle.std.specs.declared.cmp.Ordering.{Ordering}
+use Rattle.std.specs.Ordering.{nat_cmp}
+use Rattle.std.specs.Cmp.Lexicographic.{slice_cmp}
+use Rattle.std.specs.FinMap.{FinMap, get, contains_key, keys, entries}
+use Rattle.uca_weights.specs.declared.element.Element.{Element}
+use Rattle.uca_weights.specs.declared.limits.TheConstants.{MAX_KEY, MAX_ELEMENTS}
+use Rattle.uca_weights.specs.declared.range.Range.{Range}
+
+-- the order of keys: by code points, a proper prefix first
+abbrev pub key_cmp : List ℕ → List ℕ → Ordering
+key_cmp = slice_cmp nat_cmp
+
+-- UTS #10, 3: keys with their collation elements, and the ranges of implicit weights by their first code points (10.1.3)
+pub record ElementTable : Type 0 where
+  pub entries : FinMap key_cmp (List Element)
+  pub ranges : List Range
+
+-- the elements that the table maps a key to
+abbrev pub elements_at : ElementTable → List ℕ → Option (List Element)
+elements_at t key = get t.entries key
+
+-- the code points are a key of the table
+abbrev pub is_key : ElementTable → List ℕ → Bool
+is_key t key = contains_key t.entries key
+
+-- the length of the longest key, 1 where there is none
+abbrev pub longest : ElementTable → ℕ
+longest t = fold (λ n key. max n (length key)) 1 (keys t.entries)
+
+-- each weight has sixteen bits
+pub record IsElement (e : Element) : Type 0 where
+  pub l1 : e.l1 < 2 ^ 16
+  pub l2 : e.l2 < 2 ^ 16
+  pub l3 : e.l3 < 2 ^ 16
+
+-- 1 to 32 code points, with 1 to 64 elements
+pub record IsEntry (entry : List ℕ × List Element) : Type 0 where
+  pub some_points : 1 ≤ length entry.0
+  pub few_points : length entry.0 ≤ MAX_KEY
+  pub points : All IsScalar entry.0
+  pub some_elements : 1 ≤ length entry.1
+  pub few_elements : length entry.1 ≤ MAX_ELEMENTS
+  pub elements : All IsElement entry.1
+
+-- a range of code points, and a base of implicit weights
+pub record IsRange (r : Range) : Type 0 where
+  pub first : IsScalar r.first
+  pub last : IsScalar r.last
+  pub ordered : r.first ≤ r.last
+  pub above : 0x8000 ≤ r.base
+  pub base : r.base < 2 ^ 16
+
+-- no code point lies in both
+abbrev pub AreDisjoint : Range → Range → Type 0
+AreDisjoint r s = (r.last < s.first) ⊎ (s.last < r.first)
+
+-- no code point lies in two of the ranges
+abbrev pub AllDisjoint : List Range → Type 0
+AllDisjoint [] = Unit {0}
+AllDisjoint (r ∷ rs) = AllByRecursion (AreDisjoint r) rs × AllDisjoint rs
+
+-- ranges that may stand in one table: under one base all offsets fit fifteen bits
+pub record AreRanges (rs : List Range) : Type 0 where
+  pub each : AllByRecursion IsRange rs
+  pub disjoint : AllDisjoint rs
+  pub spans : AllByRecursion (λ r. AllByRecursion (λ s. s.base ≡ r.base → r.last - s.first < 0x8000) rs) rs
+
+-- what holds of every table
+pub record IsTable (t : ElementTable) : Type 0 where
+  pub entries : All IsEntry (entries t.entries)
+  pub ranges : AreRanges t.ranges

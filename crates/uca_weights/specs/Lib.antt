@@ -1,0 +1,4 @@
+pub mod Element
+pub mod Settings
+pub mod VariableWeighting
+pub mod Counts

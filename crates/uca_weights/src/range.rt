@@ -1,0 +1,9 @@
+/// A range of code points whose implicit weights stand over a base of their own (UTS #10, section 10.1.3).
+#[derive(Clone, Copy, Debug, PartialEq, Eq)]
+pub struct Range {
+    pub first: char,
+    /// The last code point of the range, which belongs to it.
+    pub last: char,
+    /// The first of the two implicit primary weights, `AAAA` in the standard.
+    pub base: u16,
+}
