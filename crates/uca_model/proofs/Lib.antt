@@ -4,3 +4,5 @@ pub mod ImplicitLemmas
 pub mod RewritingLemmas
 pub mod OrderLemmas
 pub mod KeysLemmas
+pub mod LinesLemmas
+pub mod OutputLemmas

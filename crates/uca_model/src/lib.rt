@@ -9,7 +9,9 @@ pub mod entry;
 pub mod implicit_weights;
 pub mod keys;
 pub mod laws;
+pub mod lines;
 pub mod matching;
+pub mod output;
 pub mod weighting;
 
 pub use entry::Entry;

@@ -10,6 +10,7 @@ pub mod range;
 pub mod reader;
 pub mod settings;
 pub mod writer;
+pub mod writing;
 
 pub use element::Element;
 pub use limits::{
@@ -19,4 +20,8 @@ pub use limits::{
 pub use range::Range;
 pub use reader::{Reader, Reading, Refused};
 pub use settings::{Settings, Strength, Variable};
-pub use writer::{WriteCause, WriteFault, Writer, Writing, write_whole};
+pub use writer::{WriteCause, WriteFault, Writer, Writing};
+pub use writing::write_whole;
+
+#[cfg(test)]
+mod tests;

@@ -1,7 +1,8 @@
-ghost use Rattle.std.specs.Prelude.{◌≡◌, ℕ, List, Option, is_err};
+ghost use Rattle.std.specs.Prelude.{◌≡◌, is_err};
 ghost use Rattle.std.specs.Io.{ReadsAtMost};
 ghost use Rattle.std.specs.Io.KnownBytes.{ReadConsumes};
 ghost use Rattle.uca_weights.specs.Counts.{counted};
+ghost use Rattle.uca_weights.specs.Reader.{ReaderState};
 
 use std::io::Read;
 
@@ -9,20 +10,17 @@ use std::io::Read;
 #[derive(Clone, Copy, Debug, PartialEq, Eq)]
 pub struct Refused;
 
-/// A source of bytes, which states how many of its calls failed. A count stays at 2^128 - 1 once it is there.
+/// A source of bytes, which states how many of its calls failed. The count stays at 2^128 - 1 once it is there.
 pub trait Reader {
-    /// The bytes still to come, where it tells them.
-    ghost coming: { Self → Option (List ℕ) };
-
-    /// How many of its calls failed.
-    ghost failures: { Self → ℕ };
+    /// The bytes still to come, where it tells them, and how many of its calls failed.
+    ghost state: { Self → ReaderState };
 
     /// Reads into the front of a buffer, and answers how many bytes it read. It answers 0 for a buffer that is
     /// not empty only where no byte is left. An error takes no byte.
     fn pull(&mut self, buf: &mut [u8]) -> Result<usize, Refused>
         ensures bound { ReadsAtMost result buf.new }
-        ensures bytes { ReadConsumes (coming self.old) (coming self.new) result buf.new }
-        ensures failures { failures self.new ≡ counted (is_err result) (failures self.old) };
+        ensures bytes { ReadConsumes (state self.old).coming (state self.new).coming result buf.new }
+        ensures failures { (state self.new).failures ≡ counted (is_err result) (state self.old).failures };
 }
 
 /// A [`Reader`] over any reader of std.
@@ -35,8 +33,7 @@ pub struct Reading<R> {
 impl<R: Read> Reading<R> {
     /// A reader that has not failed yet.
     pub fn new(r: R) -> Reading<R>
-        ensures coming { ⟦<Reading<R> as Reader>⟧.coming result ≡ R.remaining r }
-        ensures failures { ⟦<Reading<R> as Reader>⟧.failures result ≡ 0 }
+        ensures { ⟦<Reading<R> as Reader>⟧.state result ≡ record { coming = R.remaining r; failures = 0 } }
     {
         Reading {
             inner: r,
@@ -46,9 +43,7 @@ impl<R: Read> Reading<R> {
 }
 
 impl<R: Read> Reader for Reading<R> {
-    ghost coming = { λ s. R.remaining s.inner };
-
-    ghost failures = { λ s. s.failed };
+    ghost state = { λ s. record { coming = R.remaining s.inner; failures = s.failed } };
 
     fn pull(&mut self, buf: &mut [u8]) -> Result<usize, Refused> {
         match self.inner.read(buf) {

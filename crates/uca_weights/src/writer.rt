@@ -1,29 +1,26 @@
-ghost use Rattle.std.specs.Prelude.{◌≡◌, ℕ, ◌<◌, List, Option, is_err, OnOk, IfErr, length, take};
+ghost use Rattle.std.specs.Prelude.{◌≡◌, is_err};
 ghost use Rattle.std.specs.Io.{WritesAtMost};
-ghost use Rattle.std.specs.Io.KnownBytes.{WriteAppends, Appends};
-ghost use Rattle.uca_weights.specs.Counts.{counted, took_none, one_more};
+ghost use Rattle.std.specs.Io.KnownBytes.{WriteAppends};
+ghost use Rattle.uca_weights.specs.Counts.{counted};
+ghost use Rattle.uca_weights.specs.WriterState.{WriterState, took_none};
 
 use crate::reader::Refused;
 use std::io::Write;
+use thiserror::Error;
 
 /// A sink of bytes, which states how many of its calls failed, and how many took nothing. A count stays at
 /// 2^128 - 1 once it is there.
 pub trait Writer {
-    /// The bytes taken so far, where it tells them.
-    ghost taken: { Self → Option (List ℕ) };
-
-    /// How many of its calls failed.
-    ghost failures: { Self → ℕ };
-
-    /// How many answered 0 for a piece that was not empty.
-    ghost zeros: { Self → ℕ };
+    /// The bytes taken so far, where it tells them, how many of its calls failed, and how many answered 0 for a
+    /// piece that was not empty.
+    ghost state: { Self → WriterState };
 
     /// Takes a front of the bytes, and answers how many it took. An error takes no byte.
     fn put(&mut self, bytes: &[u8]) -> Result<usize, Refused>
         ensures bound { WritesAtMost result bytes.now }
-        ensures bytes { WriteAppends (taken self.old) (taken self.new) result bytes.now }
-        ensures failures { failures self.new ≡ counted (is_err result) (failures self.old) }
-        ensures zeros { zeros self.new ≡ counted (took_none result bytes.now) (zeros self.old) };
+        ensures bytes { WriteAppends (state self.old).taken (state self.new).taken result bytes.now }
+        ensures failures { (state self.new).failures ≡ counted (is_err result) (state self.old).failures }
+        ensures zeros { (state self.new).zeros ≡ counted (took_none result bytes.now) (state self.old).zeros };
 }
 
 /// A [`Writer`] over any writer of std. It does not flush.
@@ -37,9 +34,7 @@ pub struct Writing<W> {
 impl<W: Write> Writing<W> {
     /// A writer that has not failed yet.
     pub fn new(w: W) -> Writing<W>
-        ensures taken { ⟦<Writing<W> as Writer>⟧.taken result ≡ W.contents w }
-        ensures failures { ⟦<Writing<W> as Writer>⟧.failures result ≡ 0 }
-        ensures zeros { ⟦<Writing<W> as Writer>⟧.zeros result ≡ 0 }
+        ensures { ⟦<Writing<W> as Writer>⟧.state result ≡ record { taken = W.contents w; failures = 0; zeros = 0 } }
     {
         Writing {
             inner: w,
@@ -50,7 +45,7 @@ impl<W: Write> Writing<W> {
 
     /// The writer of std below it.
     pub fn into_inner(self) -> W
-        ensures { W.contents result ≡ ⟦<Writing<W> as Writer>⟧.taken self }
+        ensures { W.contents result ≡ (⟦<Writing<W> as Writer>⟧.state self).taken }
     {
         let Writing {
             inner,
@@ -62,11 +57,7 @@ impl<W: Write> Writing<W> {
 }
 
 impl<W: Write> Writer for Writing<W> {
-    ghost taken = { λ s. W.contents s.inner };
-
-    ghost failures = { λ s. s.failed };
-
-    ghost zeros = { λ s. s.none_taken };
+    ghost state = { λ s. record { taken = W.contents s.inner; failures = s.failed; zeros = s.none_taken } };
 
     fn put(&mut self, bytes: &[u8]) -> Result<usize, Refused> {
         match self.inner.write(bytes) {
@@ -85,11 +76,13 @@ impl<W: Write> Writer for Writing<W> {
 }
 
 /// Why a write stopped.
-#[derive(Clone, Copy, Debug, PartialEq, Eq)]
+#[derive(Clone, Copy, Debug, PartialEq, Eq, Error)]
 pub enum WriteCause {
-    /// The writer answered an error.
+    /// The writer answered an error, of whatever kind.
+    #[error("Failed")]
     Failed,
     /// The writer took no byte of a piece that was not empty.
+    #[error("Zero")]
     Zero,
 }
 
@@ -99,36 +92,4 @@ pub struct WriteFault {
     /// The count of bytes that went out.
     pub written: u128,
     pub cause: WriteCause,
-}
-
-/// Writes all bytes, in as many pieces as the writer takes. It does not flush.
-pub fn write_whole<W: Writer>(w: &mut W, bytes: &[u8]) -> Result<(), WriteFault>
-    ensures whole { OnOk result (Appends (W.taken w.old) (W.taken w.new) bytes.now) }
-    ensures part { IfErr result (λ f. f.written < length bytes.now) }
-    ensures front { IfErr result (λ f. Appends (W.taken w.old) (W.taken w.new) (take f.written bytes.now)) }
-
-    // A fault comes only where the writer failed or took nothing, in just one call.
-    ensures fine { OnOk result ((W.failures w.new ≡ W.failures w.old) × (W.zeros w.new ≡ W.zeros w.old)) }
-    ensures failed { IfErr result (λ f. f.cause ≡ WriteCause.Failed → (W.failures w.new ≡ one_more (W.failures w.old)) × (W.zeros w.new ≡ W.zeros w.old)) }
-    ensures zero { IfErr result (λ f. f.cause ≡ WriteCause.Zero → (W.zeros w.new ≡ one_more (W.zeros w.old)) × (W.failures w.new ≡ W.failures w.old)) }
-{
-    let mut at = 0;
-    while at < bytes.len() {
-        match w.put(&bytes[at..]) {
-            Ok(0) => {
-                return Err(WriteFault {
-                    written: at as u128,
-                    cause: WriteCause::Zero,
-                });
-            }
-            Ok(n) => at += n,
-            Err(_) => {
-                return Err(WriteFault {
-                    written: at as u128,
-                    cause: WriteCause::Failed,
-                });
-            }
-        }
-    }
-    Ok(())
 }

@@ -2,7 +2,7 @@ use Rattle.std.proofs.Common.{◌≡◌, ℕ, List, ◌-◌, ◌+◌, ◌≤◌,
 use Rattle.uca_weights.specs.Counts.{counted}
 use Rattle.std.proofs.lemmas.List.{take_all, length-drop, length-take}
 use Rattle.uca_weights.proofs.WriteLemmas.{Appends-next}
-use Rattle.uca_weights.proofs.writer.write_whole.Goals as goal
+use Rattle.uca_weights.proofs.writing.write_whole.Goals as goal
 
 pub loop-at-preserved : goal.loop-at-preserved
 loop-at-preserved g c =
@@ -13,5 +13,5 @@ loop-at-preserved g c =
       within = omega (arith, some, c.in-Ok.ensures.bound);
       front = Appends-next _ _ _ bs _ at c.in-Ok.n rest c.loop-at.invariant.front c.in-Ok.ensures.bytes;
       failures = c.in-Ok.ensures.failures ∙ c.loop-at.invariant.failures;
-      zeros = c.in-Ok.ensures.zeros ∙ ap (λ b. counted (b && nat_lt 0 (length (take (length bs - at) (drop at bs)))) (g.W.Writer.zeros c.loop-at.w)) (ne_eqb c.in-Ok.n 0 c.in-Ok.n-test.1) ∙ c.loop-at.invariant.zeros;
+      zeros = c.in-Ok.ensures.zeros ∙ ap (λ b. counted (b && nat_lt 0 (length (take (length bs - at) (drop at bs)))) (g.W.Writer.state c.loop-at.w).zeros) (ne_eqb c.in-Ok.n 0 c.in-Ok.n-test.1) ∙ c.loop-at.invariant.zeros;
     }
