@@ -6,3 +6,4 @@ pub mod OrderLemmas
 pub mod KeysLemmas
 pub mod LinesLemmas
 pub mod OutputLemmas
+pub mod SafeLemmas

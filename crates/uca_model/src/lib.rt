@@ -12,6 +12,7 @@ pub mod laws;
 pub mod lines;
 pub mod matching;
 pub mod output;
+pub mod safety;
 pub mod weighting;
 
 pub use entry::Entry;

@@ -5,3 +5,4 @@ pub mod Counts
 pub mod Reader
 pub mod WriterState
 pub mod Writer
+pub mod Outgoing

@@ -6,6 +6,7 @@
 
 pub mod element;
 pub mod limits;
+pub mod outgoing;
 pub mod range;
 pub mod reader;
 pub mod settings;
@@ -17,6 +18,7 @@ pub use limits::{
     MAX_DECOMPOSITION, MAX_ELEMENTS, MAX_INPUT, MAX_KEY, MAX_LINE, MAX_LOOKAHEAD, MAX_RELATIONS,
     MAX_RULES, MAX_RUN,
 };
+pub use outgoing::Outgoing;
 pub use range::Range;
 pub use reader::{Reader, Reading, Refused};
 pub use settings::{Settings, Strength, Variable};

@@ -1,0 +1,3 @@
+pub mod InputLemmas
+pub mod ScanLemmas
+pub mod LinesLemmas

@@ -1,0 +1,37 @@
+-- What a fault of the input says.
+use Rattle.std.specs.Prelude.{◌≡◌, ℕ, ◌<◌, ◌≤◌, List, length}
+use Rattle.uca_weights.specs.declared.limits.TheConstants.{MAX_INPUT}
+use Rattle.uca_weights.specs.Reader.{ReaderState, Gives, GivesAndFails}
+use Rattle.uca_model.specs.Lines.{not_utf8, long_run, HasFault, IsFirstFault}
+use Rattle.uca_cli.specs.declared.faults.InputCause.{InputCause}
+use Rattle.uca_cli.specs.declared.faults.InputCause.TheVariants.{NotUtf8, LongRun, TooLarge, Read, OutOfMemory}
+use Rattle.uca_cli.specs.declared.faults.InputFault.{InputFault}
+
+-- reading did not come to the end: there was a byte too much, or the reader failed before there was one, or memory was wanted
+abbrev pub StopsBy : InputCause → ReaderState → ReaderState → Type 0
+StopsBy TooLarge old new = (bytes : List ℕ) × (Gives old new bytes × (MAX_INPUT < length bytes))
+StopsBy Read old new = (bytes : List ℕ) × (GivesAndFails old new bytes × (length bytes ≤ MAX_INPUT))
+StopsBy OutOfMemory old new = (bytes : List ℕ) × Gives old new bytes
+StopsBy _ old new = ⊥
+
+-- no line is at fault
+pub record StopsReading (old new : ReaderState) (fault : InputFault) : Type 0 where
+  pub line : fault.line ≡ 0
+  pub place : fault.at ≡ 0
+  pub cause : StopsBy fault.cause old new
+
+-- what a cause at a byte is to a line
+abbrev pub HasFaultAt : InputCause → List ℕ → ℕ → Type 0
+HasFaultAt NotUtf8 line at = HasFault line (not_utf8 at)
+HasFaultAt LongRun line at = HasFault line (long_run at)
+HasFaultAt _ line at = ⊥
+
+-- what a cause at a line and a byte of it is to some lines: that of the first line with a fault
+abbrev pub IsFirstFaultAt : InputCause → List (List ℕ) → ℕ → ℕ → Type 0
+IsFirstFaultAt NotUtf8 lines line at = IsFirstFault lines line (not_utf8 at)
+IsFirstFaultAt LongRun lines line at = IsFirstFault lines line (long_run at)
+IsFirstFaultAt _ lines line at = ⊥
+
+-- the fault is that of the first line that has one
+abbrev pub HasInputFault : List (List ℕ) → InputFault → Type 0
+HasInputFault lines fault = IsFirstFaultAt fault.cause lines fault.line fault.at

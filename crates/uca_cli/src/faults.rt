@@ -1,0 +1,58 @@
+use std::fmt;
+use thiserror::Error;
+use uca_weights::WriteFault;
+
+/// Why an input of lines was refused.
+#[derive(Clone, Copy, Debug, PartialEq, Eq, Error)]
+pub enum InputCause {
+    /// A line is not UTF-8, from this byte on.
+    #[error("NotUtf8")]
+    NotUtf8,
+    /// A line has a run of nonstarters that is too long, from the character at this byte on.
+    #[error("LongRun")]
+    LongRun,
+    /// The input is longer than `MAX_INPUT`.
+    #[error("TooLarge")]
+    TooLarge,
+    /// The reader failed.
+    #[error("Read")]
+    Read,
+    #[error("OutOfMemory")]
+    OutOfMemory,
+}
+
+/// Where and why an input of lines was refused.
+#[derive(Clone, Copy, Debug, PartialEq, Eq)]
+pub struct InputFault {
+    /// The line, counted from 1; 0 where no line is at fault.
+    pub line: u64,
+    /// The byte of the line, counted from 0.
+    pub at: usize,
+    pub cause: InputCause,
+}
+
+/// Why a command was not done.
+#[derive(Clone, Copy, Debug, PartialEq, Eq)]
+pub enum CliFault {
+    Input(InputFault),
+    Output(WriteFault),
+    OutOfMemory,
+}
+
+impl fmt::Display for CliFault {
+    fn fmt<W: fmt::Write>(&self, f: &mut fmt::Formatter<W>) -> fmt::Result {
+        match self {
+            CliFault::Input(InputFault { line, at, cause }) => match cause {
+                InputCause::NotUtf8 | InputCause::LongRun => {
+                    write!(f, "uca: input line {line} byte {at}: {cause}")
+                }
+                InputCause::TooLarge | InputCause::Read => write!(f, "uca: input: {cause}"),
+                InputCause::OutOfMemory => write!(f, "uca: {cause}"),
+            },
+            CliFault::Output(WriteFault { written, cause }) => {
+                write!(f, "uca: output byte {written}: {cause}")
+            }
+            CliFault::OutOfMemory => write!(f, "uca: OutOfMemory"),
+        }
+    }
+}

@@ -1,0 +1,92 @@
+ghost use Rattle.std.specs.Prelude.{◌≡◌, ◌≢◌, ◌∷◌, ℕ, ◌+◌, ◌<◌, ◌≤◌, length, drop, slice_index, All, MatchResult};
+ghost use Rattle.uca_model.specs.Lines.{line_feed, lines_of, without_return, IsTextLine};
+ghost use Rattle.uca_cli.specs.Input.{HasInputFault, HasFaultAt};
+
+use crate::faults::{InputCause, InputFault};
+use crate::passage::Passage;
+use memchr::memchr;
+use simdutf8::compat::from_utf8;
+
+/// Where the first line ends: at its LF, or at the end of the input.
+fn line_end(bytes: &[u8]) -> usize
+    ensures within { result ≤ length bytes.now }
+    ensures before { (k : ℕ) → k < result → slice_index bytes.now k ≢ line_feed }
+    ensures there { result < length bytes.now → slice_index bytes.now result ≡ line_feed }
+{
+    match memchr(b'\n', bytes) {
+        Some(at) => at,
+        None => bytes.len(),
+    }
+}
+
+/// The line without one CR at its end.
+fn without_return(line: &[u8]) -> &[u8]
+    ensures { result.now ≡ without_return line.now }
+{
+    if line.is_empty() {
+        return line;
+    }
+    let end = line.len() - 1;
+    if line[end] == b'\r' {
+        &line[..end]
+    } else {
+        line
+    }
+}
+
+/// What stands behind the byte at `end`.
+fn behind(bytes: &[u8], end: usize) -> &[u8]
+    ensures { result.now ≡ drop (end + 1) bytes.now }
+{
+    if end < bytes.len() {
+        &bytes[end + 1..]
+    } else {
+        &bytes[..0]
+    }
+}
+
+/// The first line of an input, without what ends it, and the bytes behind that.
+pub fn first_line(bytes: &[u8]) -> (&[u8], &[u8])
+    requires { 0 < length bytes.now }
+    ensures parts { lines_of bytes.now ≡ result.0.now ∷ lines_of result.1.now }
+    ensures shorter { length result.1.now < length bytes.now }
+{
+    let end = line_end(bytes);
+    (without_return(&bytes[..end]), behind(bytes, end))
+}
+
+/// What is wrong with a line, and at which of its bytes.
+fn line_fault(line: &[u8]) -> Result<(), (InputCause, usize)>
+    ensures { MatchResult result (λ _. IsTextLine line.now) (λ f. HasFaultAt f.0 line.now f.1) }
+{
+    match from_utf8(line) {
+        Ok(text) => match Passage::check(text) {
+            Ok(_) => Ok(()),
+            Err(run) => Err((InputCause::LongRun, run.at)),
+        },
+        Err(error) => Err((InputCause::NotUtf8, error.valid_up_to())),
+    }
+}
+
+/// Looks at each line of an input: it must be a safe text in UTF-8.
+pub fn check_lines(bytes: &[u8]) -> Result<(), InputFault>
+    ensures { MatchResult result (λ _. All IsTextLine (lines_of bytes.now)) (HasInputFault (lines_of bytes.now)) }
+{
+    let mut number = 0;
+    let mut left = bytes;
+    while !left.is_empty() {
+        let (line, rest) = first_line(left);
+        number += 1;
+        match line_fault(line) {
+            Ok(()) => left = rest,
+            Err((cause, at)) => {
+                return Err(InputFault {
+                    line: number,
+                    at,
+                    cause,
+                });
+            }
+        }
+    }
+    Ok(())
+}

@@ -1,0 +1,72 @@
+ghost use Rattle.std.specs.Prelude.{◌≡◌, ◌+◌, ◌^◌, ◌<◌, ◌≤◌, [], length, MatchResult};
+
+use crate::writer::{WriteFault, Writer};
+use crate::writing::write_whole;
+use arrayvec::ArrayVec;
+
+/// How many bytes wait at most until they go out, and how long a piece may be.
+pub const ROOM: usize = 8_192;
+
+/// A buffer before a [`Writer`]: what waits to go out, and the count of bytes that went out before it. Pieces go out
+/// in their order, and a fault tells how many bytes of all pieces went out.
+#[derive(Drop)]
+pub struct Outgoing {
+    waiting: ArrayVec<u8, ROOM>,
+    written: u128,
+}
+
+impl Outgoing {
+    ghost use Rattle.uca_weights.specs.Outgoing.{handed, Sends, StopsSending};
+
+    /// Nothing waits, and nothing went out.
+    pub fn new() -> Outgoing
+        ensures written { result.written ≡ 0 }
+        ensures waiting { result.waiting.items ≡ [] }
+    {
+        Outgoing {
+            waiting: ArrayVec::new(),
+            written: 0,
+        }
+    }
+
+    /// Has what waits go out.
+    pub fn flush<W: Writer>(&mut self, w: &mut W) -> Result<(), WriteFault>
+        requires { handed self.old < 2 ^ 128 }
+        ensures all { MatchResult result
+            (λ _. Sends (W.state w.old) self.old (W.state w.new) self.new [])
+            (λ f. StopsSending (W.state w.old) self.old (W.state w.new) [] f) }
+        ensures empty { MatchResult result (λ _. self.new.waiting.items ≡ []) (λ _. Unit {0}) }
+    {
+        match write_whole(w, self.waiting.as_slice()) {
+            Ok(()) => {
+                self.written += self.waiting.len() as u128;
+                self.waiting.clear();
+                Ok(())
+            }
+            Err(fault) => Err(WriteFault {
+                written: self.written + fault.written,
+                cause: fault.cause,
+            }),
+        }
+    }
+
+    /// Has a piece go out, now or later.
+    pub fn send<W: Writer>(&mut self, w: &mut W, piece: &[u8]) -> Result<(), WriteFault>
+        requires short { length piece.now ≤ ROOM }
+        requires room { handed self.old + length piece.now < 2 ^ 128 }
+        ensures { MatchResult result
+            (λ _. Sends (W.state w.old) self.old (W.state w.new) self.new piece.now)
+            (λ f. StopsSending (W.state w.old) self.old (W.state w.new) piece.now f) }
+    {
+        if self.waiting.try_extend_from_slice(piece).is_ok() {
+            return Ok(());
+        }
+        match self.flush(w) {
+            Ok(()) => {
+                self.waiting.try_extend_from_slice(piece).unwrap();
+                Ok(())
+            }
+            Err(fault) => Err(fault),
+        }
+    }
+}
