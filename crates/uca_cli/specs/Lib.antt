@@ -1,3 +1,7 @@
 pub mod Input
 pub mod Passage
 pub mod Scan
+pub mod BuiltIn
+pub mod CommandLine
+pub mod Performing
+pub mod Sending

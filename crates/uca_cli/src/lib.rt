@@ -1,10 +1,21 @@
 //! The commands of `uca` as functions of bytes.
+//!
+//! [`job_of`] reads the words of a command line, and [`perform`] does the job that they ask for: it reads its input from
+//! a [`uca_weights::Reader`], checks it whole, and only then writes to a [`uca_weights::Writer`].
 #![tactic(auto)]
 
+pub mod built_in;
 pub mod faults;
-pub mod hex;
-pub mod input;
-pub mod lines;
+mod hex;
+mod input;
+pub mod job;
+pub mod keys;
+mod lines;
+mod output;
 pub mod passage;
+pub mod performing;
 
+pub use built_in::built_in;
 pub use faults::{CliFault, InputCause, InputFault};
+pub use job::{Job, JobFault, Task, job_of};
+pub use performing::{perform, status_of};

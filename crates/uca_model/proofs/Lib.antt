@@ -7,3 +7,8 @@ pub mod KeysLemmas
 pub mod LinesLemmas
 pub mod OutputLemmas
 pub mod SafeLemmas
+pub mod SingleLemmas
+pub mod CharacterLemmas
+pub mod TableLemmas
+pub mod WeightLemmas
+pub mod LevelLemmas

@@ -1,16 +1,17 @@
-use Rattle.std.proofs.Common.{◌≡◌, ℕ, ◌+◌, ◌≤◌, ◌<◌, suc, zero, Bool, true, false, cond, not, ◌&&◌, List, [], ◌∷◌, ◌++◌, length, take, drop, map, get_or, Some, None, refl, sym, ap, ◌∙◌, arith, eqb, eq-eqb, ne_eqb}
+-- Look-ups entry after entry, and the extension of a match mark after mark.
+use Rattle.std.proofs.Common.{◌≡◌, ℕ, ◌+◌, ◌≤◌, ◌<◌, Bool, true, false, cond, not, ◌&&◌, List, [], ◌∷◌, ◌++◌, length, drop, map, get_or, Some, None, refl, sym, ap, ◌∙◌, eqb, eq-eqb, ne_eqb}
 use Rattle.std.proofs.Math.ListN.{drop_of_length-le}
 use Rattle.std.proofs.lemmas.List.{drop_more}
-use Rattle.std.specs.Cmp.{eq_by_cmp_equiv, nat_eq_equiv, unsigned_ties}
-use Rattle.std.specs.FinMap.{find, get-empty, get-from_entries}
+use Rattle.std.specs.Cmp.{eq_by_cmp_equiv, unsigned_ties}
+use Rattle.std.specs.FinMap.{get-empty, get-from_entries}
 use Rattle.std.specs.Ordering.{eq_by_cmp, nat_cmp}
 use Rattle.std.specs.Cmp.Lexicographic.{nat_list_cmp_total, pointwise, lists_ties}
 use Rattle.unicode.specs.CanonicalCombiningClass.{canonical_combining_class as ccc}
 use Rattle.unicode_normalization.specs.Order.{is_starter}
 use Rattle.uca_model.specs.declared.entry.Entry.{Entry}
-use Rattle.uca_model.specs.Match.{Step, took, is_blocked, extension_of}
+use Rattle.uca_model.specs.Match.{took, is_blocked, extension_of}
 use Rattle.uca_model.specs.Table.{key_cmp, elements_at, is_key}
-use Rattle.uca_model.specs.Plain.{table_of, pair_of, key_test}
+use Rattle.uca_model.specs.Plain.{table_of, pair_of}
 
 -- `==` of two keys is a tie of their order
 pub same_key : (a b : List ℕ) → eq_by_cmp key_cmp b a ≡ pointwise eqb a b

@@ -1,10 +1,11 @@
-use Rattle.std.proofs.Common.{◌≡◌, ℕ, ◌+◌, ◌-◌, ◌≤◌, ◌<◌, suc, zero, min, Bool, true, false, cond, not, ◌&&◌, nat_eq, List, [], ◌∷◌, ◌++◌, length, take, drop, flat_map, refl, sym, ap, ap₂, ◌∙◌, arith, inl, inr, eqb-true, length-append}
+-- A text goes match after match, and each match shortens it.
+use Rattle.std.proofs.Common.{◌≡◌, ℕ, ◌+◌, ◌-◌, ◌≤◌, ◌<◌, suc, zero, min, Bool, true, false, cond, not, ◌&&◌, nat_eq, List, [], ◌∷◌, ◌++◌, length, take, drop, flat_map, refl, sym, ap, ap₂, ◌∙◌, arith, inl, inr, length-append}
 use Rattle.std.proofs.lemmas.Bool.{cases_Bool, eqb-false}
 use Rattle.std.proofs.lemmas.List.{length-drop, length-take}
 use Rattle.unicode_normalization.specs.Order.{is_starter}
 use Rattle.uca_model.specs.Table.{ElementTable, is_key}
-use Rattle.uca_model.specs.Match.{Match, Step, took, start_len, is_blocked, extension_of}
-use Rattle.uca_model.specs.CollationElements.{took_alone, step, matches_within, matches}
+use Rattle.uca_model.specs.Match.{Step, start_len, is_blocked, extension_of}
+use Rattle.uca_model.specs.CollationElements.{step, matches_within, matches}
 use Rattle.uca_model.specs.CollationElements.{elements, elements_or_implicit}
 
 either : (b : Bool) (x y : Step) (n : ℕ) → length x.rest ≤ n → length y.rest ≤ n → length (cond b x y).rest ≤ n

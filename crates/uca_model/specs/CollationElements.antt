@@ -5,7 +5,7 @@ use Rattle.uca_model.specs.Table.{ElementTable, elements_at, is_key}
 use Rattle.uca_model.specs.ImplicitWeights.{implicit}
 use Rattle.uca_model.specs.Match.{Match, Step, start_len, start_of, extension_of}
 
--- a code point that begins no key was taken alone
+-- a code point that begins no key was taken alone; that no mark is tried with it is this project's own rule
 abbrev pub took_alone : List ℕ → Step
 took_alone xs = record { matched = record { code_points = take 1 xs; found = false }; rest = drop 1 xs }
 

@@ -12,6 +12,7 @@ use Rattle.uca_model.specs.Table.{ElementTable}
 abbrev pub is_assigned : ℕ → Bool
 is_assigned c = not (general_category_eq (general_category c) Unassigned)
 
+-- the code point lies from one to another
 abbrev pub is_between : ℕ → ℕ → ℕ → Bool
 is_between first last c = nat_le first c && nat_le c last
 
@@ -46,7 +47,7 @@ range_of ranges c = find (λ r. is_between r.first r.last c) ranges
 abbrev pub lowest_first : List Range → ℕ → ℕ → ℕ
 lowest_first ranges base low = fold min low (map (λ r. r.first) (filter (λ r. r.base == base) ranges))
 
--- 10.1.3, siniform scripts: the base, and the offset from the first code point of all ranges with that base
+-- as 10.1.3 has it for siniform scripts, of any range: the base, and the offset from the first code point of all ranges with that base
 abbrev pub in_range : List Range → ℕ → Range → List Element
 in_range ranges c r = pair r.base (c - lowest_first ranges r.base r.first + 0x8000)
 

@@ -6,7 +6,7 @@ use Rattle.uca_weights.specs.VariableWeighting.{weighted}
 use Rattle.uca_model.specs.Table.{ElementTable}
 use Rattle.uca_model.specs.CollationElements.{elements}
 
--- S3.3, S3.4: the weights of one level, from 1 to 4, that are not zero
+-- S3.4, S3.5: the weights of one level, from 1 to 4, that are not zero
 abbrev pub level_weights : ℕ → List (List ℕ) → List ℕ
 level_weights level ws = filter (λ w. not (w == 0)) (map (λ w. slice_index w (level - 1)) ws)
 

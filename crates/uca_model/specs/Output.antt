@@ -21,9 +21,13 @@ hex_pair b = hex_digit (b / 16) ∷ hex_digit (b % 16) ∷ []
 abbrev pub hex_text : List ℕ → List ℕ
 hex_text bytes = join_with_byte blank (map hex_pair bytes)
 
--- `key`: the sort key of each line, as pairs of digits, and LF
+-- bytes as pairs of digits, and LF
+abbrev pub hex_line : List ℕ → List ℕ
+hex_line bytes = hex_text bytes ++ line_feed ∷ []
+
+-- `key`: the sort key of each line
 abbrev pub key_line : ElementTable → Settings → List ℕ → List ℕ
-key_line t s line = hex_text (sort_key t s (chars line)) ++ line_feed ∷ []
+key_line t s line = hex_line (sort_key t s (chars line))
 
 abbrev pub key_output : ElementTable → Settings → List ℕ → List ℕ
 key_output t s bytes = flat_map (key_line t s) (lines_of bytes)

@@ -11,8 +11,9 @@ use std::alloc::{AllocError, Global};
 use uca_weights::{Element, Range};
 use unicode_normalization::slice;
 
-/// The elements of a match.
-pub fn push_elements(
+/// Appends the elements of a match: those of the key, or else the implicit ones of its first code point
+/// (UTS #10, 7.2, step S2.2).
+fn push_elements(
     out: &mut Vec<Element>,
     entries: &[Entry],
     ranges: &[Range],
@@ -28,7 +29,7 @@ pub fn push_elements(
     }
 }
 
-/// The elements of a text in NFD.
+/// The collation elements of a text in NFD, match after match (UTS #10, 7.2, step S2).
 pub fn elements(
     alloc: Global,
     entries: &[Entry],
@@ -40,7 +41,7 @@ pub fn elements(
 {
     let mut out = Vec::new(alloc);
     let mut left = text.to_vec(alloc)?;
-    'texts: while left.len() > 0 {
+    'matches: while !left.is_empty() {
         let (matched, rest) = step(alloc, entries, &left)?;
         push_elements(&mut out, entries, ranges, &matched)?;
         left = rest;
@@ -49,13 +50,13 @@ pub fn elements(
 }
 
 /// The characters of a text.
-pub fn chars_of(alloc: Global, text: &str) -> Result<Vec<char>, AllocError>
+fn chars_of(alloc: Global, text: &str) -> Result<Vec<char>, AllocError>
     ensures { IfOk result (λ v. v.items ≡ chars text.now) }
 {
     text.chars().collect(alloc)
 }
 
-/// The NFD of a text.
+/// The NFD of a text (UAX #15; UTS #10, 7.1, step S1).
 pub fn nfd(alloc: Global, text: &str) -> Result<Vec<char>, AllocError>
     ensures { IfOk result (λ v. v.items ≡ nfd (chars text.now)) }
 {

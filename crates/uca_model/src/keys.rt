@@ -9,8 +9,8 @@ use crate::weighting::weighted;
 use std::alloc::{AllocError, Global};
 use uca_weights::{Range, Settings};
 
-/// Appends the bytes of one level.
-pub fn push_level(out: &mut Vec<u8>, weights: &[[u16; 4]], level: usize) -> Result<(), AllocError>
+/// Appends the weights of one level, from 1 to 4, that are not zero, each as two bytes (UTS #10, 7.3).
+fn push_level(out: &mut Vec<u8>, weights: &[[u16; 4]], level: usize) -> Result<(), AllocError>
     requires first { 1 ≤ level }
     requires last { level ≤ 4 }
     ensures { OnOk result (out.new.items ≡ out.old.items ++ level_bytes weights.now level) }
@@ -24,8 +24,8 @@ pub fn push_level(out: &mut Vec<u8>, weights: &[[u16; 4]], level: usize) -> Resu
     Ok(())
 }
 
-/// Appends the bytes of code points.
-pub fn push_code_points(out: &mut Vec<u8>, text: &[char]) -> Result<(), AllocError>
+/// Appends code points, each as three bytes (UTS #10, 7.3, step S3.10).
+fn push_code_points(out: &mut Vec<u8>, text: &[char]) -> Result<(), AllocError>
     ensures { OnOk result (out.new.items ≡ out.old.items ++ flat_map code_point_bytes text.now) }
 {
     for c in text {
@@ -34,8 +34,8 @@ pub fn push_code_points(out: &mut Vec<u8>, text: &[char]) -> Result<(), AllocErr
     Ok(())
 }
 
-/// Appends the bytes of one of the five levels.
-pub fn push_one(
+/// Appends the bytes of a level from 1 to 5, of which the last has the text in NFD.
+fn push_one(
     out: &mut Vec<u8>,
     weights: &[[u16; 4]],
     decomposed: &[char],
@@ -52,8 +52,15 @@ pub fn push_one(
     }
 }
 
-/// The bytes of the first levels, with separators between them.
-pub fn join_levels(
+/// Appends the separator 0000 (UTS #10, 7.3, step S3.2).
+fn push_separator(out: &mut Vec<u8>) -> Result<(), AllocError>
+    ensures { OnOk result (out.new.items ≡ out.old.items ++ 0 ∷ 0 ∷ []) }
+{
+    out.extend_from_slice(&[0, 0])
+}
+
+/// The bytes of the first `levels` of the five levels, with a separator between each two.
+fn join_levels(
     alloc: Global,
     weights: &[[u16; 4]],
     decomposed: &[char],
@@ -72,13 +79,7 @@ pub fn join_levels(
     Ok(key)
 }
 
-fn push_separator(out: &mut Vec<u8>) -> Result<(), AllocError>
-    ensures { OnOk result (out.new.items ≡ out.old.items ++ 0 ∷ 0 ∷ []) }
-{
-    out.extend_from_slice(&[0, 0])
-}
-
-/// The sort key of a text.
+/// The sort key of a text, with as many levels as the strength says (UTS #10, 7.3, step S3).
 #[tactic(auto, unfolding(crate::specs::SortKey::sort_key))]
 pub fn sort_key(
     alloc: Global,

@@ -13,6 +13,8 @@ pub mod lines;
 pub mod matching;
 pub mod output;
 pub mod safety;
+#[cfg(test)]
+mod tests;
 pub mod weighting;
 
 pub use entry::Entry;

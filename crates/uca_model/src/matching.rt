@@ -9,7 +9,7 @@ use std::alloc::{AllocError, Global};
 use uca_weights::Element;
 use unicode_normalization::char::canonical_combining_class;
 
-/// The elements of a key.
+/// The elements of a key: those of the first entry that has it.
 #[tactic(auto, using(crate::proofs::MatchingLemmas::elements_at_more))]
 pub fn get<'a>(entries: &'a [Entry], key: &[char]) -> Option<&'a [Element]>
     ensures { option_copied result ≡ elements_at (table_of entries.now []) key.now }
@@ -22,14 +22,15 @@ pub fn get<'a>(entries: &'a [Entry], key: &[char]) -> Option<&'a [Element]>
     None
 }
 
-pub fn is_key(entries: &[Entry], key: &[char]) -> bool
+/// Whether some entry has this key.
+fn is_key(entries: &[Entry], key: &[char]) -> bool
     ensures { result ≡ key_test entries.now key.now }
 {
     get(entries, key).is_some()
 }
 
-/// The length of the longest prefix that is a key, 0 where none is.
-pub fn start_len(entries: &[Entry], text: &[char]) -> usize
+/// The length of the longest initial substring that is a key, 0 where none is (UTS #10, 7.2, step S2.1).
+fn start_len(entries: &[Entry], text: &[char]) -> usize
     ensures value { result ≡ start_len (key_test entries.now) text.now }
     ensures within { result ≤ length text.now }
 {
@@ -43,21 +44,25 @@ pub fn start_len(entries: &[Entry], text: &[char]) -> usize
     0
 }
 
-pub fn is_blocked(passed: &[char], c: char) -> bool
+/// Whether some mark that was passed over blocks `c`, since its combining class is not below that of `c`
+/// (UTS #10, 7.2, step S2.1.2).
+fn is_blocked(passed: &[char], c: char) -> bool
     ensures { result ≡ is_blocked passed.now c }
 {
     passed.iter().any(|b| canonical_combining_class(c) <= canonical_combining_class(*b))
 }
 
+/// Whether `c` is taken, where `longer` is the start with it (UTS #10, 7.2, steps S2.1.2 and S2.1.3).
 fn is_taken(entries: &[Entry], longer: &[char], passed: &[char], c: char) -> bool
     ensures { result ≡ (not (is_blocked passed.now c) && key_test entries.now longer.now) }
 {
     !is_blocked(passed, c) && is_key(entries, longer)
 }
 
-/// Takes the marks at the front of `rest` into `start`, and gives what is left.
+/// Takes into `start` those nonstarters at the front of `rest` that make longer keys with it, and answers what is
+/// left of `rest` (UTS #10, 7.2, steps S2.1.1 to S2.1.3).
 #[tactic(auto, using(crate::proofs::MatchingLemmas::extended_more, crate::proofs::MatchingLemmas::extended_done))]
-pub fn extend(
+fn extend(
     alloc: Global,
     entries: &[Entry],
     start: &mut Vec<char>,
@@ -80,7 +85,8 @@ pub fn extend(
     Ok(passed)
 }
 
-/// The match at the front of a text, and what is left.
+/// The longest match at the front of a text in NFD, and what is left of the text (UTS #10, 7.2, step S2.1). A code
+/// point that begins no key is a match by itself.
 pub fn step(
     alloc: Global,
     entries: &[Entry],

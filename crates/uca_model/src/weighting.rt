@@ -4,8 +4,9 @@ ghost use Rattle.uca_weights.specs.VariableWeighting.{is_after_variable, weights
 use std::alloc::{AllocError, Global};
 use uca_weights::{Element, Variable};
 
-/// Whether the place behind these elements is after a variable (UTS #10, section 4).
-pub fn is_after_variable(before: &[Element]) -> bool
+/// Whether the place behind these elements is after a variable, where the nearest of them that has a primary weight
+/// is variable (UTS #10, section 4).
+fn is_after_variable(before: &[Element]) -> bool
     ensures { result ≡ is_after_variable before.now }
 {
     let mut i = before.len();
@@ -34,7 +35,7 @@ pub fn weights(v: Variable, after: bool, e: Element) -> [u16; 4]
     }
 }
 
-/// The weights of each element: each looks back for itself.
+/// The four weights of each element of a text (UTS #10, section 4). Each element looks back for itself.
 pub fn weighted(
     alloc: Global,
     v: Variable,

@@ -1,4 +1,4 @@
--- Variable weighting (UTS #10, section 4.1, Variable Weighting).
+-- Variable weighting (UTS #10, section 4, Variable Weighting).
 use Rattle.std.specs.Prelude.{ℕ, Bool, false, ◌==◌, ◌||◌, ◌&&◌, List, [], ◌∷◌, ◌++◌, reverse, find, if◌then◌else◌}
 use Rattle.std.specs.Option.{option_map_or}
 use Rattle.uca_weights.specs.declared.element.Element.{Element}
@@ -6,7 +6,7 @@ use Rattle.uca_weights.specs.declared.settings.Variable.{Variable}
 use Rattle.uca_weights.specs.declared.settings.Variable.TheVariants.{NonIgnorable, Blanked, Shifted}
 use Rattle.uca_weights.specs.Element.{has_primary, is_variable, is_completely_ignorable}
 
--- 4.1: the place behind these elements is after a variable, where the nearest of them that has a primary weight is variable
+-- 4: the place behind these elements is after a variable, where the nearest of them that has a primary weight is variable
 abbrev pub is_after_variable : List Element → Bool
 is_after_variable before = option_map_or is_variable (find has_primary (reverse before)) false
 
@@ -18,7 +18,7 @@ unchanged e fourth = e.l1 ∷ e.l2 ∷ e.l3 ∷ fourth ∷ []
 abbrev pub ignored : ℕ → List ℕ
 ignored fourth = 0 ∷ 0 ∷ 0 ∷ fourth ∷ []
 
--- 4.1, the table of variable weighting: the four weights of an element, by whether it is after a variable
+-- 4, the table of variable weighting: the four weights of an element, by whether it is after a variable
 abbrev pub weights : Variable → Bool → Element → List ℕ
 weights NonIgnorable after e = unchanged e 0
 weights Blanked after e = if is_variable e || (e.l1 == 0 && after) then ignored 0 else unchanged e 0
@@ -28,11 +28,11 @@ weights Shifted after e =
     else if e.l1 == 0 && after then ignored 0
     else unchanged e 0xffff
 
--- 4.1: the weights of elements that stand behind these
+-- 4: the weights of elements that stand behind these
 abbrev pub weighted_after : Variable → List Element → List Element → List (List ℕ)
 weighted_after v before [] = []
 weighted_after v before (e ∷ es) = weights v (is_after_variable before) e ∷ weighted_after v (before ++ e ∷ []) es
 
--- 4.1: the weights of each element of a list
+-- 4: the weights of each element of a list
 abbrev pub weighted : Variable → List Element → List (List ℕ)
 weighted v es = weighted_after v [] es

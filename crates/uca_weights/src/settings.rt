@@ -1,7 +1,7 @@
 ghost use Rattle.std.specs.Prelude.{◌≡◌};
 ghost use Rattle.uca_weights.specs.Settings.{levels};
 
-/// How many levels a comparison uses (UTS #10, section 4, step S3).
+/// How many levels a comparison uses (UTS #10, section 7.3, step S3).
 #[derive(Clone, Copy, Debug, PartialEq, Eq)]
 pub enum Strength {
     Primary,
@@ -12,7 +12,7 @@ pub enum Strength {
     Identical,
 }
 
-/// How variable elements are weighted (UTS #10, section 4.1).
+/// How variable elements are weighted (UTS #10, section 4).
 #[derive(Clone, Copy, Debug, PartialEq, Eq)]
 pub enum Variable {
     NonIgnorable,

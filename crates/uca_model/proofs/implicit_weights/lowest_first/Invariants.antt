@@ -1,4 +1,4 @@
-use Rattle.std.proofs.Common.{◌≡◌, min, drop}
+use Rattle.std.proofs.Common.{◌≡◌, drop}
 use Rattle.uca_model.specs.ImplicitWeights.{lowest_first}
 use Rattle.uca_model.proofs.implicit_weights.lowest_first.Given as goal
 

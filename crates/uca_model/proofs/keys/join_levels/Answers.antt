@@ -1,4 +1,4 @@
-use Rattle.std.proofs.Common.{◌≡◌, ℕ, List, ap, sym, ◌∙◌, ◌++◌, ◌+◌, ◌-◌, ◌≤◌, ◌<◌, [], ◌∷◌, take, length, get_or, append_assoc, arith}
+use Rattle.std.proofs.Common.{◌≡◌, ℕ, ap, sym, ◌∙◌, ◌++◌, ◌+◌, ◌-◌, ◌<◌, [], ◌∷◌, take, length, get_or, append_assoc, arith}
 use Rattle.uca_model.specs.SortKey.{joined, all_levels}
 use Rattle.uca_model.proofs.KeyLemmas.{joined_more}
 use Rattle.uca_model.proofs.keys.join_levels.Goals as goal

@@ -1,4 +1,4 @@
-use Rattle.std.proofs.Common.{◌≡◌, List, ℕ, ap, sym, ◌∙◌, subst, ◌++◌, ◌+◌, ◌-◌, [], get_or, arith, OnOk}
+use Rattle.std.proofs.Common.{◌≡◌, List, ℕ, sym, subst, ◌++◌, arith, OnOk}
 use Rattle.uca_model.proofs.KeyLemmas.{at_level}
 use Rattle.uca_model.proofs.keys.push_one.Goals as goal
 

@@ -1,0 +1,114 @@
+-- Tables that lie in a list of entries whose keys rise.
+use Rattle.std.proofs.Common.{◌≡◌, ℕ, suc, ◌+◌, ◌≤◌, ◌<◌, max, Bool, true, false, cond, T, List, [], ◌∷◌, length, fold, map, Option, Some, None, is_some, IfSome, option_copied, Bor, refl, sym, ap, subst, ◌∙◌, arith, lit≤}
+use Rattle.std.specs.declared.cmp.Ordering.{Ordering}
+use Rattle.std.specs.declared.cmp.Ordering.TheVariants.{Less, Equal, Greater}
+use Rattle.std.specs.declared.vec.Vec.{Vec}
+use Rattle.std.specs.List.{All, AllByRecursion}
+use Rattle.std.specs.Ordering.{nat_cmp, eq_by_cmp, match_ordering}
+use Rattle.std.specs.BTreeMap.{insert_entry, is_at}
+use Rattle.std.specs.Map.{lookup}
+use Rattle.std.specs.Cmp.Lexicographic.{slice_cmp, nat_list_cmp_total}
+use Rattle.std.specs.FinMap.{FinMap, find, put, is_sorted, empty, insert, entries, keys, from_sorted, entries-from_sorted, entries-insert, get-from_sorted, same_entries_map, empty_of_len, len-entries}
+use Rattle.std.specs.FinMap.Entries.{is_sorted-put, by_order}
+use Rattle.std.proofs.lemmas.List.Elements.{All-from_recursion}
+use Rattle.uca_weights.specs.declared.element.Element.{Element}
+use Rattle.uca_weights.specs.declared.limits.TheConstants.{MAX_KEY, MAX_ELEMENTS}
+use Rattle.uca_weights.specs.declared.range.Range.{Range}
+use Rattle.uca_model.specs.Table.{ElementTable, key_cmp, elements_at, is_key, longest, IsEntry, IsTable, AreRanges}
+use Rattle.uca_table.specs.Stored.{AreStored, pair_in, table_of, longest_of}
+use Rattle.uca_table.specs.Builder.{with_entry}
+
+-- the order of a map's keys
+abbrev pub vec_cmp : {Y : Type 0} → Vec ℕ Y → Vec ℕ Y → Ordering
+vec_cmp x y = slice_cmp nat_cmp x.items y.items
+
+-- what the map's `insert` does is `put`
+pub put_inserted : {Y Z : Type 0} (es : List (Vec ℕ Y × Vec Element Z)) (k : Vec ℕ Y) (v : Vec Element Z) → map pair_in (insert_entry vec_cmp es k v) ≡ put key_cmp k.items v.items (map pair_in es)
+put_inserted [] k v = refl
+put_inserted {Y} {Z} (e ∷ es) k v =
+    elim (slice_cmp nat_cmp k.items e.0.items) as (λ o. map pair_in (match_ordering o ((k, v) ∷ e ∷ es) ((e.0, v) ∷ es) (e ∷ insert_entry vec_cmp es k v)) ≡ by_order o ((k.items, v.items) ∷ pair_in e ∷ map pair_in es) ((e.0.items, v.items) ∷ map pair_in es) (pair_in e ∷ put key_cmp k.items v.items (map pair_in es))) [
+      | Less ↦ refl
+      | Equal ↦ refl
+      | Greater ↦ ap (λ xs. pair_in e ∷ xs) (put_inserted es k v)
+    ]
+
+-- a key of the map is one that is found among its pairs
+pub found_in : {Y Z : Type 0} (es : List (Vec ℕ Y × Vec Element Z)) (q : List ℕ) → is_some (lookup (is_at (λ (k : Vec ℕ Y). slice_cmp nat_cmp q k.items)) es) ≡ is_some (find key_cmp q (map pair_in es))
+found_in [] q = refl
+found_in (e ∷ es) q =
+    elim (eq_by_cmp key_cmp q e.0.items) as (λ b. is_some (cond b (Some e.1) (lookup (is_at (λ k. slice_cmp nat_cmp q k.items)) es)) ≡ is_some (cond b (Some e.1.items) (find key_cmp q (map pair_in es)))) [
+      | true ↦ refl
+      | false ↦ found_in es q
+    ]
+
+-- to put an entry is to insert it
+pub table_put : (es : List (List ℕ × List Element)) (rs : List Range) (k : List ℕ) (v : List Element) → T (is_sorted key_cmp es) → table_of (put key_cmp k v es) rs ≡ with_entry (table_of es rs) k v
+table_put es rs k v sorted =
+    let grown : entries (from_sorted {R = key_cmp} (put key_cmp k v es)) ≡ put key_cmp k v es = entries-from_sorted key_cmp (put key_cmp k v es) (is_sorted-put key_cmp nat_list_cmp_total k v es sorted) in
+    let inserted : entries (insert (from_sorted {R = key_cmp} es) k v) ≡ put key_cmp k v es = entries-insert nat_list_cmp_total (from_sorted es) k v ∙ ap (put key_cmp k v) (entries-from_sorted key_cmp es sorted) in
+    ap (λ m. record { entries = m; ranges = rs }) (same_entries_map _ _ (grown ∙ sym inserted))
+
+-- of no entry the table is empty
+pub table_none : (rs : List Range) → table_of [] rs ≡ record { entries = empty; ranges = rs }
+table_none rs = ap (λ m. record { entries = m; ranges = rs }) (empty_of_len (from_sorted []) (len-entries (from_sorted []) ∙ ap length (entries-from_sorted key_cmp [] tt)))
+
+all-put : (es : List (List ℕ × List Element)) (k : List ℕ) (v : List Element) → IsEntry (k, v) → AllByRecursion IsEntry es → AllByRecursion IsEntry (put key_cmp k v es)
+all-put [] k v new all = (new, tt)
+all-put (e ∷ es) k v new all =
+    elim (slice_cmp nat_cmp k e.0) as (λ o. AllByRecursion IsEntry (by_order o ((k, v) ∷ e ∷ es) ((e.0, v) ∷ es) (e ∷ put key_cmp k v es))) [
+      | Less ↦ (new, all)
+      | Equal ↦ (record { some_points = all.0.some_points; few_points = all.0.few_points; points = all.0.points; some_elements = new.some_elements; few_elements = new.few_elements; elements = new.elements }, all.1)
+      | Greater ↦ (all.0, all-put es k v new all.1)
+    ]
+
+-- one more entry may stand there
+pub AreStored-put : (es : List (List ℕ × List Element)) (rs : List Range) (k : List ℕ) (v : List Element) → AreStored es rs → IsEntry (k, v) → AreStored (put key_cmp k v es) rs
+AreStored-put es rs k v stored new = record { sorted = is_sorted-put key_cmp nat_list_cmp_total k v es stored.sorted; entries = all-put es k v new stored.entries; ranges = stored.ranges; by_first = stored.by_first }
+
+-- what a look-up gives
+pub elements_at_stored : (es : List (List ℕ × List Element)) (rs : List Range) (q : List ℕ) → T (is_sorted key_cmp es) → elements_at (table_of es rs) q ≡ find key_cmp q es
+elements_at_stored es rs q sorted = get-from_sorted key_cmp es q sorted
+
+pub is_key_stored : (es : List (List ℕ × List Element)) (rs : List Range) (q : List ℕ) → T (is_sorted key_cmp es) → is_key (table_of es rs) q ≡ is_some (find key_cmp q es)
+is_key_stored es rs q sorted = ap is_some (get-from_sorted key_cmp es q sorted)
+
+-- such a list makes a table
+pub IsTable-stored : (es : List (List ℕ × List Element)) (rs : List Range) → AreStored es rs → IsTable (table_of es rs)
+IsTable-stored es rs stored = record { entries = subst (λ xs. All IsEntry xs) (sym (entries-from_sorted key_cmp es stored.sorted)) (All-from_recursion IsEntry es stored.entries); ranges = stored.ranges }
+
+fold-keys : (n : ℕ) (es : List (List ℕ × List Element)) → fold (λ m key. max m (length key)) n (map (λ e. e.0) es) ≡ fold (λ m e. max m (length e.0)) n es
+fold-keys n [] = refl
+fold-keys n (e ∷ es) = fold-keys (max n (length e.0)) es
+
+pub longest_stored : (es : List (List ℕ × List Element)) (rs : List Range) → T (is_sorted key_cmp es) → longest (table_of es rs) ≡ longest_of es
+longest_stored es rs sorted = ap (λ (xs : List (List ℕ × List Element)). fold (λ m key. max m (length key)) 1 (map (λ e. e.0) xs)) (entries-from_sorted key_cmp es sorted) ∙ fold-keys 1 es
+
+fold-some : (n : ℕ) (es : List (List ℕ × List Element)) → n ≤ fold (λ m e. max m (length e.0)) n es
+fold-some n [] = omega arith
+fold-some n (e ∷ es) = let h : max n (length e.0) ≤ fold (λ m f. max m (length f.0)) (max n (length e.0)) es = fold-some (max n (length e.0)) es in omega arith
+
+fold-few : (n : ℕ) (es : List (List ℕ × List Element)) → n ≤ MAX_KEY → AllByRecursion IsEntry es → fold (λ m e. max m (length e.0)) n es ≤ MAX_KEY
+fold-few n [] h all = h
+fold-few n (e ∷ es) h all = let few : length e.0 ≤ MAX_KEY = all.0.few_points in fold-few (max n (length e.0)) es (omega arith) all.1
+
+-- the longest key has 1 to 32 code points
+pub longest-bounds : (es : List (List ℕ × List Element)) → AllByRecursion IsEntry es → (1 ≤ longest_of es) × (longest_of es ≤ MAX_KEY)
+longest-bounds es all = (fold-some 1 es, fold-few 1 es (lit≤ tt) all)
+
+-- what is found has as many elements as an entry has
+pub found_entry : (es : List (List ℕ × List Element)) (q : List ℕ) → AllByRecursion IsEntry es → IfSome (find key_cmp q es) (λ v. (0 < length v) × (length v ≤ MAX_ELEMENTS))
+found_entry [] q all = tt
+found_entry (e ∷ es) q all =
+    elim (eq_by_cmp key_cmp q e.0) as (λ b. IfSome (cond b (Some e.1) (find key_cmp q es)) (λ v. (0 < length v) × (length v ≤ MAX_ELEMENTS))) [
+      | true ↦ (all.0.some_elements, all.0.few_elements)
+      | false ↦ found_entry es q all.1
+    ]
+
+-- a fact of a list that stands behind a reference
+pub if_found : (P : List Element → Type 0) (r : Option (Bor (List Element))) (o : Option (List Element)) → option_copied r ≡ o → IfSome o P → IfSome r (λ es. P es.now)
+if_found P None o same h = tt
+if_found P (Some es) o same h = subst (λ p. IfSome p P) (sym same) h
+
+pub if_weaker : (P Q : List Element → Type 0) (o : Option (List Element)) → ((v : List Element) → P v → Q v) → IfSome o P → IfSome o Q
+if_weaker P Q None f h = tt
+if_weaker P Q (Some v) f h = f v h

@@ -1,0 +1,4 @@
+pub mod EntryLemmas
+pub mod SearchLemmas
+pub mod BuilderLemmas
+pub mod RangeLemmas

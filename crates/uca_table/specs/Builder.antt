@@ -1,0 +1,48 @@
+-- What a builder does to a table, and what it refuses.
+use Rattle.std.specs.Prelude.{ℕ, ◌==◌, nat_lt, List, length, Option, Some, None, if◌then◌else◌}
+use Rattle.std.specs.FinMap.{insert}
+use Rattle.uca_weights.specs.declared.element.Element.{Element}
+use Rattle.uca_weights.specs.declared.limits.TheConstants.{MAX_KEY, MAX_ELEMENTS}
+use Rattle.uca_weights.specs.declared.range.Range.{Range}
+use Rattle.uca_model.specs.Table.{ElementTable, is_key}
+use Rattle.uca_table.specs.declared.fault.InsertFault.{InsertFault}
+use Rattle.uca_table.specs.declared.fault.InsertFault.TheVariants.{EmptyKey, KeyTooLong, NoElement, TooManyElements, Repeated, OutOfMemory}
+use Rattle.uca_table.specs.declared.fault.RangeFault.{RangeFault}
+use Rattle.uca_table.specs.declared.fault.RangeFault.TheVariants as range
+use Rattle.uca_table.specs.Ranges.{is_bad_range, put_range}
+
+-- the table with one more entry
+abbrev pub with_entry : ElementTable → List ℕ → List Element → ElementTable
+with_entry t key elements = record { entries = insert t.entries key elements; ranges = t.ranges }
+
+-- the first fault of a key and its elements, where there is one
+abbrev pub insert_fault : ElementTable → List ℕ → List Element → Option InsertFault
+insert_fault t key elements =
+    if length key == 0 then Some EmptyKey
+    else if nat_lt MAX_KEY (length key) then Some KeyTooLong
+    else if length elements == 0 then Some NoElement
+    else if nat_lt MAX_ELEMENTS (length elements) then Some TooManyElements
+    else if is_key t key then Some Repeated
+    else None
+
+-- the fault of the arguments that a call told; want of memory is none of theirs
+abbrev pub told : InsertFault → Option InsertFault
+told EmptyKey = Some EmptyKey
+told KeyTooLong = Some KeyTooLong
+told NoElement = Some NoElement
+told TooManyElements = Some TooManyElements
+told Repeated = Some Repeated
+told OutOfMemory = None
+
+-- the table with one more range, by its first code point
+abbrev pub with_range : ElementTable → Range → ElementTable
+with_range t r = record { entries = t.entries; ranges = put_range r t.ranges }
+
+-- the fault of a range, where there is one
+abbrev pub range_fault : ElementTable → Range → Option RangeFault
+range_fault t r = if is_bad_range t.ranges r then Some range.BadRange else None
+
+-- the fault of the range that a call told; want of memory is none of its
+abbrev pub told_of_range : RangeFault → Option RangeFault
+told_of_range range.BadRange = Some range.BadRange
+told_of_range range.OutOfMemory = None

@@ -1,0 +1,23 @@
+-- A table as data, by which a proof tells two of them apart.
+use Rattle.std.specs.Prelude.{ℕ, Bool, List, refl}
+use Rattle.std.specs.Coded.{Coded, code_by, coded×, coded_list, coded_ℕ, coded_bool}
+use Rattle.std.specs.FinMap.{FinMap, code}
+use Rattle.uca_weights.specs.declared.element.Element.{Element}
+use Rattle.uca_weights.specs.declared.range.Range.{Range}
+use Rattle.uca_model.specs.Table.{ElementTable, key_cmp}
+
+-- an element as its mark and its weights
+abbrev pub coded_element : Coded Element
+coded_element = code_by (Bool × (ℕ × (ℕ × ℕ))) (coded× coded_bool (coded× coded_ℕ (coded× coded_ℕ coded_ℕ))) (λ e. (e.starred, (e.l1, (e.l2, e.l3)))) (λ p. record { starred = p.0; l1 = p.1.0; l2 = p.1.1.0; l3 = p.1.1.1 }) (λ _. refl)
+
+-- a range as its ends and its base
+abbrev pub coded_range : Coded Range
+coded_range = code_by (ℕ × (ℕ × ℕ)) (coded× coded_ℕ (coded× coded_ℕ coded_ℕ)) (λ r. (r.first, (r.last, r.base))) (λ p. record { first = p.0; last = p.1.0; base = p.1.1 }) (λ _. refl)
+
+-- a table as its entries and its ranges
+abbrev pub coded_table : Coded ElementTable
+coded_table = code_by (FinMap key_cmp (List Element) × List Range) (coded× (code (coded_list coded_ℕ) (coded_list coded_element)) (coded_list coded_range)) (λ t. (t.entries, t.ranges)) (λ p. record { entries = p.0; ranges = p.1 }) (λ _. refl)
+
+-- entries as pairs of lists
+abbrev pub coded_entries : Coded (List (List ℕ × List Element))
+coded_entries = coded_list (coded× (coded_list coded_ℕ) (coded_list coded_element))

@@ -1,0 +1,4 @@
+pub mod Stored
+pub mod Coded
+pub mod Ranges
+pub mod Builder

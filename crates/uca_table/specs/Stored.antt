@@ -1,0 +1,40 @@
+-- How a table lies in a list of entries in order, and a list of ranges.
+use Rattle.std.specs.Prelude.{ℕ, T, max, List, length, fold}
+use Rattle.arrayvec.specs.ArrayVec.{ArrayVec}
+use Rattle.std.specs.List.{AllByRecursion}
+use Rattle.std.specs.FinMap.{from_sorted, is_sorted}
+use Rattle.std.specs.Borrow.{Bor}
+use Rattle.std.specs.Vec.{vec_items}
+use Rattle.std.specs.declared.vec.Vec.{Vec}
+use Rattle.uca_weights.specs.declared.element.Element.{Element}
+use Rattle.uca_weights.specs.declared.range.Range.{Range}
+use Rattle.uca_model.specs.Table.{ElementTable, key_cmp, IsEntry, AreRanges}
+use Rattle.uca_table.specs.Ranges.{AreByFirst}
+use Rattle.uca_table.specs.declared.entry.Entry.{Entry}
+
+-- an entry of a table without where it lies in memory
+abbrev pub pair_of : Entry → List ℕ × List Element
+pair_of e = (e.key.items, e.elements.items)
+
+-- an entry of a builder's map without where it lies in memory
+abbrev pub pair_in : {Y Z : Type 0} → Vec ℕ Y × Vec Element Z → List ℕ × List Element
+pair_in e = (e.0.items, e.1.items)
+
+-- a key and its elements, as an iterator gives them
+abbrev pub key_and_elements : ArrayVec ℕ × Bor (List Element) → List ℕ × List Element
+key_and_elements e = (e.0.items, e.1.now)
+
+-- the table of entries whose keys rise
+abbrev pub table_of : List (List ℕ × List Element) → List Range → ElementTable
+table_of es rs = record { entries = from_sorted {R = key_cmp} es; ranges = rs }
+
+-- the length of the longest key, 1 where there is none
+abbrev pub longest_of : List (List ℕ × List Element) → ℕ
+longest_of es = fold (λ n e. max n (length e.0)) 1 es
+
+-- the keys rise, and all is as in a table
+pub record AreStored (es : List (List ℕ × List Element)) (rs : List Range) : Type 0 where
+  pub sorted : T (is_sorted key_cmp es)
+  pub entries : AllByRecursion IsEntry es
+  pub ranges : AreRanges rs
+  pub by_first : AreByFirst rs

@@ -1,0 +1,159 @@
+ghost use Rattle.std.specs.Prelude.{◌≡◌, [], OnOk, OnErr, IfErr, IfOk, MatchResult, All, map, None};
+ghost use Rattle.std.specs.Char.{IsScalar};
+ghost use Rattle.std.specs.FinMap.{empty, put};
+ghost use Rattle.uca_model.specs.Table.{key_cmp, IsElement};
+ghost use Rattle.uca_table.specs.Stored.{pair_in};
+
+use crate::entry::move_entries;
+use crate::fault::{FinishFault, InsertFault, RangeFault};
+use crate::ranges::{is_bad_range, put_range};
+use crate::table::Table;
+use std::alloc::Global;
+use std::collections::BTreeMap;
+use std::marker::Model;
+use uca_weights::{Element, MAX_ELEMENTS, MAX_KEY, Range};
+
+/// Collects the entries of a table, one after the other.
+#[derive(Drop)]
+pub struct TableBuilder {
+    entries: BTreeMap<Vec<char>, Vec<Element>>,
+    // By their first code points.
+    ranges: Vec<Range>,
+    alloc: Global,
+}
+
+impl Model for TableBuilder {
+    ghost use Rattle.std.specs.Prelude.{map};
+    ghost use Rattle.uca_model.specs.Table.{ElementTable};
+    ghost use Rattle.uca_table.specs.Stored.{AreStored, pair_in, table_of};
+    ghost use Rattle.uca_table.specs.Coded.{coded_table};
+
+    ghost Value = { ElementTable };
+
+    ghost coded = { coded_table };
+
+    ghost view = { λ b. table_of (map pair_in b.entries.entries) b.ranges.items };
+
+    ghost invariant = { λ b. AreStored (map pair_in b.entries.entries) b.ranges.items };
+}
+
+impl TableBuilder {
+    ghost use Rattle.uca_model.specs.Table.{ElementTable};
+    ghost use Rattle.uca_table.specs.Builder.{with_entry, insert_fault, told, with_range, range_fault, told_of_range};
+
+    /// A builder without entries and ranges.
+    pub fn new(alloc: Global) -> TableBuilder
+        ensures { result ≡ record { entries = empty; ranges = [] } }
+    {
+        TableBuilder {
+            entries: BTreeMap::new(alloc),
+            ranges: Vec::new(alloc),
+            alloc,
+        }
+    }
+
+    /// Adds a key with its elements. On a fault the builder stays as it is.
+    pub fn insert(&mut self, key: &[char], elements: &[Element]) -> Result<(), InsertFault>
+        ensures ok { OnOk result (self.new ≡ with_entry self.old key.now elements.now) }
+        ensures err { OnErr result (self.new ≡ self.old) }
+        ensures fault { MatchResult result (λ _. insert_fault self.old key.now elements.now ≡ None) (λ f. insert_fault self.old key.now elements.now ≡ told f) }
+    {
+        if key.is_empty() {
+            return Err(InsertFault::EmptyKey);
+        }
+        if key.len() > MAX_KEY {
+            return Err(InsertFault::KeyTooLong);
+        }
+        if elements.is_empty() {
+            return Err(InsertFault::NoElement);
+        }
+        if elements.len() > MAX_ELEMENTS {
+            return Err(InsertFault::TooManyElements);
+        }
+        if self.entries.contains_key(key) {
+            return Err(InsertFault::Repeated);
+        }
+        read_key(key);
+        read_elements(elements);
+        store(self.alloc, &mut self.entries, key, elements)
+    }
+
+    /// Adds a range of code points whose first implicit weight is `base` (UTS #10, section 10.1.3). `last` belongs to
+    /// the range. On a fault the builder stays as it is.
+    pub fn add_implicit(&mut self, first: char, last: char, base: u16) -> Result<(), RangeFault>
+        ensures ok { OnOk result (self.new ≡ with_range self.old (record { first = first; last = last; base = base })) }
+        ensures err { OnErr result (self.new ≡ self.old) }
+        ensures fault { let fault = range_fault self.old (record { first = first; last = last; base = base }) in MatchResult result (λ _. fault ≡ None) (λ f. fault ≡ told_of_range f) }
+    {
+        let range = Range { first, last, base };
+        if is_bad_range(&self.ranges, range) {
+            return Err(RangeFault::BadRange);
+        }
+        put_range(&mut self.ranges, range)
+    }
+
+    /// The table of what was added. The builder comes back where memory is refused.
+    pub fn finish(self) -> Result<Table, FinishFault>
+        ensures { MatchResult result (λ t. t ≡ self) (λ f. f.builder ≡ self) }
+    {
+        let Ok(room) = Vec::with_capacity(self.alloc, self.entries.len()) else {
+            return Err(FinishFault { builder: self });
+        };
+        let (entries, longest_key) = move_entries(self.entries, room);
+        Ok(Table {
+            entries,
+            ranges: self.ranges,
+            longest_key,
+        })
+    }
+}
+
+/// Shows that each code point of a slice of characters is a scalar value.
+fn read_key(key: &[char])
+    ensures { All IsScalar key.now }
+{
+    for c in key {
+        let _scalar = *c;
+    }
+}
+
+/// Shows that each weight of the elements has sixteen bits.
+fn read_elements(elements: &[Element])
+    ensures { All IsElement elements.now }
+{
+    for element in elements {
+        read_element(element);
+    }
+}
+
+/// Shows that each weight of an element has sixteen bits.
+fn read_element(element: &Element)
+    ensures { IsElement element.now }
+{
+    let _primary = element.l1;
+    let _secondary = element.l2;
+    let _tertiary = element.l3;
+}
+
+/// Puts copies of a new key and its elements into a map.
+fn store(
+    alloc: Global,
+    entries: &mut BTreeMap<Vec<char>, Vec<Element>>,
+    key: &[char],
+    elements: &[Element],
+) -> Result<(), InsertFault>
+    ensures ok { OnOk result (map pair_in entries.new.entries ≡ put key_cmp key.now elements.now (map pair_in entries.old.entries)) }
+    ensures err { OnErr result (entries.new.entries ≡ entries.old.entries) }
+    ensures memory { IfErr result (λ f. f ≡ InsertFault.OutOfMemory) }
+{
+    let Ok(key) = key.to_vec(alloc) else {
+        return Err(InsertFault::OutOfMemory);
+    };
+    let Ok(elements) = elements.to_vec(alloc) else {
+        return Err(InsertFault::OutOfMemory);
+    };
+    match entries.insert(key, elements) {
+        Ok(_) => Ok(()),
+        Err(_) => Err(InsertFault::OutOfMemory),
+    }
+}

@@ -1,0 +1,58 @@
+ghost use Rattle.std.specs.Prelude.{◌≡◌, ◌≤◌, length};
+ghost use Rattle.uca_weights.specs.declared.limits.TheConstants.{MAX_KEY};
+
+use crate::entry::Entry;
+use arrayvec::ArrayVec;
+use std::marker::Model;
+use uca_weights::{Element, MAX_KEY};
+
+/// The entries of a table by key order: each key with its elements.
+#[derive(Drop)]
+pub struct Entries<'t> {
+    pub(crate) rest: &'t [Entry],
+}
+
+impl<'t> Model for Entries<'t> {
+    ghost use Rattle.std.specs.Prelude.{ℕ, List, map};
+    ghost use Rattle.std.specs.List.{AllByRecursion};
+    ghost use Rattle.uca_weights.specs.declared.element.Element.{Element};
+    ghost use Rattle.uca_model.specs.Table.{IsEntry};
+    ghost use Rattle.uca_table.specs.Stored.{pair_of};
+    ghost use Rattle.uca_table.specs.Coded.{coded_entries};
+
+    ghost Value = { List (List ℕ × List Element) };
+
+    ghost coded = { coded_entries };
+
+    ghost view = { λ e. map pair_of e.rest.now };
+
+    ghost invariant = { λ e. AllByRecursion IsEntry (map pair_of e.rest.now) };
+}
+
+impl<'t> Iterator for Entries<'t> {
+    ghost use Rattle.std.specs.Iterator.{YieldsFirstBy, item_count};
+    ghost use Rattle.uca_table.specs.Stored.{key_and_elements};
+
+    type Item = (ArrayVec<char, 32>, &'t [Element]);
+
+    ghost next_gives = { YieldsFirstBy key_and_elements (λ s. s) };
+
+    ghost remaining = { item_count (λ s. s) };
+
+    fn next(&mut self) -> Option<(ArrayVec<char, 32>, &'t [Element])> {
+        let (first, others) = self.rest.split_first()?;
+        let key = key_in_place(first.key.as_slice());
+        self.rest = others;
+        Some((key, first.elements.as_slice()))
+    }
+}
+
+/// A copy of a key that takes no memory.
+fn key_in_place(key: &[char]) -> ArrayVec<char, 32>
+    requires { length key.now ≤ MAX_KEY }
+    ensures { result.items ≡ key.now }
+{
+    let mut copy = ArrayVec::new();
+    let _fits = copy.try_extend_from_slice(key);
+    copy
+}

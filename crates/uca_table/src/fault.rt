@@ -1,0 +1,43 @@
+use crate::builder::TableBuilder;
+use thiserror::Error;
+
+/// Why an entry wasn't inserted. The first cause that holds, in the order here, is told.
+#[derive(Clone, Copy, Debug, PartialEq, Eq, Error)]
+pub enum InsertFault {
+    /// The key has no code point.
+    #[error("EmptyKey")]
+    EmptyKey,
+    /// The key has more than `MAX_KEY` code points.
+    #[error("KeyTooLong")]
+    KeyTooLong,
+    /// There is no collation element.
+    #[error("NoElement")]
+    NoElement,
+    /// There are more than `MAX_ELEMENTS` collation elements.
+    #[error("TooManyElements")]
+    TooManyElements,
+    /// The table has the key already.
+    #[error("Repeated")]
+    Repeated,
+    /// Memory was wanted and refused.
+    #[error("OutOfMemory")]
+    OutOfMemory,
+}
+
+/// Why a range of implicit weights wasn't added.
+#[derive(Clone, Copy, Debug, PartialEq, Eq, Error)]
+pub enum RangeFault {
+    /// The range ends before it begins, its base is below 8000h, it shares a code point with an earlier range, or with
+    /// the other ranges of its base it spans more than 8000h code points.
+    #[error("BadRange")]
+    BadRange,
+    /// Memory was wanted and refused.
+    #[error("OutOfMemory")]
+    OutOfMemory,
+}
+
+/// Memory for the table was refused. The builder comes back unchanged.
+#[derive(Drop)]
+pub struct FinishFault {
+    pub builder: TableBuilder,
+}

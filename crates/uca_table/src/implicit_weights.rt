@@ -1,0 +1,110 @@
+ghost use Rattle.std.specs.Prelude.{◌≡◌, option_copied};
+ghost use Rattle.uca_model.specs.Table.{AreRanges};
+ghost use Rattle.uca_model.specs.ImplicitWeights.{implicit_over, in_some, core_blocks, pair, is_unified_ideograph, is_assigned, range_of, two_parts_base};
+
+use crate::ranges::lowest_first;
+use uca_weights::{Element, Range};
+use unicode::properties::GeneralCategory;
+
+/// The elements of a code point that is no key (UTS #10, section 10.1.3).
+#[tactic(auto, unfolding(uca_model::specs::ImplicitWeights::implicit_over), using(uca_model::proofs::ImplicitLemmas::offset_below, uca_model::proofs::ImplicitLemmas::lowest_first_below))]
+pub(crate) fn implicit(ranges: &[Range], c: char) -> [Element; 2]
+    requires { AreRanges ranges.now }
+    ensures { result ≡ implicit_over ranges.now c }
+{
+    // Few code points lie in a range, so the general category is asked of those alone.
+    if let Some(range) = range_of(ranges, c) {
+        if is_assigned(c) {
+            let lowest = lowest_first(ranges, range.base, range.first as u32);
+            return pair(range.base, (c as u32 - lowest + 0x8000) as u16);
+        }
+    }
+    let code = c as u32;
+    pair(
+        (base_in_two_parts(c) + code / 0x8000) as u16,
+        (code % 0x8000 + 0x8000) as u16,
+    )
+}
+
+/// The range in which a code point lies.
+fn range_of(ranges: &[Range], c: char) -> Option<&Range>
+    ensures { option_copied result ≡ range_of ranges.now c }
+{
+    ranges
+        .iter()
+        .find(|range| range.first <= c && c <= range.last)
+}
+
+/// Whether Unicode assigns a character to the code point.
+fn is_assigned(c: char) -> bool
+    ensures { result ≡ is_assigned c }
+{
+    GeneralCategory::for_char(c) != GeneralCategory::Unassigned
+}
+
+/// The base of the first weight of a code point in no range.
+fn base_in_two_parts(c: char) -> u32
+    ensures { result ≡ two_parts_base c }
+{
+    if !is_unified_ideograph(c) {
+        0xFBC0
+    } else if is_in_core_block(c) {
+        0xFB40
+    } else {
+        0xFB80
+    }
+}
+
+/// Whether the code point lies in CJK Unified Ideographs or in CJK Compatibility Ideographs.
+fn is_in_core_block(c: char) -> bool
+    ensures { result ≡ in_some core_blocks c }
+{
+    matches!(c, '\u{4E00}'..='\u{9FFF}' | '\u{F900}'..='\u{FAFF}')
+}
+
+/// Whether the code point is a unified ideograph.
+#[tactic(auto, unfolding(uca_model::specs::ImplicitWeights::is_unified_ideograph))]
+fn is_unified_ideograph(c: char) -> bool
+    ensures { result ≡ is_unified_ideograph c }
+{
+    matches!(
+        c,
+        '\u{3400}'..='\u{4DBF}'
+            | '\u{4E00}'..='\u{9FFF}'
+            | '\u{FA0E}'..='\u{FA0F}'
+            | '\u{FA11}'
+            | '\u{FA13}'..='\u{FA14}'
+            | '\u{FA1F}'
+            | '\u{FA21}'
+            | '\u{FA23}'..='\u{FA24}'
+            | '\u{FA27}'..='\u{FA29}'
+            | '\u{20000}'..='\u{2A6DF}'
+            | '\u{2A700}'..='\u{2B739}'
+            | '\u{2B740}'..='\u{2B81D}'
+            | '\u{2B820}'..='\u{2CEA1}'
+            | '\u{2CEB0}'..='\u{2EBE0}'
+            | '\u{2EBF0}'..='\u{2EE5D}'
+            | '\u{30000}'..='\u{3134A}'
+            | '\u{31350}'..='\u{323AF}'
+    )
+}
+
+/// The two elements of a code point without a key, `[.AAAA.0020.0002][.BBBB.0000.0000]`.
+fn pair(aaaa: u16, bbbb: u16) -> [Element; 2]
+    ensures { result ≡ pair aaaa bbbb }
+{
+    [
+        Element {
+            starred: false,
+            l1: aaaa,
+            l2: 0x20,
+            l3: 2,
+        },
+        Element {
+            starred: false,
+            l1: bbbb,
+            l2: 0,
+            l3: 0,
+        },
+    ]
+}

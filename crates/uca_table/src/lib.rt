@@ -1,0 +1,22 @@
+//! The collation element table (UTS #10, section 3): keys of code points with their collation elements, and the
+//! ranges of code points whose implicit weights stand over a base of their own (section 10.1.3).
+//!
+//! A [`TableBuilder`] collects entries, and [`TableBuilder::finish`] makes a [`Table`] of them. Contracts see both as
+//! one value, a finite map with a list of ranges. No look-up takes memory.
+#![tactic(auto)]
+
+pub mod builder;
+pub mod entries;
+mod entry;
+pub mod fault;
+mod implicit_weights;
+mod ranges;
+pub mod table;
+#[cfg(test)]
+mod tests;
+
+pub use builder::TableBuilder;
+pub use entries::Entries;
+pub use fault::{FinishFault, InsertFault, RangeFault};
+pub use table::Table;
+pub use uca_weights::{Element, Range};

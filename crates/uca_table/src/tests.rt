@@ -1,0 +1,273 @@
+use crate::{Element, InsertFault, Range, RangeFault, Table, TableBuilder};
+use std::alloc::{AllocError, Global};
+use std::process::Abort;
+use std::test::Fail;
+use uca_model::{Entry, matching};
+
+/// Keys with their one element, whose mark is `*` where the flag is true.
+const SMALL_TABLE: [(&[char], bool, [u16; 3]); 18] = [
+    (&['\u{1}'], false, [0, 0, 0]),
+    (&[' '], true, [0x201, 0x20, 2]),
+    (&['-'], true, [0x202, 0x20, 2]),
+    (&['\u{300}'], false, [0, 0x21, 2]),
+    (&['\u{301}'], false, [0, 0x22, 2]),
+    (&['\u{308}'], false, [0, 0x23, 2]),
+    (&['\u{323}'], false, [0, 0x24, 2]),
+    (&['a'], false, [0x1000, 0x20, 2]),
+    (&['A'], false, [0x1000, 0x20, 8]),
+    (&['b'], false, [0x1001, 0x20, 2]),
+    (&['c'], false, [0x1002, 0x20, 2]),
+    (&['e'], false, [0x1004, 0x20, 2]),
+    (&['h'], false, [0x1005, 0x20, 2]),
+    (&['z'], false, [0x1006, 0x20, 2]),
+    (&['c', 'h'], false, [0x1007, 0x20, 2]),
+    (&['a', '\u{301}'], false, [0x1008, 0x20, 2]),
+    (&['b', '\u{301}'], false, [0x1009, 0x20, 2]),
+    (&['b', '\u{301}', '\u{308}'], false, [0x100A, 0x20, 2]),
+];
+
+const TWO_RANGES: [Range; 2] = [
+    Range {
+        first: '\u{17000}',
+        last: '\u{18AFF}',
+        base: 0xFB00,
+    },
+    Range {
+        first: '\u{18D00}',
+        last: '\u{18D8F}',
+        base: 0xFB00,
+    },
+];
+
+const ELEMENT: Element = Element {
+    starred: false,
+    l1: 0x1001,
+    l2: 0x20,
+    l3: 2,
+};
+
+fn element(starred: bool, [l1, l2, l3]: [u16; 3]) -> Element {
+    Element {
+        starred,
+        l1,
+        l2,
+        l3,
+    }
+}
+
+/// Inserts an entry, once more where memory was refused.
+fn insert(
+    builder: &mut TableBuilder,
+    key: &[char],
+    elements: &[Element],
+) -> Result<(), InsertFault> {
+    match builder.insert(key, elements) {
+        Err(InsertFault::OutOfMemory) => builder.insert(key, elements),
+        answer => answer,
+    }
+}
+
+/// Adds a range, once more where memory was refused.
+fn add_implicit(builder: &mut TableBuilder, range: Range) -> Result<(), RangeFault> {
+    match builder.add_implicit(range.first, range.last, range.base) {
+        Err(RangeFault::OutOfMemory) => {
+            builder.add_implicit(range.first, range.last, range.base)
+        }
+        answer => answer,
+    }
+}
+
+/// Makes the table, once more where memory was refused.
+fn finish(builder: TableBuilder) -> Option<Table> {
+    match builder.finish() {
+        Ok(table) => Some(table),
+        Err(fault) => fault.builder.finish().ok(),
+    }
+}
+
+fn small_builder(rt: &impl Abort, alloc: Global) -> TableBuilder {
+    let mut builder = TableBuilder::new(alloc);
+    for range in TWO_RANGES {
+        assert_eq!(rt; add_implicit(&mut builder, range), Ok(()));
+    }
+    for (key, starred, weights) in SMALL_TABLE {
+        let inserted = insert(&mut builder, key, &[element(starred, weights)]);
+        assert_eq!(rt; inserted, Ok(()));
+    }
+    builder
+}
+
+fn small_table(rt: &impl Abort, alloc: Global) -> Table {
+    finish(small_builder(rt, alloc)).expect(rt, "a table")
+}
+
+/// The same entries as the plain programs keep them.
+fn plain_entries(alloc: Global) -> Result<Vec<Entry>, AllocError> {
+    let mut entries = Vec::new(alloc);
+    for (key, starred, weights) in SMALL_TABLE {
+        let key = key.to_vec(alloc)?;
+        let elements = [element(starred, weights)].to_vec(alloc)?;
+        entries.push(Entry { key, elements })?;
+    }
+    Ok(entries)
+}
+
+#[test]
+fn entries_are_refused_for_the_first_fault(rt: HostRuntime) {
+    let mut builder = TableBuilder::new(rt.alloc());
+    let one = [ELEMENT];
+    assert_eq!(rt; insert(&mut builder, &[], &one), Err(InsertFault::EmptyKey));
+    assert_eq!(rt; insert(&mut builder, &[], &[]), Err(InsertFault::EmptyKey));
+    assert_eq!(rt;
+        insert(&mut builder, &['a'; 33], &one),
+        Err(InsertFault::KeyTooLong)
+    );
+    assert_eq!(rt;
+        insert(&mut builder, &['a'; 33], &[]),
+        Err(InsertFault::KeyTooLong)
+    );
+    assert_eq!(rt;
+        insert(&mut builder, &['b'], &[]),
+        Err(InsertFault::NoElement)
+    );
+    assert_eq!(rt;
+        insert(&mut builder, &['b'], &[ELEMENT; 65]),
+        Err(InsertFault::TooManyElements)
+    );
+    assert_eq!(rt; insert(&mut builder, &['b'], &one), Ok(()));
+    assert_eq!(rt;
+        insert(&mut builder, &['b'], &one),
+        Err(InsertFault::Repeated)
+    );
+    assert_eq!(rt;
+        insert(&mut builder, &['b'], &[]),
+        Err(InsertFault::NoElement)
+    );
+    assert_eq!(rt;
+        insert(&mut builder, &['b'], &[ELEMENT; 65]),
+        Err(InsertFault::TooManyElements)
+    );
+    assert_eq!(rt; insert(&mut builder, &['a'; 32], &[ELEMENT; 64]), Ok(()));
+}
+
+#[test]
+fn faults_are_told_by_their_names(rt: HostRuntime) -> Result<(), Fail> {
+    let told = format!(in rt.alloc(); "{} {}", InsertFault::EmptyKey, RangeFault::BadRange);
+    if let Ok(told) = told {
+        assert_eq!(rt; told.as_str(), "EmptyKey BadRange");
+    }
+    Ok(())
+}
+
+#[test]
+fn each_entry_is_found_and_nothing_else(rt: HostRuntime) {
+    let table = small_table(&rt, rt.alloc());
+    assert_eq!(rt; table.longest(), 3);
+    for (key, starred, weights) in SMALL_TABLE {
+        let found = table.get(key).expect(&rt, "an entry");
+        assert_eq!(rt; found, [element(starred, weights)].as_slice());
+    }
+    let Ok(plain) = plain_entries(rt.alloc()) else {
+        return;
+    };
+    let others: [&[char]; 6] = [
+        &[],
+        &['\u{0}'],
+        &['b', '\u{308}'],
+        &['c', 'h', 'h'],
+        &['d'],
+        &['\u{10FFFF}'],
+    ];
+    for key in others {
+        assert_eq!(rt; table.get(key).is_some(), false);
+        assert_eq!(rt; matching::get(&plain, key).is_some(), false);
+    }
+    for (key, _, _) in SMALL_TABLE {
+        assert_eq!(rt; table.get(key), matching::get(&plain, key));
+    }
+}
+
+#[test]
+fn a_table_without_entries_has_longest_one(rt: HostRuntime) {
+    let table = finish(TableBuilder::new(rt.alloc())).expect(&rt, "a table");
+    assert_eq!(rt; table.longest(), 1);
+    assert_eq!(rt; table.get(&['a']).is_some(), false);
+}
+
+#[test]
+fn implicit_weights_are_by_range_or_block(rt: HostRuntime) {
+    let table = small_table(&rt, rt.alloc());
+    for (c, first, second) in [
+        ('\u{4E00}', 0xFB40, 0xCE00),
+        ('\u{3400}', 0xFB80, 0xB400),
+        ('\u{17000}', 0xFB00, 0x8000),
+        ('\u{18D00}', 0xFB00, 0x9D00),
+        ('\u{10FFFF}', 0xFBE1, 0xFFFF),
+    ] {
+        let pair = [
+            element(false, [first, 0x20, 2]),
+            element(false, [second, 0, 0]),
+        ];
+        assert_eq!(rt; table.implicit(c), pair);
+    }
+}
+
+#[test]
+fn ranges_may_not_meet_nor_span_too_far(rt: HostRuntime) {
+    let mut builder = small_builder(&rt, rt.alloc());
+    for (first, last, base, answer) in [
+        ('\u{17500}', '\u{17600}', 0xFB01, Err(RangeFault::BadRange)),
+        ('\u{20000}', '\u{28000}', 0xFB05, Err(RangeFault::BadRange)),
+        ('\u{1B170}', '\u{1B2FF}', 0x7FFF, Err(RangeFault::BadRange)),
+        ('\u{1B2FF}', '\u{1B170}', 0xFB01, Err(RangeFault::BadRange)),
+        ('\u{18AFF}', '\u{18B00}', 0xFB02, Err(RangeFault::BadRange)),
+        ('\u{1F000}', '\u{1F001}', 0xFB00, Err(RangeFault::BadRange)),
+        ('\u{1B170}', '\u{1B2FF}', 0xFB01, Ok(())),
+        ('\u{18B00}', '\u{18CFF}', 0xFB02, Ok(())),
+    ] {
+        assert_eq!(rt;
+            add_implicit(&mut builder, Range { first, last, base }),
+            answer
+        );
+    }
+    let table = finish(builder).expect(&rt, "a table");
+    let ranges = table.ranges();
+    assert_eq!(rt; ranges.len(), 4);
+    assert_eq!(rt; ranges[0], TWO_RANGES[0]);
+    assert_eq!(rt; ranges[1].first, '\u{18B00}');
+    assert_eq!(rt; ranges[2], TWO_RANGES[1]);
+    assert_eq!(rt; ranges[3].first, '\u{1B170}');
+}
+
+#[test]
+fn entries_come_by_key_order(rt: HostRuntime) {
+    let table = small_table(&rt, rt.alloc());
+    let order: [&[char]; 18] = [
+        &['\u{1}'],
+        &[' '],
+        &['-'],
+        &['A'],
+        &['a'],
+        &['a', '\u{301}'],
+        &['b'],
+        &['b', '\u{301}'],
+        &['b', '\u{301}', '\u{308}'],
+        &['c'],
+        &['c', 'h'],
+        &['e'],
+        &['h'],
+        &['z'],
+        &['\u{300}'],
+        &['\u{301}'],
+        &['\u{308}'],
+        &['\u{323}'],
+    ];
+    let mut place = 0;
+    for (key, elements) in table.entries() {
+        assert!(rt; place < 18);
+        assert_eq!(rt; key.as_slice(), order[place]);
+        assert_eq!(rt; table.get(key.as_slice()), Some(elements));
+        place += 1;
+    }
+    assert_eq!(rt; place, 18);
+}
