@@ -6,7 +6,7 @@ use Rattle.std.specs.Cmp.Lexicographic.{nat_list_cmp_total}
 use Rattle.uca_weights.specs.declared.element.Element.{Element}
 use Rattle.uca_model.specs.Table.{ElementTable, key_cmp, longest}
 use Rattle.uca_cli.specs.BuiltIn.{with_point, built_in_entries, built_in_table}
-use Rattle.uca_cli.specs.declared.built_in.TheConstants.{ENTRIES}
+use Rattle.uca_cli.specs.declared.small_table.TheConstants.{ENTRIES}
 use Rattle.uca_weights.specs.declared.range.Range.{Range}
 
 -- the table of these code points

@@ -5,3 +5,4 @@ pub mod KeyLemmas
 pub mod BuiltInLemmas
 pub mod HelpLemmas
 pub mod CommandLineLemmas
+pub mod SendingLemmas

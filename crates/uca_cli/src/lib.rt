@@ -4,7 +4,6 @@
 //! a [`uca_weights::Reader`], checks it whole, and only then writes to a [`uca_weights::Writer`].
 #![tactic(auto)]
 
-pub mod built_in;
 pub mod faults;
 mod hex;
 mod input;
@@ -14,8 +13,9 @@ mod lines;
 mod output;
 pub mod passage;
 pub mod performing;
+mod small_table;
 
-pub use built_in::built_in;
 pub use faults::{CliFault, InputCause, InputFault};
 pub use job::{Job, JobFault, Task, job_of};
 pub use performing::{perform, status_of};
+pub use small_table::built_in;

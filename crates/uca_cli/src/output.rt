@@ -39,7 +39,7 @@ fn line_key(alloc: Global, t: &Table, s: Settings, line: &[u8]) -> Result<Vec<u8
 /// Has the key of a line go out.
 fn send_key<W: Writer>(w: &mut W, out: &mut Outgoing, key: &[u8]) -> Result<(), CliFault>
     requires { handed out.old < 2 ^ 127 }
-    ensures { MatchResult result
+    ensures sends { MatchResult result
         (λ _. Sends (W.state w.old) out.old (W.state w.new) out.new (hex_line key.now))
         (StopsLine (W.state w.old) out.old (W.state w.new) (hex_line key.now)) }
     ensures small { OnOk result (handed out.new < handed out.old + 2 ^ 66) }

@@ -2,12 +2,12 @@ ghost use Rattle.std.specs.Prelude.{◌≡◌, ◌≤◌, false, IfErr, IfOk, Is
 ghost use Rattle.uca_weights.specs.Settings.{levels};
 ghost use Rattle.uca_cli.specs.Performing.{Performs, Refuses, ReadsLines, RefusesInput};
 
-use crate::built_in::built_in;
 use crate::faults::{CliFault, InputFault};
 use crate::input::read_input;
 use crate::job::{Job, Task};
 use crate::lines::check_lines;
 use crate::output::write_keys;
+use crate::small_table::built_in;
 use std::alloc::Global;
 use uca_weights::{Reader, Settings, Variable, Writer};
 

@@ -1,5 +1,5 @@
 -- Bytes as text, one after the other.
-use Rattle.std.proofs.Common.{◌≡◌, ℕ, List, [], ◌∷◌, ◌++◌, map, refl, ap, ◌∙◌}
+use Rattle.std.proofs.Common.{◌≡◌, ℕ, ◌*◌, ◌≤◌, List, [], ◌∷◌, ◌++◌, length, map, refl, ap, ◌∙◌, arith}
 use Rattle.std.specs.List.{join_with_byte}
 use Rattle.uca_model.specs.Output.{blank, hex_pair, hex_text}
 
@@ -11,3 +11,15 @@ hex_behind (b ∷ bytes) = blank ∷ hex_pair b ++ hex_behind bytes
 pub hex_text-cons : (b : ℕ) (bytes : List ℕ) → hex_text (b ∷ bytes) ≡ hex_pair b ++ hex_behind bytes
 hex_text-cons b [] = refl
 hex_text-cons b (c ∷ bytes) = ap (λ t. hex_pair b ++ blank ∷ t) (hex_text-cons c bytes)
+
+length-hex_behind : (bytes : List ℕ) → length (hex_behind bytes) ≡ 3 * length bytes
+length-hex_behind [] = refl
+length-hex_behind (b ∷ bytes) = let h : length (hex_behind bytes) ≡ 3 * length bytes = length-hex_behind bytes in omega arith
+
+-- two digits for each byte, and a blank between each two
+pub length-hex_text : (bytes : List ℕ) → length (hex_text bytes) ≤ 3 * length bytes
+length-hex_text [] = omega arith
+length-hex_text (b ∷ bytes) =
+    let h : length (hex_behind bytes) ≡ 3 * length bytes = length-hex_behind bytes in
+    let g : length (hex_text (b ∷ bytes)) ≡ length (hex_pair b ++ hex_behind bytes) = ap length (hex_text-cons b bytes) in
+    omega arith
