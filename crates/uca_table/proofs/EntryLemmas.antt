@@ -1,5 +1,5 @@
 -- Tables that lie in a list of entries whose keys rise.
-use Rattle.std.proofs.Common.{◌≡◌, ℕ, suc, ◌+◌, ◌≤◌, ◌<◌, max, Bool, true, false, cond, T, List, [], ◌∷◌, length, fold, map, Option, Some, None, is_some, IfSome, option_copied, Bor, refl, sym, ap, subst, ◌∙◌, arith, lit≤}
+use Rattle.std.proofs.Common.{◌≡◌, ℕ, ◌≤◌, ◌<◌, max, true, false, cond, T, List, [], ◌∷◌, length, fold, map, Option, Some, None, is_some, IfSome, option_copied, Bor, refl, sym, ap, subst, ◌∙◌, arith, lit≤}
 use Rattle.std.specs.declared.cmp.Ordering.{Ordering}
 use Rattle.std.specs.declared.cmp.Ordering.TheVariants.{Less, Equal, Greater}
 use Rattle.std.specs.declared.vec.Vec.{Vec}
@@ -8,13 +8,13 @@ use Rattle.std.specs.Ordering.{nat_cmp, eq_by_cmp, match_ordering}
 use Rattle.std.specs.BTreeMap.{insert_entry, is_at}
 use Rattle.std.specs.Map.{lookup}
 use Rattle.std.specs.Cmp.Lexicographic.{slice_cmp, nat_list_cmp_total}
-use Rattle.std.specs.FinMap.{FinMap, find, put, is_sorted, empty, insert, entries, keys, from_sorted, entries-from_sorted, entries-insert, get-from_sorted, same_entries_map, empty_of_len, len-entries}
+use Rattle.std.specs.FinMap.{find, put, is_sorted, empty, insert, entries, from_sorted, entries-from_sorted, entries-insert, get-from_sorted, same_entries_map, empty_of_len, len-entries}
 use Rattle.std.specs.FinMap.Entries.{is_sorted-put, by_order}
 use Rattle.std.proofs.lemmas.List.Elements.{All-from_recursion}
 use Rattle.uca_weights.specs.declared.element.Element.{Element}
 use Rattle.uca_weights.specs.declared.limits.TheConstants.{MAX_KEY, MAX_ELEMENTS}
 use Rattle.uca_weights.specs.declared.range.Range.{Range}
-use Rattle.uca_model.specs.Table.{ElementTable, key_cmp, elements_at, is_key, longest, IsEntry, IsTable, AreRanges}
+use Rattle.uca_model.specs.Table.{key_cmp, elements_at, is_key, longest, IsEntry, IsTable}
 use Rattle.uca_table.specs.Stored.{AreStored, pair_in, table_of, longest_of}
 use Rattle.uca_table.specs.Builder.{with_entry}
 
@@ -52,6 +52,7 @@ table_put es rs k v sorted =
 pub table_none : (rs : List Range) → table_of [] rs ≡ record { entries = empty; ranges = rs }
 table_none rs = ap (λ m. record { entries = m; ranges = rs }) (empty_of_len (from_sorted []) (len-entries (from_sorted []) ∙ ap length (entries-from_sorted key_cmp [] tt)))
 
+-- each entry is as in a table, the new one among them
 all-put : (es : List (List ℕ × List Element)) (k : List ℕ) (v : List Element) → IsEntry (k, v) → AllByRecursion IsEntry es → AllByRecursion IsEntry (put key_cmp k v es)
 all-put [] k v new all = (new, tt)
 all-put (e ∷ es) k v new all =
@@ -69,6 +70,7 @@ AreStored-put es rs k v stored new = record { sorted = is_sorted-put key_cmp nat
 pub elements_at_stored : (es : List (List ℕ × List Element)) (rs : List Range) (q : List ℕ) → T (is_sorted key_cmp es) → elements_at (table_of es rs) q ≡ find key_cmp q es
 elements_at_stored es rs q sorted = get-from_sorted key_cmp es q sorted
 
+-- which keys there are
 pub is_key_stored : (es : List (List ℕ × List Element)) (rs : List Range) (q : List ℕ) → T (is_sorted key_cmp es) → is_key (table_of es rs) q ≡ is_some (find key_cmp q es)
 is_key_stored es rs q sorted = ap is_some (get-from_sorted key_cmp es q sorted)
 
@@ -76,17 +78,21 @@ is_key_stored es rs q sorted = ap is_some (get-from_sorted key_cmp es q sorted)
 pub IsTable-stored : (es : List (List ℕ × List Element)) (rs : List Range) → AreStored es rs → IsTable (table_of es rs)
 IsTable-stored es rs stored = record { entries = subst (λ xs. All IsEntry xs) (sym (entries-from_sorted key_cmp es stored.sorted)) (All-from_recursion IsEntry es stored.entries); ranges = stored.ranges }
 
+-- the longest key by keys or by entries
 fold-keys : (n : ℕ) (es : List (List ℕ × List Element)) → fold (λ m key. max m (length key)) n (map (λ e. e.0) es) ≡ fold (λ m e. max m (length e.0)) n es
 fold-keys n [] = refl
 fold-keys n (e ∷ es) = fold-keys (max n (length e.0)) es
 
+-- the longest key of the table
 pub longest_stored : (es : List (List ℕ × List Element)) (rs : List Range) → T (is_sorted key_cmp es) → longest (table_of es rs) ≡ longest_of es
 longest_stored es rs sorted = ap (λ (xs : List (List ℕ × List Element)). fold (λ m key. max m (length key)) 1 (map (λ e. e.0) xs)) (entries-from_sorted key_cmp es sorted) ∙ fold-keys 1 es
 
+-- a greatest length is none below the one that it began with
 fold-some : (n : ℕ) (es : List (List ℕ × List Element)) → n ≤ fold (λ m e. max m (length e.0)) n es
 fold-some n [] = omega arith
 fold-some n (e ∷ es) = let h : max n (length e.0) ≤ fold (λ m f. max m (length f.0)) (max n (length e.0)) es = fold-some (max n (length e.0)) es in omega arith
 
+-- nor above the limit of a key
 fold-few : (n : ℕ) (es : List (List ℕ × List Element)) → n ≤ MAX_KEY → AllByRecursion IsEntry es → fold (λ m e. max m (length e.0)) n es ≤ MAX_KEY
 fold-few n [] h all = h
 fold-few n (e ∷ es) h all = let few : length e.0 ≤ MAX_KEY = all.0.few_points in fold-few (max n (length e.0)) es (omega arith) all.1
@@ -109,6 +115,7 @@ pub if_found : (P : List Element → Type 0) (r : Option (Bor (List Element))) (
 if_found P None o same h = tt
 if_found P (Some es) o same h = subst (λ p. IfSome p P) (sym same) h
 
+-- a fact of what was found turned into another
 pub if_weaker : (P Q : List Element → Type 0) (o : Option (List Element)) → ((v : List Element) → P v → Q v) → IfSome o P → IfSome o Q
 if_weaker P Q None f h = tt
 if_weaker P Q (Some v) f h = f v h

@@ -1,5 +1,5 @@
 -- A range that is put among the others.
-use Rattle.std.proofs.Common.{◌≡◌, ℕ, suc, ◌+◌, ◌-◌, ◌≤◌, ◌<◌, ◌^◌, min, max, Bool, true, false, cond, ◌==◌, ◌||◌, nat_lt, nat_le, List, [], ◌∷◌, ◌++◌, length, take, drop, fold, filter, map, refl, sym, ap, subst, ◌∙◌, arith, inl, inr, eqb-true}
+use Rattle.std.proofs.Common.{◌≡◌, ℕ, suc, ◌-◌, ◌≤◌, ◌<◌, ◌^◌, min, max, true, false, cond, ◌==◌, nat_lt, nat_le, List, [], ◌∷◌, refl, sym, ap, ◌∙◌, arith, inl, inr}
 use Rattle.std.proofs.lemmas.Bool.{cases_Bool, ltb-true, ltb-false, or_parts, false≢true, eq-eqb}
 use Rattle.std.proofs.lemmas.Bool.Decides.{nat_tests}
 use Rattle.std.specs.Char.{IsScalar}
@@ -25,10 +25,12 @@ all-put P r (s ∷ ss) new all = elim (nat_lt r.first s.first) as (λ b. AllByRe
   | false ↦ (all.0, all-put P r ss new all.1)
 ]
 
+-- a fact of each range turned into another
 all-map : (P Q : Range → Type 0) (rs : List Range) → ((s : Range) → P s → Q s) → AllByRecursion P rs → AllByRecursion Q rs
 all-map P Q [] f all = tt
 all-map P Q (s ∷ ss) f all = (f s all.0, all-map P Q ss f all.1)
 
+-- two facts of each range together
 all-both : (P Q : Range → Type 0) (rs : List Range) → AllByRecursion P rs → AllByRecursion Q rs → AllByRecursion (λ s. P s × Q s) rs
 all-both P Q [] p q = tt
 all-both P Q (s ∷ ss) p q = ((p.0, q.0), all-both P Q ss p.1 q.1)
@@ -43,14 +45,17 @@ apart r s h = elim (cases_Bool (nat_le r.first s.last)) [
   | inr below ↦ inr (grind (arith, nat_tests))
 ]
 
+-- a range that shares no code point with any
 all-apart : (r : Range) (rs : List Range) → list_any (shares r) rs ≡ false → AllByRecursion (AreDisjoint r) rs
 all-apart r [] h = tt
 all-apart r (s ∷ ss) h = let parts = or_parts (shares r s) (list_any (shares r) ss) h in (apart r s parts.0, all-apart r ss parts.1)
 
+-- that holds either way round
 flip : (r s : Range) → AreDisjoint r s → AreDisjoint s r
 flip r s (inl before) = inr before
 flip r s (inr behind) = inl behind
 
+-- the ranges stay apart
 disjoint-put : (r : Range) (rs : List Range) → AllByRecursion (AreDisjoint r) rs → AllDisjoint rs → AllDisjoint (put_range r rs)
 disjoint-put r [] new old = (tt, tt)
 disjoint-put r (s ∷ ss) new old = elim (nat_lt r.first s.first) as (λ b. AllDisjoint (cond b (r ∷ s ∷ ss) (s ∷ put_range r ss))) [
@@ -66,6 +71,7 @@ highest-le (s ∷ rs) base high = elim (cases_Bool (s.base == base)) [
   | inr fails ↦ rw fails (highest-le rs base high)
 ]
 
+-- no range with the base ends above it
 highest-all : (rs : List Range) (base high top : ℕ) → highest_last rs base high ≤ top → AllByRecursion (λ s. s.base ≡ base → s.last ≤ top) rs
 highest-all [] base high top h = tt
 highest-all (s ∷ rs) base high top h = elim (cases_Bool (s.base == base)) [
@@ -78,6 +84,7 @@ highest-all (s ∷ rs) base high top h = elim (cases_Bool (s.base == base)) [
       ((λ same. absurd (false≢true (sym fails ∙ eq-eqb _ _ same))), highest-all rs base high top more)
 ]
 
+-- the lowest first code point is none higher
 lowest-le : (rs : List Range) (base low : ℕ) → lowest_first rs base low ≤ low
 lowest-le [] base low = omega arith
 lowest-le (s ∷ rs) base low = elim (cases_Bool (s.base == base)) [
@@ -85,6 +92,7 @@ lowest-le (s ∷ rs) base low = elim (cases_Bool (s.base == base)) [
   | inr fails ↦ rw fails (lowest-le rs base low)
 ]
 
+-- no range with the base begins below it
 lowest-all : (rs : List Range) (base low least : ℕ) → least ≤ lowest_first rs base low → AllByRecursion (λ s. s.base ≡ base → least ≤ s.first) rs
 lowest-all [] base low least h = tt
 lowest-all (s ∷ rs) base low least h = elim (cases_Bool (s.base == base)) [
@@ -101,6 +109,7 @@ lowest-all (s ∷ rs) base low least h = elim (cases_Bool (s.base == base)) [
 abbrev FitsOver : Range → Range → Type 0
 FitsOver r s = s.base ≡ r.base → r.last - s.first < 0x8000
 
+-- all offsets still fit
 spans-put : (r : Range) (rs : List Range) → spans_too_far rs r ≡ false → AllByRecursion (λ s. AllByRecursion (FitsOver s) rs) rs → AllByRecursion (λ s. AllByRecursion (FitsOver s) (put_range r rs)) (put_range r rs)
 spans-put r rs near old =
     let high = highest_last rs r.base r.last in let low = lowest_first rs r.base r.first in
@@ -123,6 +132,7 @@ AreRanges-put r rs new fine old =
       spans = spans-put r rs far.1 old.spans;
     }
 
+-- a range that begins below all still does
 first-put : (first : ℕ) (r : Range) (rs : List Range) → AllByRecursion (λ s. first < s.first) rs → first < r.first → AllByRecursion (λ s. first < s.first) (put_range r rs)
 first-put first r rs old new = all-put (λ s. first < s.first) r rs new old
 

@@ -1,30 +1,30 @@
 -- What a binary search finds among entries whose keys rise.
-use Rattle.std.proofs.Common.{◌≡◌, ℕ, suc, zero, ◌+◌, ◌≤◌, ◌<◌, Bool, true, false, cond, T, List, [], ◌∷◌, length, map, get_or, Option, Some, None, refl, sym, ap, subst, ◌∙◌, ◌&&◌, inl, inr, arith}
+use Rattle.std.proofs.Common.{◌≡◌, ℕ, suc, zero, ◌+◌, ◌≤◌, ◌<◌, Bool, true, false, cond, T, List, [], ◌∷◌, length, map, get_or, Some, None, refl, sym, ap, ◌∙◌, ◌&&◌, inl, inr, arith}
 use Rattle.std.proofs.lemmas.Bool.{cases_lt}
 use Rattle.std.proofs.lemmas.List.{get_or_default}
 use Rattle.std.specs.declared.cmp.Ordering.{Ordering}
 use Rattle.std.specs.declared.cmp.Ordering.TheVariants.{Less, Equal, Greater}
-use Rattle.std.specs.List.{AllWithin}
 use Rattle.std.specs.List.Sorted.{IsPartitionPoint}
 use Rattle.std.specs.Ordering.{nat_cmp, is_eq, is_lt, eq_by_cmp, ordering_reverse}
-use Rattle.std.specs.Cmp.{IsTotalOrder, tied_itself}
 use Rattle.std.specs.Cmp.Lexicographic.{slice_cmp, nat_list_cmp_total}
 use Rattle.std.specs.FinMap.{find, is_sorted}
 use Rattle.std.specs.FinMap.Entries.{below_all}
-use Rattle.uca_weights.specs.declared.element.Element.{Element}
 use Rattle.uca_model.specs.Table.{key_cmp}
 use Rattle.uca_table.specs.declared.entry.Entry.{Entry}
 use Rattle.uca_table.specs.Stored.{pair_of}
 
+-- an answer that tests as `Less`
 less : (o : Ordering) → T (is_lt o) → o ≡ Less
 less Less h = refl
 less Equal h = absurd h
 less Greater h = absurd h
 
+-- the first of two tests
 left : (a b : Bool) → T (a && b) → T a
 left true b h = tt
 left false b h = h
 
+-- the second of two tests
 right : (a b : Bool) → T (a && b) → T b
 right true b h = h
 right false b h = absurd h
@@ -53,9 +53,11 @@ found_not : (es : List Entry) (q : List ℕ) → ((k : ℕ) (d : Entry) → k < 
 found_not [] q h = refl
 found_not (e ∷ es) q h = ap (λ b. cond b (Some e.elements.items) (find key_cmp q (map pair_of es))) (h 0 e (omega arith)) ∙ found_not es q (λ k d within. h (suc k) d (omega arith))
 
+-- a key that stands before or behind another doesn't tie with it
 apart : (x q : List ℕ) (o : Ordering) → key_cmp x q ≡ o → is_eq (ordering_reverse o) ≡ false → eq_by_cmp key_cmp q x ≡ false
 apart x q o e h = ap is_eq (nat_list_cmp_total.antisymm q x ∙ ap ordering_reverse e) ∙ h
 
+-- nor is a key found that stands between two neighbours
 pub found_nowhere : (es : List Entry) (i : ℕ) (q : List ℕ) → IsPartitionPoint (λ (e : Entry). slice_cmp nat_cmp e.key.items q ≡ Less) (λ (e : Entry). slice_cmp nat_cmp e.key.items q ≡ Greater) es i → find key_cmp q (map pair_of es) ≡ None
 found_nowhere es i q parted = found_not es q (λ k d within. elim (cases_lt k i) [
   | inl below ↦ apart (get_or es k d).key.items q Less (parted.0 k d (omega arith) below) refl
@@ -69,6 +71,7 @@ in_order (e ∷ es) i zero d f sorted before within = absurd (omega arith)
 in_order (e ∷ es) zero (suc j) d f sorted before within = below_at e.key.items es j f (left _ _ sorted) (omega arith)
 in_order (e ∷ es) (suc i) (suc j) d f sorted before within = in_order es i j d f (right _ _ sorted) (omega arith) (omega arith)
 
+-- an entry at a place, whichever would stand in for it past the end
 same_at : (es : List Entry) (i j : ℕ) (d f : Entry) → i ≡ j → j < length es → get_or es i d ≡ get_or es j f
 same_at es i j d f e within = ap (λ k. get_or es k d) e ∙ get_or_default es j d f within
 

@@ -14,7 +14,7 @@ use std::marker::Model;
 use uca_weights::{Element, MAX_ELEMENTS, MAX_KEY, Range};
 
 /// Collects the entries of a table, one after the other.
-#[derive(Drop)]
+#[derive(Debug, Drop)]
 pub struct TableBuilder {
     entries: BTreeMap<Vec<char>, Vec<Element>>,
     // By their first code points.
@@ -52,7 +52,8 @@ impl TableBuilder {
         }
     }
 
-    /// Adds a key with its elements. On a fault the builder stays as it is.
+    /// Adds a key of 1 to `MAX_KEY` code points, which the builder doesn't have yet, with 1 to `MAX_ELEMENTS`
+    /// collation elements (UTS #10, section 3). On a fault the builder stays as it is.
     pub fn insert(&mut self, key: &[char], elements: &[Element]) -> Result<(), InsertFault>
         ensures ok { OnOk result (self.new ≡ with_entry self.old key.now elements.now) }
         ensures err { OnErr result (self.new ≡ self.old) }
@@ -78,8 +79,8 @@ impl TableBuilder {
         store(self.alloc, &mut self.entries, key, elements)
     }
 
-    /// Adds a range of code points whose first implicit weight is `base` (UTS #10, section 10.1.3). `last` belongs to
-    /// the range. On a fault the builder stays as it is.
+    /// Adds the range from `first` to `last`, both of which belong to it. An assigned code point in it that has no key
+    /// gets `base` as its first implicit weight (UTS #10, section 10.1.3). On a fault the builder stays as it is.
     pub fn add_implicit(&mut self, first: char, last: char, base: u16) -> Result<(), RangeFault>
         ensures ok { OnOk result (self.new ≡ with_range self.old (record { first = first; last = last; base = base })) }
         ensures err { OnErr result (self.new ≡ self.old) }
@@ -92,7 +93,7 @@ impl TableBuilder {
         put_range(&mut self.ranges, range)
     }
 
-    /// The table of what was added. The builder comes back where memory is refused.
+    /// The table of what was added. Where memory is refused, the builder comes back as it was.
     pub fn finish(self) -> Result<Table, FinishFault>
         ensures { MatchResult result (λ t. t ≡ self) (λ f. f.builder ≡ self) }
     {

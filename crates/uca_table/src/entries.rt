@@ -1,5 +1,4 @@
 ghost use Rattle.std.specs.Prelude.{◌≡◌, ◌≤◌, length};
-ghost use Rattle.uca_weights.specs.declared.limits.TheConstants.{MAX_KEY};
 
 use crate::entry::Entry;
 use arrayvec::ArrayVec;
@@ -7,7 +6,7 @@ use std::marker::Model;
 use uca_weights::{Element, MAX_KEY};
 
 /// The entries of a table by key order: each key with its elements.
-#[derive(Drop)]
+#[derive(Debug, Drop)]
 pub struct Entries<'t> {
     pub(crate) rest: &'t [Entry],
 }
@@ -33,13 +32,13 @@ impl<'t> Iterator for Entries<'t> {
     ghost use Rattle.std.specs.Iterator.{YieldsFirstBy, item_count};
     ghost use Rattle.uca_table.specs.Stored.{key_and_elements};
 
-    type Item = (ArrayVec<char, 32>, &'t [Element]);
+    type Item = (ArrayVec<char, MAX_KEY>, &'t [Element]);
 
     ghost next_gives = { YieldsFirstBy key_and_elements (λ s. s) };
 
     ghost remaining = { item_count (λ s. s) };
 
-    fn next(&mut self) -> Option<(ArrayVec<char, 32>, &'t [Element])> {
+    fn next(&mut self) -> Option<(ArrayVec<char, MAX_KEY>, &'t [Element])> {
         let (first, others) = self.rest.split_first()?;
         let key = key_in_place(first.key.as_slice());
         self.rest = others;
@@ -48,7 +47,7 @@ impl<'t> Iterator for Entries<'t> {
 }
 
 /// A copy of a key that takes no memory.
-fn key_in_place(key: &[char]) -> ArrayVec<char, 32>
+fn key_in_place(key: &[char]) -> ArrayVec<char, MAX_KEY>
     requires { length key.now ≤ MAX_KEY }
     ensures { result.items ≡ key.now }
 {

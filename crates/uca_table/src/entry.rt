@@ -9,7 +9,7 @@ use std::collections::BTreeMap;
 use uca_weights::Element;
 
 /// A key with its collation elements.
-#[derive(Drop)]
+#[derive(Debug, Drop)]
 pub(crate) struct Entry {
     pub(crate) key: Vec<char>,
     pub(crate) elements: Vec<Element>,

@@ -37,7 +37,8 @@ pub enum RangeFault {
 }
 
 /// Memory for the table was refused. The builder comes back unchanged.
-#[derive(Drop)]
+#[derive(Debug, Drop, Error)]
+#[error("OutOfMemory")]
 pub struct FinishFault {
     pub builder: TableBuilder,
 }

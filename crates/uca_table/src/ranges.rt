@@ -72,12 +72,10 @@ fn place_of(ranges: &[Range], first: char) -> usize
     ensures value { result ≡ place_of first ranges.now }
     ensures within { result ≤ length ranges.now }
 {
-    let mut place = 0;
-    while place < ranges.len() {
-        if ranges[place].first > first {
+    for (place, range) in ranges.iter().enumerate() {
+        if range.first > first {
             return place;
         }
-        place += 1;
     }
-    place
+    ranges.len()
 }

@@ -7,7 +7,7 @@ use std::marker::Model;
 use uca_weights::{Element, Range};
 
 /// A collation element table: a finite map from keys to their elements, with ranges of implicit weights.
-#[derive(Drop)]
+#[derive(Debug, Drop)]
 pub struct Table {
     // By key order.
     pub(crate) entries: Vec<Entry>,
@@ -38,7 +38,7 @@ impl Table {
     ghost use Rattle.std.specs.FinMap.{entries};
     ghost use Rattle.uca_table.specs.Ranges.{AreByFirst};
 
-    /// The elements of a key (UTS #10, section 7.2).
+    /// The collation elements of a key, 1 to `MAX_ELEMENTS` of them (UTS #10, section 3). `None`: it is no key.
     pub fn get(&self, key: &[char]) -> Option<&[Element]>
         ensures value { option_copied result ≡ elements_at self.now key.now }
         ensures some { IfSome result (λ es. 0 < length es.now) }
@@ -56,7 +56,8 @@ impl Table {
         self.longest_key
     }
 
-    /// The elements of a code point that is no key where it stands alone (UTS #10, section 10.1.3).
+    /// The two collation elements of a code point that is no key where it stands alone. Their primary weights are
+    /// made from the code point (UTS #10, section 10.1.3).
     pub fn implicit(&self, c: char) -> [Element; 2]
         ensures { result ≡ implicit self.now c }
     {

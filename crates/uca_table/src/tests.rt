@@ -1,4 +1,5 @@
 use crate::{Element, InsertFault, Range, RangeFault, Table, TableBuilder};
+use arrayvec::ArrayVec;
 use std::alloc::{AllocError, Global};
 use std::process::Abort;
 use std::test::Fail;
@@ -264,6 +265,7 @@ fn entries_come_by_key_order(rt: HostRuntime) {
     ];
     let mut place = 0;
     for (key, elements) in table.entries() {
+        let key: ArrayVec<char, 32> = key;
         assert!(rt; place < 18);
         assert_eq!(rt; key.as_slice(), order[place]);
         assert_eq!(rt; table.get(key.as_slice()), Some(elements));

@@ -1,12 +1,6 @@
-use Rattle.std.proofs.Common.{◌≡◌, ◌+◌, ◌-◌, ◌≤◌, length, drop}
+use Rattle.std.proofs.Common.{◌≡◌, ◌+◌, drop}
 use Rattle.uca_table.specs.Ranges.{place_of}
 use Rattle.uca_table.proofs.ranges.place_of.Given as goal
 
 abbrev pub invariant-loop-place : goal.invariant-loop-place
-invariant-loop-place l = record {
-  within : l.place ≤ length l.ranges;
-  rest : l.place + place_of l.first (drop l.place l.ranges) ≡ place_of l.first l.ranges;
-}
-
-abbrev pub decreases-loop-place : goal.decreases-loop-place
-decreases-loop-place l = length l.ranges - l.place
+invariant-loop-place l = l.place + place_of l.first (drop l.place l.ranges) ≡ place_of l.first l.ranges

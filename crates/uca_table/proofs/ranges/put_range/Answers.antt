@@ -1,4 +1,4 @@
-use Rattle.std.proofs.Common.{◌≡◌, sym, ap, ◌∙◌}
+use Rattle.std.proofs.Common.{sym, ap, ◌∙◌}
 use Rattle.std.specs.List.{insert}
 use Rattle.uca_table.specs.Ranges.{place_of}
 use Rattle.uca_table.proofs.RangeLemmas.{put_at_place}

@@ -1,6 +1,5 @@
-use Rattle.std.proofs.Common.{◌≡◌, List, ℕ, Bool, true, false, map, length, subst, sym, ap, ap₂, ◌∙◌, arith, rules}
-use Rattle.uca_weights.specs.declared.element.Element.{Element}
-use Rattle.uca_model.specs.Table.{ElementTable, is_key, IsEntry}
+use Rattle.std.proofs.Common.{◌≡◌, true, false, map, subst, sym, ap, ◌∙◌, rules}
+use Rattle.uca_model.specs.Table.{is_key, IsEntry}
 use Rattle.uca_table.specs.Builder.{with_entry, insert_fault}
 use Rattle.uca_table.specs.Stored.{AreStored, pair_in, table_of}
 use Rattle.uca_table.proofs.EntryLemmas.{found_in, is_key_stored, table_put, AreStored-put}

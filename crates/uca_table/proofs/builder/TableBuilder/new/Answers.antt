@@ -1,4 +1,4 @@
-use Rattle.std.proofs.Common.{◌≡◌, [], ap₂, map, ◌∙◌}
+use Rattle.std.proofs.Common.{[], ap₂, map, ◌∙◌}
 use Rattle.uca_table.specs.Stored.{pair_in, table_of}
 use Rattle.uca_table.proofs.EntryLemmas.{table_none}
 use Rattle.uca_table.proofs.builder.TableBuilder.new.Goals as goal

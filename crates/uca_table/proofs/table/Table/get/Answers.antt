@@ -1,8 +1,7 @@
-use Rattle.std.proofs.Common.{◌≡◌, ℕ, ◌<◌, ◌≤◌, List, length, map, Option, IfSome, sym, ap, ◌∙◌, arith}
+use Rattle.std.proofs.Common.{◌<◌, ◌≤◌, length, map, sym, ap, ◌∙◌}
 use Rattle.std.specs.FinMap.{find}
-use Rattle.uca_weights.specs.declared.element.Element.{Element}
 use Rattle.uca_weights.specs.declared.limits.TheConstants.{MAX_ELEMENTS}
-use Rattle.uca_model.specs.Table.{ElementTable, key_cmp, elements_at}
+use Rattle.uca_model.specs.Table.{key_cmp, elements_at}
 use Rattle.uca_table.specs.Stored.{pair_of}
 use Rattle.uca_table.proofs.EntryLemmas.{elements_at_stored, found_entry, if_found, if_weaker}
 use Rattle.uca_table.proofs.table.Table.get.Goals as goal

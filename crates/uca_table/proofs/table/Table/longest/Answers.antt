@@ -1,5 +1,5 @@
-use Rattle.std.proofs.Common.{◌≡◌, map, subst, sym, ap, ◌∙◌}
-use Rattle.uca_model.specs.Table.{ElementTable, IsTable, longest}
+use Rattle.std.proofs.Common.{map, subst, sym, ap, ◌∙◌}
+use Rattle.uca_model.specs.Table.{IsTable, longest}
 use Rattle.uca_table.specs.Stored.{pair_of}
 use Rattle.uca_table.proofs.EntryLemmas.{longest_stored, IsTable-stored, longest-bounds}
 use Rattle.uca_table.proofs.table.Table.longest.Goals as goal

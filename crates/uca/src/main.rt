@@ -1,0 +1,103 @@
+//! The program `uca`: its words, its streams and its status. What it does is `uca_cli`'s.
+#![tactic(auto)]
+
+ghost use Rattle.std.specs.Prelude.{◌≡◌, ◌≤◌, false};
+ghost use Rattle.uca_weights.specs.Settings.{levels};
+
+use std::alloc::AllocError;
+use std::io::{ErrorKind, Stdin, Write};
+use std::process::ExitCode;
+use std::{env, io};
+use uca_cli::{Job, JobFault, job_of, perform, status_of};
+use uca_weights::{Reading, Variable, Writing};
+
+/// The status for words that are no job.
+const REFUSED_WORDS: u8 = 2;
+
+/// The status for a job that was not done.
+const NOT_DONE: u8 = 3;
+
+fn main(rt: HostRuntime) -> ExitCode {
+    ExitCode::from(run(&rt))
+}
+
+/// Does what the words of the command line ask for, and answers the status.
+fn run(rt: &HostRuntime) -> u8 {
+    let words = match words_of(rt) {
+        Ok(words) => words,
+        Err(error) => return refuse_words(rt, &error),
+    };
+    let Ok(views) = views_of(rt, &words) else {
+        return out_of_memory(rt);
+    };
+    match job_of(rt.alloc(), &views) {
+        Ok(job) => do_job(rt, &job),
+        Err(fault) => refuse_job(rt, &fault),
+    }
+}
+
+/// The words after the program's name.
+fn words_of(rt: &HostRuntime) -> io::Result<Vec<String>> {
+    let mut all = env::args(rt)?;
+    let _ = all.next();
+    Ok(all.collect(rt.alloc())?)
+}
+
+fn views_of<'a>(rt: &HostRuntime, words: &'a [String]) -> Result<Vec<&'a str>, AllocError> {
+    let mut views = Vec::new(rt.alloc());
+    for word in words {
+        views.push(word.as_str())?;
+    }
+    Ok(views)
+}
+
+/// Tells that the words could not be read.
+fn refuse_words(rt: &HostRuntime, error: &io::Error) -> u8 {
+    if error.kind() == ErrorKind::OutOfMemory {
+        return out_of_memory(rt);
+    }
+    let _ = eprintln!(rt; "uca: a word of the command line is not UTF-8");
+    REFUSED_WORDS
+}
+
+fn out_of_memory(rt: &HostRuntime) -> u8 {
+    let _ = eprintln!(rt; "uca: OutOfMemory");
+    NOT_DONE
+}
+
+/// Tells that the words are no job.
+fn refuse_job(rt: &HostRuntime, fault: &JobFault) -> u8 {
+    let _ = eprintln!(rt; "{fault}");
+    match fault {
+        JobFault::Usage(_) => REFUSED_WORDS,
+        JobFault::OutOfMemory => NOT_DONE,
+    }
+}
+
+/// Does a job on the standard streams.
+fn do_job(rt: &HostRuntime, job: &Job) -> u8
+    requires few { levels job.now.strength ≤ 3 }
+    requires unweighted { job.now.weighting ≡ Variable.NonIgnorable }
+    requires digits { job.now.raw ≡ false }
+{
+    let mut input = Reading::new(rt.stdin());
+    let mut output = Writing::new(rt.stdout());
+    let table = None::<&mut Reading<Stdin>>;
+    let rules = None::<&mut Reading<Stdin>>;
+    match perform(rt.alloc(), job, table, rules, &mut input, &mut output) {
+        Ok(status) => flushed(rt, status),
+        Err(fault) => {
+            let _ = eprintln!(rt; "{fault}");
+            status_of(&fault)
+        }
+    }
+}
+
+/// Flushes standard output, and answers the status.
+fn flushed(rt: &HostRuntime, status: u8) -> u8 {
+    if rt.stdout().flush().is_err() {
+        let _ = eprintln!(rt; "uca: output: Failed");
+        return NOT_DONE;
+    }
+    status
+}
