@@ -1,0 +1,68 @@
+#!/usr/bin/env bash
+# The built program from end to end: `uca key` on small inputs, on what it refuses, and on inputs at its limit.
+set -u
+cd "$(dirname "${BASH_SOURCE[0]}")/.." || exit 2
+work=$(mktemp -d) || exit 2
+trap 'rm -rf "$work"' EXIT
+passed=0
+failed=0
+
+# is NAME WANTED GOT
+is() {
+    if [ "$2" = "$3" ]; then
+        passed=$((passed + 1))
+    else
+        failed=$((failed + 1))
+        printf 'tests/key.sh: %s\n  wanted: %s\n  got:    %s\n' "$1" "$2" "$3"
+    fi
+}
+
+# runs WORDS.. <input: leaves out, err and status
+runs() {
+    ./uca "$@" >"$work/out" 2>"$work/err"
+    status=$?
+}
+
+marks() { for _ in $(seq "$1"); do printf '\xcc\x81'; done; }
+
+printf '' | ./uca key >/dev/null || { echo "tests/key.sh: the program could not be built"; exit 1; }
+
+runs key < <(printf 'a\nab\n')
+is "keys of two lines" "10 00 00 00 00 20 00 00 00 02|10 00 10 01 00 00 00 20 00 20 00 00 00 02 00 02|0" "$(paste -sd'|' "$work/out")|$status"
+runs key < <(printf '\xc3\xa0\n\n\xe4\xb8\x80')
+is "a decomposed letter, an empty line, an ideograph" "10 00 00 00 00 20 00 21 00 00 00 02 00 02|00 00 00 00|FB 40 CE 00 00 00 00 20 00 00 00 02|0" "$(paste -sd'|' "$work/out")|$status"
+runs key < <(printf 'a\r\na\r')
+is "one CR before LF or the end is no part of the line" "10 00 00 00 00 20 00 00 00 02|10 00 00 00 00 20 00 00 00 02|0" "$(paste -sd'|' "$work/out")|$status"
+runs key </dev/null
+is "no line" "|0" "$(cat "$work/out")|$status"
+
+runs key < <(printf 'a\nb\xff\n')
+is "bytes that are not UTF-8" "|uca: input line 2 byte 1: NotUtf8|3" "$(cat "$work/out")|$(cat "$work/err")|$status"
+runs key < <(printf 'b\na'; marks 31; printf '\n')
+is "a run of 31 marks" "|uca: input line 2 byte 61: LongRun|3" "$(cat "$work/out")|$(cat "$work/err")|$status"
+runs key < <(printf 'a'; marks 30)
+is "a run of 30 marks" "|0" "$(cat "$work/err")|$status"
+
+for words in "" "sort" "key --strength primary" "--help"; do
+    # shellcheck disable=SC2086
+    runs $words </dev/null
+    is "words that are no job: $words" "0|2" "$(wc -c <"$work/out")|$status"
+done
+
+./uca key < <(printf 'a\n') >/dev/full 2>"$work/err"
+status=$?
+is "a full disk" "uca: output byte 0: Failed|3" "$(cat "$work/err")|$status"
+
+# At the limit: 64 MiB are taken, one byte more is refused before anything is written.
+limit=67108864
+yes 'strasse' | head -c "$limit" >"$work/large"
+from=$(date +%s)
+./uca key <"$work/large" | wc -l >"$work/lines"
+is "64 MiB of lines" "$((limit / 8))" "$(cat "$work/lines")"
+echo "tests/key.sh: 64 MiB of short lines took $(($(date +%s) - from)) s"
+printf 'x' >>"$work/large"
+runs key <"$work/large"
+is "one byte more than 64 MiB" "0|uca: input: TooLarge|3" "$(wc -c <"$work/out")|$(cat "$work/err")|$status"
+
+echo "tests/key.sh: $passed passed, $failed failed"
+[ "$failed" -eq 0 ]
