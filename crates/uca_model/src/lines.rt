@@ -1,23 +1,9 @@
-ghost use Rattle.std.specs.Prelude.{◌≡◌, ◌≢◌, ℕ, ◌+◌, ◌<◌, ◌≤◌, ◌∷◌, length, drop, slice_index, map, IfOk};
-ghost use Rattle.uca_model.specs.Lines.{lines_of, line_feed, without_return};
+ghost use Rattle.std.specs.Prelude.{◌≡◌, ◌++◌, ◌∷◌, [], map, IfOk, OnOk};
+ghost use Rattle.uca_model.specs.Lines.{lines_of, without_return};
 
 use std::alloc::{AllocError, Global};
 
-/// Where the first line ends: at its LF, or at the end of the input.
-fn line_end(bytes: &[u8]) -> usize
-    ensures within { result ≤ length bytes.now }
-    ensures before { (k : ℕ) → k < result → slice_index bytes.now k ≢ line_feed }
-    ensures there { result < length bytes.now → slice_index bytes.now result ≡ line_feed }
-{
-    for (i, byte) in bytes.iter().enumerate() {
-        if *byte == b'\n' {
-            return i;
-        }
-    }
-    bytes.len()
-}
-
-/// The line without one CR at its end.
+/// A line without one CR at its end.
 fn without_return(line: &[u8]) -> &[u8]
     ensures { result.now ≡ without_return line.now }
 {
@@ -25,44 +11,38 @@ fn without_return(line: &[u8]) -> &[u8]
         return line;
     }
     let end = line.len() - 1;
-    if line[end] == b'\r' {
-        &line[..end]
-    } else {
-        line
-    }
+    if line[end] == b'\r' { &line[..end] } else { line }
 }
 
-/// What stands behind the byte at `end`.
-fn behind(bytes: &[u8], end: usize) -> &[u8]
-    ensures { result.now ≡ drop (end + 1) bytes.now }
+/// Appends a line, without one CR at its end.
+fn push_line(
+    alloc: Global,
+    lines: &mut Vec<Vec<u8>>,
+    line: &[u8],
+) -> Result<(), AllocError>
+    ensures { OnOk result (map (λ line. line.items) lines.new.items ≡ map (λ line. line.items) lines.old.items ++ without_return line.now ∷ []) }
 {
-    if end < bytes.len() {
-        &bytes[end + 1..]
-    } else {
-        &bytes[..0]
-    }
+    lines.push(without_return(line).to_vec(alloc)?)?;
+    Ok(())
 }
 
-/// The first line, and the bytes behind what ends it.
-pub fn first_line(bytes: &[u8]) -> (&[u8], &[u8])
-    requires { 0 < length bytes.now }
-    ensures parts { lines_of bytes.now ≡ result.0.now ∷ lines_of result.1.now }
-    ensures shorter { length result.1.now < length bytes.now }
-{
-    let end = line_end(bytes);
-    (without_return(&bytes[..end]), behind(bytes, end))
-}
-
-/// The lines of an input, without what ends them.
+/// The lines of an input, without what ends them: byte after byte.
 pub fn lines_of(alloc: Global, bytes: &[u8]) -> Result<Vec<Vec<u8>>, AllocError>
     ensures { IfOk result (λ v. map (λ line. line.items) v.items ≡ lines_of bytes.now) }
 {
     let mut lines = Vec::new(alloc);
-    let mut left = bytes;
-    while !left.is_empty() {
-        let (line, rest) = first_line(left);
-        lines.push(line.to_vec(alloc)?)?;
-        left = rest;
+    let mut line = Vec::new(alloc);
+    for byte in bytes {
+        if *byte == b'\n' {
+            push_line(alloc, &mut lines, &line)?;
+            line.clear();
+        } else {
+            line.push(*byte)?;
+        }
     }
+    if line.is_empty() {
+        return Ok(lines);
+    }
+    push_line(alloc, &mut lines, &line)?;
     Ok(lines)
 }
