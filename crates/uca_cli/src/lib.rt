@@ -17,5 +17,7 @@ mod small_table;
 
 pub use faults::{CliFault, InputCause, InputFault};
 pub use job::{Job, JobFault, Task, job_of};
+pub use keys::key_of;
+pub use passage::{LongRun, Passage};
 pub use performing::{perform, status_of};
 pub use small_table::built_in;

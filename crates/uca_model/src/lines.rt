@@ -11,15 +11,15 @@ fn without_return(line: &[u8]) -> &[u8]
         return line;
     }
     let end = line.len() - 1;
-    if line[end] == b'\r' { &line[..end] } else { line }
+    if line[end] == b'\r' {
+        &line[..end]
+    } else {
+        line
+    }
 }
 
 /// Appends a line, without one CR at its end.
-fn push_line(
-    alloc: Global,
-    lines: &mut Vec<Vec<u8>>,
-    line: &[u8],
-) -> Result<(), AllocError>
+fn push_line(alloc: Global, lines: &mut Vec<Vec<u8>>, line: &[u8]) -> Result<(), AllocError>
     ensures { OnOk result (map (λ line. line.items) lines.new.items ≡ map (λ line. line.items) lines.old.items ++ without_return line.now ∷ []) }
 {
     lines.push(without_return(line).to_vec(alloc)?)?;

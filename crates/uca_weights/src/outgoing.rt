@@ -16,12 +16,12 @@ pub struct Outgoing {
 }
 
 impl Outgoing {
-    ghost use Rattle.uca_weights.specs.Outgoing.{handed, Sends, StopsSending};
+    ghost use Rattle.uca_weights.specs.Outgoing.{handed, waiting_of, written_of, Sends, StopsSending};
 
     /// Nothing waits, and nothing went out.
     pub fn new() -> Outgoing
-        ensures written { result.written ≡ 0 }
-        ensures waiting { result.waiting.items ≡ [] }
+        ensures written { written_of result ≡ 0 }
+        ensures waiting { waiting_of result ≡ [] }
     {
         Outgoing {
             waiting: ArrayVec::new(),
@@ -35,7 +35,7 @@ impl Outgoing {
         ensures all { MatchResult result
             (λ _. Sends (W.state w.old) self.old (W.state w.new) self.new [])
             (λ f. StopsSending (W.state w.old) self.old (W.state w.new) [] f) }
-        ensures empty { MatchResult result (λ _. self.new.waiting.items ≡ []) (λ _. Unit {0}) }
+        ensures empty { MatchResult result (λ _. waiting_of self.new ≡ []) (λ _. Unit {0}) }
     {
         match write_whole(w, self.waiting.as_slice()) {
             Ok(()) => {

@@ -1,4 +1,4 @@
-use Rattle.std.proofs.Common.{◌≡◌, List, ℕ, ap, sym, ◌∙◌, ◌++◌}
+use Rattle.std.proofs.Common.{List, ℕ, ap, sym, ◌∙◌, ◌++◌}
 use Rattle.uca_model.specs.Output.{hex_text, hex_pair}
 use Rattle.uca_model.proofs.OutputLemmas.{hex_text-cons, hex_behind}
 use Rattle.uca_model.proofs.output.hex_text.Goals as goal

@@ -1,6 +1,6 @@
-use Rattle.std.proofs.Common.{◌≡◌, ℕ, List, ◌-◌, ◌+◌, ◌≤◌, length, take, drop, arith, ◌∙◌, ap, ne_eqb, nat_lt, ◌&&◌}
+use Rattle.std.proofs.Common.{◌≡◌, ℕ, ◌-◌, length, take, drop, arith, ◌∙◌, ap, ne_eqb, nat_lt, ◌&&◌}
 use Rattle.uca_weights.specs.Counts.{counted}
-use Rattle.std.proofs.lemmas.List.{take_all, length-drop, length-take}
+use Rattle.std.proofs.lemmas.List.{take_all, length-drop}
 use Rattle.uca_weights.proofs.WriteLemmas.{Appends-next}
 use Rattle.uca_weights.proofs.writing.write_whole.Goals as goal
 
