@@ -12,3 +12,4 @@ pub mod CharacterLemmas
 pub mod TableLemmas
 pub mod WeightLemmas
 pub mod LevelLemmas
+pub mod CanonicalLemmas

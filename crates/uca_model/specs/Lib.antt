@@ -12,5 +12,6 @@ pub mod SortKey
 pub mod Reading
 pub mod Lines
 pub mod Output
+pub mod CanonicalText
 pub mod Laws
 pub mod Plain

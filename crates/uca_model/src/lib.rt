@@ -4,6 +4,7 @@
 //! tests compare the fast ones with: each says its definition over whole lists, and takes what time it likes.
 #![tactic(auto)]
 
+pub mod canonical_text;
 pub mod collation;
 pub mod entry;
 pub mod implicit_weights;

@@ -1,4 +1,4 @@
-ghost use Rattle.std.specs.Prelude.{◌≡◌, ◌≤◌, ◌<◌, length, option_copied, IfSome};
+ghost use Rattle.std.specs.Prelude.{◌≡◌, ◌≤◌, ◌<◌, ◌^◌, length, option_copied, IfSome};
 
 use crate::entries::Entries;
 use crate::entry::{Entry, elements_of};
@@ -66,7 +66,8 @@ impl Table {
 
     /// The entries by key order: by code points, a proper prefix first.
     pub fn entries(&self) -> Entries<'_>
-        ensures { result ≡ entries self.now.entries }
+        ensures value { result ≡ entries self.now.entries }
+        ensures few { length (entries self.now.entries) < 2 ^ 64 }
     {
         Entries {
             rest: self.entries.as_slice(),

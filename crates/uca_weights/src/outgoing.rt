@@ -29,6 +29,13 @@ impl Outgoing {
         }
     }
 
+    /// The count of bytes that went out.
+    pub fn written(&self) -> u128
+        ensures { result ≡ written_of self.now }
+    {
+        self.written
+    }
+
     /// Has what waits go out.
     pub fn flush<W: Writer>(&mut self, w: &mut W) -> Result<(), WriteFault>
         requires { handed self.old < 2 ^ 128 }

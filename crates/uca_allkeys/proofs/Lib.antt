@@ -1,0 +1,3 @@
+pub mod SendLemmas
+pub mod CanonicalLines
+pub mod CanonicalDigits

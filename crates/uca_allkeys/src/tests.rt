@@ -1,0 +1,233 @@
+use crate::write_table;
+use arrayvec::ArrayVec;
+use std::alloc::{AllocError, Global};
+use std::io;
+use std::io::Write;
+use std::process::Abort;
+use uca_model::{Entry, canonical_text};
+use uca_table::{Table, TableBuilder};
+use uca_weights::{Element, Range, WriteCause, Writing};
+
+/// Keys with their one element, whose mark is `*` where the flag is true, in no order.
+const SMALL_TABLE: [(&[char], bool, [u16; 3]); 18] = [
+    (&['\u{1}'], false, [0, 0, 0]),
+    (&[' '], true, [0x201, 0x20, 2]),
+    (&['-'], true, [0x202, 0x20, 2]),
+    (&['\u{300}'], false, [0, 0x21, 2]),
+    (&['\u{301}'], false, [0, 0x22, 2]),
+    (&['\u{308}'], false, [0, 0x23, 2]),
+    (&['\u{323}'], false, [0, 0x24, 2]),
+    (&['a'], false, [0x1000, 0x20, 2]),
+    (&['A'], false, [0x1000, 0x20, 8]),
+    (&['b'], false, [0x1001, 0x20, 2]),
+    (&['c'], false, [0x1002, 0x20, 2]),
+    (&['e'], false, [0x1004, 0x20, 2]),
+    (&['h'], false, [0x1005, 0x20, 2]),
+    (&['z'], false, [0x1006, 0x20, 2]),
+    (&['c', 'h'], false, [0x1007, 0x20, 2]),
+    (&['a', '\u{301}'], false, [0x1008, 0x20, 2]),
+    (&['b', '\u{301}'], false, [0x1009, 0x20, 2]),
+    (&['b', '\u{301}', '\u{308}'], false, [0x100A, 0x20, 2]),
+];
+
+const TWO_RANGES: [Range; 2] = [
+    Range {
+        first: '\u{17000}',
+        last: '\u{18AFF}',
+        base: 0xFB00,
+    },
+    Range {
+        first: '\u{18D00}',
+        last: '\u{18D8F}',
+        base: 0xFB00,
+    },
+];
+
+const SMALL_TEXT: &[u8] = b"@implicitweights 17000..18AFF; FB00
+@implicitweights 18D00..18D8F; FB00
+0001 ; [.0000.0000.0000]
+0020 ; [*0201.0020.0002]
+002D ; [*0202.0020.0002]
+0041 ; [.1000.0020.0008]
+0061 ; [.1000.0020.0002]
+0061 0301 ; [.1008.0020.0002]
+0062 ; [.1001.0020.0002]
+0062 0301 ; [.1009.0020.0002]
+0062 0301 0308 ; [.100A.0020.0002]
+0063 ; [.1002.0020.0002]
+0063 0068 ; [.1007.0020.0002]
+0065 ; [.1004.0020.0002]
+0068 ; [.1005.0020.0002]
+007A ; [.1006.0020.0002]
+0300 ; [.0000.0021.0002]
+0301 ; [.0000.0022.0002]
+0308 ; [.0000.0023.0002]
+0323 ; [.0000.0024.0002]
+";
+
+fn element(starred: bool, [l1, l2, l3]: [u16; 3]) -> Element {
+    Element {
+        starred,
+        l1,
+        l2,
+        l3,
+    }
+}
+
+/// Inserts an entry, once more where memory was refused.
+fn insert(builder: &mut TableBuilder, key: &[char], elements: &[Element]) -> bool {
+    builder.insert(key, elements).is_ok() || builder.insert(key, elements).is_ok()
+}
+
+/// Adds a range, once more where memory was refused.
+fn add_implicit(builder: &mut TableBuilder, range: Range) -> bool {
+    builder
+        .add_implicit(range.first, range.last, range.base)
+        .is_ok()
+        || builder
+            .add_implicit(range.first, range.last, range.base)
+            .is_ok()
+}
+
+/// Makes the table, once more where memory was refused.
+fn finish(builder: TableBuilder) -> Option<Table> {
+    match builder.finish() {
+        Ok(table) => Some(table),
+        Err(fault) => fault.builder.finish().ok(),
+    }
+}
+
+fn small_table(rt: &impl Abort, alloc: Global) -> Table {
+    let mut builder = TableBuilder::new(alloc);
+    for range in TWO_RANGES {
+        assert!(rt; add_implicit(&mut builder, range));
+    }
+    for (key, starred, weights) in SMALL_TABLE {
+        assert!(rt; insert(&mut builder, key, &[element(starred, weights)]));
+    }
+    finish(builder).expect(rt, "a table")
+}
+
+/// The same entries as the plain programs keep them.
+fn plain_entries(alloc: Global) -> Result<Vec<Entry>, AllocError> {
+    let mut entries = Vec::new(alloc);
+    for (key, starred, weights) in SMALL_TABLE {
+        let key = key.to_vec(alloc)?;
+        let elements = [element(starred, weights)].to_vec(alloc)?;
+        entries.push(Entry { key, elements })?;
+    }
+    Ok(entries)
+}
+
+/// Keeps what it takes. Where it has no room left, it fails or takes none.
+#[derive(Drop)]
+struct Shelf {
+    taken: ArrayVec<u8, 1024>,
+    room: usize,
+    fails: bool,
+}
+
+impl Write for Shelf {
+    fn write(&mut self, buf: &[u8]) -> io::Result<usize> {
+        if self.room == 0 && self.fails {
+            return Err(io::Error::from(io::ErrorKind::Other));
+        }
+        let n = buf.len().min(self.room);
+        let _fits = self.taken.try_extend_from_slice(&buf[..n]);
+        self.room -= n;
+        Ok(n)
+    }
+
+    fn flush(&mut self) -> io::Result<()> {
+        Ok(())
+    }
+}
+
+fn with_room(room: usize, fails: bool) -> Writing<Shelf> {
+    Writing::new(Shelf {
+        taken: ArrayVec::new(),
+        room,
+        fails,
+    })
+}
+
+#[test]
+fn a_small_table_has_its_canonical_text(rt: HostRuntime) {
+    let table = small_table(&rt, rt.alloc());
+    let mut writer = with_room(1024, true);
+    assert_eq!(rt;
+        write_table(&mut writer, &table),
+        Ok(SMALL_TEXT.len() as u128)
+    );
+    let taken = writer.into_inner().taken;
+    assert_eq!(rt; taken.as_slice(), SMALL_TEXT);
+}
+
+#[test]
+fn the_plain_program_has_the_same_text(rt: HostRuntime) {
+    let Ok(entries) = plain_entries(rt.alloc()) else {
+        return;
+    };
+    let Ok(text) = canonical_text::canonical(rt.alloc(), &entries, &TWO_RANGES) else {
+        return;
+    };
+    assert_eq!(rt; text.as_slice(), SMALL_TEXT);
+}
+
+#[test]
+fn an_empty_table_has_no_text(rt: HostRuntime) {
+    let table = finish(TableBuilder::new(rt.alloc())).expect(&rt, "a table");
+    let mut writer = with_room(0, true);
+    assert_eq!(rt; write_table(&mut writer, &table), Ok(0));
+}
+
+#[test]
+fn code_points_have_four_to_six_digits(rt: HostRuntime) {
+    let mut builder = TableBuilder::new(rt.alloc());
+    let key = [
+        '\u{FFFF}',
+        '\u{10000}',
+        '\u{FFFFF}',
+        '\u{100000}',
+        '\u{10FFFF}',
+        '\0',
+    ];
+    let elements = [
+        element(true, [0xFFFF, 0xF, 0xABC]),
+        element(false, [0x9, 0x10, 0x1000]),
+    ];
+    assert!(rt; insert(&mut builder, &key, &elements));
+    let table = finish(builder).expect(&rt, "a table");
+    let mut writer = with_room(1024, true);
+    let text: &[u8] = b"FFFF 10000 FFFFF 100000 10FFFF 0000 ; [*FFFF.000F.0ABC][.0009.0010.1000]\n";
+    assert_eq!(rt; write_table(&mut writer, &table), Ok(text.len() as u128));
+    let taken = writer.into_inner().taken;
+    assert_eq!(rt; taken.as_slice(), text);
+}
+
+#[test]
+fn a_writer_that_stops_tells_what_went_out(rt: HostRuntime) {
+    let table = small_table(&rt, rt.alloc());
+    for (fails, cause) in [(true, WriteCause::Failed), (false, WriteCause::Zero)] {
+        for room in [0, 3, 40, 100] {
+            let mut writer = with_room(room, fails);
+            let written = write_table(&mut writer, &table);
+            assert!(rt;
+                matches!(&written, Err(f) if f.written == room as u128 && f.cause == cause)
+            );
+            let taken = writer.into_inner().taken;
+            assert_eq!(rt; taken.as_slice(), &SMALL_TEXT[..room]);
+        }
+    }
+}
+
+#[test]
+fn a_table_longer_than_the_buffer_is_whole(rt: HostRuntime) {
+    let mut builder = TableBuilder::new(rt.alloc());
+    for c in '\u{4E00}'..'\u{5000}' {
+        assert!(rt; insert(&mut builder, &[c], &[element(false, [0x1000, 0x20, 2])]));
+    }
+    let table = finish(builder).expect(&rt, "a table");
+    let mut writer = Writing::new(io::sink());
+    assert_eq!(rt; write_table(&mut writer, &table), Ok(512 * 25));
+}
