@@ -1,9 +1,20 @@
-//! The text of a collation element table, as in `allkeys.txt` (UTS #10, Allkeys File Format).
+//! The text of a collation element table, in the manner of `allkeys.txt` (UTS #10, Allkeys File Format): [`read_table`]
+//! reads it, and [`write_table`] writes a table in the one canonical form.
 #![tactic(auto)]
 
+mod bytes;
 pub mod canonical;
+mod directive;
+mod entry;
+pub mod faults;
+mod lines;
+pub mod read;
+mod reading;
+mod statement;
 
 pub use canonical::write_table;
+pub use faults::{ReadCause, ReadFault};
+pub use read::read_table;
 
 #[cfg(test)]
 mod tests;

@@ -1,6 +1,5 @@
 -- The built-in table, entry after entry.
-use Rattle.std.proofs.Common.{◌≡◌, ℕ, ◌+◌, ◌<◌, List, [], ◌∷◌, ◌++◌, fold, max, length, take, get_or, map, refl, sym, ap, ap₂, ◌∙◌, arith}
-use Rattle.std.proofs.lemmas.List.{take_more}
+use Rattle.std.proofs.Common.{◌≡◌, ℕ, List, [], ◌∷◌, fold, max, length, map, refl, sym, ap, ap₂, ◌∙◌, arith}
 use Rattle.std.specs.FinMap.{FinMap, empty, put, entries, entries-from_sorted, entries-insert, same_entries_map, len-entries, len-empty}
 use Rattle.std.specs.Cmp.Lexicographic.{nat_list_cmp_total}
 use Rattle.uca_weights.specs.declared.element.Element.{Element}

@@ -1,5 +1,5 @@
 -- The first byte of a kind, and the first line with a fault.
-use Rattle.std.proofs.Common.{◌≡◌, ◌≢◌, ℕ, ◌+◌, ◌<◌, ◌≤◌, List, [], ◌∷◌, ◌++◌, length, All, slice_index, refl, sym, ap, ◌∙◌, arith, eqb, eq-eqb}
+use Rattle.std.proofs.Common.{◌≡◌, ◌≢◌, ℕ, ◌+◌, ◌<◌, List, [], ◌∷◌, ◌++◌, length, All, slice_index, sym, ap, ◌∙◌, arith, eq-eqb}
 use Rattle.std.proofs.Common.{append_assoc, append-nil, length-append, subst}
 use Rattle.std.proofs.lemmas.List.Elements.{All-push}
 use Rattle.memchr.specs.Find.{Nowhere, Passes, is_byte}

@@ -1,5 +1,5 @@
 -- The output of keys, line after line.
-use Rattle.std.proofs.Common.{◌≡◌, ℕ, List, [], ◌∷◌, ◌++◌, flat_map, refl, sym, ap, subst, ◌∙◌, append_assoc, append-nil}
+use Rattle.std.proofs.Common.{◌≡◌, ℕ, ◌<◌, List, [], ◌∷◌, ◌++◌, length, flat_map, sym, ap, subst, ◌∙◌, arith, append_assoc, length-append}
 use Rattle.uca_weights.specs.WriterState.{WriterState}
 use Rattle.uca_weights.specs.Writer.{WritesFront}
 use Rattle.uca_weights.specs.Outgoing.{Sends, StopsSending}
@@ -8,8 +8,9 @@ use Rattle.uca_weights.specs.declared.settings.Settings.{Settings}
 use Rattle.uca_weights.specs.declared.writer.WriteFault.{WriteFault}
 use Rattle.uca_weights.proofs.OutgoingLemmas.{StopsSending-later, StopsSending-longer, StopsSending-front}
 use Rattle.uca_model.specs.Table.{ElementTable}
-use Rattle.uca_model.specs.Lines.{lines_of}
-use Rattle.uca_model.specs.Output.{key_line, key_output}
+use Rattle.uca_model.specs.Lines.{lines_of, line_feed}
+use Rattle.uca_model.specs.Output.{hex_text, hex_line, key_line, key_output}
+use Rattle.uca_cli.specs.Performing.{WritesSome}
 use Rattle.uca_cli.specs.Sending.{StopsLine, StopsOutput}
 use Rattle.uca_cli.specs.declared.faults.CliFault.{CliFault}
 use Rattle.uca_cli.specs.declared.faults.CliFault.TheVariants.{Input, Output, OutOfMemory}
@@ -31,3 +32,23 @@ pub StopsOutput-line : (fault : CliFault) (s0 s1 s2 : WriterState) (o0 o1 : Outg
 StopsOutput-line (Output f) s0 s1 s2 o0 o1 sent line rest whole empty none sends stops is = StopsSending-whole s0 s1 s2 o0 o1 sent line rest whole f empty none sends stops is
 StopsOutput-line (Input f) s0 s1 s2 o0 o1 sent line rest whole empty none sends stops is = absurd stops
 StopsOutput-line OutOfMemory s0 s1 s2 o0 o1 sent line rest whole empty none sends stops is = absurd stops
+
+-- a line of digits is not empty
+length-hex_line : (key : List ℕ) → 0 < length (hex_line key)
+length-hex_line key = omega (arith, length-append (hex_text key) (line_feed ∷ []))
+
+-- a line was not handed over, so that not all went out
+pub WritesSome-line : (s0 s1 : WriterState) (o0 o1 : Outgoing) (sent key rest whole : List ℕ) → o0.waiting.items ≡ [] → Sends s0 o0 s1 o1 sent → (sent ++ hex_line key) ++ rest ≡ whole → WritesSome s0 s1 whole
+WritesSome-line s0 s1 o0 o1 sent key rest whole empty sends is =
+    let line : List ℕ = hex_line key in
+    let front : sent ≡ sends.went ++ o1.waiting.items = ap (λ l. l ++ sent) (sym empty) ∙ sends.all in
+    let behind : List ℕ = (o1.waiting.items ++ line) ++ rest in
+    let parts : (sent ++ line) ++ rest ≡ sends.went ++ behind
+    = ap (λ l. (l ++ line) ++ rest) front ∙ ap (λ l. l ++ rest) (append_assoc sends.went o1.waiting.items line) ∙ append_assoc sends.went (o1.waiting.items ++ line) rest in
+    record {
+      went = sends.went;
+      writes = sends.writes;
+      left = behind;
+      parts = sym is ∙ parts;
+      more = omega (arith, length-hex_line key, length-append (o1.waiting.items ++ line) rest, length-append o1.waiting.items line);
+    }

@@ -1,5 +1,5 @@
 -- What doing a job comes to: what was read, what went out, and what stopped it.
-use Rattle.std.specs.Prelude.{◌≡◌, ℕ, ◌≤◌, ◌⊎◌, List, ◌++◌, length, All}
+use Rattle.std.specs.Prelude.{◌≡◌, ℕ, ◌<◌, ◌≤◌, ◌⊎◌, List, ◌++◌, length, All}
 use Rattle.uca_weights.specs.declared.limits.TheConstants.{MAX_INPUT}
 use Rattle.uca_weights.specs.declared.settings.Settings.{Settings}
 use Rattle.uca_weights.specs.declared.writer.WriteFault.{WriteFault}
@@ -48,12 +48,13 @@ pub record HasFaultyLine (old new : ReaderState) (fault : InputFault) : Type 0 w
 abbrev pub RefusesInput : ReaderState → ReaderState → InputFault → Type 0
 RefusesInput old new fault = StopsReading old new fault ⊎ HasFaultyLine old new fault
 
--- some of the first bytes went out, and no call failed or took nothing
+-- some of the first bytes went out, but not all, and no call failed or took nothing
 pub record WritesSome (old new : WriterState) (bytes : List ℕ) : Type 0 where
   pub went : List ℕ
   pub writes : WritesAll old new went
   pub left : List ℕ
   pub parts : bytes ≡ went ++ left
+  pub more : 0 < length left
 
 -- the input was read, and all of the output went out
 pub record Performs (job : Job) (in_old in_new : ReaderState) (out_old out_new : WriterState) : Type 0 where
@@ -73,8 +74,13 @@ pub record WantsMemory (job : Job) (in_old in_new : ReaderState) (out_old out_ne
   pub reads : ReadsLines in_old in_new bytes
   pub writes : WritesSome out_old out_new (job_output job bytes)
 
+-- nothing was read, and nothing was written
+pub record DoesNothing (in_old in_new : ReaderState) (out_old out_new : WriterState) : Type 0 where
+  pub reads : in_new ≡ in_old
+  pub writes : out_new ≡ out_old
+
 -- why a job was not done: nothing was written before the whole input was read and checked
 abbrev pub Refuses : Job → ReaderState → ReaderState → WriterState → WriterState → CliFault → Type 0
 Refuses job in_old in_new out_old out_new (Input fault) = RefusesInput in_old in_new fault × (out_new ≡ out_old)
 Refuses job in_old in_new out_old out_new (Output fault) = StopsWriting job in_old in_new out_old out_new fault
-Refuses job in_old in_new out_old out_new OutOfMemory = (out_new ≡ out_old) ⊎ WantsMemory job in_old in_new out_old out_new
+Refuses job in_old in_new out_old out_new OutOfMemory = DoesNothing in_old in_new out_old out_new ⊎ WantsMemory job in_old in_new out_old out_new

@@ -1,5 +1,5 @@
 -- What stops the output of keys.
-use Rattle.std.specs.Prelude.{◌≡◌, ℕ, List}
+use Rattle.std.specs.Prelude.{ℕ, List}
 use Rattle.uca_weights.specs.WriterState.{WriterState}
 use Rattle.uca_weights.specs.Writer.{WritesFront}
 use Rattle.uca_weights.specs.Outgoing.{StopsSending}

@@ -17,6 +17,7 @@ pub enum InputCause {
     /// The reader failed.
     #[error("Read")]
     Read,
+    /// Memory for the input was refused.
     #[error("OutOfMemory")]
     OutOfMemory,
 }
@@ -36,6 +37,7 @@ pub struct InputFault {
 pub enum CliFault {
     Input(InputFault),
     Output(WriteFault),
+    /// Memory was refused, but not to the input.
     OutOfMemory,
 }
 

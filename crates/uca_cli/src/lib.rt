@@ -14,6 +14,8 @@ mod output;
 pub mod passage;
 pub mod performing;
 mod small_table;
+#[cfg(test)]
+mod tests;
 
 pub use faults::{CliFault, InputCause, InputFault};
 pub use job::{Job, JobFault, Task, job_of};

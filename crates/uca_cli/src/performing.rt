@@ -27,8 +27,9 @@ fn read_lines<I: Reader>(alloc: Global, input: &mut I) -> Result<Vec<u8>, InputF
 
 /// Does a job: reads the input and checks it whole, and then writes the output. It answers the status of the program.
 ///
-/// Where there is no reader of a table, the built-in table serves. On a fault of the output, `written` counts over the
-/// whole run. It does not flush the writer.
+/// Where there is no reader of a table, the built-in table serves. At a fault of the input nothing was written. On a fault
+/// of the output, or where memory is wanted while it is written, its front went out; `written` counts over the whole run.
+/// It does not flush the writer.
 pub fn perform<T: Reader, U: Reader, I: Reader, W: Writer>(
     alloc: Global,
     job: &Job,

@@ -6,12 +6,14 @@ pub mod Table
 pub mod SafeText
 pub mod Match
 pub mod ImplicitWeights
+pub mod Ranges
 pub mod CollationElements
 pub mod LevelWeights
 pub mod SortKey
 pub mod Reading
 pub mod Lines
 pub mod Output
+pub mod TableText
 pub mod CanonicalText
 pub mod Laws
 pub mod Plain

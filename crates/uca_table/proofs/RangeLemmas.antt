@@ -7,7 +7,7 @@ use Rattle.std.specs.List.{AllByRecursion, list_any, insert}
 use Rattle.uca_weights.specs.declared.range.Range.{Range}
 use Rattle.uca_model.specs.Table.{IsRange, AreDisjoint, AllDisjoint, AreRanges}
 use Rattle.uca_model.specs.ImplicitWeights.{lowest_first}
-use Rattle.uca_table.specs.Ranges.{shares, highest_last, spans_too_far, is_bad_range, put_range, place_of, AreByFirst}
+use Rattle.uca_model.specs.Ranges.{shares, highest_last, spans_too_far, is_bad_range, put_range, place_of, AreByFirst}
 
 -- it goes to its place
 pub put_at_place : (r : Range) (rs : List Range) → put_range r rs ≡ insert rs (place_of r.first rs) r

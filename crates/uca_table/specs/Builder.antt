@@ -9,7 +9,7 @@ use Rattle.uca_table.specs.declared.fault.InsertFault.{InsertFault}
 use Rattle.uca_table.specs.declared.fault.InsertFault.TheVariants.{EmptyKey, KeyTooLong, NoElement, TooManyElements, Repeated, OutOfMemory}
 use Rattle.uca_table.specs.declared.fault.RangeFault.{RangeFault}
 use Rattle.uca_table.specs.declared.fault.RangeFault.TheVariants as range
-use Rattle.uca_table.specs.Ranges.{is_bad_range, put_range}
+use Rattle.uca_model.specs.Ranges.{is_bad_range, put_range}
 
 -- the table with one more entry
 abbrev pub with_entry : ElementTable → List ℕ → List Element → ElementTable

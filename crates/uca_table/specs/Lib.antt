@@ -1,4 +1,3 @@
 pub mod Stored
 pub mod Coded
-pub mod Ranges
 pub mod Builder

@@ -8,7 +8,7 @@ use Rattle.std.specs.declared.vec.Vec.{Vec}
 use Rattle.uca_weights.specs.declared.element.Element.{Element}
 use Rattle.uca_weights.specs.declared.range.Range.{Range}
 use Rattle.uca_model.specs.Table.{ElementTable, key_cmp, IsEntry, AreRanges}
-use Rattle.uca_table.specs.Ranges.{AreByFirst}
+use Rattle.uca_model.specs.Ranges.{AreByFirst}
 use Rattle.uca_table.specs.declared.entry.Entry.{Entry}
 
 -- an entry of a table without where it lies in memory

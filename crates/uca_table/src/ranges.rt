@@ -1,7 +1,7 @@
 ghost use Rattle.std.specs.Prelude.{◌≡◌, OnOk, OnErr, IfErr, length, ◌≤◌};
 ghost use Rattle.std.specs.List.{list_any};
 ghost use Rattle.uca_model.specs.ImplicitWeights.{lowest_first};
-ghost use Rattle.uca_table.specs.Ranges.{shares, highest_last, is_bad_range, put_range, place_of};
+ghost use Rattle.uca_model.specs.Ranges.{shares, highest_last, is_bad_range, put_range, place_of};
 
 use crate::fault::RangeFault;
 use uca_weights::Range;

@@ -36,7 +36,7 @@ impl Table {
     ghost use Rattle.uca_model.specs.Table.{ElementTable, IsTable, elements_at, longest};
     ghost use Rattle.uca_model.specs.ImplicitWeights.{implicit};
     ghost use Rattle.std.specs.FinMap.{entries};
-    ghost use Rattle.uca_table.specs.Ranges.{AreByFirst};
+    ghost use Rattle.uca_model.specs.Ranges.{AreByFirst};
 
     /// The collation elements of a key, 1 to `MAX_ELEMENTS` of them (UTS #10, section 3). `None`: it is no key.
     pub fn get(&self, key: &[char]) -> Option<&[Element]>

@@ -2,7 +2,7 @@ ghost use Rattle.std.specs.Prelude.{◌≡◌, ◌≤◌};
 ghost use Rattle.uca_weights.specs.Element.{weight};
 
 /// A collation element: three weights and a mark (UTS #10, section 3).
-#[derive(Clone, Copy, Debug, PartialEq, Eq)]
+#[derive(Clone, Copy, Debug, Default, PartialEq, Eq)]
 pub struct Element {
     /// Whether the mark is `*`, which stands at variable elements, and not `.`.
     pub starred: bool,

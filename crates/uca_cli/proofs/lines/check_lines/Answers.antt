@@ -1,6 +1,6 @@
 use Rattle.std.proofs.Common.{◌≡◌, length, arith}
 use Rattle.std.proofs.lemmas.Bool.Decides.{nat_tests}
-use Rattle.uca_cli.proofs.LinesLemmas.{HasFineFront-more, HasFineFront-end, IsFirstFaultAt-next}
+use Rattle.uca_cli.proofs.LinesLemmas.{HasFineFront-more, HasFineFront-end}
 use Rattle.uca_cli.proofs.lines.check_lines.Goals as goal
 
 pub returns : goal.returns

@@ -1,4 +1,4 @@
-use Rattle.std.proofs.Common.{◌≡◌, ◌+◌, ◌≤◌, List, ℕ, ◌++◌, length}
+use Rattle.std.proofs.Common.{◌+◌, ◌≤◌, length}
 use Rattle.uca_model.specs.Lines.{lines_of}
 use Rattle.uca_cli.proofs.LinesLemmas.{HasFineFront}
 use Rattle.uca_cli.proofs.lines.check_lines.Given as goal

@@ -1,5 +1,5 @@
 use Rattle.std.proofs.Common.{◌≡◌, ◌∷◌, ◌+◌, List, ℕ, ap, ap₂, sym, ◌∙◌, map, take, drop}
-use Rattle.uca_model.specs.Lines.{without_return, split_lines, lines_of}
+use Rattle.uca_model.specs.Lines.{without_return, lines_of}
 use Rattle.uca_model.proofs.LinesLemmas.{split_lines-first}
 use Rattle.uca_cli.proofs.lines.first_line.Goals as goal
 

@@ -1,4 +1,4 @@
-use Rattle.std.proofs.Common.{◌≡◌, ◌<◌, length, sym, arith}
+use Rattle.std.proofs.Common.{◌<◌, length, sym, arith}
 use Rattle.std.proofs.lemmas.Bool.Decides.{nat_tests}
 use Rattle.uca_model.proofs.LinesLemmas.{without_return-strips, without_return-keeps}
 use Rattle.uca_cli.proofs.lines.without_return.Goals as goal

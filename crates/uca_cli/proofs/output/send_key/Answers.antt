@@ -1,6 +1,6 @@
 use Rattle.std.proofs.Common.{◌≡◌, ℕ, ◌+◌, ◌*◌, ◌≤◌, List, [], ◌∷◌, length, arith}
 use Rattle.uca_weights.specs.Outgoing.{handed}
-use Rattle.uca_weights.proofs.OutgoingLemmas.{handed-Sends, Sends-more, StopsSending-later, StopsSending-longer}
+use Rattle.uca_weights.proofs.OutgoingLemmas.{handed-Sends, Sends-more, StopsSending-later}
 use Rattle.uca_model.specs.Lines.{line_feed}
 use Rattle.uca_model.specs.Output.{hex_text}
 use Rattle.uca_model.proofs.OutputLemmas.{length-hex_text}

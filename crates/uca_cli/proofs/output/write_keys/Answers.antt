@@ -1,11 +1,12 @@
-use Rattle.std.proofs.Common.{◌≡◌, ℕ, ◌+◌, ◌*◌, ◌^◌, ◌<◌, ◌≤◌, List, [], ◌∷◌, ◌++◌, length, All, refl, sym, ap, subst, ◌∙◌, arith, append-nil}
+use Rattle.std.proofs.Common.{◌≡◌, ℕ, List, [], ◌++◌, length, All, refl, ap, subst, ◌∙◌, arith, append-nil, chars}
 use Rattle.std.proofs.lemmas.List.Elements.{All-head, All-tail}
-use Rattle.uca_weights.specs.Outgoing.{handed, Sends}
+use Rattle.uca_weights.specs.Outgoing.{Sends}
 use Rattle.uca_weights.proofs.OutgoingLemmas.{Sends-none, Sends-more}
 use Rattle.uca_model.specs.Lines.{lines_of, IsTextLine}
 use Rattle.uca_model.specs.Output.{hex_line, key_line, key_output}
 use Rattle.uca_cli.specs.Sending.{StopsLine}
-use Rattle.uca_cli.proofs.SendingLemmas.{key_output-parts, StopsSending-whole, StopsOutput-line}
+use Rattle.uca_cli.proofs.SendingLemmas.{key_output-parts, StopsSending-whole, StopsOutput-line, WritesSome-line}
+use Rattle.uca_model.specs.SortKey.{sort_key}
 use Rattle.uca_cli.proofs.output.write_keys.Goals as goal
 
 pub loop-left-init : goal.loop-left-init
@@ -53,3 +54,10 @@ returns-in-Err-flush g c =
     StopsSending-whole _ _ _ c.new-out.result c.loop-left.out c.loop-left.invariant.sent [] (key_output c.args.t.now c.args.s c.loop-left.left.now) _ _
     c.new-out.ensures.waiting c.new-out.ensures.written c.loop-left.invariant.sends c.in-Err-flush.ensures.all
     (ap (λ l. l ++ key_output c.args.t.now c.args.s c.loop-left.left.now) (append-nil c.loop-left.invariant.sent) ∙ c.loop-left.invariant.told)
+
+pub returns-in-Err : goal.returns-in-Err
+returns-in-Err g c =
+    let line : List ℕ = c.first_line.result.0.now in let rest : List ℕ = c.first_line.result.1.now in
+    WritesSome-line _ _ c.new-out.result c.loop-left.out c.loop-left.invariant.sent (sort_key c.args.t.now c.args.s (chars line)) (key_output c.args.t.now c.args.s rest) _
+    c.new-out.ensures.waiting c.loop-left.invariant.sends
+    (key_output-parts c.args.t.now c.args.s c.loop-left.invariant.sent c.args.bytes.now c.loop-left.left.now rest line c.loop-left.invariant.told c.first_line.ensures.parts)

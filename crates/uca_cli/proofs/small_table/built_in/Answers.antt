@@ -1,4 +1,4 @@
-use Rattle.std.proofs.Common.{◌≡◌, List, [], ap, sym, ◌∙◌, fold}
+use Rattle.std.proofs.Common.{ap, ◌∙◌, fold}
 use Rattle.uca_model.specs.Table.{ElementTable}
 use Rattle.uca_cli.specs.declared.small_table.TheConstants.{ENTRIES}
 use Rattle.uca_cli.specs.BuiltIn.{with_point}

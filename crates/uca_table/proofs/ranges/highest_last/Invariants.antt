@@ -1,5 +1,5 @@
 use Rattle.std.proofs.Common.{◌≡◌, drop}
-use Rattle.uca_table.specs.Ranges.{highest_last}
+use Rattle.uca_model.specs.Ranges.{highest_last}
 use Rattle.uca_table.proofs.ranges.highest_last.Given as goal
 
 abbrev pub invariant-loop-range : goal.invariant-loop-range

@@ -1,5 +1,5 @@
 use Rattle.std.proofs.Common.{◌≡◌, ◌+◌, drop}
-use Rattle.uca_table.specs.Ranges.{place_of}
+use Rattle.uca_model.specs.Ranges.{place_of}
 use Rattle.uca_table.proofs.ranges.place_of.Given as goal
 
 abbrev pub invariant-loop-place : goal.invariant-loop-place

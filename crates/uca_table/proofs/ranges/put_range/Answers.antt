@@ -1,6 +1,6 @@
 use Rattle.std.proofs.Common.{sym, ap, ◌∙◌}
 use Rattle.std.specs.List.{insert}
-use Rattle.uca_table.specs.Ranges.{place_of}
+use Rattle.uca_model.specs.Ranges.{place_of}
 use Rattle.uca_table.proofs.RangeLemmas.{put_at_place}
 use Rattle.uca_table.proofs.ranges.put_range.Goals as goal
 

@@ -1,7 +1,7 @@
 use Rattle.std.proofs.Common.{◌≡◌, map, false, sym, ap, ◌∙◌, rules}
 use Rattle.uca_weights.specs.declared.range.Range.{Range}
 use Rattle.uca_model.specs.Table.{IsRange}
-use Rattle.uca_table.specs.Ranges.{is_bad_range}
+use Rattle.uca_model.specs.Ranges.{is_bad_range}
 use Rattle.uca_table.specs.Stored.{pair_in}
 use Rattle.uca_table.proofs.BuilderLemmas.{either_way}
 use Rattle.uca_table.proofs.RangeLemmas.{ranges-put, IsRange-fine}

@@ -1,0 +1,126 @@
+-- How the bytes of a line are cut into words and parts.
+use Rattle.std.proofs.Common.{◌≡◌, ℕ, suc, ◌+◌, ◌<◌, ◌≤◌, ◌==◌, Bool, true, false, not, List, [], ◌∷◌, ◌++◌, length, take, drop, filter, get_or, refl, sym, ap, ap₂, subst, ◌∙◌, arith, drop-cons, add-one, inl, inr, ne_eqb}
+use Rattle.std.proofs.lemmas.Bool.{cond-true, cond-false, cases_Bool, lt-ltb, le-ltb}
+use Rattle.std.proofs.lemmas.List.{length-take, take_all, drop_all, get_or-take}
+use Rattle.std.proofs.lemmas.List.Sums.{fails_before_first, passes_at_first, split_at_first}
+use Rattle.std.proofs.lemmas.List.Splits.{slice_split_none, slice_split_first, slice_split-cons_yes, length-slice_split}
+use Rattle.std.proofs.lemmas.Bool.Decides.{nat_tests}
+use Rattle.std.specs.List.{position_or_len, slice_split}
+use Rattle.std.specs.Prelude.{Ok, Err, nat_lt}
+use Rattle.uca_weights.specs.declared.element.Element.{Element}
+use Rattle.uca_weights.specs.declared.limits.TheConstants.{MAX_ELEMENTS}
+use Rattle.uca_model.specs.TableText.{is_blank, skip_blanks, words, element, elements_after, too_many_elements, Cause, is_line_feed}
+use Rattle.uca_model.specs.Lines.{line_feed}
+use Rattle.uca_allkeys.specs.Progress.{IsOpen}
+
+-- where no byte passes a test, there is one part
+pub split_none : (p : ℕ → Bool) (xs : List ℕ) → length xs ≤ position_or_len p xs → slice_split p xs ≡ xs ∷ []
+split_none p xs e = slice_split_none p xs (λ k d low. fails_before_first p xs k d (omega arith))
+
+-- the first part ends before the first byte that passes
+pub split_first : (p : ℕ → Bool) (xs : List ℕ) (n : ℕ) → n ≡ position_or_len p xs → n < length xs → slice_split p xs ≡ take n xs ∷ slice_split p (drop (n + 1) xs)
+split_first p xs n at low = subst (λ m. slice_split p xs ≡ take m xs ∷ slice_split p (drop (m + 1) xs)) (sym at) (slice_split_first p xs 0 (omega arith))
+
+-- some parts, without the empty ones
+abbrev kept : List (List ℕ) → List (List ℕ)
+kept parts = filter (λ word. not (length word == 0)) parts
+
+words-blank : (b : ℕ) (bs : List ℕ) → is_blank b ≡ true → words (b ∷ bs) ≡ words bs
+words-blank b bs e = ap kept (slice_split-cons_yes is_blank b bs e)
+
+skip-blank : (b : ℕ) (bs : List ℕ) → is_blank b ≡ true → skip_blanks (b ∷ bs) ≡ skip_blanks bs
+skip-blank b bs e = cond-true _ _ _ e
+
+skip-other : (b : ℕ) (bs : List ℕ) → is_blank b ≡ false → skip_blanks (b ∷ bs) ≡ b ∷ bs
+skip-other b bs e = cond-false _ _ _ e
+
+-- blanks in front change no words
+pub words-skip : (xs : List ℕ) → words (skip_blanks xs) ≡ words xs
+words-skip [] = refl
+words-skip (b ∷ bs) =
+    elim (cases_Bool (is_blank b)) [
+      | inl e ↦ ap words (skip-blank b bs e) ∙ words-skip bs ∙ sym (words-blank b bs e)
+      | inr e ↦ ap words (skip-other b bs e)
+    ]
+
+other-first : (b : ℕ) (bs : List ℕ) → is_blank b ≡ false → 0 < position_or_len is_blank (b ∷ bs)
+other-first b bs e =
+    let one : position_or_len is_blank (b ∷ bs) ≡ 1 + position_or_len is_blank bs = cond-true _ _ _ (ap not e) in
+    omega arith
+
+-- what begins behind blanks begins with no blank
+pub skip-first : (xs : List ℕ) → 0 < length (skip_blanks xs) → 0 < position_or_len is_blank (skip_blanks xs)
+skip-first [] some = absurd (omega arith)
+skip-first (b ∷ bs) some =
+    elim (cases_Bool (is_blank b)) [
+      | inl e ↦ subst (λ xs. 0 < position_or_len is_blank xs) (sym (skip-blank b bs e)) (skip-first bs (subst (λ xs. 0 < length xs) (skip-blank b bs e) some))
+      | inr e ↦ subst (λ xs. 0 < position_or_len is_blank xs) (sym (skip-other b bs e)) (other-first b bs e)
+    ]
+
+kept-some : (word : List ℕ) (parts : List (List ℕ)) → 0 < length word → kept (word ∷ parts) ≡ word ∷ kept parts
+kept-some [] parts some = absurd (omega arith)
+kept-some (b ∷ word) parts some = cond-true _ _ _ (ap not (ne_eqb (length (b ∷ word)) 0 (λ same. omega arith)))
+
+-- the first word ends before the first blank, or at the end
+pub words-first : (xs : List ℕ) (n : ℕ) → n ≡ position_or_len is_blank xs → n ≤ length xs → 0 < n → words xs ≡ take n xs ∷ words (drop n xs)
+words-first xs n at within some =
+    let long : 0 < length (take n xs) = omega (arith, length-take n xs) in
+    elim (cases_Bool (nat_lt n (length xs))) [
+      | inl e ↦
+          let low : n < length xs = grind (arith, nat_tests) in
+          let cut : slice_split is_blank xs ≡ take n xs ∷ slice_split is_blank (drop (n + 1) xs) = split_first is_blank xs n at low in
+          let stop : is_blank (get_or xs n 0) ≡ true = subst (λ m. is_blank (get_or xs m 0) ≡ true) (sym at) (passes_at_first is_blank xs 0 (omega arith)) in
+          let rest : drop n xs ≡ get_or xs n 0 ∷ drop (n + 1) xs = rw add-one (drop-cons xs n 0 low) in
+          let later : words (drop n xs) ≡ words (drop (n + 1) xs) = ap words rest ∙ words-blank (get_or xs n 0) (drop (n + 1) xs) stop in
+          ap kept cut ∙ kept-some (take n xs) (slice_split is_blank (drop (n + 1) xs)) long ∙ ap (λ ws. take n xs ∷ ws) (sym later)
+      | inr e ↦
+          let high : length xs ≤ n = grind (arith, nat_tests) in
+          let whole : take n xs ≡ xs = take_all n xs high in
+          let none : drop n xs ≡ [] = drop_all n xs high in
+          ap kept (split_none is_blank xs (omega arith)) ∙ kept-some xs [] (omega arith) ∙ ap₂ (λ (w : List ℕ) (r : List ℕ). w ∷ words r) (sym whole) (sym none)
+    ]
+
+-- one part more: where others stand behind it, its element is added
+pub element-added : (es : List Element) (text : List ℕ) (parts : List (List ℕ)) (e : Element) → 0 < length parts → element (skip_blanks text) ≡ Ok e → length es < MAX_ELEMENTS → elements_after es (text ∷ parts) ≡ elements_after (es ++ e ∷ []) parts
+element-added es text [] e some is few = absurd (omega arith)
+element-added es text (next ∷ more) e some is few = rw is (cond-true _ _ _ (lt-ltb (length es) MAX_ELEMENTS few))
+
+pub element-one_more : (es : List Element) (text : List ℕ) (parts : List (List ℕ)) (e : Element) → 0 < length parts → element (skip_blanks text) ≡ Ok e → MAX_ELEMENTS ≤ length es → elements_after es (text ∷ parts) ≡ Err too_many_elements
+element-one_more es text [] e some is many = absurd (omega arith)
+element-one_more es text (next ∷ more) e some is many = rw is (cond-false _ _ _ (le-ltb (length es) MAX_ELEMENTS many))
+
+pub element-fault : (es : List Element) (text : List ℕ) (parts : List (List ℕ)) (cause : Cause) → 0 < length parts → element (skip_blanks text) ≡ Err cause → elements_after es (text ∷ parts) ≡ Err cause
+element-fault es text [] cause some is = absurd (omega arith)
+element-fault es text (next ∷ more) cause some is = rw is refl
+
+pub some_parts : (p : ℕ → Bool) (xs : List ℕ) → 0 < length (slice_split p xs)
+some_parts p xs = omega (arith, length-slice_split p xs)
+
+pub nil_from_empty : (xs : List ℕ) → length xs ≤ 0 → xs ≡ []
+nil_from_empty [] none = refl
+nil_from_empty (x ∷ xs) none = absurd (omega arith)
+
+pub length-skip : (xs : List ℕ) → length (skip_blanks xs) ≤ length xs
+length-skip [] = omega arith
+length-skip (b ∷ bs) =
+    elim (cases_Bool (is_blank b)) [
+      | inl e ↦ subst (λ (ys : List ℕ). length ys ≤ suc (length bs)) (sym (skip-blank b bs e)) (let h : length (skip_blanks bs) ≤ length bs = length-skip bs in omega arith)
+      | inr e ↦ subst (λ (ys : List ℕ). length ys ≤ suc (length bs)) (sym (skip-other b bs e)) (omega arith)
+    ]
+
+feed_at : (b : ℕ) → (b == line_feed) ≡ true → b ≡ line_feed
+feed_at b is = grind (arith, nat_tests)
+
+-- a text with LF is its first line, LF, and what stands behind
+pub first_feed : (xs : List ℕ) (n : ℕ) → n ≡ position_or_len is_line_feed xs → n < length xs → xs ≡ take n xs ++ line_feed ∷ drop (n + 1) xs
+first_feed xs n at low =
+    let stop : get_or xs (position_or_len is_line_feed xs) 0 ≡ line_feed = feed_at _ (passes_at_first is_line_feed xs 0 (omega arith)) in
+    subst (λ m. xs ≡ take m xs ++ line_feed ∷ drop (m + 1) xs) (sym at) (subst (λ b. xs ≡ take (position_or_len is_line_feed xs) xs ++ b ∷ drop (position_or_len is_line_feed xs + 1) xs) stop (split_at_first is_line_feed xs 0 (omega arith)))
+
+-- no LF stands before the first one
+pub open_front : (xs : List ℕ) (n : ℕ) → n ≡ position_or_len is_line_feed xs → n ≤ length xs → IsOpen (take n xs)
+open_front xs n at within = record {
+  line = λ k d low.
+      let below : k < n = omega (arith, length-take n xs) in
+      ap is_line_feed (get_or-take n xs k d below) ∙ fails_before_first is_line_feed xs k d (omega arith);
+}

@@ -1,0 +1,38 @@
+-- What the faults say, by the words of the text of a table.
+use Rattle.std.specs.Prelude.{Option, Some, None}
+use Rattle.uca_model.specs.TableText.{Cause, line_too_long, bad_directive, bad_code_point, key_too_long, no_semicolon, bad_element, no_element, too_many_elements, repeated, bad_range, too_large, read}
+use Rattle.uca_allkeys.specs.declared.faults.LineFault.{LineFault}
+use Rattle.uca_allkeys.specs.declared.faults.LineFault.TheVariants as line
+use Rattle.uca_allkeys.specs.declared.faults.ReadCause.{ReadCause}
+use Rattle.uca_allkeys.specs.declared.faults.ReadCause.TheVariants.{LineTooLong, BadDirective, BadCodePoint, KeyTooLong, NoSemicolon, BadElement, NoElement, TooManyElements, Repeated, BadRange, TooLarge, Read, OutOfMemory}
+
+-- the fault of a line alone
+abbrev pub cause_of : LineFault → Cause
+cause_of line.BadDirective = bad_directive
+cause_of line.BadCodePoint = bad_code_point
+cause_of line.KeyTooLong = key_too_long
+cause_of line.NoSemicolon = no_semicolon
+cause_of line.BadElement = bad_element
+cause_of line.NoElement = no_element
+cause_of line.TooManyElements = too_many_elements
+
+-- the fault of a text; want of memory is none of its
+abbrev pub told : ReadCause → Option Cause
+told LineTooLong = Some line_too_long
+told BadDirective = Some bad_directive
+told BadCodePoint = Some bad_code_point
+told KeyTooLong = Some key_too_long
+told NoSemicolon = Some no_semicolon
+told BadElement = Some bad_element
+told NoElement = Some no_element
+told TooManyElements = Some too_many_elements
+told Repeated = Some repeated
+told BadRange = Some bad_range
+told TooLarge = Some too_large
+told Read = Some read
+told OutOfMemory = None
+
+-- the fault is none of the reader
+abbrev pub IsOfText : ReadCause → Type 0
+IsOfText Read = ⊥
+IsOfText _ = Unit {0}

@@ -1,0 +1,215 @@
+ghost use Rattle.std.specs.Prelude.{◌≡◌, ◌∷◌, [], ◌<◌, length, MatchOption, IfOk};
+ghost use Rattle.std.specs.List.{slice_split, after_first};
+ghost use Rattle.uca_model.specs.TableText.{words, key_after, entry_key, is_semicolon, is_right_bracket, mark, weight_first, next_weight, element_ends, element, elements_after, is_old_weight, entry_of_text};
+ghost use Rattle.uca_allkeys.specs.Statements.{Tells, with_rest, said_by, IsSomeEntry, AddsPart};
+
+use crate::bytes::{behind, code_point, four_digits, from_place, number, place_of, skip_blanks};
+use crate::directive::word_len;
+use crate::faults::LineFault;
+use crate::statement::{Entry, Statement};
+use arrayvec::ArrayVec;
+use uca_weights::{Element, MAX_ELEMENTS, MAX_KEY};
+
+/// The first word of a text, up to a blank, and what stands behind it.
+fn next_word(text: &[u8]) -> Option<(&[u8], &[u8])>
+    ensures { MatchOption result (words text.now ≡ []) (λ p. (words text.now ≡ p.0.now ∷ words p.1.now) × (length p.1.now < length text.now)) }
+{
+    let rest = skip_blanks(text);
+    if rest.is_empty() {
+        return None;
+    }
+    let end = word_len(rest);
+    Some((&rest[..end], from_place(rest, end)))
+}
+
+/// The code points that the words of a text say.
+fn key_of(text: &[u8]) -> Result<ArrayVec<char, MAX_KEY>, LineFault>
+    ensures { Tells (λ key. key.items) (key_after [] (words text.now)) result }
+{
+    let mut key: ArrayVec<char, MAX_KEY> = ArrayVec::new();
+    let mut rest = text;
+    while let Some((word, others)) = next_word(rest) {
+        let Some(point) = code_point(word) else {
+            return Err(LineFault::BadCodePoint);
+        };
+        if key.try_push(point).is_err() {
+            return Err(LineFault::KeyTooLong);
+        }
+        rest = others;
+    }
+    Ok(key)
+}
+
+/// The key of an entry, before the `;` that has to follow it.
+#[tactic(auto, unfolding(uca_model::specs::TableText::entry_key))]
+fn entry_key(text: &[u8]) -> Result<ArrayVec<char, MAX_KEY>, LineFault>
+    ensures value { Tells (λ key. key.items) (entry_key text.now) result }
+    ensures some { IfOk result (λ key. 0 < length key.items) }
+{
+    let end = place_of(b';', text);
+    let key = key_of(&text[..end])?;
+    if end == text.len() {
+        return Err(LineFault::NoSemicolon);
+    }
+    if key.is_empty() {
+        return Err(LineFault::BadCodePoint);
+    }
+    Ok(key)
+}
+
+/// Whether the mark of an element is `*`, and what stands behind it.
+fn mark(text: &[u8]) -> Result<(bool, &[u8]), LineFault>
+    ensures { Tells with_rest (mark text.now) result }
+{
+    let Some((first, rest)) = text.split_first() else {
+        return Err(LineFault::BadElement);
+    };
+    if *first == b'.' {
+        Ok((false, rest))
+    } else if *first == b'*' {
+        Ok((true, rest))
+    } else {
+        Err(LineFault::BadElement)
+    }
+}
+
+/// A weight, and what stands behind it.
+#[tactic(auto, unfolding(uca_model::specs::TableText::weight_first))]
+fn weight_first(text: &[u8]) -> Result<(u16, &[u8]), LineFault>
+    ensures { Tells with_rest (weight_first text.now) result }
+{
+    let end = text.len().min(4);
+    match four_digits(&text[..end]) {
+        Some(weight) => Ok((weight, from_place(text, end))),
+        None => Err(LineFault::BadElement),
+    }
+}
+
+/// A weight behind a full stop, and what stands behind it.
+#[tactic(auto, unfolding(uca_model::specs::TableText::next_weight))]
+fn next_weight(text: &[u8]) -> Result<(u16, &[u8]), LineFault>
+    ensures { Tells with_rest (next_weight text.now) result }
+{
+    match behind(b'.', text) {
+        Some(rest) => weight_first(rest),
+        None => Err(LineFault::BadElement),
+    }
+}
+
+/// Whether behind the third weight of an element there is nothing, or a fourth weight, which isn't used.
+fn element_ends(text: &[u8]) -> bool
+    ensures { result ≡ element_ends text.now }
+{
+    match text.split_first() {
+        Some((first, digits)) => *first == b'.' && is_old_weight(digits),
+        None => true,
+    }
+}
+
+/// A fourth weight: four to six digits.
+fn is_old_weight(digits: &[u8]) -> bool
+    ensures { result ≡ is_old_weight digits.now }
+{
+    if digits.len() < 4 || digits.len() > 6 {
+        return false;
+    }
+    number(digits).is_some()
+}
+
+/// An element, up to its `]`.
+#[tactic(auto, unfolding(uca_model::specs::TableText::element))]
+fn element(text: &[u8]) -> Result<Element, LineFault>
+    ensures { Tells (λ e. e) (element text.now) result }
+{
+    let Some(rest) = behind(b'[', text) else {
+        return Err(LineFault::BadElement);
+    };
+    let (starred, rest) = mark(rest)?;
+    let (l1, rest) = weight_first(rest)?;
+    let (l2, rest) = next_weight(rest)?;
+    let (l3, rest) = next_weight(rest)?;
+    if element_ends(rest) {
+        Ok(Element {
+            starred,
+            l1,
+            l2,
+            l3,
+        })
+    } else {
+        Err(LineFault::BadElement)
+    }
+}
+
+/// What stands before the first `]`, and what stands behind it.
+fn next_part(text: &[u8]) -> Option<(&[u8], &[u8])>
+    ensures { MatchOption result
+        (slice_split is_right_bracket text.now ≡ text.now ∷ [])
+        (λ p. (slice_split is_right_bracket text.now ≡ p.0.now ∷ slice_split is_right_bracket p.1.now) × (length p.1.now < length text.now)) }
+{
+    let end = place_of(b']', text);
+    if end < text.len() {
+        Some((&text[..end], from_place(text, end + 1)))
+    } else {
+        None
+    }
+}
+
+/// Adds the element that a text up to a `]` says.
+fn add_element(elements: &mut ArrayVec<Element, MAX_ELEMENTS>, part: &[u8]) -> Result<(), LineFault>
+    ensures { AddsPart elements.old.items part.now elements.new.items result }
+{
+    match element(skip_blanks(part)) {
+        Ok(element) => {
+            if elements.try_push(element).is_err() {
+                return Err(LineFault::TooManyElements);
+            }
+            Ok(())
+        }
+        Err(fault) => Err(fault),
+    }
+}
+
+/// The elements behind a `;`.
+fn elements_of(text: &[u8]) -> Result<ArrayVec<Element, MAX_ELEMENTS>, LineFault>
+    ensures value { Tells (λ es. es.items) (elements_after [] (slice_split is_right_bracket text.now)) result }
+    ensures some { IfOk result (λ es. 0 < length es.items) }
+{
+    let mut elements: ArrayVec<Element, MAX_ELEMENTS> = ArrayVec::new();
+    let mut rest = text;
+    while let Some((part, others)) = next_part(rest) {
+        match add_element(&mut elements, part) {
+            Ok(()) => rest = others,
+            Err(fault) => return Err(fault),
+        }
+    }
+    if !skip_blanks(rest).is_empty() {
+        return Err(LineFault::BadElement);
+    }
+    if elements.is_empty() {
+        return Err(LineFault::NoElement);
+    }
+    Ok(elements)
+}
+
+/// What stands behind the first `;`.
+fn behind_key(text: &[u8]) -> &[u8]
+    ensures { result.now ≡ after_first is_semicolon text.now }
+{
+    let end = place_of(b';', text);
+    if end < text.len() {
+        from_place(text, end + 1)
+    } else {
+        &text[..0]
+    }
+}
+
+/// An entry: a key, `;`, and elements.
+#[tactic(auto, unfolding(uca_model::specs::TableText::entry_of_text))]
+pub(crate) fn entry_of_text(text: &[u8]) -> Result<Statement, LineFault>
+    ensures value { Tells said_by (entry_of_text text.now) result }
+    ensures some { IfOk result IsSomeEntry }
+{
+    let key = entry_key(text)?;
+    let elements = elements_of(behind_key(text))?;
+    Ok(Statement::Entry(Entry { key, elements }))
+}

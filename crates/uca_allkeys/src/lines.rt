@@ -1,0 +1,88 @@
+ghost use Rattle.std.specs.Prelude.{◌<◌, ◌≤◌, length, IfErr};
+ghost use Rattle.uca_weights.specs.declared.limits.TheConstants.{MAX_KEY, MAX_ELEMENTS};
+ghost use Rattle.uca_model.specs.TableText.{add_statement, add_line, version, entry, range as range_said};
+ghost use Rattle.uca_allkeys.specs.Faults.{IsOfText};
+ghost use Rattle.uca_allkeys.specs.Progress.{state_of, Leads};
+ghost use Rattle.uca_allkeys.specs.Statements.{said_by, IsSomeEntry};
+
+use crate::faults::ReadCause;
+use crate::statement::{Statement, read_statement};
+use uca_table::{InsertFault, RangeFault, TableBuilder};
+use uca_weights::{Element, Range};
+
+/// What the lines so far have said.
+#[derive(Drop)]
+pub(crate) struct Lines {
+    pub(crate) builder: TableBuilder,
+    pub(crate) has_version: bool,
+}
+
+/// Adds a version, which may be told once.
+fn add_version(lines: &mut Lines) -> Result<(), ReadCause>
+    ensures adds { Leads (add_statement (state_of lines.old) version) (state_of lines.new) result }
+    ensures of_text { IfErr result IsOfText }
+{
+    if lines.has_version {
+        return Err(ReadCause::BadDirective);
+    }
+    lines.has_version = true;
+    Ok(())
+}
+
+/// Adds a range of implicit weights.
+fn add_range(lines: &mut Lines, range: Range) -> Result<(), ReadCause>
+    ensures adds { Leads (add_statement (state_of lines.old) (range_said range)) (state_of lines.new) result }
+    ensures of_text { IfErr result IsOfText }
+{
+    match lines
+        .builder
+        .add_implicit(range.first, range.last, range.base)
+    {
+        Ok(()) => Ok(()),
+        Err(RangeFault::BadRange) => Err(ReadCause::BadRange),
+        Err(RangeFault::OutOfMemory) => Err(ReadCause::OutOfMemory),
+    }
+}
+
+/// Adds a key with its elements.
+fn add_entry(lines: &mut Lines, key: &[char], elements: &[Element]) -> Result<(), ReadCause>
+    requires some_points { 0 < length key.now }
+    requires few_points { length key.now ≤ MAX_KEY }
+    requires some_elements { 0 < length elements.now }
+    requires few_elements { length elements.now ≤ MAX_ELEMENTS }
+    ensures adds { Leads (add_statement (state_of lines.old) (entry key.now elements.now)) (state_of lines.new) result }
+    ensures of_text { IfErr result IsOfText }
+{
+    match lines.builder.insert(key, elements) {
+        Ok(()) => Ok(()),
+        Err(InsertFault::OutOfMemory) => Err(ReadCause::OutOfMemory),
+        Err(_) => Err(ReadCause::Repeated),
+    }
+}
+
+/// Adds what a line says.
+fn add_statement(lines: &mut Lines, said: Statement) -> Result<(), ReadCause>
+    requires { IsSomeEntry said }
+    ensures adds { Leads (add_statement (state_of lines.old) (said_by said)) (state_of lines.new) result }
+    ensures of_text { IfErr result IsOfText }
+{
+    match said {
+        Statement::Nothing => Ok(()),
+        Statement::Version => add_version(lines),
+        Statement::Range(range) => add_range(lines, range),
+        Statement::Entry(entry) => {
+            add_entry(lines, entry.key.as_slice(), entry.elements.as_slice())
+        }
+    }
+}
+
+/// Adds a line.
+pub(crate) fn add_line(lines: &mut Lines, line: &[u8]) -> Result<(), ReadCause>
+    ensures adds { Leads (add_line (state_of lines.old) line.now) (state_of lines.new) result }
+    ensures of_text { IfErr result IsOfText }
+{
+    match read_statement(line) {
+        Ok(said) => add_statement(lines, said),
+        Err(fault) => Err(fault.cause()),
+    }
+}

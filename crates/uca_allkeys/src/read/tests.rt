@@ -1,0 +1,362 @@
+use crate::{ReadCause, ReadFault, read_table};
+use std::alloc::{AllocError, Global};
+use std::process::Abort;
+use uca_table::Table;
+use uca_weights::{Range, Reader, Reading, Refused};
+
+const SMALL_TEXT: &str = "@version 15.1.0
+@implicitweights 17000..18AFF; FB00 # first range
+@implicitweights 18D00..18D8F; FB00 # second range, the same base
+
+0001  ; [.0000.0000.0000] # completely ignorable
+0020  ; [*0201.0020.0002] # SPACE
+002D  ; [*0202.0020.0002.002D] # HYPHEN-MINUS, an old fourth weight
+0300  ; [.0000.0021.0002]
+0301  ; [.0000.0022.0002]
+0308  ; [.0000.0023.0002]
+0323  ; [.0000.0024.0002]
+0061  ; [.1000.0020.0002]
+0041  ; [.1000.0020.0008]
+0062  ; [.1001.0020.0002]
+0063  ; [.1002.0020.0002]
+0065  ; [.1004.0020.0002]
+0068  ; [.1005.0020.0002]
+007a  ; [.1006.0020.0002]
+0063 0068 ; [.1007.0020.0002]
+0061 0301 ; [.1008.0020.0002]
+0062 0301 ; [.1009.0020.0002]
+0062 0301 0308 ; [.100a.0020.0002]
+";
+
+/// Gives so many bytes a call at most, and fails at the end where it is told to.
+#[derive(Drop)]
+struct Slow<'t> {
+    rest: &'t [u8],
+    step: usize,
+    fails: bool,
+    failed: u128,
+}
+
+impl<'t> Reader for Slow<'t> {
+    ghost use Rattle.std.specs.Prelude.{None};
+
+    ghost state = { λ s. record { coming = None; failures = s.failed } };
+
+    fn pull(&mut self, buf: &mut [u8]) -> Result<usize, Refused> {
+        let count = self.rest.len().min(buf.len()).min(self.step);
+        if count == 0 && self.fails {
+            self.failed = self.failed.saturating_add(1);
+            return Err(Refused);
+        }
+        buf[..count].copy_from_slice(&self.rest[..count]);
+        self.rest = &self.rest[count..];
+        Ok(count)
+    }
+}
+
+fn read(alloc: Global, text: &[u8]) -> Result<Table, ReadFault> {
+    read_table(alloc, &mut Reading::new(text))
+}
+
+fn read_slowly(alloc: Global, text: &[u8], step: usize, fails: bool) -> Result<Table, ReadFault> {
+    let mut reader = Slow {
+        rest: text,
+        step,
+        fails,
+        failed: 0,
+    };
+    read_table(alloc, &mut reader)
+}
+
+/// The line and the cause, where a text is refused.
+fn fault(answer: Result<Table, ReadFault>) -> Option<(u64, ReadCause)> {
+    match answer {
+        Ok(_) => None,
+        Err(fault) => Some((fault.line, fault.cause)),
+    }
+}
+
+/// Looks at the table of the small text; an answer that wants memory is passed over.
+fn assert_small(rt: &impl Abort, answer: Result<Table, ReadFault>) {
+    match answer {
+        Ok(table) => {
+            assert_eq!(rt; table.longest(), 3);
+            assert_eq!(rt; table.entries().count(), 18);
+            let ranges = table.ranges();
+            assert_eq!(rt; ranges.len(), 2);
+            let first = Range {
+                first: '\u{17000}',
+                last: '\u{18AFF}',
+                base: 0xFB00,
+            };
+            assert_eq!(rt; ranges[0], first);
+            let hyphen = table.get(&['-']).expect(rt, "a hyphen");
+            assert!(rt; hyphen[0].starred);
+            assert_eq!(rt; hyphen[0].l1, 0x202);
+            let long = table
+                .get(&['b', '\u{301}', '\u{308}'])
+                .expect(rt, "a key of three");
+            assert_eq!(rt; long[0].l1, 0x100A);
+        }
+        Err(fault) => assert_eq!(rt; fault.cause, ReadCause::OutOfMemory),
+    }
+}
+
+/// The text with CR before each LF.
+fn with_returns(alloc: Global, text: &[u8]) -> Result<Vec<u8>, AllocError> {
+    let mut lines = Vec::new(alloc);
+    for byte in text {
+        if *byte == b'\n' {
+            lines.push(b'\r')?;
+        }
+        lines.push(*byte)?;
+    }
+    Ok(lines)
+}
+
+/// Some pieces of text, each so many times.
+fn repeated(alloc: Global, pieces: &[(&str, usize)]) -> Result<Vec<u8>, AllocError> {
+    let mut text = Vec::new(alloc);
+    for (piece, count) in pieces {
+        for _ in 0..*count {
+            text.extend_from_slice(piece.as_bytes())?;
+        }
+    }
+    Ok(text)
+}
+
+/// Looks at the answer for a text, given at once and byte by byte.
+fn assert_answer(rt: &impl Abort, alloc: Global, text: &[u8], answer: Option<(u64, ReadCause)>) {
+    let at_once = fault(read(alloc, text));
+    if at_once != Some((0, ReadCause::OutOfMemory)) {
+        assert_eq!(rt; at_once, answer);
+    }
+    let slowly = fault(read_slowly(alloc, text, 1, false));
+    if slowly != Some((0, ReadCause::OutOfMemory)) {
+        assert_eq!(rt; slowly, answer);
+    }
+}
+
+#[test]
+fn a_text_gives_its_table(rt: HostRuntime) {
+    let text = SMALL_TEXT.as_bytes();
+    assert_small(&rt, read(rt.alloc(), text));
+    assert_small(&rt, read_slowly(rt.alloc(), text, 1, false));
+    assert_small(&rt, read_slowly(rt.alloc(), text, 100, false));
+    if let Ok(lines) = with_returns(rt.alloc(), text) {
+        assert_small(&rt, read(rt.alloc(), &lines));
+    }
+}
+
+#[test]
+fn a_cut_text_says_the_same_at_once_and_in_pieces(rt: HostRuntime) {
+    let text = SMALL_TEXT.as_bytes();
+    for end in 0..text.len() {
+        let at_once = fault(read(rt.alloc(), &text[..end]));
+        assert_answer(&rt, rt.alloc(), &text[..end], at_once);
+    }
+}
+
+#[test]
+fn no_bytes_give_an_empty_table(rt: HostRuntime) {
+    if let Ok(table) = read(rt.alloc(), b"") {
+        assert_eq!(rt; table.longest(), 1);
+        assert_eq!(rt; table.entries().count(), 0);
+    }
+}
+
+#[test]
+fn each_fault_of_an_entry_is_told_at_its_line(rt: HostRuntime) {
+    for (text, answer) in [
+        (
+            "0061 ; [.1000.0020.0002]\n0062 ; [.1000.0020]",
+            Some((2, ReadCause::BadElement)),
+        ),
+        (
+            "0061 ; [.1000.0020.0002]\n0061 ; [.1001.0020.0002]",
+            Some((2, ReadCause::Repeated)),
+        ),
+        (
+            "0061 ; [.1000.0020.0002]\n0062 ;",
+            Some((2, ReadCause::NoElement)),
+        ),
+        (
+            "0061 ; [.1000.0020.0002]\n0062",
+            Some((2, ReadCause::NoSemicolon)),
+        ),
+        (
+            "0061 ; [.1000.0020.0002]\n00",
+            Some((2, ReadCause::BadCodePoint)),
+        ),
+        (
+            "0061 ; [.1000.0020.0002]\n0062 ; [.10",
+            Some((2, ReadCause::BadElement)),
+        ),
+        (
+            "\n# no key\n ; [.1000.0020.0002]",
+            Some((3, ReadCause::BadCodePoint)),
+        ),
+        (
+            "D800 ; [.1000.0020.0002]",
+            Some((1, ReadCause::BadCodePoint)),
+        ),
+        (
+            "110000 ; [.1000.0020.0002]",
+            Some((1, ReadCause::BadCodePoint)),
+        ),
+        (
+            "0000061 ; [.1000.0020.0002]",
+            Some((1, ReadCause::BadCodePoint)),
+        ),
+        (
+            "0061 006g ; [.1000.0020.0002]",
+            Some((1, ReadCause::BadCodePoint)),
+        ),
+        ("0061 ; [-1000.0020.0002]", Some((1, ReadCause::BadElement))),
+        (
+            "0061 ; [.1000.0020.0002.002]",
+            Some((1, ReadCause::BadElement)),
+        ),
+        (
+            "0061 ; [.1000.0020.0002.0020020]",
+            Some((1, ReadCause::BadElement)),
+        ),
+        (
+            "0061 ; [.1000.0020.0002 ]",
+            Some((1, ReadCause::BadElement)),
+        ),
+        (
+            "0061 ; [.1000.0020.0002] x",
+            Some((1, ReadCause::BadElement)),
+        ),
+        (
+            "0061 ; [.1000.0020.0002]\n0061 ; # nothing",
+            Some((2, ReadCause::NoElement)),
+        ),
+        (
+            "0061\t;\t[.1000.0020.0002.10FFFF][*abCD.0020.0002] \t # two\r\n",
+            None,
+        ),
+        ("10FFFF;[.1000.0020.0002] [.0000.0000.0002]", None),
+    ] {
+        assert_answer(&rt, rt.alloc(), text.as_bytes(), answer);
+    }
+}
+
+#[test]
+fn each_fault_of_a_directive_is_told_at_its_line(rt: HostRuntime) {
+    for (text, answer) in [
+        (
+            "0061 ; [.1000.0020.0002]\n@variable shifted",
+            Some((2, ReadCause::BadDirective)),
+        ),
+        (
+            "@version 1\n@version 1\n",
+            Some((2, ReadCause::BadDirective)),
+        ),
+        ("@version \t# 1", Some((1, ReadCause::BadDirective))),
+        ("@implicitweights", Some((1, ReadCause::BadDirective))),
+        (
+            "@implicitweights 17;000",
+            Some((1, ReadCause::BadCodePoint)),
+        ),
+        ("@implicitweights 17000", Some((1, ReadCause::BadDirective))),
+        (
+            "@implicitweights 17000. .17001; FB00",
+            Some((1, ReadCause::BadDirective)),
+        ),
+        (
+            "@implicitweights 17000..D800; FB00",
+            Some((1, ReadCause::BadCodePoint)),
+        ),
+        (
+            "@implicitweights 17000..17001, FB00",
+            Some((1, ReadCause::BadCodePoint)),
+        ),
+        (
+            "@implicitweights 17000..17001 FB00",
+            Some((1, ReadCause::BadDirective)),
+        ),
+        (
+            "@implicitweights 17000..17001; FB0",
+            Some((1, ReadCause::BadDirective)),
+        ),
+        (
+            "@implicitweights 17000..17001; FB00 x",
+            Some((1, ReadCause::BadDirective)),
+        ),
+        (
+            "@implicitweights 17001..17000; FB00",
+            Some((1, ReadCause::BadRange)),
+        ),
+        (
+            " @implicitweights\t17000 .. 17001 ;fb00 \n@version \u{e9}",
+            None,
+        ),
+    ] {
+        assert_answer(&rt, rt.alloc(), text.as_bytes(), answer);
+    }
+}
+
+#[test]
+fn a_range_may_not_meet_those_before_it(rt: HostRuntime) {
+    let text = repeated(
+        rt.alloc(),
+        &[(SMALL_TEXT, 1), ("@implicitweights 17500..17600; FB01", 1)],
+    );
+    if let Ok(text) = text {
+        assert_answer(&rt, rt.alloc(), &text, Some((23, ReadCause::BadRange)));
+    }
+}
+
+#[test]
+fn limits_hold_to_the_byte(rt: HostRuntime) {
+    for (pieces, answer) in [
+        ([("#", 1), ("x", 4_095), ("\n", 1)], None),
+        (
+            [("#", 1), ("x", 4_096), ("\n", 1)],
+            Some((1, ReadCause::LineTooLong)),
+        ),
+        ([("#", 1), ("x", 4_095), ("", 0)], None),
+        (
+            [("\n", 2), ("x", 4_097), ("", 0)],
+            Some((3, ReadCause::LineTooLong)),
+        ),
+        ([("#", 1), ("x", 4_094), ("\r\n", 1)], None),
+        (
+            [("#", 1), ("x", 4_095), ("\r\n", 1)],
+            Some((1, ReadCause::LineTooLong)),
+        ),
+        (
+            [("0061 ", 33), ("", 0), ("", 0)],
+            Some((1, ReadCause::KeyTooLong)),
+        ),
+        ([("0061 ", 32), (";", 1), ("[.1000.0020.0002]", 64)], None),
+        (
+            [("0061 ;", 1), ("[.1000.0020.0002]", 65), ("\n", 1)],
+            Some((1, ReadCause::TooManyElements)),
+        ),
+    ] {
+        if let Ok(text) = repeated(rt.alloc(), &pieces) {
+            assert_answer(&rt, rt.alloc(), &text, answer);
+        }
+    }
+}
+
+#[test]
+fn a_failure_of_the_reader_is_told_at_its_line(rt: HostRuntime) {
+    for (text, answer) in [
+        ("0061 ; [.1000.0020.0002]\n", (2, ReadCause::Read)),
+        ("", (1, ReadCause::Read)),
+        ("0061 ; [.1000.0020.0002]\n0062", (2, ReadCause::Read)),
+        (
+            "0061 ; [.1000.0020.0002]\n0062\n",
+            (2, ReadCause::NoSemicolon),
+        ),
+    ] {
+        let told = fault(read_slowly(rt.alloc(), text.as_bytes(), 7, true));
+        if told != Some((0, ReadCause::OutOfMemory)) {
+            assert_eq!(rt; told, Some(answer));
+        }
+    }
+}

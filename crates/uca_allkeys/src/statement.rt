@@ -1,0 +1,69 @@
+ghost use Rattle.std.specs.Prelude.{◌≡◌, IfOk};
+ghost use Rattle.uca_model.specs.Lines.{without_return};
+ghost use Rattle.uca_model.specs.TableText.{said, statement};
+ghost use Rattle.uca_allkeys.specs.Statements.{Tells, said_by, IsSomeEntry};
+
+use crate::bytes::{place_of, skip_blanks, trim_end};
+use crate::directive::directive;
+use crate::entry::entry_of_text;
+use crate::faults::LineFault;
+use arrayvec::ArrayVec;
+use uca_weights::{Element, MAX_ELEMENTS, MAX_KEY, Range};
+
+/// A key with its elements.
+#[derive(Drop)]
+pub(crate) struct Entry {
+    pub(crate) key: ArrayVec<char, MAX_KEY>,
+    pub(crate) elements: ArrayVec<Element, MAX_ELEMENTS>,
+}
+
+/// What a line says.
+#[derive(Drop)]
+pub(crate) enum Statement {
+    Nothing,
+    Version,
+    Range(Range),
+    Entry(Entry),
+}
+
+/// The line without one CR at its end.
+fn without_return(line: &[u8]) -> &[u8]
+    ensures { result.now ≡ without_return line.now }
+{
+    if line.is_empty() {
+        return line;
+    }
+    let end = line.len() - 1;
+    if line[end] == b'\r' {
+        &line[..end]
+    } else {
+        line
+    }
+}
+
+/// What stands before the first `#`, without blanks at its ends.
+#[tactic(auto, unfolding(uca_model::specs::TableText::said))]
+fn said(line: &[u8]) -> &[u8]
+    ensures { result.now ≡ said line.now }
+{
+    skip_blanks(trim_end(&line[..place_of(b'#', line)]))
+}
+
+/// What a line says, whatever stands before it.
+#[tactic(auto, unfolding(uca_model::specs::TableText::statement))]
+pub(crate) fn read_statement(line: &[u8]) -> Result<Statement, LineFault>
+    ensures value { Tells said_by (statement line.now) result }
+    ensures some { IfOk result IsSomeEntry }
+{
+    let text = said(without_return(line));
+    match text.first() {
+        Some(first) => {
+            if *first == b'@' {
+                directive(text)
+            } else {
+                entry_of_text(text)
+            }
+        }
+        None => Ok(Statement::Nothing),
+    }
+}
