@@ -1,5 +1,5 @@
 -- Which ranges of implicit weights may stand in one table, and in which order they do.
-use Rattle.std.specs.Prelude.{ℕ, suc, ◌-◌, ◌<◌, max, Bool, ◌&&◌, ◌||◌, ◌==◌, nat_le, nat_lt, List, [], ◌∷◌, fold, map, filter, if◌then◌else◌}
+use Rattle.std.specs.Prelude.{ℕ, ◌-◌, ◌<◌, max, Bool, ◌&&◌, ◌||◌, ◌==◌, nat_le, nat_lt, List, [], ◌∷◌, fold, map, filter, if◌then◌else◌}
 use Rattle.std.specs.List.{AllByRecursion, list_any}
 use Rattle.uca_weights.specs.declared.range.Range.{Range}
 use Rattle.uca_model.specs.ImplicitWeights.{lowest_first}
@@ -24,11 +24,6 @@ is_bad_range ranges r = nat_lt r.last r.first || (nat_lt r.base 0x8000 || (list_
 abbrev pub put_range : Range → List Range → List Range
 put_range r [] = r ∷ []
 put_range r (s ∷ ss) = if nat_lt r.first s.first then r ∷ s ∷ ss else s ∷ put_range r ss
-
--- how many ranges stand before the first that begins above a code point
-abbrev pub place_of : ℕ → List Range → ℕ
-place_of first [] = 0
-place_of first (s ∷ ss) = if nat_lt first s.first then 0 else suc (place_of first ss)
 
 -- each range begins above those before it
 abbrev pub AreByFirst : List Range → Type 0

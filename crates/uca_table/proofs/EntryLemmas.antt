@@ -1,5 +1,5 @@
 -- Tables that lie in a list of entries whose keys rise.
-use Rattle.std.proofs.Common.{◌≡◌, ℕ, ◌≤◌, ◌<◌, max, true, false, cond, T, List, [], ◌∷◌, length, fold, map, Option, Some, None, is_some, IfSome, option_copied, Bor, refl, sym, ap, subst, ◌∙◌, arith, lit≤}
+use Rattle.std.proofs.Common.{◌≡◌, ℕ, ◌≤◌, max, true, false, cond, T, List, [], ◌∷◌, length, fold, map, Option, Some, None, is_some, IfSome, option_copied, Bor, refl, sym, ap, subst, ◌∙◌, arith, lit≤}
 use Rattle.std.specs.declared.cmp.Ordering.{Ordering}
 use Rattle.std.specs.declared.cmp.Ordering.TheVariants.{Less, Equal, Greater}
 use Rattle.std.specs.declared.vec.Vec.{Vec}
@@ -12,7 +12,7 @@ use Rattle.std.specs.FinMap.{find, put, is_sorted, empty, insert, entries, from_
 use Rattle.std.specs.FinMap.Entries.{is_sorted-put, by_order}
 use Rattle.std.proofs.lemmas.List.Elements.{All-from_recursion}
 use Rattle.uca_weights.specs.declared.element.Element.{Element}
-use Rattle.uca_weights.specs.declared.limits.TheConstants.{MAX_KEY, MAX_ELEMENTS}
+use Rattle.uca_weights.specs.declared.limits.TheConstants.{MAX_KEY}
 use Rattle.uca_weights.specs.declared.range.Range.{Range}
 use Rattle.uca_model.specs.Table.{key_cmp, elements_at, is_key, longest, IsEntry, IsTable}
 use Rattle.uca_table.specs.Stored.{AreStored, pair_in, table_of, longest_of}
@@ -101,21 +101,16 @@ fold-few n (e ∷ es) h all = let few : length e.0 ≤ MAX_KEY = all.0.few_point
 pub longest-bounds : (es : List (List ℕ × List Element)) → AllByRecursion IsEntry es → (1 ≤ longest_of es) × (longest_of es ≤ MAX_KEY)
 longest-bounds es all = (fold-some 1 es, fold-few 1 es (lit≤ tt) all)
 
--- what is found has as many elements as an entry has
-pub found_entry : (es : List (List ℕ × List Element)) (q : List ℕ) → AllByRecursion IsEntry es → IfSome (find key_cmp q es) (λ v. (0 < length v) × (length v ≤ MAX_ELEMENTS))
-found_entry [] q all = tt
-found_entry (e ∷ es) q all =
-    elim (eq_by_cmp key_cmp q e.0) as (λ b. IfSome (cond b (Some e.1) (find key_cmp q es)) (λ v. (0 < length v) × (length v ≤ MAX_ELEMENTS))) [
-      | true ↦ (all.0.some_elements, all.0.few_elements)
-      | false ↦ found_entry es q all.1
+-- what holds of the elements of each entry holds of what is found
+pub found_entry : (P : List Element → Type 0) (es : List (List ℕ × List Element)) (q : List ℕ) → ((e : List ℕ × List Element) → IsEntry e → P e.1) → AllByRecursion IsEntry es → IfSome (find key_cmp q es) P
+found_entry P [] q f all = tt
+found_entry P (e ∷ es) q f all =
+    elim (eq_by_cmp key_cmp q e.0) as (λ b. IfSome (cond b (Some e.1) (find key_cmp q es)) P) [
+      | true ↦ f e all.0
+      | false ↦ found_entry P es q f all.1
     ]
 
 -- a fact of a list that stands behind a reference
 pub if_found : (P : List Element → Type 0) (r : Option (Bor (List Element))) (o : Option (List Element)) → option_copied r ≡ o → IfSome o P → IfSome r (λ es. P es.now)
 if_found P None o same h = tt
 if_found P (Some es) o same h = subst (λ p. IfSome p P) (sym same) h
-
--- a fact of what was found turned into another
-pub if_weaker : (P Q : List Element → Type 0) (o : Option (List Element)) → ((v : List Element) → P v → Q v) → IfSome o P → IfSome o Q
-if_weaker P Q None f h = tt
-if_weaker P Q (Some v) f h = f v h

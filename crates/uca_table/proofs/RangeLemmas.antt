@@ -1,21 +1,13 @@
 -- A range that is put among the others.
-use Rattle.std.proofs.Common.{◌≡◌, ℕ, suc, ◌-◌, ◌≤◌, ◌<◌, ◌^◌, min, max, true, false, cond, ◌==◌, nat_lt, nat_le, List, [], ◌∷◌, refl, sym, ap, ◌∙◌, arith, inl, inr}
+use Rattle.std.proofs.Common.{◌≡◌, ℕ, ◌-◌, ◌≤◌, ◌<◌, ◌^◌, min, max, true, false, cond, ◌==◌, nat_lt, nat_le, List, [], ◌∷◌, sym, ◌∙◌, arith, inl, inr}
 use Rattle.std.proofs.lemmas.Bool.{cases_Bool, ltb-true, ltb-false, or_parts, false≢true, eq-eqb}
 use Rattle.std.proofs.lemmas.Bool.Decides.{nat_tests}
 use Rattle.std.specs.Char.{IsScalar}
-use Rattle.std.specs.List.{AllByRecursion, list_any, insert}
+use Rattle.std.specs.List.{AllByRecursion, list_any}
 use Rattle.uca_weights.specs.declared.range.Range.{Range}
 use Rattle.uca_model.specs.Table.{IsRange, AreDisjoint, AllDisjoint, AreRanges}
 use Rattle.uca_model.specs.ImplicitWeights.{lowest_first}
-use Rattle.uca_model.specs.Ranges.{shares, highest_last, spans_too_far, is_bad_range, put_range, place_of, AreByFirst}
-
--- it goes to its place
-pub put_at_place : (r : Range) (rs : List Range) → put_range r rs ≡ insert rs (place_of r.first rs) r
-put_at_place r [] = refl
-put_at_place r (s ∷ ss) = elim (nat_lt r.first s.first) as (λ b. cond b (r ∷ s ∷ ss) (s ∷ put_range r ss) ≡ insert (s ∷ ss) (cond b 0 (suc (place_of r.first ss))) r) [
-  | true ↦ refl
-  | false ↦ ap (λ xs. s ∷ xs) (put_at_place r ss)
-]
+use Rattle.uca_model.specs.Ranges.{shares, highest_last, spans_too_far, is_bad_range, put_range, AreByFirst}
 
 -- what holds of the range and of the others
 all-put : (P : Range → Type 0) (r : Range) (rs : List Range) → P r → AllByRecursion P rs → AllByRecursion P (put_range r rs)
@@ -26,7 +18,7 @@ all-put P r (s ∷ ss) new all = elim (nat_lt r.first s.first) as (λ b. AllByRe
 ]
 
 -- a fact of each range turned into another
-all-map : (P Q : Range → Type 0) (rs : List Range) → ((s : Range) → P s → Q s) → AllByRecursion P rs → AllByRecursion Q rs
+pub all-map : (P Q : Range → Type 0) (rs : List Range) → ((s : Range) → P s → Q s) → AllByRecursion P rs → AllByRecursion Q rs
 all-map P Q [] f all = tt
 all-map P Q (s ∷ ss) f all = (f s all.0, all-map P Q ss f all.1)
 
@@ -46,7 +38,7 @@ apart r s h = elim (cases_Bool (nat_le r.first s.last)) [
 ]
 
 -- a range that shares no code point with any
-all-apart : (r : Range) (rs : List Range) → list_any (shares r) rs ≡ false → AllByRecursion (AreDisjoint r) rs
+pub all-apart : (r : Range) (rs : List Range) → list_any (shares r) rs ≡ false → AllByRecursion (AreDisjoint r) rs
 all-apart r [] h = tt
 all-apart r (s ∷ ss) h = let parts = or_parts (shares r s) (list_any (shares r) ss) h in (apart r s parts.0, all-apart r ss parts.1)
 

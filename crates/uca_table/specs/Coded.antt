@@ -14,9 +14,13 @@ coded_element = code_by (Bool × (ℕ × (ℕ × ℕ))) (coded× coded_bool (cod
 abbrev pub coded_range : Coded Range
 coded_range = code_by (ℕ × (ℕ × ℕ)) (coded× coded_ℕ (coded× coded_ℕ coded_ℕ)) (λ r. (r.first, (r.last, r.base))) (λ p. record { first = p.0; last = p.1.0; base = p.1.1 }) (λ _. refl)
 
+-- ranges one after the other
+abbrev pub coded_ranges : Coded (List Range)
+coded_ranges = coded_list coded_range
+
 -- a table as its entries and its ranges
 abbrev pub coded_table : Coded ElementTable
-coded_table = code_by (FinMap key_cmp (List Element) × List Range) (coded× (code (coded_list coded_ℕ) (coded_list coded_element)) (coded_list coded_range)) (λ t. (t.entries, t.ranges)) (λ p. record { entries = p.0; ranges = p.1 }) (λ _. refl)
+coded_table = code_by (FinMap key_cmp (List Element) × List Range) (coded× (code (coded_list coded_ℕ) (coded_list coded_element)) coded_ranges) (λ t. (t.entries, t.ranges)) (λ p. record { entries = p.0; ranges = p.1 }) (λ _. refl)
 
 -- entries as pairs of lists
 abbrev pub coded_entries : Coded (List (List ℕ × List Element))

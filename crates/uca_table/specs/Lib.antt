@@ -1,3 +1,4 @@
 pub mod Stored
 pub mod Coded
 pub mod Builder
+pub mod Extents

@@ -6,7 +6,7 @@ ghost use Rattle.uca_table.specs.Stored.{pair_in};
 
 use crate::entry::move_entries;
 use crate::fault::{FinishFault, InsertFault, RangeFault};
-use crate::ranges::{is_bad_range, put_range};
+use crate::range_map::RangeMap;
 use crate::table::Table;
 use std::alloc::Global;
 use std::collections::BTreeMap;
@@ -17,8 +17,7 @@ use uca_weights::{Element, MAX_ELEMENTS, MAX_KEY, Range};
 #[derive(Debug, Drop)]
 pub struct TableBuilder {
     entries: BTreeMap<Vec<char>, Vec<Element>>,
-    // By their first code points.
-    ranges: Vec<Range>,
+    ranges: RangeMap,
     alloc: Global,
 }
 
@@ -32,9 +31,9 @@ impl Model for TableBuilder {
 
     ghost coded = { coded_table };
 
-    ghost view = { λ b. table_of (map pair_in b.entries.entries) b.ranges.items };
+    ghost view = { λ b. table_of (map pair_in b.entries.entries) b.ranges };
 
-    ghost invariant = { λ b. AreStored (map pair_in b.entries.entries) b.ranges.items };
+    ghost invariant = { λ b. AreStored (map pair_in b.entries.entries) b.ranges };
 }
 
 impl TableBuilder {
@@ -47,7 +46,7 @@ impl TableBuilder {
     {
         TableBuilder {
             entries: BTreeMap::new(alloc),
-            ranges: Vec::new(alloc),
+            ranges: RangeMap::new(alloc),
             alloc,
         }
     }
@@ -87,10 +86,10 @@ impl TableBuilder {
         ensures fault { let fault = range_fault self.old (record { first = first; last = last; base = base }) in MatchResult result (λ _. fault ≡ None) (λ f. fault ≡ told_of_range f) }
     {
         let range = Range { first, last, base };
-        if is_bad_range(&self.ranges, range) {
+        if self.ranges.is_bad(range) {
             return Err(RangeFault::BadRange);
         }
-        put_range(&mut self.ranges, range)
+        self.ranges.put(range)
     }
 
     /// The table of what was added. Where memory is refused, the builder comes back as it was.
@@ -100,10 +99,13 @@ impl TableBuilder {
         let Ok(room) = Vec::with_capacity(self.alloc, self.entries.len()) else {
             return Err(FinishFault { builder: self });
         };
+        let Ok(range_room) = Vec::with_capacity(self.alloc, self.ranges.len()) else {
+            return Err(FinishFault { builder: self });
+        };
         let (entries, longest_key) = move_entries(self.entries, room);
         Ok(Table {
             entries,
-            ranges: self.ranges,
+            ranges: self.ranges.finish(range_room),
             longest_key,
         })
     }

@@ -1,22 +1,24 @@
-ghost use Rattle.std.specs.Prelude.{◌≡◌, option_copied};
+ghost use Rattle.std.specs.Prelude.{◌≡◌};
 ghost use Rattle.uca_model.specs.Table.{AreRanges};
-ghost use Rattle.uca_model.specs.ImplicitWeights.{implicit_over, in_some, core_blocks, pair, is_unified_ideograph, is_assigned, range_of, two_parts_base};
+ghost use Rattle.uca_model.specs.ImplicitWeights.{implicit_over, in_some, core_blocks, pair, is_unified_ideograph, is_assigned, two_parts_base};
+ghost use Rattle.uca_model.specs.Ranges.{AreByFirst};
 
-use crate::ranges::lowest_first;
-use uca_weights::{Element, Range};
+use crate::ranges::Ranges;
+use uca_weights::Element;
 use unicode::properties::GeneralCategory;
 
 /// The elements of a code point that is no key (UTS #10, section 10.1.3).
 #[tactic(auto, unfolding(uca_model::specs::ImplicitWeights::implicit_over), using(uca_model::proofs::ImplicitLemmas::offset_below, uca_model::proofs::ImplicitLemmas::lowest_first_below))]
-pub(crate) fn implicit(ranges: &[Range], c: char) -> [Element; 2]
-    requires { AreRanges ranges.now }
+pub(crate) fn implicit(ranges: &Ranges, c: char) -> [Element; 2]
+    requires ranges { AreRanges ranges.now }
+    requires by_first { AreByFirst ranges.now }
     ensures { result ≡ implicit_over ranges.now c }
 {
     // Few code points lie in a range, so the general category is asked of those alone.
-    if let Some(range) = range_of(ranges, c) {
+    if let Some(range) = ranges.range_of(c) {
         if is_assigned(c) {
-            let lowest = lowest_first(ranges, range.base, range.first as u32);
-            return pair(range.base, (c as u32 - lowest + 0x8000) as u16);
+            let lowest = ranges.lowest_first(range);
+            return pair(range.base, (c as u32 - lowest as u32 + 0x8000) as u16);
         }
     }
     let code = c as u32;
@@ -24,15 +26,6 @@ pub(crate) fn implicit(ranges: &[Range], c: char) -> [Element; 2]
         (base_in_two_parts(c) + code / 0x8000) as u16,
         (code % 0x8000 + 0x8000) as u16,
     )
-}
-
-/// The range in which a code point lies.
-fn range_of(ranges: &[Range], c: char) -> Option<&Range>
-    ensures { option_copied result ≡ range_of ranges.now c }
-{
-    ranges
-        .iter()
-        .find(|range| range.first <= c && c <= range.last)
 }
 
 /// Whether Unicode assigns a character to the code point.

@@ -8,8 +8,10 @@
 pub mod builder;
 pub mod entries;
 mod entry;
+mod extent;
 pub mod fault;
 mod implicit_weights;
+mod range_map;
 mod ranges;
 pub mod table;
 #[cfg(test)]

@@ -1,81 +1,74 @@
-ghost use Rattle.std.specs.Prelude.{◌≡◌, OnOk, OnErr, IfErr, length, ◌≤◌};
-ghost use Rattle.std.specs.List.{list_any};
-ghost use Rattle.uca_model.specs.ImplicitWeights.{lowest_first};
-ghost use Rattle.uca_model.specs.Ranges.{shares, highest_last, is_bad_range, put_range, place_of};
+ghost use Rattle.std.specs.Prelude.{◌≡◌, true, false, nat_lt};
+ghost use Rattle.std.specs.List.Sorted.{IsPartitionPoint};
+ghost use Rattle.uca_model.specs.Table.{AreRanges};
+ghost use Rattle.uca_model.specs.ImplicitWeights.{lowest_first, range_of};
+ghost use Rattle.uca_model.specs.Ranges.{AreByFirst};
 
-use crate::fault::RangeFault;
+use crate::extent::{Extent, widened};
+use std::collections::BTreeMap;
+use std::marker::Model;
 use uca_weights::Range;
 
-/// Whether a range may not stand in a table beside other ones.
-pub(crate) fn is_bad_range(ranges: &[Range], range: Range) -> bool
-    ensures { result ≡ is_bad_range ranges.now range }
-{
-    if range.first > range.last || range.base < 0x8000 {
-        return true;
-    }
-    if shares_with_any(ranges, range) {
-        return true;
-    }
-    let highest = highest_last(ranges, range.base, range.last as u32);
-    let lowest = lowest_first(ranges, range.base, range.first as u32);
-    highest.saturating_sub(lowest) > 0x7FFF
+/// The ranges of a table, in which a code point is found in logarithmic time.
+#[derive(Debug, Drop)]
+pub(crate) struct Ranges {
+    // By their first code points.
+    pub(crate) by_first: Vec<Range>,
+    // By their bases.
+    pub(crate) extents: BTreeMap<u16, Extent>,
 }
 
-/// Whether a range shares a code point with one of the others.
-fn shares_with_any(ranges: &[Range], range: Range) -> bool
-    ensures { result ≡ list_any (shares range) ranges.now }
-{
-    ranges.iter().any(|other| range.first <= other.last && other.first <= range.last)
+impl Model for Ranges {
+    ghost use Rattle.std.specs.Prelude.{List};
+    ghost use Rattle.std.specs.BTreeMap.{get};
+    ghost use Rattle.std.specs.Ordering.{nat_cmp};
+    ghost use Rattle.uca_weights.specs.declared.range.Range.{Range};
+    ghost use Rattle.uca_table.specs.Coded.{coded_ranges};
+    ghost use Rattle.uca_table.specs.Extents.{AreExtents};
+
+    ghost Value = { List Range };
+
+    ghost coded = { coded_ranges };
+
+    ghost view = { λ r. r.by_first.items };
+
+    ghost invariant = { λ r. AreExtents (get nat_cmp r.extents) r.by_first.items };
 }
 
-/// The highest last code point of the ranges with this base, or `high` where it is higher.
-fn highest_last(ranges: &[Range], base: u16, high: u32) -> u32
-    ensures { result ≡ highest_last ranges.now base high }
-{
-    let mut highest = high;
-    for range in ranges {
-        if range.base == base {
-            highest = highest.max(range.last as u32);
+impl Ranges {
+    /// The ranges by their first code points.
+    pub(crate) fn as_slice(&self) -> &[Range]
+        ensures { result.now ≡ self.now }
+    {
+        self.by_first.as_slice()
+    }
+
+    /// The range in which a code point lies.
+    pub(crate) fn range_of(&self, c: char) -> Option<Range>
+        requires ranges { AreRanges self.now }
+        requires by_first { AreByFirst self.now }
+        ensures { result ≡ range_of self.now c }
+    {
+        let range = self.by_first.get(self.count_below(c))?;
+        if range.first <= c {
+            return Some(*range);
         }
+        None
     }
-    highest
-}
 
-/// The lowest first code point of the ranges with this base, or `low` where it is lower.
-pub(crate) fn lowest_first(ranges: &[Range], base: u16, low: u32) -> u32
-    ensures { result ≡ lowest_first ranges.now base low }
-{
-    let mut lowest = low;
-    for range in ranges {
-        if range.base == base {
-            lowest = lowest.min(range.first as u32);
-        }
+    /// How many ranges end below a code point. They come first.
+    fn count_below(&self, c: char) -> usize
+        requires ranges { AreRanges self.now }
+        requires by_first { AreByFirst self.now }
+        ensures { IsPartitionPoint (λ r. nat_lt r.last c ≡ true) (λ r. nat_lt r.last c ≡ false) self.now result }
+    {
+        self.by_first.partition_point(|range| range.last < c)
     }
-    lowest
-}
 
-/// Puts a range before the first one that begins above it.
-pub(crate) fn put_range(ranges: &mut Vec<Range>, range: Range) -> Result<(), RangeFault>
-    ensures ok { OnOk result (ranges.new.items ≡ put_range range ranges.old.items) }
-    ensures err { OnErr result (ranges.new.items ≡ ranges.old.items) }
-    ensures memory { IfErr result (λ f. f ≡ RangeFault.OutOfMemory) }
-{
-    let place = place_of(ranges, range.first);
-    match ranges.insert(place, range) {
-        Ok(()) => Ok(()),
-        Err(_) => Err(RangeFault::OutOfMemory),
+    /// The lowest first code point of a range and of the others of its base.
+    pub(crate) fn lowest_first(&self, range: Range) -> char
+        ensures { result ≡ lowest_first self.now range.base range.first }
+    {
+        widened(&self.extents, range).lowest
     }
-}
-
-/// How many ranges stand before the first one that begins above a code point.
-fn place_of(ranges: &[Range], first: char) -> usize
-    ensures value { result ≡ place_of first ranges.now }
-    ensures within { result ≤ length ranges.now }
-{
-    for (place, range) in ranges.iter().enumerate() {
-        if range.first > first {
-            return place;
-        }
-    }
-    ranges.len()
 }

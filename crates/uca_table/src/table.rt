@@ -1,8 +1,9 @@
-ghost use Rattle.std.specs.Prelude.{◌≡◌, ◌≤◌, ◌<◌, ◌^◌, length, option_copied, IfSome};
+ghost use Rattle.std.specs.Prelude.{◌≡◌, ◌≤◌, ◌<◌, ◌^◌, length, All, option_copied, IfSome};
 
 use crate::entries::Entries;
 use crate::entry::{Entry, elements_of};
 use crate::implicit_weights;
+use crate::ranges::Ranges;
 use std::marker::Model;
 use uca_weights::{Element, Range};
 
@@ -11,8 +12,7 @@ use uca_weights::{Element, Range};
 pub struct Table {
     // By key order.
     pub(crate) entries: Vec<Entry>,
-    // By their first code points.
-    pub(crate) ranges: Vec<Range>,
+    pub(crate) ranges: Ranges,
     pub(crate) longest_key: usize,
 }
 
@@ -26,14 +26,14 @@ impl Model for Table {
 
     ghost coded = { coded_table };
 
-    ghost view = { λ t. table_of (map pair_of t.entries.items) t.ranges.items };
+    ghost view = { λ t. table_of (map pair_of t.entries.items) t.ranges };
 
-    ghost invariant = { λ t. AreStored (map pair_of t.entries.items) t.ranges.items × (t.longest_key ≡ longest_of (map pair_of t.entries.items)) };
+    ghost invariant = { λ t. AreStored (map pair_of t.entries.items) t.ranges × (t.longest_key ≡ longest_of (map pair_of t.entries.items)) };
 }
 
 impl Table {
     ghost use Rattle.uca_weights.specs.declared.limits.TheConstants.{MAX_KEY, MAX_ELEMENTS};
-    ghost use Rattle.uca_model.specs.Table.{ElementTable, IsTable, elements_at, longest};
+    ghost use Rattle.uca_model.specs.Table.{ElementTable, IsElement, IsTable, elements_at, longest};
     ghost use Rattle.uca_model.specs.ImplicitWeights.{implicit};
     ghost use Rattle.std.specs.FinMap.{entries};
     ghost use Rattle.uca_model.specs.Ranges.{AreByFirst};
@@ -43,6 +43,7 @@ impl Table {
         ensures value { option_copied result ≡ elements_at self.now key.now }
         ensures some { IfSome result (λ es. 0 < length es.now) }
         ensures few { IfSome result (λ es. length es.now ≤ MAX_ELEMENTS) }
+        ensures elements { IfSome result (λ es. All IsElement es.now) }
     {
         elements_of(&self.entries, key)
     }

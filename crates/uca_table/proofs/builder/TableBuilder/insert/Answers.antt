@@ -9,12 +9,12 @@ use Rattle.uca_table.proofs.builder.TableBuilder.insert.Goals as goal
 pub returns-then-contains_key-clause-fault : goal.returns-then-contains_key-clause-fault
 returns-then-contains_key-clause-fault c =
     let key = c.args.key.now in let es = map pair_in c.self.inside.entries.entries in
-    let known : is_key c.args.self.now key ≡ true = sym (c.if-contains_key.ensures ∙ found_in c.self.inside.entries.entries key ∙ sym (is_key_stored es c.self.inside.ranges.items key c.self.invariant.sorted) ∙ ap (λ t. is_key t key) c.self.view_is) in
+    let known : is_key c.args.self.now key ≡ true = sym (c.if-contains_key.ensures ∙ found_in c.self.inside.entries.entries key ∙ sym (is_key_stored es c.self.inside.ranges key c.self.invariant.sorted) ∙ ap (λ t. is_key t key) c.self.view_is) in
     fault_within c.args.self.now key c.args.elements.now true (search rules) (search rules) (search rules) (search rules) known
 
 pub invariant_of-self : goal.invariant_of-self
 invariant_of-self c =
-    let old = map pair_in c.self.inside.entries.entries in let rs = c.self.inside.ranges.items in
+    let old = map pair_in c.self.inside.entries.entries in let rs = c.self.inside.ranges in
     let entry : IsEntry (c.args.key.now, c.args.elements.now) = record { some_points = search rules; few_points = search rules; points = c.read_key.ensures; some_elements = search rules; few_elements = search rules; elements = c.read_elements.ensures } in
     either_way _ _ _ c.store.result c.store.ensures.ok c.store.ensures.err
     (λ grown. subst (λ es. AreStored es rs) (sym grown) (AreStored-put old rs c.args.key.now c.args.elements.now c.self.invariant entry))
@@ -22,7 +22,7 @@ invariant_of-self c =
 
 pub returns-clause-ok : goal.returns-clause-ok
 returns-clause-ok c =
-    let old = map pair_in c.self.inside.entries.entries in let rs = c.self.inside.ranges.items in
+    let old = map pair_in c.self.inside.entries.entries in let rs = c.self.inside.ranges in
     on_ok _ _ c.store.result
     (λ grown. ap (λ es. table_of es rs) grown ∙ table_put old rs c.args.key.now c.args.elements.now c.self.invariant.sorted ∙ ap (λ t. with_entry t c.args.key.now c.args.elements.now) c.self.view_is)
     c.store.ensures.ok
@@ -30,5 +30,5 @@ returns-clause-ok c =
 pub returns-clause-fault : goal.returns-clause-fault
 returns-clause-fault c =
     let key = c.args.key.now in let es = map pair_in c.self.inside.entries.entries in
-    let known : is_key c.args.self.now key ≡ false = sym (c.if-contains_key.ensures ∙ found_in c.self.inside.entries.entries key ∙ sym (is_key_stored es c.self.inside.ranges.items key c.self.invariant.sorted) ∙ ap (λ t. is_key t key) c.self.view_is) in
+    let known : is_key c.args.self.now key ≡ false = sym (c.if-contains_key.ensures ∙ found_in c.self.inside.entries.entries key ∙ sym (is_key_stored es c.self.inside.ranges key c.self.invariant.sorted) ∙ ap (λ t. is_key t key) c.self.view_is) in
     faultless c.store.result (insert_fault c.args.self.now key c.args.elements.now) (fault_within c.args.self.now key c.args.elements.now false (search rules) (search rules) (search rules) (search rules) known) c.store.ensures.memory

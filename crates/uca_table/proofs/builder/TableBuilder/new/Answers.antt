@@ -4,4 +4,4 @@ use Rattle.uca_table.proofs.EntryLemmas.{table_none}
 use Rattle.uca_table.proofs.builder.TableBuilder.new.Goals as goal
 
 pub returns : goal.returns
-returns c = ap₂ (λ es rs. table_of (map pair_in es) rs) c.new.ensures.empty c.new-2.ensures.items ∙ table_none []
+returns c = ap₂ (λ es rs. table_of (map pair_in es) rs) c.new.ensures.empty c.new-2.ensures ∙ table_none []

@@ -7,10 +7,10 @@ use Rattle.uca_table.proofs.table.Table.longest.Goals as goal
 pub returns-clause-value : goal.returns-clause-value
 returns-clause-value c =
     let es = map pair_of c.self.inside.entries.items in
-    c.self.invariant.1 ∙ sym (longest_stored es c.self.inside.ranges.items c.self.invariant.0.sorted) ∙ ap longest c.self.view_is
+    c.self.invariant.1 ∙ sym (longest_stored es c.self.inside.ranges c.self.invariant.0.sorted) ∙ ap longest c.self.view_is
 
 pub returns-clause-valid : goal.returns-clause-valid
-returns-clause-valid c = subst IsTable c.self.view_is (IsTable-stored (map pair_of c.self.inside.entries.items) c.self.inside.ranges.items c.self.invariant.0)
+returns-clause-valid c = subst IsTable c.self.view_is (IsTable-stored (map pair_of c.self.inside.entries.items) c.self.inside.ranges c.self.invariant.0)
 
 pub returns-clause-bounds : goal.returns-clause-bounds
 returns-clause-bounds c =
