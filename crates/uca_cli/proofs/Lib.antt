@@ -5,4 +5,5 @@ pub mod KeyLemmas
 pub mod BuiltInLemmas
 pub mod HelpLemmas
 pub mod CommandLineLemmas
+pub mod PerformingLemmas
 pub mod SendingLemmas

@@ -13,7 +13,7 @@ use Rattle.uca_model.specs.Output.{hex_text, hex_line, key_line, key_output}
 use Rattle.uca_cli.specs.Performing.{WritesSome}
 use Rattle.uca_cli.specs.Sending.{StopsLine, StopsOutput}
 use Rattle.uca_cli.specs.declared.faults.CliFault.{CliFault}
-use Rattle.uca_cli.specs.declared.faults.CliFault.TheVariants.{Input, Output, OutOfMemory}
+use Rattle.uca_cli.specs.declared.faults.CliFault.TheVariants.{Table, Input, Output, OutOfMemory}
 
 -- the output of a line, and of the lines behind it
 pub key_output-parts : (t : ElementTable) (s : Settings) (sent bytes left rest line : List ℕ) → sent ++ key_output t s left ≡ key_output t s bytes → lines_of left ≡ line ∷ lines_of rest
@@ -30,6 +30,7 @@ StopsSending-whole s0 s1 s2 o0 o1 sent piece rest whole f empty none sends stops
 pub StopsOutput-line : (fault : CliFault) (s0 s1 s2 : WriterState) (o0 o1 : Outgoing) (sent line rest whole : List ℕ) → o0.waiting.items ≡ [] → o0.written ≡ 0 → Sends s0 o0 s1 o1 sent → StopsLine s1 o1 s2 line fault
     → (sent ++ line) ++ rest ≡ whole → StopsOutput s0 s2 whole fault
 StopsOutput-line (Output f) s0 s1 s2 o0 o1 sent line rest whole empty none sends stops is = StopsSending-whole s0 s1 s2 o0 o1 sent line rest whole f empty none sends stops is
+StopsOutput-line (Table f) s0 s1 s2 o0 o1 sent line rest whole empty none sends stops is = absurd stops
 StopsOutput-line (Input f) s0 s1 s2 o0 o1 sent line rest whole empty none sends stops is = absurd stops
 StopsOutput-line OutOfMemory s0 s1 s2 o0 o1 sent line rest whole empty none sends stops is = absurd stops
 

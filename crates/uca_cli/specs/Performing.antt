@@ -1,32 +1,63 @@
 -- What doing a job comes to: what was read, what went out, and what stopped it.
-use Rattle.std.specs.Prelude.{◌≡◌, ℕ, ◌<◌, ◌≤◌, ◌⊎◌, List, ◌++◌, length, All}
+use Rattle.std.specs.Prelude.{◌≡◌, ℕ, ◌<◌, ◌≤◌, ◌⊎◌, List, [], ◌++◌, length, All, Option, Some, None}
 use Rattle.uca_weights.specs.declared.limits.TheConstants.{MAX_INPUT}
 use Rattle.uca_weights.specs.declared.settings.Settings.{Settings}
 use Rattle.uca_weights.specs.declared.writer.WriteFault.{WriteFault}
 use Rattle.uca_weights.specs.Reader.{ReaderState, GivesAll}
 use Rattle.uca_weights.specs.WriterState.{WriterState}
 use Rattle.uca_weights.specs.Writer.{WritesAll, WritesFront}
+use Rattle.uca_model.specs.CanonicalText.{canonical}
 use Rattle.uca_model.specs.Lines.{lines_of, IsTextLine}
 use Rattle.uca_model.specs.Output.{key_output}
+use Rattle.uca_model.specs.Table.{ElementTable}
+use Rattle.uca_allkeys.specs.Reading.{GivesTable, IsRefused}
+use Rattle.uca_allkeys.specs.declared.faults.ReadFault.{ReadFault}
 use Rattle.uca_cli.specs.BuiltIn.{built_in_table}
 use Rattle.uca_cli.specs.Input.{StopsReading, HasInputFault}
 use Rattle.uca_cli.specs.declared.faults.CliFault.{CliFault}
-use Rattle.uca_cli.specs.declared.faults.CliFault.TheVariants.{Input, Output, OutOfMemory}
+use Rattle.uca_cli.specs.declared.faults.CliFault.TheVariants as fault
 use Rattle.uca_cli.specs.declared.faults.InputFault.{InputFault}
 use Rattle.uca_cli.specs.declared.job.Job.{Job}
 use Rattle.uca_cli.specs.declared.job.Task.{Task}
-use Rattle.uca_cli.specs.declared.job.Task.TheVariants.{Key}
+use Rattle.uca_cli.specs.declared.job.Task.TheVariants.{Key, Table}
 
 -- the settings of a job
 abbrev pub settings_of : Job → Settings
 settings_of job = record { strength = job.strength; weighting = job.weighting }
 
--- what a command writes for an input
-abbrev pub task_output : Task → Settings → List ℕ → List ℕ
-task_output Key s bytes = key_output built_in_table s bytes
+-- what a command writes with a table for an input
+abbrev pub task_output : Task → ElementTable → Settings → List ℕ → List ℕ
+task_output Key t s bytes = key_output t s bytes
+task_output Table t s bytes = canonical t
 
-abbrev pub job_output : Job → List ℕ → List ℕ
-job_output job bytes = task_output job.command (settings_of job) bytes
+abbrev pub job_output : Job → ElementTable → List ℕ → List ℕ
+job_output job t bytes = task_output job.command t (settings_of job) bytes
+
+-- what is known of the reader of the input, and of the writer
+pub record Ends : Type 0 where
+  pub input : ReaderState
+  pub output : WriterState
+
+-- ---- the table
+
+-- the table is what the text in the reader says; where there is no reader it is the built-in one
+abbrev pub ReadsTable : Option ReaderState → Option ReaderState → ElementTable → Type 0
+ReadsTable (Some old) (Some new) t = GivesTable old new t
+ReadsTable None None t = t ≡ built_in_table
+ReadsTable _ _ t = ⊥
+
+-- the text in the reader says no table
+abbrev pub RefusesText : Option ReaderState → Option ReaderState → ReadFault → Type 0
+RefusesText (Some old) (Some new) f = IsRefused old new f
+RefusesText _ _ f = ⊥
+
+-- reading the table came to no table
+abbrev pub StopsTable : Option ReaderState → Option ReaderState → CliFault → Type 0
+StopsTable old new (fault.Table f) = RefusesText old new f
+StopsTable old new fault.OutOfMemory = new ≡ old
+StopsTable old new _ = ⊥
+
+-- ---- the input
 
 -- the reader gave these bytes and no more: they are not too many
 pub record ReadsInput (old new : ReaderState) (bytes : List ℕ) : Type 0 where
@@ -38,15 +69,38 @@ pub record ReadsLines (old new : ReaderState) (bytes : List ℕ) : Type 0 where
   pub input : ReadsInput old new bytes
   pub lines : All IsTextLine (lines_of bytes)
 
+-- the reader was left alone
+pub record ReadsNothing (old new : ReaderState) (bytes : List ℕ) : Type 0 where
+  pub none : bytes ≡ []
+  pub same : new ≡ old
+
+-- a command reads the lines that it writes of; `table` has no input
+abbrev pub ReadsFor : Task → ReaderState → ReaderState → List ℕ → Type 0
+ReadsFor Key old new bytes = ReadsLines old new bytes
+ReadsFor Table old new bytes = ReadsNothing old new bytes
+
 -- the whole input was read, and the fault is that of its first line that has one
-pub record HasFaultyLine (old new : ReaderState) (fault : InputFault) : Type 0 where
+pub record HasFaultyLine (old new : ReaderState) (f : InputFault) : Type 0 where
   pub bytes : List ℕ
   pub input : ReadsInput old new bytes
-  pub faulty : HasInputFault (lines_of bytes) fault
+  pub faulty : HasInputFault (lines_of bytes) f
 
 -- the input is refused: it was not read to its end, or a line of it is at fault
 abbrev pub RefusesInput : ReaderState → ReaderState → InputFault → Type 0
-RefusesInput old new fault = StopsReading old new fault ⊎ HasFaultyLine old new fault
+RefusesInput old new f = StopsReading old new f ⊎ HasFaultyLine old new f
+
+-- a command refuses its input; `table` has none
+abbrev pub RefusesFor : Task → ReaderState → ReaderState → InputFault → Type 0
+RefusesFor Key old new f = RefusesInput old new f
+RefusesFor Table old new f = ⊥
+
+-- ---- the work with a table
+
+-- the input was read, and all of the output went out
+pub record Works (job : Job) (t : ElementTable) (old new : Ends) : Type 0 where
+  pub bytes : List ℕ
+  pub reads : ReadsFor job.command old.input new.input bytes
+  pub writes : WritesAll old.output new.output (job_output job t bytes)
 
 -- some of the first bytes went out, but not all, and no call failed or took nothing
 pub record WritesSome (old new : WriterState) (bytes : List ℕ) : Type 0 where
@@ -56,31 +110,49 @@ pub record WritesSome (old new : WriterState) (bytes : List ℕ) : Type 0 where
   pub parts : bytes ≡ went ++ left
   pub more : 0 < length left
 
--- the input was read, and all of the output went out
-pub record Performs (job : Job) (in_old in_new : ReaderState) (out_old out_new : WriterState) : Type 0 where
-  pub bytes : List ℕ
-  pub reads : ReadsLines in_old in_new bytes
-  pub writes : WritesAll out_old out_new (job_output job bytes)
+-- the input was refused, and nothing was written
+pub record StopsReadingFor (job : Job) (old new : Ends) (f : InputFault) : Type 0 where
+  pub input : RefusesFor job.command old.input new.input f
+  pub output : new.output ≡ old.output
 
 -- the input was read, and the writer stopped the output
-pub record StopsWriting (job : Job) (in_old in_new : ReaderState) (out_old out_new : WriterState) (fault : WriteFault) : Type 0 where
+pub record StopsWriting (job : Job) (t : ElementTable) (old new : Ends) (f : WriteFault) : Type 0 where
   pub bytes : List ℕ
-  pub reads : ReadsLines in_old in_new bytes
-  pub writes : WritesFront out_old out_new (job_output job bytes) fault
+  pub reads : ReadsFor job.command old.input new.input bytes
+  pub writes : WritesFront old.output new.output (job_output job t bytes) f
 
 -- the input was read, and memory was wanted while the output was written
-pub record WantsMemory (job : Job) (in_old in_new : ReaderState) (out_old out_new : WriterState) : Type 0 where
+pub record WantsMemory (job : Job) (t : ElementTable) (old new : Ends) : Type 0 where
   pub bytes : List ℕ
-  pub reads : ReadsLines in_old in_new bytes
-  pub writes : WritesSome out_old out_new (job_output job bytes)
+  pub reads : ReadsFor job.command old.input new.input bytes
+  pub writes : WritesSome old.output new.output (job_output job t bytes)
 
--- nothing was read, and nothing was written
-pub record DoesNothing (in_old in_new : ReaderState) (out_old out_new : WriterState) : Type 0 where
-  pub reads : in_new ≡ in_old
-  pub writes : out_new ≡ out_old
+-- why the work was not done: the input is read whole and checked, and only then something is written
+abbrev pub StopsWork : Job → ElementTable → Ends → Ends → CliFault → Type 0
+StopsWork job t old new (fault.Table f) = ⊥
+StopsWork job t old new (fault.Input f) = StopsReadingFor job old new f
+StopsWork job t old new (fault.Output f) = StopsWriting job t old new f
+StopsWork job t old new fault.OutOfMemory = WantsMemory job t old new
 
--- why a job was not done: nothing was written before the whole input was read and checked
-abbrev pub Refuses : Job → ReaderState → ReaderState → WriterState → WriterState → CliFault → Type 0
-Refuses job in_old in_new out_old out_new (Input fault) = RefusesInput in_old in_new fault × (out_new ≡ out_old)
-Refuses job in_old in_new out_old out_new (Output fault) = StopsWriting job in_old in_new out_old out_new fault
-Refuses job in_old in_new out_old out_new OutOfMemory = DoesNothing in_old in_new out_old out_new ⊎ WantsMemory job in_old in_new out_old out_new
+-- ---- the job, which begins with its table
+
+-- the table was read, and the work was done with it
+pub record Performs (job : Job) (lent left : Option ReaderState) (old new : Ends) : Type 0 where
+  pub t : ElementTable
+  pub table : ReadsTable lent left t
+  pub works : Works job t old new
+
+-- there was no table, and nothing else was done
+pub record HasNoTable (lent left : Option ReaderState) (old new : Ends) (f : CliFault) : Type 0 where
+  pub table : StopsTable lent left f
+  pub same : new ≡ old
+
+-- the table was read, and the work with it was not done
+pub record StopsBehindTable (job : Job) (lent left : Option ReaderState) (old new : Ends) (f : CliFault) : Type 0 where
+  pub t : ElementTable
+  pub table : ReadsTable lent left t
+  pub work : StopsWork job t old new f
+
+-- why a job was not done
+abbrev pub Refuses : Job → Option ReaderState → Option ReaderState → Ends → Ends → CliFault → Type 0
+Refuses job lent left old new f = HasNoTable lent left old new f ⊎ StopsBehindTable job lent left old new f

@@ -6,7 +6,7 @@ use Rattle.uca_weights.specs.Outgoing.{StopsSending}
 use Rattle.uca_weights.specs.declared.outgoing.Outgoing.{Outgoing}
 use Rattle.uca_cli.specs.Performing.{WritesSome}
 use Rattle.uca_cli.specs.declared.faults.CliFault.{CliFault}
-use Rattle.uca_cli.specs.declared.faults.CliFault.TheVariants.{Input, Output, OutOfMemory}
+use Rattle.uca_cli.specs.declared.faults.CliFault.TheVariants.{Output, OutOfMemory}
 
 -- the writer stopped a line
 abbrev pub StopsLine : WriterState → Outgoing → WriterState → List ℕ → CliFault → Type 0
@@ -17,4 +17,4 @@ StopsLine old before new line _ = ⊥
 abbrev pub StopsOutput : WriterState → WriterState → List ℕ → CliFault → Type 0
 StopsOutput old new whole (Output fault) = WritesFront old new whole fault
 StopsOutput old new whole OutOfMemory = WritesSome old new whole
-StopsOutput old new whole (Input fault) = ⊥
+StopsOutput old new whole _ = ⊥

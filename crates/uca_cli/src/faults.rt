@@ -1,5 +1,6 @@
 use std::fmt;
 use thiserror::Error;
+use uca_allkeys::{ReadCause, ReadFault};
 use uca_weights::WriteFault;
 
 /// Why an input of lines was refused.
@@ -35,15 +36,20 @@ pub struct InputFault {
 /// Why a command was not done.
 #[derive(Clone, Copy, Debug, PartialEq, Eq)]
 pub enum CliFault {
+    Table(ReadFault),
     Input(InputFault),
     Output(WriteFault),
-    /// Memory was refused, but not to the input.
+    /// Memory was refused, but not to the table's text or to the input.
     OutOfMemory,
 }
 
 impl fmt::Display for CliFault {
     fn fmt<W: fmt::Write>(&self, f: &mut fmt::Formatter<W>) -> fmt::Result {
         match self {
+            CliFault::Table(ReadFault { line, cause }) => match cause {
+                ReadCause::OutOfMemory => write!(f, "uca: {cause}"),
+                _ => write!(f, "uca: table line {line}: {cause}"),
+            },
             CliFault::Input(InputFault { line, at, cause }) => match cause {
                 InputCause::NotUtf8 | InputCause::LongRun => {
                     write!(f, "uca: input line {line} byte {at}: {cause}")

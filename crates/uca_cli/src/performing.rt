@@ -1,6 +1,8 @@
-ghost use Rattle.std.specs.Prelude.{◌≡◌, ◌≤◌, false, IfErr, IfOk, IsNone};
+ghost use Rattle.std.specs.Prelude.{◌≡◌, ◌≢◌, ◌≤◌, false, IfErr, IfOk, IsNone, None, Some, option_map};
 ghost use Rattle.uca_weights.specs.Settings.{levels};
-ghost use Rattle.uca_cli.specs.Performing.{Performs, Refuses, ReadsLines, RefusesInput};
+ghost use Rattle.uca_model.specs.Table.{longest};
+ghost use Rattle.uca_cli.specs.Lent.{left_behind, lent};
+ghost use Rattle.uca_cli.specs.Performing.{Performs, Refuses, ReadsLines, ReadsTable, RefusesInput, StopsTable, StopsWork, Works};
 
 use crate::faults::{CliFault, InputFault};
 use crate::input::read_input;
@@ -9,7 +11,31 @@ use crate::lines::check_lines;
 use crate::output::write_keys;
 use crate::small_table::built_in;
 use std::alloc::Global;
+use uca_allkeys::{read_table, write_table};
+use uca_table::Table;
 use uca_weights::{Reader, Settings, Variable, Writer};
+
+/// The table that the text in a reader says.
+fn table_in<T: Reader>(alloc: Global, reader: &mut T) -> Result<Table, CliFault>
+    ensures ok { IfOk result (ReadsTable (Some (T.state reader.old)) (Some (T.state reader.new))) }
+    ensures err { IfErr result (StopsTable (Some (T.state reader.old)) (Some (T.state reader.new))) }
+{
+    match read_table(alloc, reader) {
+        Ok(t) => Ok(t),
+        Err(fault) => Err(CliFault::Table(fault)),
+    }
+}
+
+/// The built-in table.
+fn own_table(alloc: Global) -> Result<Table, CliFault>
+    ensures ok { IfOk result (ReadsTable None None) }
+    ensures err { IfErr result (StopsTable None None) }
+{
+    match built_in(alloc) {
+        Ok(t) => Ok(t),
+        Err(_) => Err(CliFault::OutOfMemory),
+    }
+}
 
 /// Reads an input of lines to its end, and looks at each line.
 fn read_lines<I: Reader>(alloc: Global, input: &mut I) -> Result<Vec<u8>, InputFault>
@@ -25,11 +51,98 @@ fn read_lines<I: Reader>(alloc: Global, input: &mut I) -> Result<Vec<u8>, InputF
     }
 }
 
-/// Does a job: reads the input and checks it whole, and then writes the output. It answers the status of the program.
+/// Does the work of a job with its table.
+fn work<I: Reader, W: Writer>(
+    alloc: Global,
+    job: &Job,
+    t: &Table,
+    input: &mut I,
+    output: &mut W,
+) -> Result<u8, CliFault>
+    requires few { levels job.now.strength ≤ 3 }
+    requires unweighted { job.now.weighting ≡ Variable.NonIgnorable }
+    requires single { job.now.command ≡ Task.Key → longest t.now ≡ 1 }
+    ensures done { IfOk result (λ _. Works job.now t.now
+        (record { input = I.state input.old; output = W.state output.old })
+        (record { input = I.state input.new; output = W.state output.new })) }
+    ensures status { IfOk result (λ status. status ≡ 0) }
+    ensures fault { IfErr result (StopsWork job.now t.now
+        (record { input = I.state input.old; output = W.state output.old })
+        (record { input = I.state input.new; output = W.state output.new })) }
+{
+    let settings = Settings {
+        strength: job.strength,
+        weighting: job.weighting,
+    };
+    match job.command {
+        Task::Key => match read_lines(alloc, input) {
+            Ok(bytes) => match write_keys(alloc, t, settings, &bytes, output) {
+                Ok(()) => Ok(0),
+                Err(fault) => Err(fault),
+            },
+            Err(fault) => Err(CliFault::Input(fault)),
+        },
+        Task::Table => match write_table(output, t) {
+            Ok(_) => Ok(0),
+            Err(fault) => Err(CliFault::Output(fault)),
+        },
+    }
+}
+
+/// Does a job with the table in a reader.
+fn perform_with<T: Reader, I: Reader, W: Writer>(
+    alloc: Global,
+    job: &Job,
+    reader: &mut T,
+    input: &mut I,
+    output: &mut W,
+) -> Result<u8, CliFault>
+    requires few { levels job.now.strength ≤ 3 }
+    requires unweighted { job.now.weighting ≡ Variable.NonIgnorable }
+    requires built_in { job.now.command ≢ Task.Key }
+    ensures done { IfOk result (λ _. Performs job.now (Some (T.state reader.old)) (Some (T.state reader.new))
+        (record { input = I.state input.old; output = W.state output.old })
+        (record { input = I.state input.new; output = W.state output.new })) }
+    ensures status { IfOk result (λ status. status ≡ 0) }
+    ensures fault { IfErr result (Refuses job.now (Some (T.state reader.old)) (Some (T.state reader.new))
+        (record { input = I.state input.old; output = W.state output.old })
+        (record { input = I.state input.new; output = W.state output.new })) }
+{
+    match table_in(alloc, reader) {
+        Ok(t) => work(alloc, job, &t, input, output),
+        Err(fault) => Err(fault),
+    }
+}
+
+/// Does a job with the built-in table.
+fn perform_alone<I: Reader, W: Writer>(
+    alloc: Global,
+    job: &Job,
+    input: &mut I,
+    output: &mut W,
+) -> Result<u8, CliFault>
+    requires few { levels job.now.strength ≤ 3 }
+    requires unweighted { job.now.weighting ≡ Variable.NonIgnorable }
+    ensures done { IfOk result (λ _. Performs job.now None None
+        (record { input = I.state input.old; output = W.state output.old })
+        (record { input = I.state input.new; output = W.state output.new })) }
+    ensures status { IfOk result (λ status. status ≡ 0) }
+    ensures fault { IfErr result (Refuses job.now None None
+        (record { input = I.state input.old; output = W.state output.old })
+        (record { input = I.state input.new; output = W.state output.new })) }
+{
+    match own_table(alloc) {
+        Ok(t) => work(alloc, job, &t, input, output),
+        Err(fault) => Err(fault),
+    }
+}
+
+/// Does a job: reads the table, then the input, which it checks whole, and only then writes the output. It answers the
+/// status of the program.
 ///
-/// Where there is no reader of a table, the built-in table serves. At a fault of the input nothing was written. On a fault
-/// of the output, or where memory is wanted while it is written, its front went out; `written` counts over the whole run.
-/// It does not flush the writer.
+/// Where there is no reader of a table, the built-in table serves. At a fault of the table or of the input nothing was
+/// written. On a fault of the output, or where memory is wanted while it is written, its front went out; `written` counts
+/// over the whole run. It does not flush the writer.
 pub fn perform<T: Reader, U: Reader, I: Reader, W: Writer>(
     alloc: Global,
     job: &Job,
@@ -41,27 +154,21 @@ pub fn perform<T: Reader, U: Reader, I: Reader, W: Writer>(
     requires few { levels job.now.strength ≤ 3 }
     requires unweighted { job.now.weighting ≡ Variable.NonIgnorable }
     requires digits { job.now.raw ≡ false }
-    requires built_in { IsNone table }
+    requires built_in { job.now.command ≡ Task.Key → IsNone table }
     requires untailored { IsNone rules }
-    ensures done { IfOk result (λ _. Performs job.now (I.state input.old) (I.state input.new) (W.state output.old) (W.state output.new)) }
+    ensures done { IfOk result (λ _. Performs job.now
+        (option_map T.state (lent table.entry)) (option_map T.state (left_behind table.exit))
+        (record { input = I.state input.old; output = W.state output.old })
+        (record { input = I.state input.new; output = W.state output.new })) }
     ensures status { IfOk result (λ status. status ≡ 0) }
-    ensures fault { IfErr result (Refuses job.now (I.state input.old) (I.state input.new) (W.state output.old) (W.state output.new)) }
+    ensures fault { IfErr result (Refuses job.now
+        (option_map T.state (lent table.entry)) (option_map T.state (left_behind table.exit))
+        (record { input = I.state input.old; output = W.state output.old })
+        (record { input = I.state input.new; output = W.state output.new })) }
 {
-    let settings = Settings {
-        strength: job.strength,
-        weighting: job.weighting,
-    };
-    let Ok(t) = built_in(alloc) else {
-        return Err(CliFault::OutOfMemory);
-    };
-    match read_lines(alloc, input) {
-        Ok(bytes) => match job.command {
-            Task::Key => match write_keys(alloc, &t, settings, &bytes, output) {
-                Ok(()) => Ok(0),
-                Err(fault) => Err(fault),
-            },
-        },
-        Err(fault) => Err(CliFault::Input(fault)),
+    match table {
+        Some(reader) => perform_with(alloc, job, reader, input, output),
+        None => perform_alone(alloc, job, input, output),
     }
 }
 

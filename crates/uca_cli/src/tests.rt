@@ -1,4 +1,5 @@
 mod ends;
+mod tables;
 
 use crate::input::read_input;
 use crate::keys::key_of;

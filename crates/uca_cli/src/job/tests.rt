@@ -2,14 +2,14 @@ use super::{Job, JobFault, Task, job_of};
 use std::alloc::Global;
 use uca_weights::{Strength, Variable};
 
-// The job of `key` without options.
-fn plain_key() -> Job {
+// The job of a command with this table, and with the defaults beside it.
+fn job_with(command: Task, table: Option<String>) -> Job {
     Job {
-        command: Task::Key,
+        command,
         strength: Strength::Tertiary,
         weighting: Variable::NonIgnorable,
         raw: false,
-        table: None,
+        table,
         rules: None,
     }
 }
@@ -19,6 +19,14 @@ fn job_again(alloc: Global, words: &[&str]) -> Result<Job, JobFault> {
     match job_of(alloc, words) {
         Err(JobFault::OutOfMemory) => job_of(alloc, words),
         answer => answer,
+    }
+}
+
+// The words ask for the text of the table in the file of this name.
+fn is_table_of(alloc: Global, words: &[&str], path: &str) -> bool {
+    match String::from_str(alloc, path) {
+        Ok(path) => job_again(alloc, words) == Ok(job_with(Task::Table, Some(path))),
+        Err(_) => true,
     }
 }
 
@@ -32,12 +40,25 @@ fn is_refused(alloc: Global, words: &[&str]) -> bool {
 
 #[test]
 fn key_is_a_job(rt: HostRuntime) {
-    assert!(rt; job_again(rt.alloc(), &["key"]) == Ok(plain_key()));
+    assert!(rt; job_again(rt.alloc(), &["key"]) == Ok(job_with(Task::Key, None)));
+}
+
+#[test]
+fn table_without_a_file_is_the_built_in_one(rt: HostRuntime) {
+    assert!(rt; job_again(rt.alloc(), &["table"]) == Ok(job_with(Task::Table, None)));
+}
+
+#[test]
+fn table_has_the_path_of_its_option(rt: HostRuntime) {
+    let alloc = rt.alloc();
+    assert!(rt; is_table_of(alloc, &["table", "--table", "a b.txt"], "a b.txt"));
+    assert!(rt; is_table_of(alloc, &["table", "--table=F"], "F"));
+    assert!(rt; is_table_of(alloc, &["table", "--table", "table"], "table"));
 }
 
 #[test]
 fn clap_takes_a_lone_double_dash(rt: HostRuntime) {
-    assert!(rt; job_again(rt.alloc(), &["key", "--"]) == Ok(plain_key()));
+    assert!(rt; job_again(rt.alloc(), &["key", "--"]) == Ok(job_with(Task::Key, None)));
 }
 
 #[test]
@@ -59,6 +80,26 @@ fn other_words_are_refused(rt: HostRuntime) {
     }
 }
 
+#[test]
+fn other_words_of_the_table_are_refused(rt: HostRuntime) {
+    let alloc = rt.alloc();
+    let lists: [&[&str]; 10] = [
+        &["key", "--table", "F"],
+        &["--table", "F", "table"],
+        &["table", "--table"],
+        &["table", "--table", "F", "--table", "F"],
+        &["table", "--table", "F", "G"],
+        &["table", "x"],
+        &["table", "-t", "F"],
+        &["table", "--tab", "F"],
+        &["table", "--rules", "F"],
+        &["table", "key"],
+    ];
+    for words in lists {
+        assert!(rt; is_refused(alloc, words), "{words:?}");
+    }
+}
+
 // Two calls with the same words answer the same, but for want of memory. This is a test where each growth is
 // refused in turn.
 fn is_one_answer(alloc: Global, words: &[&str]) -> bool {
@@ -71,6 +112,7 @@ fn is_one_answer(alloc: Global, words: &[&str]) -> bool {
 fn a_refused_growth_changes_no_answer(rt: HostRuntime) {
     let alloc = rt.alloc();
     assert!(rt; is_one_answer(alloc, &["key"]));
+    assert!(rt; is_one_answer(alloc, &["table", "--table", "F"]));
     assert!(rt; is_one_answer(alloc, &["key", "extra"]));
     assert!(rt; is_one_answer(alloc, &["--help"]));
 }

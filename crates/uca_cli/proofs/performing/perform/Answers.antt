@@ -1,7 +1,7 @@
-use Rattle.std.proofs.Common.{◌∙◌, ap}
-use Rattle.uca_model.specs.Table.{longest}
-use Rattle.uca_cli.proofs.BuiltInLemmas.{longest-built_in}
 use Rattle.uca_cli.proofs.performing.perform.Goals as goal
 
-pub write_keys-requires-clause-single : goal.write_keys-requires-clause-single
-write_keys-requires-clause-single g c = ap longest c.in-Ok.ensures ∙ longest-built_in
+pub returns-in-Some-clause-done : goal.returns-in-Some-clause-done
+returns-in-Some-clause-done g c = rw c.in-Some.is c.perform_with.ensures.done
+
+pub returns-in-Some-clause-fault : goal.returns-in-Some-clause-fault
+returns-in-Some-clause-fault g c = rw c.in-Some.is c.perform_with.ensures.fault

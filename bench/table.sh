@@ -1,0 +1,55 @@
+#!/usr/bin/env bash
+# How long a table's text takes to be read, beside perl's Unicode::Collate on the same file in the same run, and how that
+# grows with the text. Prints times, memory and ratios; it is no test.
+set -u
+cd "$(dirname "${BASH_SOURCE[0]}")/.." || exit 2
+work=$(mktemp -d) || exit 2
+trap 'rm -rf "$work"' EXIT
+./uca table >/dev/null </dev/null || exit 1
+perl -MUnicode::Collate -e1 || { echo "bench/table.sh: perl has no Unicode::Collate"; exit 1; }
+
+# measured COMMAND..: the seconds of the fastest of three runs and the most KiB that they held
+measured() {
+    python3 - "$@" <<'PYTHON'
+import os, resource, subprocess, sys, time
+best = None
+for _ in range(3):
+    began = time.monotonic()
+    subprocess.run(sys.argv[1:], stdin=subprocess.DEVNULL, stdout=subprocess.DEVNULL, check=True)
+    took = time.monotonic() - began
+    best = took if best is None else min(best, took)
+print(f"{best:.3f} {resource.getrusage(resource.RUSAGE_CHILDREN).ru_maxrss}")
+PYTHON
+}
+
+# beside NAME FILE: the same file by uca and by perl, which keeps it in a table and writes nothing
+beside() {
+    read -r ours our_memory <<<"$(measured crates/uca/out/uca table --table "$2")"
+    read -r theirs their_memory <<<"$(measured perl -MUnicode::Collate -e 'Unicode::Collate->new(table => $ARGV[0])' "$3")"
+    awk -v name="$1" -v a="$ours" -v b="$theirs" -v m="$our_memory" -v n="$their_memory" \
+        'BEGIN { printf "%s: uca %.3f s, %d KiB; perl %.3f s, %d KiB; ratio %.4f in time, %.3f in memory\n", name, a, m, b, n, a / b, m / n }'
+}
+
+published=
+for folder in $(perl -e 'print join " ", @INC'); do
+    [ -f "$folder/Unicode/Collate/allkeys.txt" ] && published=$folder/Unicode/Collate/allkeys.txt && break
+done
+[ -n "$published" ] && beside "the published table" "$published" allkeys.txt
+
+# entries BYTES: short entries with keys of two code points, all different
+entries() {
+    perl -e '
+        my ($left, $i) = ($ARGV[0], 0);
+        while (1) {
+            my $line = sprintf "%04X %04X;[.%04X.0020.0002]\n", 0x3400 + int($i / 0x4000), 0x4E00 + $i % 0x4000, 1 + $i % 0x7000;
+            last if ($left -= length $line) < 0;
+            print $line;
+            $i++;
+        }' "$1"
+}
+entries $((2 * 1024 * 1024)) >"$work/small"
+entries $((64 * 1024 * 1024)) >"$work/large"
+read -r small small_memory <<<"$(measured crates/uca/out/uca table --table "$work/small")"
+read -r large large_memory <<<"$(measured crates/uca/out/uca table --table "$work/large")"
+awk -v a="$small" -v b="$large" -v m="$small_memory" -v n="$large_memory" -v lines="$(wc -l <"$work/large")" \
+    'BEGIN { printf "short entries: 2 MiB %.3f s, %d KiB; 64 MiB (%d entries) %.3f s, %d KiB; ratio %.1f\n", a, m, lines, b, n, b / a }'

@@ -1,0 +1,255 @@
+//! The job `table`, and what comes of the reader of a table.
+use super::ends::{Expecting, Pieces};
+use crate::{CliFault, Job, Task, perform};
+use std::alloc::Global;
+use uca_allkeys::{ReadCause, ReadFault};
+use uca_weights::{Reader, Reading, Strength, Variable, WriteCause, WriteFault, Writer, Writing};
+
+/// The text of a table, as a person writes it.
+const TEXT: &[u8] = b"\
+@version 15.1.0
+@implicitweights 17000..18AFF; FB00 # first range
+@implicitweights 18D00..18D8F; FB00 # second range, the same base
+
+0001  ; [.0000.0000.0000] # completely ignorable
+0020  ; [*0201.0020.0002] # SPACE
+002D  ; [*0202.0020.0002.002D] # HYPHEN-MINUS, an old fourth weight
+0300  ; [.0000.0021.0002]
+0301  ; [.0000.0022.0002]
+0308  ; [.0000.0023.0002]
+0323  ; [.0000.0024.0002]
+0061  ; [.1000.0020.0002]
+0041  ; [.1000.0020.0008]
+0062  ; [.1001.0020.0002]
+0063  ; [.1002.0020.0002]
+0065  ; [.1004.0020.0002]
+0068  ; [.1005.0020.0002]
+007a  ; [.1006.0020.0002]
+0063 0068 ; [.1007.0020.0002]
+0061 0301 ; [.1008.0020.0002]
+0062 0301 ; [.1009.0020.0002]
+0062 0301 0308 ; [.100a.0020.0002]
+";
+
+/// The same table in its canonical text.
+const CANONICAL: &[u8] = b"\
+@implicitweights 17000..18AFF; FB00
+@implicitweights 18D00..18D8F; FB00
+0001 ; [.0000.0000.0000]
+0020 ; [*0201.0020.0002]
+002D ; [*0202.0020.0002]
+0041 ; [.1000.0020.0008]
+0061 ; [.1000.0020.0002]
+0061 0301 ; [.1008.0020.0002]
+0062 ; [.1001.0020.0002]
+0062 0301 ; [.1009.0020.0002]
+0062 0301 0308 ; [.100A.0020.0002]
+0063 ; [.1002.0020.0002]
+0063 0068 ; [.1007.0020.0002]
+0065 ; [.1004.0020.0002]
+0068 ; [.1005.0020.0002]
+007A ; [.1006.0020.0002]
+0300 ; [.0000.0021.0002]
+0301 ; [.0000.0022.0002]
+0308 ; [.0000.0023.0002]
+0323 ; [.0000.0024.0002]
+";
+
+/// The canonical text of the built-in table.
+const BUILT_IN: &[u8] = b"\
+0001 ; [.0000.0000.0000]
+0020 ; [*0201.0020.0002]
+002D ; [*0202.0020.0002]
+0041 ; [.1000.0020.0008]
+0061 ; [.1000.0020.0002]
+0062 ; [.1001.0020.0002]
+0063 ; [.1002.0020.0002]
+0065 ; [.1004.0020.0002]
+0068 ; [.1005.0020.0002]
+007A ; [.1006.0020.0002]
+0300 ; [.0000.0021.0002]
+0301 ; [.0000.0022.0002]
+0308 ; [.0000.0023.0002]
+0323 ; [.0000.0024.0002]
+";
+
+/// Does the job `table`. The reader of the input fails at each call, so that a job that reads it is not done.
+fn perform_table<T: Reader, W: Writer>(
+    alloc: Global,
+    table: Option<&mut T>,
+    output: &mut W,
+) -> Result<u8, CliFault> {
+    let job = Job {
+        command: Task::Table,
+        strength: Strength::Tertiary,
+        weighting: Variable::NonIgnorable,
+        raw: false,
+        table: None,
+        rules: None,
+    };
+    let rules: Option<&mut Pieces> = None;
+    let mut input = Pieces::new(b"a\n", 1, 0);
+    perform(alloc, &job, table, rules, &mut input, output)
+}
+
+fn wants_memory(answer: &Result<u8, CliFault>) -> bool {
+    match answer {
+        Err(CliFault::Table(fault)) => fault.cause == ReadCause::OutOfMemory,
+        Err(CliFault::OutOfMemory) => true,
+        _ => false,
+    }
+}
+
+/// Whether the job answers this and writes just this with the table in a reader, or is out of memory and writes nothing.
+fn comes_to<T: Reader>(
+    alloc: Global,
+    table: &mut T,
+    want: Result<u8, CliFault>,
+    output: &[u8],
+) -> bool {
+    let mut writer = Expecting::new(output, output.len() + 1, WriteCause::Failed);
+    let answer = perform_table(alloc, Some(table), &mut writer);
+    if wants_memory(&answer) {
+        return writer.left() == Some(output.len());
+    }
+    answer == want && writer.left() == Some(0)
+}
+
+fn table_refused(line: u64, cause: ReadCause) -> Result<u8, CliFault> {
+    Err(CliFault::Table(ReadFault { line, cause }))
+}
+
+#[test]
+fn a_table_is_written_in_its_canonical_text(rt: HostRuntime) {
+    for text in [TEXT, CANONICAL] {
+        let mut table = Reading::new(text);
+        assert!(rt; comes_to(rt.alloc(), &mut table, Ok(0), CANONICAL));
+    }
+    for most in [1, 7, 4096] {
+        let mut table = Pieces::new(TEXT, most, 10_000);
+        assert!(rt;
+            comes_to(rt.alloc(), &mut table, Ok(0), CANONICAL),
+            "{most} at once"
+        );
+    }
+    let mut table = Reading::new(b"".as_slice());
+    assert!(rt; comes_to(rt.alloc(), &mut table, Ok(0), b""));
+}
+
+#[test]
+fn the_built_in_table_is_written_too(rt: HostRuntime) {
+    let mut writer = Expecting::new(BUILT_IN, BUILT_IN.len(), WriteCause::Failed);
+    let table: Option<&mut Pieces> = None;
+    let answer = perform_table(rt.alloc(), table, &mut writer);
+    if !wants_memory(&answer) {
+        assert_eq!(rt; answer, Ok(0));
+        assert_eq!(rt; writer.left(), Some(0));
+    }
+}
+
+#[test]
+fn a_faulty_text_is_told_and_nothing_is_written(rt: HostRuntime) {
+    let cases: [(&[u8], u64, ReadCause); 5] = [
+        (b"0061 ; [.1000.0020]\n", 1, ReadCause::BadElement),
+        (
+            b"0061 ; [.1000.0020.0002]\n\n0061 ; [.1000.0020.0002]",
+            3,
+            ReadCause::Repeated,
+        ),
+        (b"# \xFF\n@variable shifted\n", 2, ReadCause::BadDirective),
+        (b"0061", 1, ReadCause::NoSemicolon),
+        (
+            b"@implicitweights 17000..18AFF; 7FFF\n",
+            1,
+            ReadCause::BadRange,
+        ),
+    ];
+    for (text, line, cause) in cases {
+        let mut table = Reading::new(text);
+        let want = table_refused(line, cause);
+        assert!(rt; comes_to(rt.alloc(), &mut table, want, b""), "{cause:?}");
+    }
+}
+
+#[test]
+fn a_failed_read_of_the_table_is_told(rt: HostRuntime) {
+    // The line in which the reader fails, a byte at a time.
+    for (calls, line) in [(0, 1), (15, 1), (16, 2), (65, 2), (66, 3)] {
+        let mut table = Pieces::new(TEXT, 1, calls);
+        let want = table_refused(line, ReadCause::Read);
+        assert!(rt;
+            comes_to(rt.alloc(), &mut table, want, b""),
+            "behind {calls} calls"
+        );
+    }
+}
+
+#[test]
+fn a_writer_that_stops_gets_the_front_of_the_table(rt: HostRuntime) {
+    for cause in [WriteCause::Failed, WriteCause::Zero] {
+        for room in 0..CANONICAL.len() {
+            let mut table = Reading::new(TEXT);
+            let mut writer = Expecting::new(CANONICAL, room, cause);
+            let answer = perform_table(rt.alloc(), Some(&mut table), &mut writer);
+            if wants_memory(&answer) {
+                continue;
+            }
+            let written = room as u128;
+            let want = Err(CliFault::Output(WriteFault { written, cause }));
+            assert_eq!(rt; answer, want);
+            assert_eq!(rt; writer.left(), Some(CANONICAL.len() - room));
+        }
+    }
+}
+
+#[test]
+fn a_written_table_is_read_again(rt: HostRuntime) {
+    let alloc = rt.alloc();
+    let mut table = Reading::new(TEXT);
+    let mut writer = Writing::new(Vec::new(alloc));
+    if perform_table(alloc, Some(&mut table), &mut writer).is_err() {
+        return;
+    }
+    let written = writer.into_inner();
+    let mut table = Reading::new(written.as_slice());
+    assert!(rt; comes_to(alloc, &mut table, Ok(0), CANONICAL));
+}
+
+#[test]
+fn faults_of_the_table_have_their_texts(rt: HostRuntime) {
+    let cases = [
+        (
+            ReadFault {
+                line: 2,
+                cause: ReadCause::BadElement,
+            },
+            "uca: table line 2: BadElement",
+        ),
+        (
+            ReadFault {
+                line: 1,
+                cause: ReadCause::Read,
+            },
+            "uca: table line 1: Read",
+        ),
+        (
+            ReadFault {
+                line: 67_108_865,
+                cause: ReadCause::TooLarge,
+            },
+            "uca: table line 67108865: TooLarge",
+        ),
+        (
+            ReadFault {
+                line: 0,
+                cause: ReadCause::OutOfMemory,
+            },
+            "uca: OutOfMemory",
+        ),
+    ];
+    for (fault, want) in cases {
+        if let Ok(text) = CliFault::Table(fault).to_string(rt.alloc()) {
+            assert_eq!(rt; text.as_str(), want);
+        }
+    }
+}
