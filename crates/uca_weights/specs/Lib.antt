@@ -6,3 +6,5 @@ pub mod Reader
 pub mod WriterState
 pub mod Writer
 pub mod Outgoing
+pub mod Weigher
+pub mod Coded

@@ -1,0 +1,13 @@
+use Rattle.std.proofs.Common.{◌≡◌, ◌≤◌, ◌-◌, ◌++◌, length, drop}
+use Rattle.uca_model.specs.CollationElements.{elements}
+use Rattle.uca_match.proofs.elements.push_matches.Given as goal
+
+abbrev pub invariant-matches : goal.invariant-matches
+invariant-matches l = record {
+  size : length l.text ≡ length l.fn.text;
+  within : l.at ≤ length l.text;
+  same : l.out.items ++ elements l.t (drop l.at l.text) ≡ l.fn.out.items ++ elements l.t l.fn.text;
+}
+
+abbrev pub decreases-matches : goal.decreases-matches
+decreases-matches l = length l.text - l.at

@@ -1,0 +1,10 @@
+//! The collation elements of a text (UTS #10, section 7.2, Produce Collation Element Arrays, step S2).
+//!
+//! [`elements_of`] takes the longest matches of a table's keys one after the other, with the unblocked marks behind
+//! each that belong to it.
+#![tactic(auto)]
+
+pub mod elements;
+mod matching;
+
+pub use elements::elements_of;

@@ -1,0 +1,110 @@
+ghost use Rattle.std.specs.Prelude.{◌≡◌, ◌+◌, ◌-◌, ◌<◌, ◌≤◌, ◌&&◌, ◌++◌, ◌∷◌, [], nat_lt, max, length, take, drop, slice_index};
+ghost use Rattle.unicode.specs.CanonicalCombiningClass.{canonical_combining_class};
+ghost use Rattle.uca_model.specs.Table.{is_key, longest};
+ghost use Rattle.uca_model.specs.Match.{start_len, extension_of, took};
+ghost use Rattle.uca_model.specs.CollationElements.{step};
+ghost use Rattle.uca_match.specs.Running.{brought_forward};
+
+use arrayvec::ArrayVec;
+use uca_table::Table;
+use uca_weights::MAX_KEY;
+use unicode_normalization::char::canonical_combining_class;
+
+/// The length of the longest initial substring that is a key, 0 where none is (UTS #10, 7.2, step S2.1). No substring
+/// is looked up that is longer than every key.
+fn start_len(t: &Table, text: &[char]) -> usize
+    ensures value { result ≡ start_len (is_key t.now) text.now }
+    ensures within { result ≤ length text.now }
+{
+    let mut n = text.len();
+    if n > t.longest() {
+        n = t.longest();
+    }
+    while n > 0 {
+        if t.get(&text[..n]).is_some() {
+            return n;
+        }
+        n -= 1;
+    }
+    0
+}
+
+/// Whether a start is a key with one more code point behind it.
+fn makes_key(t: &Table, start: &[char], mark: char) -> bool
+    ensures { result ≡ is_key t.now (start.now ++ mark ∷ []) }
+{
+    if start.len() >= t.longest() {
+        return false;
+    }
+    let mut key: ArrayVec<char, MAX_KEY> = ArrayVec::new();
+    let _fits = key.try_extend_from_slice(start);
+    key.push(mark);
+    t.get(key.as_slice()).is_some()
+}
+
+/// Whether a start takes a mark, where `high` is the highest combining class of the marks that were passed over
+/// (UTS #10, 7.2, steps S2.1.2 and S2.1.3).
+fn is_taken(t: &Table, start: &[char], high: u8, mark: char) -> bool
+    ensures { result ≡ (nat_lt high (canonical_combining_class mark) && is_key t.now (start.now ++ mark ∷ [])) }
+{
+    high < canonical_combining_class(mark) && makes_key(t, start, mark)
+}
+
+/// The greater of two numbers.
+fn higher(a: u8, b: u8) -> u8
+    ensures { result ≡ max a b }
+{
+    if a < b { b } else { a }
+}
+
+/// Moves the code point at `from` to `to`, before those that stood from there on.
+fn bring_forward(text: &mut [char], to: usize, from: usize)
+    requires ordered { to ≤ from }
+    requires within { from < length text.old }
+    ensures { text.new ≡ brought_forward text.old to from }
+{
+    text[to..=from].rotate_right(1);
+}
+
+/// Moves those nonstarters forward to the first `start` code points that make longer keys with them, and answers how
+/// many code points the match then has (UTS #10, 7.2, steps S2.1.1 to S2.1.3). Those that were passed over stand
+/// behind them as they stood.
+fn extend(t: &Table, text: &mut [char], start: usize) -> usize
+    requires { start ≤ length text.old }
+    ensures taken { extension_of (is_key t.now) (take start text.old) [] (drop start text.old) ≡ took (take result text.new) (drop result text.new) }
+    ensures some { start ≤ result }
+    ensures within { result ≤ length text.old }
+{
+    let mut end = start;
+    let mut high = 0;
+    for at in start..text.len() {
+        let mark = text[at];
+        let class = canonical_combining_class(mark);
+        if class == 0 {
+            return end;
+        }
+        if is_taken(t, &text[..end], high, mark) {
+            bring_forward(text, end, at);
+            end += 1;
+        } else {
+            high = higher(high, class);
+        }
+    }
+    end
+}
+
+/// Puts the longest match to the front of a text in NFD, and answers its length. What is left of the text stands
+/// behind it (UTS #10, 7.2, step S2.1). A code point that begins no key is a match by itself.
+pub(crate) fn match_front(t: &Table, text: &mut [char]) -> usize
+    requires { 0 < length text.old }
+    ensures matched { (step (is_key t.now) text.old).matched.code_points ≡ take result text.new }
+    ensures rest { (step (is_key t.now) text.old).rest ≡ drop result text.new }
+    ensures some { 0 < result }
+    ensures within { result ≤ length text.old }
+{
+    let n = start_len(t, text);
+    if n == 0 {
+        return 1;
+    }
+    extend(t, text, n)
+}

@@ -1,0 +1,20 @@
+-- What a weigher carries from one element to the next (UTS #10, section 4, Variable Weighting).
+use Rattle.std.specs.Prelude.{◌≡◌, Bool, List, if◌then◌else◌}
+use Rattle.uca_weights.specs.declared.element.Element.{Element}
+use Rattle.uca_weights.specs.declared.settings.Variable.{Variable}
+use Rattle.uca_weights.specs.Element.{has_primary, is_variable}
+use Rattle.uca_weights.specs.VariableWeighting.{is_after_variable}
+
+-- the option that it weighs by, and whether the place that comes next is after a variable
+pub record WeigherState : Type 0 where
+  pub weighting : Variable
+  pub after : Bool
+
+-- 4: whether the place behind an element is after a variable, by whether the place of the element is
+abbrev pub after_element : Bool → Element → Bool
+after_element after e = if has_primary e then is_variable e else after
+
+-- it weighs by this option, and was handed these elements so far
+pub record HasSeen (v : Variable) (w : WeigherState) (seen : List Element) : Type 0 where
+  pub weighting : w.weighting ≡ v
+  pub after : w.after ≡ is_after_variable seen

@@ -1,0 +1,105 @@
+ghost use Rattle.std.specs.Prelude.{◌≡◌, ◌≤◌, ◌<◌, ◌↔◌, length, chars, IfOk, IfErr, IsOk, IfSome, IfNone, IsSome};
+ghost use Rattle.unicode_normalization.specs.Decompose.{decompose_canonical};
+ghost use Rattle.uca_model.specs.SafeText.{IsSafe, IsLongRunAt, longest_run_after};
+ghost use Rattle.uca_window.specs.Scan.{run_after, Fits};
+
+use thiserror::Error;
+use uca_weights::{MAX_DECOMPOSITION, MAX_RUN};
+use unicode_normalization::Form;
+use unicode_normalization::char::{canonical_combining_class, decomposition};
+
+/// A text is not safe: a run of nonstarters in its NFD is longer than `MAX_RUN`, or the NFD of a character is
+/// longer than `MAX_DECOMPOSITION` code points.
+#[derive(Clone, Copy, Debug, PartialEq, Eq, Error)]
+#[error("LongRun")]
+pub struct LongRun {
+    /// The byte at which the first character begins with which the text is no longer safe.
+    pub at: usize,
+}
+
+/// A text that is safe: the runs of nonstarters in its NFD are short (compare UAX #15, Stream-Safe Text Format).
+#[derive(Clone, Copy, Debug)]
+pub struct Passage<'t> {
+    text: &'t str,
+    ghost safe: { IsSafe (chars text.now) },
+}
+
+impl<'t> Passage<'t> {
+    ghost use Rattle.uca_window.specs.Passage.{bytes_of, text_of};
+
+    /// Takes a text if it is safe. It takes no memory.
+    pub fn check(text: &'t str) -> Result<Passage<'t>, LongRun>
+        ensures safe { IsOk result ↔ IsSafe (chars text.now) }
+        ensures same { IfOk result (λ p. bytes_of p ≡ text.now) }
+        ensures long { IfErr result (λ e. IsLongRunAt (chars text.now) e.at) }
+    {
+        scan(text)?;
+        Ok(Passage { text })
+    }
+
+    /// The text.
+    pub fn as_str(&self) -> &'t str
+        ensures text { result.now ≡ bytes_of self.now }
+        ensures safe { IsSafe (text_of self.now) }
+    {
+        self.text
+    }
+}
+
+/// Goes over the characters to the first with which the text is no longer safe. The NFD has its nonstarters in
+/// another order, but their runs are as long as those of the decompositions, so nothing is put in order.
+fn scan(text: &str) -> Result<(), LongRun>
+    ensures safe { IsOk result ↔ IsSafe (chars text.now) }
+    ensures long { IfErr result (λ e. IsLongRunAt (chars text.now) e.at) }
+{
+    let mut run = 0;
+    for (at, c) in text.char_indices() {
+        match run_after_char(run, c) {
+            Some(n) => run = n,
+            None => return Err(LongRun { at }),
+        }
+    }
+    Ok(())
+}
+
+/// How many nonstarters stand in a row after a character, unless they are too many or its decomposition is too
+/// long. `count` stand before it.
+fn run_after_char(count: usize, c: char) -> Option<usize>
+    requires { count ≤ MAX_RUN }
+    ensures count { IfSome result (λ n. (n ≤ MAX_RUN) × (n ≡ run_after count (decompose_canonical c))) }
+    ensures fits { IsSome result ↔ Fits count c }
+{
+    // Below U+00C0 each character is a starter, and its own decomposition.
+    if c < '\u{C0}' {
+        return Some(0);
+    }
+    let mut room = ['\0'; 3];
+    let points = decomposition(c, Form::Nfd, &mut room);
+    if points.len() > MAX_DECOMPOSITION {
+        return None;
+    }
+    run_through(count, points)
+}
+
+/// How many nonstarters stand in a row at the end of the code points, unless too many stand in a row somewhere.
+fn run_through(count: usize, points: &[char]) -> Option<usize>
+    requires { count ≤ MAX_RUN }
+    ensures count { IfSome result (λ n. n ≡ run_after count points.now) }
+    ensures short { IfSome result (λ n. (n ≤ MAX_RUN) × (longest_run_after count points.now ≤ MAX_RUN)) }
+    ensures long { IfNone result (MAX_RUN < longest_run_after count points.now) }
+{
+    let mut run = count;
+    for c in points {
+        if canonical_combining_class(*c) == 0 {
+            run = 0;
+        } else if run == MAX_RUN {
+            return None;
+        } else {
+            run += 1;
+        }
+    }
+    Some(run)
+}
+
+#[cfg(test)]
+mod tests;
