@@ -1,6 +1,4 @@
 pub mod SendLemmas
-pub mod CanonicalLines
-pub mod CanonicalDigits
 pub mod NumberLemmas
 pub mod SplitLemmas
 pub mod TextLemmas

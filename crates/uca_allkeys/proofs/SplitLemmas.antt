@@ -1,16 +1,15 @@
 -- How the bytes of a line are cut into words and parts.
 use Rattle.std.proofs.Common.{◌≡◌, ℕ, suc, ◌+◌, ◌<◌, ◌≤◌, ◌==◌, Bool, true, false, not, List, [], ◌∷◌, ◌++◌, length, take, drop, filter, get_or, refl, sym, ap, ap₂, subst, ◌∙◌, arith, drop-cons, add-one, inl, inr, ne_eqb}
-use Rattle.std.proofs.lemmas.Bool.{cond-true, cond-false, cases_Bool, lt-ltb, le-ltb}
+use Rattle.std.proofs.lemmas.Bool.{cond-true, cases_Bool}
 use Rattle.std.proofs.lemmas.List.{length-take, take_all, drop_all, get_or-take}
 use Rattle.std.proofs.lemmas.List.Sums.{fails_before_first, passes_at_first, split_at_first}
-use Rattle.std.proofs.lemmas.List.Splits.{slice_split_none, slice_split_first, slice_split-cons_yes, length-slice_split}
+use Rattle.std.proofs.lemmas.List.Splits.{slice_split_none, slice_split_first, slice_split-cons_yes}
 use Rattle.std.proofs.lemmas.Bool.Decides.{nat_tests}
 use Rattle.std.specs.List.{position_or_len, slice_split}
-use Rattle.std.specs.Prelude.{Ok, Err, nat_lt}
-use Rattle.uca_weights.specs.declared.element.Element.{Element}
-use Rattle.uca_weights.specs.declared.limits.TheConstants.{MAX_ELEMENTS}
-use Rattle.uca_model.specs.TableText.{is_blank, skip_blanks, words, element, elements_after, too_many_elements, Cause, is_line_feed}
+use Rattle.std.specs.Prelude.{nat_lt}
+use Rattle.uca_model.specs.TableText.{is_blank, skip_blanks, words, is_line_feed}
 use Rattle.uca_model.specs.Lines.{line_feed}
+use Rattle.uca_model.proofs.CutLemmas.{skip-other}
 use Rattle.uca_allkeys.specs.Progress.{IsOpen}
 
 -- where no byte passes a test, there is one part
@@ -30,9 +29,6 @@ words-blank b bs e = ap kept (slice_split-cons_yes is_blank b bs e)
 
 skip-blank : (b : ℕ) (bs : List ℕ) → is_blank b ≡ true → skip_blanks (b ∷ bs) ≡ skip_blanks bs
 skip-blank b bs e = cond-true _ _ _ e
-
-skip-other : (b : ℕ) (bs : List ℕ) → is_blank b ≡ false → skip_blanks (b ∷ bs) ≡ b ∷ bs
-skip-other b bs e = cond-false _ _ _ e
 
 -- blanks in front change no words
 pub words-skip : (xs : List ℕ) → words (skip_blanks xs) ≡ words xs
@@ -79,22 +75,6 @@ words-first xs n at within some =
           let none : drop n xs ≡ [] = drop_all n xs high in
           ap kept (split_none is_blank xs (omega arith)) ∙ kept-some xs [] (omega arith) ∙ ap₂ (λ (w : List ℕ) (r : List ℕ). w ∷ words r) (sym whole) (sym none)
     ]
-
--- one part more: where others stand behind it, its element is added
-pub element-added : (es : List Element) (text : List ℕ) (parts : List (List ℕ)) (e : Element) → 0 < length parts → element (skip_blanks text) ≡ Ok e → length es < MAX_ELEMENTS → elements_after es (text ∷ parts) ≡ elements_after (es ++ e ∷ []) parts
-element-added es text [] e some is few = absurd (omega arith)
-element-added es text (next ∷ more) e some is few = rw is (cond-true _ _ _ (lt-ltb (length es) MAX_ELEMENTS few))
-
-pub element-one_more : (es : List Element) (text : List ℕ) (parts : List (List ℕ)) (e : Element) → 0 < length parts → element (skip_blanks text) ≡ Ok e → MAX_ELEMENTS ≤ length es → elements_after es (text ∷ parts) ≡ Err too_many_elements
-element-one_more es text [] e some is many = absurd (omega arith)
-element-one_more es text (next ∷ more) e some is many = rw is (cond-false _ _ _ (le-ltb (length es) MAX_ELEMENTS many))
-
-pub element-fault : (es : List Element) (text : List ℕ) (parts : List (List ℕ)) (cause : Cause) → 0 < length parts → element (skip_blanks text) ≡ Err cause → elements_after es (text ∷ parts) ≡ Err cause
-element-fault es text [] cause some is = absurd (omega arith)
-element-fault es text (next ∷ more) cause some is = rw is refl
-
-pub some_parts : (p : ℕ → Bool) (xs : List ℕ) → 0 < length (slice_split p xs)
-some_parts p xs = omega (arith, length-slice_split p xs)
 
 pub nil_from_empty : (xs : List ℕ) → length xs ≤ 0 → xs ≡ []
 nil_from_empty [] none = refl

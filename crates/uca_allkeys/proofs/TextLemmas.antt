@@ -1,7 +1,6 @@
 -- What a text says, line by line.
 use Rattle.std.proofs.Common.{◌≡◌, ℕ, suc, ◌+◌, ◌<◌, ◌≤◌, false, List, [], ◌∷◌, ◌++◌, length, take, refl, ap, ap₂, subst, ◌∙◌, arith, append_assoc, length-append}
 use Rattle.std.proofs.lemmas.Bool.{cond-true, cond-false, lt-ltb, le-ltb}
-use Rattle.std.proofs.lemmas.List.{take_all}
 use Rattle.std.proofs.Math.Seq.{take-append-add, take-append_seam}
 use Rattle.std.proofs.lemmas.List.Splits.{slice_split_none, slice_split_at, slice_split-cons_no}
 use Rattle.std.specs.List.{All, slice_split, onto_first}
@@ -10,12 +9,7 @@ use Rattle.uca_weights.specs.declared.limits.TheConstants.{MAX_LINE, MAX_INPUT}
 use Rattle.uca_model.specs.Lines.{line_feed}
 use Rattle.uca_model.specs.TableText.{◌>>=◌, Cause, line_too_long, too_large, TextState, TextFault, TextEnd, stops, no_lines, is_line_feed, at_line, unless_long, add_line, add_last, add_lines, add_bytes, end_within, read_text}
 use Rattle.uca_allkeys.specs.Progress.{IsOpen, fault_at}
-use Rattle.uca_allkeys.proofs.SplitLemmas.{some_parts}
-
-lines-more : (end : TextEnd) (n : ℕ) (s : TextState) (line : List ℕ) (parts : List (List ℕ)) → 0 < length parts
-    → add_lines end n s (line ∷ parts) ≡ (at_line n (unless_long line (add_line s line)) >>= (λ after. add_lines end (n + 1) after parts))
-lines-more end n s line [] some = absurd (omega arith)
-lines-more end n s line (next ∷ more) some = refl
+use Rattle.uca_model.proofs.TableTextLemmas.{some_parts, lines-more}
 
 -- a line with its LF, and the bytes behind it
 add_bytes-line : (end : TextEnd) (n : ℕ) (s : TextState) (line rest : List ℕ) → IsOpen line
@@ -72,11 +66,6 @@ pub add_bytes-last : (end : TextEnd) (n : ℕ) (s : TextState) (line : List ℕ)
 unfolding add_bytes
 add_bytes-last end n s line clear short =
     ap (add_lines end n s) (slice_split_none is_line_feed line clear.line) ∙ ap (at_line n) (cond-false _ (Err line_too_long) (add_last end s line) (le-ltb MAX_LINE (length line) short))
-
--- a text that is not too large
-pub read_text-within : (end : TextEnd) (bytes : List ℕ) → length bytes ≤ MAX_INPUT → read_text end bytes ≡ add_bytes end 1 no_lines bytes
-unfolding read_text
-read_text-within end bytes few = ap₂ (λ (e : TextEnd) (bs : List ℕ). add_bytes e 1 no_lines bs) (cond-false _ (stops too_large) end (le-ltb MAX_INPUT (length bytes) few)) (take_all MAX_INPUT bytes few)
 
 take-room : (bytes more : List ℕ) (n room : ℕ) → length bytes + room ≡ n → take n (bytes ++ more) ≡ bytes ++ take room more
 take-room bytes more n room is = subst (λ (m : ℕ). take m (bytes ++ more) ≡ bytes ++ take room more) is (take-append-add bytes more room)

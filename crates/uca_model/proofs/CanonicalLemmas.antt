@@ -43,9 +43,12 @@ of_no_length : {A : Type 0} (xs : List A) → length xs ≡ 0 → [] ≡ xs
 of_no_length [] e = refl
 of_no_length (x ∷ xs) e = absurd (omega arith)
 
+pub no_entries : [] ≡ entries (empty {X = List Element} {R = key_cmp})
+no_entries = of_no_length (entries (empty {X = List Element} {R = key_cmp})) (sym (len-entries (empty {X = List Element} {R = key_cmp})) ∙ len-empty key_cmp (List Element))
+
 -- behind the last entry there is none
 pub none_entered : (xs : List Entry) → [] ≡ entries (from_entries {R = key_cmp} (map pair_of (drop (length xs) xs)))
-none_entered [] = of_no_length (entries (empty {X = List Element} {R = key_cmp})) (sym (len-entries (empty {X = List Element} {R = key_cmp})) ∙ len-empty key_cmp (List Element))
+none_entered [] = no_entries
 none_entered (x ∷ xs) = none_entered xs
 
 -- one more entry, before those that are entered

@@ -14,7 +14,7 @@ found P test (s ∷ rs) r all e = elim (cases_Bool (test s)) [
   | inr fails ↦ found P test rs r all.1 (sym (rw fails refl) ∙ e)
 ]
 
-weaker : (P Q : Range → Type 0) (rs : List Range) → ((s : Range) → P s → Q s) → AllByRecursion P rs → AllByRecursion Q rs
+pub weaker : (P Q : Range → Type 0) (rs : List Range) → ((s : Range) → P s → Q s) → AllByRecursion P rs → AllByRecursion Q rs
 weaker P Q [] f all = tt
 weaker P Q (s ∷ rs) f all = (f s all.0, weaker P Q rs f all.1)
 
@@ -25,7 +25,7 @@ lowest_first-le (s ∷ rs) base low = elim (cases_Bool (s.base == base)) [
   | inr fails ↦ rw fails (lowest_first-le rs base low)
 ]
 
-lowest_first-within : (rs : List Range) (base low c : ℕ) → c - low < 0x8000 → AllByRecursion (λ s. s.base ≡ base → c - s.first < 0x8000) rs → c - lowest_first rs base low < 0x8000
+pub lowest_first-within : (rs : List Range) (base low c : ℕ) → c - low < 0x8000 → AllByRecursion (λ s. s.base ≡ base → c - s.first < 0x8000) rs → c - lowest_first rs base low < 0x8000
 lowest_first-within [] base low c h all = h
 lowest_first-within (s ∷ rs) base low c h all = elim (cases_Bool (s.base == base)) [
   | inl holds ↦ rw holds (let g : c - s.first < 0x8000 = all.0 (eqb-true _ _ holds) in lowest_first-within rs base (min low s.first) c (omega arith) all.1)

@@ -13,3 +13,12 @@ pub mod TableLemmas
 pub mod WeightLemmas
 pub mod LevelLemmas
 pub mod CanonicalLemmas
+pub mod CutLemmas
+pub mod CanonicalLines
+pub mod CanonicalDigits
+pub mod TableTextLemmas
+pub mod CanonicalEntries
+pub mod CanonicalRanges
+pub mod RangeLemmas
+pub mod SortedLemmas
+pub mod ReadBackLemmas

@@ -1,14 +1,18 @@
 -- Laws of the definitions, which public functions with no body have as their contracts.
-use Rattle.std.specs.Prelude.{◌≡◌, ℕ, ◌<◌, ◌^◌, List, All, map, flat_map, length}
+use Rattle.std.specs.Prelude.{◌≡◌, ℕ, ◌<◌, ◌≤◌, ◌^◌, List, All, map, flat_map, length, Ok}
 use Rattle.std.specs.Char.{IsScalar}
 use Rattle.std.specs.List.{AllByRecursion}
 use Rattle.std.specs.Cmp.Lexicographic.{slice_cmp}
 use Rattle.std.specs.Ordering.{nat_cmp}
+use Rattle.uca_weights.specs.declared.limits.TheConstants.{MAX_INPUT}
 use Rattle.uca_weights.specs.declared.settings.Settings.{Settings}
 use Rattle.uca_model.specs.Table.{ElementTable, IsTable}
 use Rattle.uca_model.specs.LevelWeights.{level_list}
 use Rattle.uca_model.specs.SortKey.{weight_bytes, joined, key_order, sort_key}
 use Rattle.uca_model.specs.Reading.{list_order, deciding_level}
+use Rattle.uca_model.specs.Ranges.{AreByFirst}
+use Rattle.uca_model.specs.TableText.{ends, table_of_text}
+use Rattle.uca_model.specs.CanonicalText.{canonical}
 
 -- weights of a level list
 abbrev pub AreWeights : List ℕ → Type 0
@@ -27,3 +31,7 @@ KeysFollowLevels = (ls ms : List (List ℕ)) → length ls ≡ length ms → All
 abbrev pub KeyOrderIsDecided : Type 0
 KeyOrderIsDecided = (t : ElementTable) (s : Settings) (a b : List ℕ) → IsTable t → All IsScalar a → All IsScalar b
     → key_order (sort_key t s a) (sort_key t s b) ≡ list_order (level_list t s.weighting a (deciding_level t s a b)) (level_list t s.weighting b (deciding_level t s a b))
+
+-- the canonical text of a table, unless it is too large to be read, says that very table
+abbrev pub CanonicalTextIsReadBack : Type 0
+CanonicalTextIsReadBack = (t : ElementTable) → IsTable t → AreByFirst t.ranges → length (canonical t) ≤ MAX_INPUT → table_of_text ends (canonical t) ≡ Ok t

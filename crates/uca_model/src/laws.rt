@@ -1,4 +1,4 @@
-ghost use Rattle.uca_model.specs.Laws.{KeysFollowLevels, KeyOrderIsDecided};
+ghost use Rattle.uca_model.specs.Laws.{KeysFollowLevels, KeyOrderIsDecided, CanonicalTextIsReadBack};
 
 /// Keys of weights are in the byte order in which their level lists are (UTS #10, 7.4).
 pub fn keys_follow_levels()
@@ -9,4 +9,10 @@ pub fn keys_follow_levels()
 /// where none do (UTS #10, 7.4, step S4). So a comparison may go level after level, with no key.
 pub fn key_order_is_decided()
     ensures { KeyOrderIsDecided }
+{}
+
+/// The canonical text of a table, unless it is too large to be read, is read back to that very table (UTS #10,
+/// Allkeys File Format). So what is written of a table says all of it.
+pub fn canonical_text_is_read_back()
+    ensures { CanonicalTextIsReadBack }
 {}

@@ -2,7 +2,7 @@ use crate::{ReadCause, ReadFault, read_table};
 use std::alloc::{AllocError, Global};
 use std::process::Abort;
 use uca_table::Table;
-use uca_weights::{Range, Reader, Reading, Refused};
+use uca_weights::{MAX_INPUT, Range, Reader, Reading, Refused};
 
 const SMALL_TEXT: &str = "@version 15.1.0
 @implicitweights 17000..18AFF; FB00 # first range
@@ -54,6 +54,35 @@ impl<'t> Reader for Slow<'t> {
     }
 }
 
+/// Gives lines of so many `#`, up to so many bytes in all.
+#[derive(Drop)]
+struct Comments {
+    width: usize,
+    column: usize,
+    left: usize,
+}
+
+impl Reader for Comments {
+    ghost use Rattle.std.specs.Prelude.{None};
+
+    ghost state = { λ s. record { coming = None; failures = 0 } };
+
+    fn pull(&mut self, buf: &mut [u8]) -> Result<usize, Refused> {
+        let count = self.left.min(buf.len());
+        self.left -= count;
+        for byte in &mut buf[..count] {
+            if self.column < self.width {
+                *byte = b'#';
+                self.column += 1;
+            } else {
+                *byte = b'\n';
+                self.column = 0;
+            }
+        }
+        Ok(count)
+    }
+}
+
 fn read(alloc: Global, text: &[u8]) -> Result<Table, ReadFault> {
     read_table(alloc, &mut Reading::new(text))
 }
@@ -64,6 +93,16 @@ fn read_slowly(alloc: Global, text: &[u8], step: usize, fails: bool) -> Result<T
         step,
         fails,
         failed: 0,
+    };
+    read_table(alloc, &mut reader)
+}
+
+/// Reads lines of so many `#`, up to so many bytes in all.
+fn read_comments(alloc: Global, width: usize, bytes: usize) -> Result<Table, ReadFault> {
+    let mut reader = Comments {
+        width,
+        column: 0,
+        left: bytes,
     };
     read_table(alloc, &mut reader)
 }
@@ -125,16 +164,19 @@ fn repeated(alloc: Global, pieces: &[(&str, usize)]) -> Result<Vec<u8>, AllocErr
     Ok(text)
 }
 
+const WANTS_MEMORY: Option<(u64, ReadCause)> = Some((0, ReadCause::OutOfMemory));
+
+/// Looks at an answer; one that wants memory is passed over.
+fn assert_told(rt: &impl Abort, told: Option<(u64, ReadCause)>, answer: Option<(u64, ReadCause)>) {
+    if told != WANTS_MEMORY {
+        assert_eq!(rt; told, answer);
+    }
+}
+
 /// Looks at the answer for a text, given at once and byte by byte.
 fn assert_answer(rt: &impl Abort, alloc: Global, text: &[u8], answer: Option<(u64, ReadCause)>) {
-    let at_once = fault(read(alloc, text));
-    if at_once != Some((0, ReadCause::OutOfMemory)) {
-        assert_eq!(rt; at_once, answer);
-    }
-    let slowly = fault(read_slowly(alloc, text, 1, false));
-    if slowly != Some((0, ReadCause::OutOfMemory)) {
-        assert_eq!(rt; slowly, answer);
-    }
+    assert_told(rt, fault(read(alloc, text)), answer);
+    assert_told(rt, fault(read_slowly(alloc, text, 1, false)), answer);
 }
 
 #[test]
@@ -153,7 +195,9 @@ fn a_cut_text_says_the_same_at_once_and_in_pieces(rt: HostRuntime) {
     let text = SMALL_TEXT.as_bytes();
     for end in 0..text.len() {
         let at_once = fault(read(rt.alloc(), &text[..end]));
-        assert_answer(&rt, rt.alloc(), &text[..end], at_once);
+        if at_once != WANTS_MEMORY {
+            assert_answer(&rt, rt.alloc(), &text[..end], at_once);
+        }
     }
 }
 
@@ -355,8 +399,28 @@ fn a_failure_of_the_reader_is_told_at_its_line(rt: HostRuntime) {
         ),
     ] {
         let told = fault(read_slowly(rt.alloc(), text.as_bytes(), 7, true));
-        if told != Some((0, ReadCause::OutOfMemory)) {
-            assert_eq!(rt; told, Some(answer));
-        }
+        assert_told(&rt, told, Some(answer));
     }
+}
+
+#[test]
+fn a_line_without_end_is_refused(rt: HostRuntime) {
+    let told = fault(read_comments(rt.alloc(), usize::MAX, usize::MAX));
+    assert_told(&rt, told, Some((1, ReadCause::LineTooLong)));
+}
+
+#[test]
+fn lines_without_end_are_refused(rt: HostRuntime) {
+    for (width, line) in [(63, 1_048_577), (4_095, 16_385)] {
+        let told = fault(read_comments(rt.alloc(), width, usize::MAX));
+        assert_told(&rt, told, Some((line, ReadCause::TooLarge)));
+    }
+}
+
+#[test]
+fn the_limit_of_the_input_holds_to_the_byte(rt: HostRuntime) {
+    let told = fault(read_comments(rt.alloc(), 4_095, MAX_INPUT));
+    assert_told(&rt, told, None);
+    let told = fault(read_comments(rt.alloc(), 4_095, MAX_INPUT + 1));
+    assert_told(&rt, told, Some((16_385, ReadCause::TooLarge)));
 }

@@ -1,9 +1,10 @@
 -- The lines of a canonical text: how long they are, what no byte of them is, and where they end.
-use Rattle.std.proofs.Common.{◌≡◌, ◌≢◌, ℕ, ◌+◌, ◌*◌, ◌/◌, ◌%◌, ◌<◌, ◌≤◌, ◌==◌, nat_lt, Bool, true, false, List, [], ◌∷◌, ◌++◌, length, map, flat_map, codes, refl, sym, ap, ◌∙◌, arith, append_assoc, append-nil, length-append, lit≤}
+use Rattle.std.proofs.Common.{◌≡◌, ◌≢◌, ℕ, ◌+◌, ◌*◌, ◌/◌, ◌%◌, ◌<◌, ◌≤◌, ◌==◌, nat_lt, Bool, true, false, List, [], ◌∷◌, ◌++◌, length, map, flat_map, codes, refl, sym, ap, ◌∙◌, arith, append_assoc, append-nil, length-append, lit≤, ne_eqb}
+use Rattle.std.proofs.lemmas.Bool.{cond-false}
 use Rattle.std.proofs.lemmas.Bool.Decides.{nat_tests}
 use Rattle.std.specs.Bool.{if◌then◌else◌}
 use Rattle.std.specs.Char.{digit_value, is_digit}
-use Rattle.std.specs.List.{AllByRecursion, slice_split}
+use Rattle.std.specs.List.{AllByRecursion, slice_split, before_first}
 use Rattle.std.specs.FinMap.{entries}
 use Rattle.std.proofs.lemmas.List.Elements.{All-from_recursion}
 use Rattle.std.proofs.lemmas.List.Splits.{slice_split_at}
@@ -11,10 +12,12 @@ use Rattle.uca_weights.specs.declared.element.Element.{Element}
 use Rattle.uca_weights.specs.declared.range.Range.{Range}
 use Rattle.uca_weights.specs.declared.limits.TheConstants.{MAX_LINE}
 use Rattle.uca_model.specs.Table.{ElementTable, IsEntry}
-use Rattle.uca_model.specs.Lines.{line_feed}
+use Rattle.uca_model.specs.Lines.{line_feed, carriage_return, without_return}
+use Rattle.uca_model.specs.TableText.{number_sign, skip_blanks, trim_end, said, statement_of, statement}
 use Rattle.uca_model.specs.Output.{hex_digit}
 use Rattle.uca_model.specs.CanonicalText.{four_digits, plane_text, point_text, mark, element_text, key_text, ends_text, entry_line, range_line, canonical}
 use Rattle.uca_model.proofs.CanonicalLemmas.{points_behind, key_text-cons}
+use Rattle.uca_model.proofs.CutLemmas.{before_none, EndsVisible, trim_end-visible}
 
 -- Digits
 
@@ -24,10 +27,6 @@ digit_value-hex_digit n h = grind (arith, nat_tests)
 
 pub is_digit-hex_digit : (n : ℕ) → n < 16 → is_digit (hex_digit n) 16 ≡ true
 is_digit-hex_digit n h = rw (digit_value-hex_digit n h) (grind (arith, nat_tests))
-
--- four digits say their number
-pub four_digits-number : (n : ℕ) → n < 0x10000 → (((n / 0x1000) * 16 + n / 0x100 % 16) * 16 + n / 0x10 % 16) * 16 + n % 16 ≡ n
-four_digits-number n h = omega arith
 
 -- Bytes
 
@@ -141,6 +140,19 @@ pub length-entry : (e : List ℕ × List Element) → IsEntry e → length (entr
 length-entry e is =
     omega (arith, length-append (key_text e.0 ++ codes " ; ") (flat_map element_text e.1), length-append (key_text e.0) (codes " ; "), length-key_text e.0, length-elements e.1, is.few_points, is.few_elements)
 
+-- the line of a range is so as well
+pub length-range : (r : Range) → length (range_said r) ≤ MAX_LINE
+length-range r =
+    omega (
+      arith,
+      length-append (codes "@implicitweights " ++ ends_text r) (codes "; " ++ four_digits r.base),
+      length-append (codes "@implicitweights ") (ends_text r),
+      length-append (point_text r.first ++ codes "..") (point_text r.last),
+      length-append (point_text r.first) (codes ".."),
+      (length-point_text r.first).1,
+      (length-point_text r.last).1,
+    )
+
 -- Where the lines end
 
 not_feed : (b : ℕ) → IsPlain b → (b == line_feed) ≡ false
@@ -185,3 +197,25 @@ pub lines_of_canonical : (t : ElementTable) → slice_split (λ b. b == line_fee
 lines_of_canonical t =
     lines_of_ranges t.ranges (flat_map entry_line (entries t.entries))
     ∙ ap (λ l. map range_said t.ranges ++ l) (ap (slice_split (λ b. b == line_feed)) (sym (append-nil (flat_map entry_line (entries t.entries)))) ∙ lines_of_entries (entries t.entries) [])
+
+-- What the lines say
+
+without_return-plain : (line : List ℕ) → AllByRecursion IsPlain line → without_return line ≡ line
+without_return-plain [] plain = refl
+without_return-plain (b ∷ []) plain = cond-false _ _ _ (ne_eqb b carriage_return (λ same. omega (arith, plain.0.visible)))
+without_return-plain (b ∷ c ∷ line) plain = ap (λ (l : List ℕ). b ∷ l) (without_return-plain (c ∷ line) plain.1)
+
+not_sign : (b : ℕ) → IsPlain b → (b == number_sign) ≡ false
+not_sign b plain = ne_eqb b number_sign plain.no_comment
+
+no_signs : (xs : List ℕ) → AllByRecursion IsPlain xs → AllByRecursion (λ b. (b == number_sign) ≡ false) xs
+no_signs [] plain = tt
+no_signs (x ∷ xs) plain = (not_sign x plain.0, no_signs xs plain.1)
+
+-- a line with neither a comment nor blanks behind
+pub statement-plain : (line : List ℕ) → AllByRecursion IsPlain line → EndsVisible line → statement line ≡ statement_of (skip_blanks line)
+unfolding statement said
+statement-plain line plain visible =
+    ap (λ (l : List ℕ). statement_of (skip_blanks (trim_end (before_first (λ b. b == number_sign) l)))) (without_return-plain line plain)
+    ∙ ap (λ (l : List ℕ). statement_of (skip_blanks (trim_end l))) (before_none (λ b. b == number_sign) line (no_signs line plain))
+    ∙ ap (λ (l : List ℕ). statement_of (skip_blanks l)) (trim_end-visible line visible)
