@@ -13,3 +13,6 @@ pub mod TableLemmas
 pub mod WeightLemmas
 pub mod LevelLemmas
 pub mod CanonicalLemmas
+pub mod NumberLemmas
+pub mod PartLemmas
+pub mod TextLemmas
