@@ -10,7 +10,7 @@ use uca_table::Table;
 use uca_weights::Settings;
 use uca_window::{Passage, nfd_of};
 
-/// Appends the fifth level, a separator and the code points of the text in NFD (UTS #10, section 7.3, step S3.10).
+// Appends the fifth level, a separator and the code points of the text in NFD (UTS #10, section 7.3, step S3.10).
 fn push_text(alloc: Global, key: &mut Vec<u8>, p: &Passage) -> Result<(), AllocError>
     ensures { OnOk result (key.new.items ≡ (key.old.items ++ 0 ∷ 0 ∷ []) ++ flat_map code_point_bytes (nfd (text_of p.now))) }
 {

@@ -5,7 +5,7 @@ ghost use Rattle.uca_model.specs.SortKey.{level_bytes, joined, all_levels, code_
 use std::alloc::{AllocError, Global};
 use uca_weights::{Element, Variable, Weigher};
 
-/// Appends the weight of one level, from 1 to 4, unless it is zero.
+// Appends the weight of one level, from 1 to 4, unless it is zero.
 fn push_weight(key: &mut Vec<u8>, weights: &[u16; 4], level: u8) -> Result<(), AllocError>
     requires first { 1 ≤ level }
     requires last { level ≤ 4 }
@@ -18,7 +18,7 @@ fn push_weight(key: &mut Vec<u8>, weights: &[u16; 4], level: u8) -> Result<(), A
     key.extend_from_slice(&weight.to_be_bytes())
 }
 
-/// Appends the bytes of one level, from 1 to 4 (UTS #10, section 7.3, step S3).
+// Appends the bytes of one level, from 1 to 4 (UTS #10, section 7.3, step S3).
 fn push_level(
     key: &mut Vec<u8>,
     v: Variable,

@@ -7,3 +7,6 @@ pub mod keys;
 mod levels;
 
 pub use keys::key_of;
+
+#[cfg(test)]
+mod tests;

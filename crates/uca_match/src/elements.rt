@@ -9,8 +9,8 @@ use uca_table::Table;
 use uca_weights::Element;
 use uca_window::{Passage, nfd_of};
 
-/// Appends the elements of a match: those of the key, or else the implicit ones of its first code point
-/// (UTS #10, 7.2, step S2.2).
+// Appends the elements of a match: those of the key, or else the implicit ones of its first code point
+// (UTS #10, 7.2, step S2.2).
 fn push_elements(out: &mut Vec<Element>, t: &Table, matched: &[char]) -> Result<(), AllocError>
     requires { 0 < length matched.now }
     ensures { OnOk result (out.new.items ≡ out.old.items ++ elements_or_implicit t.now matched.now) }
@@ -21,8 +21,8 @@ fn push_elements(out: &mut Vec<Element>, t: &Table, matched: &[char]) -> Result<
     }
 }
 
-/// Appends the elements of a text in NFD, match after match (UTS #10, 7.2, step S2). Each match is put in order
-/// within the text, and nothing behind its marks is moved.
+// Appends the elements of a text in NFD, match after match (UTS #10, 7.2, step S2). Each match is put in order
+// within the text, and nothing behind its marks is moved.
 fn push_matches(out: &mut Vec<Element>, t: &Table, text: &mut [char]) -> Result<(), AllocError>
     ensures { OnOk result (out.new.items ≡ out.old.items ++ elements t.now text.old) }
 {

@@ -8,3 +8,6 @@ pub mod elements;
 mod matching;
 
 pub use elements::elements_of;
+
+#[cfg(test)]
+mod tests;

@@ -10,8 +10,8 @@ use uca_table::Table;
 use uca_weights::MAX_KEY;
 use unicode_normalization::char::canonical_combining_class;
 
-/// The length of the longest initial substring that is a key, 0 where none is (UTS #10, 7.2, step S2.1). No substring
-/// is looked up that is longer than every key.
+// The length of the longest initial substring that is a key, 0 where none is (UTS #10, 7.2, step S2.1). No substring
+// is looked up that is longer than every key.
 fn start_len(t: &Table, text: &[char]) -> usize
     ensures value { result ≡ start_len (is_key t.now) text.now }
     ensures within { result ≤ length text.now }
@@ -29,7 +29,7 @@ fn start_len(t: &Table, text: &[char]) -> usize
     0
 }
 
-/// Whether a start is a key with one more code point behind it.
+// Whether a start is a key with one more code point behind it.
 fn makes_key(t: &Table, start: &[char], mark: char) -> bool
     ensures { result ≡ is_key t.now (start.now ++ mark ∷ []) }
 {
@@ -42,22 +42,22 @@ fn makes_key(t: &Table, start: &[char], mark: char) -> bool
     t.get(key.as_slice()).is_some()
 }
 
-/// Whether a start takes a mark, where `high` is the highest combining class of the marks that were passed over
-/// (UTS #10, 7.2, steps S2.1.2 and S2.1.3).
+// Whether a start takes a mark, where `high` is the highest combining class of the marks that were passed over
+// (UTS #10, 7.2, steps S2.1.2 and S2.1.3).
 fn is_taken(t: &Table, start: &[char], high: u8, mark: char) -> bool
     ensures { result ≡ (nat_lt high (canonical_combining_class mark) && is_key t.now (start.now ++ mark ∷ [])) }
 {
     high < canonical_combining_class(mark) && makes_key(t, start, mark)
 }
 
-/// The greater of two numbers.
+// The greater of two numbers.
 fn higher(a: u8, b: u8) -> u8
     ensures { result ≡ max a b }
 {
     if a < b { b } else { a }
 }
 
-/// Moves the code point at `from` to `to`, before those that stood from there on.
+// Moves the code point at `from` to `to`, before those that stood from there on.
 fn bring_forward(text: &mut [char], to: usize, from: usize)
     requires ordered { to ≤ from }
     requires within { from < length text.old }
@@ -66,9 +66,9 @@ fn bring_forward(text: &mut [char], to: usize, from: usize)
     text[to..=from].rotate_right(1);
 }
 
-/// Moves those nonstarters forward to the first `start` code points that make longer keys with them, and answers how
-/// many code points the match then has (UTS #10, 7.2, steps S2.1.1 to S2.1.3). Those that were passed over stand
-/// behind them as they stood.
+// Moves those nonstarters forward to the first `start` code points that make longer keys with them, and answers how
+// many code points the match then has (UTS #10, 7.2, steps S2.1.1 to S2.1.3). Those that were passed over stand
+// behind them as they stood.
 fn extend(t: &Table, text: &mut [char], start: usize) -> usize
     requires { start ≤ length text.old }
     ensures taken { extension_of (is_key t.now) (take start text.old) [] (drop start text.old) ≡ took (take result text.new) (drop result text.new) }

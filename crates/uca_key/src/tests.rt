@@ -1,0 +1,198 @@
+ghost use Rattle.uca_model.specs.Table.{AreRanges};
+
+use crate::key_of;
+use std::alloc::{AllocError, Global};
+use std::process::Abort;
+use uca_model::{Entry, keys};
+use uca_table::{InsertFault, Table, TableBuilder};
+use uca_weights::{Element, Range, Settings, Strength, Variable};
+use uca_window::Passage;
+
+/// Keys with their one element, whose mark is `*` where the flag is true.
+#[rattlefmt::skip]
+const KEYS: [(&[char], bool, [u16; 3]); 18] = [
+    (&['\u{1}'], false, [0, 0, 0]),
+    (&[' '], true, [0x201, 0x20, 2]),
+    (&['-'], true, [0x202, 0x20, 2]),
+    (&['\u{300}'], false, [0, 0x21, 2]),
+    (&['\u{301}'], false, [0, 0x22, 2]),
+    (&['\u{308}'], false, [0, 0x23, 2]),
+    (&['\u{323}'], false, [0, 0x24, 2]),
+    (&['a'], false, [0x1000, 0x20, 2]),
+    (&['A'], false, [0x1000, 0x20, 8]),
+    (&['b'], false, [0x1001, 0x20, 2]),
+    (&['c'], false, [0x1002, 0x20, 2]),
+    (&['e'], false, [0x1004, 0x20, 2]),
+    (&['h'], false, [0x1005, 0x20, 2]),
+    (&['z'], false, [0x1006, 0x20, 2]),
+    (&['c', 'h'], false, [0x1007, 0x20, 2]),
+    (&['a', '\u{301}'], false, [0x1008, 0x20, 2]),
+    (&['b', '\u{301}'], false, [0x1009, 0x20, 2]),
+    (&['b', '\u{301}', '\u{308}'], false, [0x100A, 0x20, 2]),
+];
+
+const STRENGTHS: [Strength; 5] = [
+    Strength::Primary,
+    Strength::Secondary,
+    Strength::Tertiary,
+    Strength::Quaternary,
+    Strength::Identical,
+];
+
+const OPTIONS: [Variable; 3] = [Variable::NonIgnorable, Variable::Blanked, Variable::Shifted];
+
+fn no_ranges() -> &'static [Range]
+    ensures { AreRanges result.now }
+{
+    &[]
+}
+
+fn element(starred: bool, [l1, l2, l3]: [u16; 3]) -> Element {
+    Element {
+        starred,
+        l1,
+        l2,
+        l3,
+    }
+}
+
+/// Makes the table of the keys, each step once more where memory was refused.
+fn table(rt: &impl Abort, alloc: Global) -> Table {
+    let mut builder = TableBuilder::new(alloc);
+    for (key, starred, weights) in KEYS {
+        let elements = [element(starred, weights)];
+        let inserted = match builder.insert(key, &elements) {
+            Err(InsertFault::OutOfMemory) => builder.insert(key, &elements),
+            answer => answer,
+        };
+        assert_eq!(rt; inserted, Ok(()));
+    }
+    match builder.finish() {
+        Ok(table) => table,
+        Err(fault) => fault.builder.finish().ok().expect(rt, "a table"),
+    }
+}
+
+/// The same entries as the plain programs keep them.
+fn plain_entries(alloc: Global) -> Result<Vec<Entry>, AllocError> {
+    let mut entries = Vec::new(alloc);
+    for (key, starred, weights) in KEYS {
+        let key = key.to_vec(alloc)?;
+        let elements = [element(starred, weights)].to_vec(alloc)?;
+        entries.push(Entry { key, elements })?;
+    }
+    Ok(entries)
+}
+
+/// The key of a safe text, asked for once more where memory was refused.
+fn key_again(
+    rt: &impl Abort,
+    alloc: Global,
+    t: &Table,
+    strength: Strength,
+    weighting: Variable,
+    text: &str,
+) -> Vec<u8> {
+    let p = Passage::check(text).ok().expect(rt, "a safe text");
+    let settings = Settings {
+        strength,
+        weighting,
+    };
+    match key_of(alloc, t, settings, &p) {
+        Ok(key) => key,
+        Err(_) => key_of(alloc, t, settings, &p).expect(rt, "a key"),
+    }
+}
+
+#[test]
+fn levels_are_joined_by_the_strength(rt: HostRuntime) {
+    let t = table(&rt, rt.alloc());
+    let cases: [(&str, Strength, &[u8]); 9] = [
+        ("", Strength::Primary, &[]),
+        ("", Strength::Tertiary, &[0; 4]),
+        ("", Strength::Identical, &[0; 8]),
+        ("ch", Strength::Primary, &[0x10, 7]),
+        ("ch", Strength::Secondary, &[0x10, 7, 0, 0, 0, 0x20]),
+        ("ch", Strength::Tertiary, &[
+            0x10, 7, 0, 0, 0, 0x20, 0, 0, 0, 2,
+        ]),
+        ("ch", Strength::Quaternary, &[
+            0x10, 7, 0, 0, 0, 0x20, 0, 0, 0, 2, 0, 0,
+        ]),
+        ("a", Strength::Identical, &[
+            0x10, 0, 0, 0, 0, 0x20, 0, 0, 0, 2, 0, 0, 0, 0, 0, 0, 0x61,
+        ]),
+        // The fifth level has the text in NFD, with the mark that the contraction took in its place.
+        ("\u{1EA1}\u{301}", Strength::Identical, &[
+            0x10, 8, 0, 0, 0, 0x20, 0, 0x24, 0, 0, 0, 2, 0, 2, 0, 0, 0, 0, 0, 0, 0x61, 0, 3, 0x23,
+            0, 3, 1,
+        ]),
+    ];
+    for (text, strength, wanted) in cases {
+        let key = key_again(&rt, rt.alloc(), &t, strength, Variable::NonIgnorable, text);
+        assert_eq!(rt; key.as_slice(), wanted, "{text:?}");
+    }
+}
+
+#[test]
+fn variable_elements_are_weighted_by_the_option(rt: HostRuntime) {
+    let t = table(&rt, rt.alloc());
+    let cases: [(&str, Strength, Variable, &[u8]); 4] = [
+        ("a-b", Strength::Quaternary, Variable::Shifted, &[
+            0x10, 0, 0x10, 1, 0, 0, 0, 0x20, 0, 0x20, 0, 0, 0, 2, 0, 2, 0, 0, 0xFF, 0xFF, 2, 2,
+            0xFF, 0xFF,
+        ]),
+        ("-\u{1}\u{300}", Strength::Quaternary, Variable::Shifted, &[
+            0, 0, 0, 0, 0, 0, 2, 2,
+        ]),
+        ("-\u{300}", Strength::Tertiary, Variable::Blanked, &[
+            0, 0, 0, 0,
+        ]),
+        ("-\u{300}", Strength::Tertiary, Variable::NonIgnorable, &[
+            2, 2, 0, 0, 0, 0x20, 0, 0x21, 0, 0, 0, 2, 0, 2,
+        ]),
+    ];
+    for (text, strength, weighting, wanted) in cases {
+        let key = key_again(&rt, rt.alloc(), &t, strength, weighting, text);
+        assert_eq!(rt; key.as_slice(), wanted, "{text:?} {weighting:?}");
+    }
+}
+
+/// A text of up to nine characters, by a number.
+fn generated(alloc: Global, number: u32) -> Result<String, AllocError> {
+    let characters = [
+        'a', 'b', 'c', 'h', 'A', '-', ' ', '\u{1}', '\u{1EA1}', '\u{C0}', '\u{4E00}', '\u{300}',
+        '\u{301}', '\u{308}', '\u{323}', '-',
+    ];
+    let mut text = String::new(alloc);
+    let mut state = number;
+    for _ in 0..number % 10 {
+        state = state.wrapping_mul(1_664_525).wrapping_add(1_013_904_223);
+        text.push(characters[(state >> 20) as usize % 16])?;
+    }
+    Ok(text)
+}
+
+#[test]
+fn agrees_with_the_definition(rt: HostRuntime) {
+    let t = table(&rt, rt.alloc());
+    let Ok(entries) = plain_entries(rt.alloc()) else {
+        return;
+    };
+    for number in 0..450 {
+        let strength = STRENGTHS[number as usize % 5];
+        let weighting = OPTIONS[number as usize / 150];
+        let settings = Settings {
+            strength,
+            weighting,
+        };
+        let Ok(text) = generated(rt.alloc(), number) else {
+            return;
+        };
+        let Ok(wanted) = keys::sort_key(rt.alloc(), &entries, no_ranges(), settings, &text) else {
+            return;
+        };
+        let key = key_again(&rt, rt.alloc(), &t, strength, weighting, &text);
+        assert_eq!(rt; key.as_slice(), wanted.as_slice(), "{text:?} {settings:?}");
+    }
+}

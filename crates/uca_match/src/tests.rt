@@ -1,0 +1,239 @@
+ghost use Rattle.uca_model.specs.Table.{AreRanges};
+
+use crate::elements_of;
+use std::alloc::{AllocError, Global};
+use std::process::Abort;
+use uca_model::{Entry, collation};
+use uca_table::{InsertFault, RangeFault, Table, TableBuilder};
+use uca_weights::{Element, Range};
+use uca_window::Passage;
+
+/// Keys with their one element, whose mark is `*` where the flag is true.
+#[rattlefmt::skip]
+const KEYS: [(&[char], bool, [u16; 3]); 18] = [
+    (&['\u{1}'], false, [0, 0, 0]),
+    (&[' '], true, [0x201, 0x20, 2]),
+    (&['-'], true, [0x202, 0x20, 2]),
+    (&['\u{300}'], false, [0, 0x21, 2]),
+    (&['\u{301}'], false, [0, 0x22, 2]),
+    (&['\u{308}'], false, [0, 0x23, 2]),
+    (&['\u{323}'], false, [0, 0x24, 2]),
+    (&['a'], false, [0x1000, 0x20, 2]),
+    (&['A'], false, [0x1000, 0x20, 8]),
+    (&['b'], false, [0x1001, 0x20, 2]),
+    (&['c'], false, [0x1002, 0x20, 2]),
+    (&['e'], false, [0x1004, 0x20, 2]),
+    (&['h'], false, [0x1005, 0x20, 2]),
+    (&['z'], false, [0x1006, 0x20, 2]),
+    (&['c', 'h'], false, [0x1007, 0x20, 2]),
+    (&['a', '\u{301}'], false, [0x1008, 0x20, 2]),
+    (&['b', '\u{301}'], false, [0x1009, 0x20, 2]),
+    (&['b', '\u{301}', '\u{308}'], false, [0x100A, 0x20, 2]),
+];
+
+/// Keys of which no shorter substring, or not each, is a key.
+#[rattlefmt::skip]
+const KEYS_WITH_GAPS: [(&[char], bool, [u16; 3]); 6] = [
+    (&['x', '\u{301}'], false, [0x1010, 0x20, 2]),
+    (&['a', 'b', 'c', 'h'], false, [0x1011, 0x20, 2]),
+    (&['a', '\u{323}', '\u{301}', '\u{308}'], false, [0x1012, 0x20, 2]),
+    (&['e', '\u{300}'], false, [0x1013, 0x20, 2]),
+    (&['e', '\u{300}', '\u{308}', '\u{301}'], false, [0x1014, 0x20, 2]),
+    (&['\u{323}', '\u{301}'], false, [0, 0x30, 2]),
+];
+
+const RANGES: [Range; 2] = [
+    Range {
+        first: '\u{17000}',
+        last: '\u{18AFF}',
+        base: 0xFB00,
+    },
+    Range {
+        first: '\u{18D00}',
+        last: '\u{18D8F}',
+        base: 0xFB00,
+    },
+];
+
+fn ranges() -> &'static [Range]
+    ensures { AreRanges result.now }
+{
+    &RANGES
+}
+
+fn element(starred: bool, [l1, l2, l3]: [u16; 3]) -> Element {
+    Element {
+        starred,
+        l1,
+        l2,
+        l3,
+    }
+}
+
+fn plain(l1: u16, l2: u16) -> Element {
+    element(false, [l1, l2, 2])
+}
+
+/// Inserts entries, each once more where memory was refused.
+fn insert_all(rt: &impl Abort, builder: &mut TableBuilder, keys: &[(&[char], bool, [u16; 3])]) {
+    for (key, starred, weights) in keys {
+        let elements = [element(*starred, *weights)];
+        let inserted = match builder.insert(key, &elements) {
+            Err(InsertFault::OutOfMemory) => builder.insert(key, &elements),
+            answer => answer,
+        };
+        assert_eq!(rt; inserted, Ok(()));
+    }
+}
+
+/// Makes a table, once more where memory was refused.
+fn table(rt: &impl Abort, alloc: Global, gaps: &[(&[char], bool, [u16; 3])]) -> Table {
+    let mut builder = TableBuilder::new(alloc);
+    for range in RANGES {
+        let added = match builder.add_implicit(range.first, range.last, range.base) {
+            Err(RangeFault::OutOfMemory) => {
+                builder.add_implicit(range.first, range.last, range.base)
+            }
+            answer => answer,
+        };
+        assert_eq!(rt; added, Ok(()));
+    }
+    insert_all(rt, &mut builder, &KEYS);
+    insert_all(rt, &mut builder, gaps);
+    match builder.finish() {
+        Ok(table) => table,
+        Err(fault) => fault.builder.finish().ok().expect(rt, "a table"),
+    }
+}
+
+/// The same entries as the plain programs keep them.
+fn plain_entries(alloc: Global) -> Result<Vec<Entry>, AllocError> {
+    let mut entries = Vec::new(alloc);
+    for keys in [KEYS.as_slice(), KEYS_WITH_GAPS.as_slice()] {
+        for (key, starred, weights) in keys {
+            let key = key.to_vec(alloc)?;
+            let elements = [element(*starred, *weights)].to_vec(alloc)?;
+            entries.push(Entry { key, elements })?;
+        }
+    }
+    Ok(entries)
+}
+
+/// The elements of a safe text, asked for once more where memory was refused.
+fn elements_again(rt: &impl Abort, alloc: Global, t: &Table, text: &str) -> Vec<Element> {
+    let p = Passage::check(text).ok().expect(rt, "a safe text");
+    match elements_of(alloc, t, &p) {
+        Ok(elements) => elements,
+        Err(_) => elements_of(alloc, t, &p).expect(rt, "elements"),
+    }
+}
+
+#[test]
+fn contractions_are_matched_whole(rt: HostRuntime) {
+    let t = table(&rt, rt.alloc(), &[]);
+    let cases: [(&str, &[Element]); 9] = [
+        ("", &[]),
+        ("ch", &[plain(0x1007, 0x20)]),
+        ("cch", &[plain(0x1002, 0x20), plain(0x1007, 0x20)]),
+        ("c\u{301}h", &[
+            plain(0x1002, 0x20),
+            plain(0, 0x22),
+            plain(0x1005, 0x20),
+        ]),
+        // The mark below, of another class, is passed over.
+        ("\u{1EA1}\u{301}", &[plain(0x1008, 0x20), plain(0, 0x24)]),
+        // A mark of the same class blocks.
+        ("a\u{300}\u{301}", &[
+            plain(0x1000, 0x20),
+            plain(0, 0x21),
+            plain(0, 0x22),
+        ]),
+        // One mark after the other is taken.
+        ("b\u{323}\u{301}\u{308}", &[plain(0x100A, 0x20), plain(0, 0x24)]),
+        // A starter ends the run.
+        ("b-\u{301}", &[
+            plain(0x1001, 0x20),
+            element(true, [0x202, 0x20, 2]),
+            plain(0, 0x22),
+        ]),
+        ("\u{4E00}-", &[
+            plain(0xFB40, 0x20),
+            element(false, [0xCE00, 0, 0]),
+            element(true, [0x202, 0x20, 2]),
+        ]),
+    ];
+    for (text, wanted) in cases {
+        let elements = elements_again(&rt, rt.alloc(), &t, text);
+        assert_eq!(rt; elements.as_slice(), wanted, "{text:?}");
+    }
+}
+
+#[test]
+fn marks_far_behind_are_taken(rt: HostRuntime) {
+    let t = table(&rt, rt.alloc(), &[]);
+    let text = "b\u{323}\u{323}\u{323}\u{323}\u{323}\u{323}\u{323}\u{323}\u{323}\u{323}\u{323}\u{323}\u{323}\u{323}\u{301}\u{308}";
+    let elements = elements_again(&rt, rt.alloc(), &t, text);
+    let mut wanted = [plain(0, 0x24); 15];
+    wanted[0] = plain(0x100A, 0x20);
+    assert_eq!(rt; elements.as_slice(), wanted.as_slice());
+}
+
+#[test]
+fn a_code_point_without_key_takes_no_mark(rt: HostRuntime) {
+    let t = table(&rt, rt.alloc(), &KEYS_WITH_GAPS);
+    let elements = elements_again(&rt, rt.alloc(), &t, "x\u{301}");
+    assert_eq!(rt; elements.as_slice(), [plain(0x1010, 0x20)].as_slice());
+    // The mark that stands between makes `x` the longest prefix, which is no key.
+    let elements = elements_again(&rt, rt.alloc(), &t, "x\u{323}\u{308}\u{301}");
+    let wanted = [
+        plain(0xFBC0, 0x20),
+        element(false, [0x8078, 0, 0]),
+        plain(0, 0x24),
+        plain(0, 0x23),
+        plain(0, 0x22),
+    ];
+    assert_eq!(rt; elements.as_slice(), wanted.as_slice());
+}
+
+/// A text of up to nine characters, by a number.
+fn generated(alloc: Global, number: u32) -> Result<String, AllocError> {
+    let characters = [
+        'a', 'b', 'c', 'h', 'e', 'x', '\u{1EA1}', '\u{C0}', '\u{4E00}', '\u{300}', '\u{301}',
+        '\u{308}', '\u{323}', '\u{301}', '\u{308}', '\u{323}',
+    ];
+    let mut text = String::new(alloc);
+    let mut state = number;
+    for _ in 0..number % 10 {
+        state = state.wrapping_mul(1_664_525).wrapping_add(1_013_904_223);
+        text.push(characters[(state >> 20) as usize % 16])?;
+    }
+    Ok(text)
+}
+
+/// The elements by the plain program.
+fn plain_elements(
+    alloc: Global,
+    entries: &[Entry],
+    text: &str,
+) -> Result<Vec<Element>, AllocError> {
+    let decomposed = collation::nfd(alloc, text)?;
+    collation::elements(alloc, entries, ranges(), &decomposed)
+}
+
+#[test]
+fn agrees_with_the_definition(rt: HostRuntime) {
+    let t = table(&rt, rt.alloc(), &KEYS_WITH_GAPS);
+    let Ok(entries) = plain_entries(rt.alloc()) else {
+        return;
+    };
+    for number in 0..600 {
+        let Ok(text) = generated(rt.alloc(), number) else {
+            return;
+        };
+        let Ok(wanted) = plain_elements(rt.alloc(), &entries, &text) else {
+            return;
+        };
+        let elements = elements_again(&rt, rt.alloc(), &t, &text);
+        assert_eq!(rt; elements.as_slice(), wanted.as_slice(), "{text:?}");
+    }
+}
