@@ -43,9 +43,10 @@ fn mark(element: &Element) -> u8
     if element.starred { b'*' } else { b'.' }
 }
 
-/// An element with its brackets.
+/// A collation element with its brackets, as `[.1000.0020.0002]`, or with `*` in place of the first `.`
+/// (UTS #10, Allkeys File Format).
 #[tactic(auto, unfolding(uca_model::specs::CanonicalText::element_text))]
-fn element_text(element: &Element) -> [u8; 17]
+pub fn element_text(element: &Element) -> [u8; 17]
     ensures { result ≡ element_text element.now }
 {
     let mark = mark(element);

@@ -12,7 +12,7 @@ pub mod read;
 mod reading;
 mod statement;
 
-pub use canonical::write_table;
+pub use canonical::{element_text, write_table};
 pub use faults::{ReadCause, ReadFault};
 pub use read::read_table;
 

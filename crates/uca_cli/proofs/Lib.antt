@@ -1,7 +1,5 @@
 pub mod InputLemmas
-pub mod ScanLemmas
 pub mod LinesLemmas
-pub mod KeyLemmas
 pub mod BuiltInLemmas
 pub mod HelpLemmas
 pub mod CommandLineLemmas

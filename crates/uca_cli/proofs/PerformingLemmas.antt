@@ -1,16 +1,10 @@
 -- A job is its table, and the work with it.
 use Rattle.std.proofs.Common.{◌≡◌, ℕ, Option, None, Result, Ok, Err, IfOk, IfErr, inl, inr, ap, ◌∙◌}
 use Rattle.uca_weights.specs.Reader.{ReaderState}
-use Rattle.uca_model.specs.Table.{ElementTable, longest}
-use Rattle.uca_cli.specs.BuiltIn.{built_in_table}
+use Rattle.uca_model.specs.Table.{ElementTable}
 use Rattle.uca_cli.specs.Performing.{Ends, ReadsTable, Works, StopsWork, Performs, Refuses}
 use Rattle.uca_cli.specs.declared.faults.CliFault.{CliFault}
 use Rattle.uca_cli.specs.declared.job.Job.{Job}
-use Rattle.uca_cli.proofs.BuiltInLemmas.{longest-built_in}
-
--- with no reader, the keys of the table have one code point
-pub longest-own : (t : ElementTable) → ReadsTable None None t → longest t ≡ 1
-longest-own t own = ap longest own ∙ longest-built_in
 
 -- the work was done with the table
 pub performs : (job : Job) (lent left : Option ReaderState) (t : ElementTable) (old new : Ends) (result : Result ℕ CliFault)

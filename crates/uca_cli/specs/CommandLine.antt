@@ -10,7 +10,7 @@ use Rattle.uca_cli.specs.declared.job.Job.{Job}
 use Rattle.uca_cli.specs.declared.job.JobFault.{JobFault}
 use Rattle.uca_cli.specs.declared.job.JobFault.TheVariants.{Usage, OutOfMemory}
 use Rattle.uca_cli.specs.declared.job.Task.{Task}
-use Rattle.uca_cli.specs.declared.job.Task.TheVariants.{Key, Table}
+use Rattle.uca_cli.specs.declared.job.Task.TheVariants.{Elements, Key, Table}
 
 -- ---- the commands of the program, as clap reads them
 
@@ -44,6 +44,7 @@ task_named name =
 
 -- the path of the table's file: `key` does not take it, and to `table` it is the value of the option
 abbrev pub table_path : Task → List Row → Option Text
+table_path Elements rows = None
 table_path Key rows = None
 table_path Table rows = first_of (codes "table") rows
 

@@ -1,6 +1,4 @@
 pub mod Input
-pub mod Passage
-pub mod Scan
 pub mod BuiltIn
 pub mod CommandLine
 pub mod Lent

@@ -7,6 +7,7 @@ use Rattle.uca_weights.specs.Reader.{ReaderState, GivesAll}
 use Rattle.uca_weights.specs.WriterState.{WriterState}
 use Rattle.uca_weights.specs.Writer.{WritesAll, WritesFront}
 use Rattle.uca_model.specs.CanonicalText.{canonical}
+use Rattle.uca_model.specs.ElementLines.{elements_output}
 use Rattle.uca_model.specs.Lines.{lines_of, IsTextLine}
 use Rattle.uca_model.specs.Output.{key_output}
 use Rattle.uca_model.specs.Table.{ElementTable}
@@ -19,7 +20,7 @@ use Rattle.uca_cli.specs.declared.faults.CliFault.TheVariants as fault
 use Rattle.uca_cli.specs.declared.faults.InputFault.{InputFault}
 use Rattle.uca_cli.specs.declared.job.Job.{Job}
 use Rattle.uca_cli.specs.declared.job.Task.{Task}
-use Rattle.uca_cli.specs.declared.job.Task.TheVariants.{Key, Table}
+use Rattle.uca_cli.specs.declared.job.Task.TheVariants.{Elements, Key, Table}
 
 -- the settings of a job
 abbrev pub settings_of : Job → Settings
@@ -27,6 +28,7 @@ settings_of job = record { strength = job.strength; weighting = job.weighting }
 
 -- what a command writes with a table for an input
 abbrev pub task_output : Task → ElementTable → Settings → List ℕ → List ℕ
+task_output Elements t s bytes = elements_output t bytes
 task_output Key t s bytes = key_output t s bytes
 task_output Table t s bytes = canonical t
 
@@ -76,8 +78,8 @@ pub record ReadsNothing (old new : ReaderState) (bytes : List ℕ) : Type 0 wher
 
 -- a command reads the lines that it writes of; `table` has no input
 abbrev pub ReadsFor : Task → ReaderState → ReaderState → List ℕ → Type 0
-ReadsFor Key old new bytes = ReadsLines old new bytes
 ReadsFor Table old new bytes = ReadsNothing old new bytes
+ReadsFor _ old new bytes = ReadsLines old new bytes
 
 -- the whole input was read, and the fault is that of its first line that has one
 pub record HasFaultyLine (old new : ReaderState) (f : InputFault) : Type 0 where
@@ -91,8 +93,8 @@ RefusesInput old new f = StopsReading old new f ⊎ HasFaultyLine old new f
 
 -- a command refuses its input; `table` has none
 abbrev pub RefusesFor : Task → ReaderState → ReaderState → InputFault → Type 0
-RefusesFor Key old new f = RefusesInput old new f
 RefusesFor Table old new f = ⊥
+RefusesFor _ old new f = RefusesInput old new f
 
 -- ---- the work with a table
 

@@ -1,17 +1,34 @@
--- What stops the output of keys.
-use Rattle.std.specs.Prelude.{ℕ, List}
+-- What goes out line by line, and what stops it.
+use Rattle.std.specs.Prelude.{◌≡◌, ℕ, List, flat_map}
 use Rattle.uca_weights.specs.WriterState.{WriterState}
 use Rattle.uca_weights.specs.Writer.{WritesFront}
 use Rattle.uca_weights.specs.Outgoing.{StopsSending}
 use Rattle.uca_weights.specs.declared.outgoing.Outgoing.{Outgoing}
+use Rattle.uca_weights.specs.declared.settings.Settings.{Settings}
+use Rattle.uca_model.specs.ElementLines.{elements_line}
+use Rattle.uca_model.specs.Lines.{lines_of}
+use Rattle.uca_model.specs.Output.{key_line}
+use Rattle.uca_model.specs.Table.{ElementTable}
 use Rattle.uca_cli.specs.Performing.{WritesSome}
 use Rattle.uca_cli.specs.declared.faults.CliFault.{CliFault}
 use Rattle.uca_cli.specs.declared.faults.CliFault.TheVariants.{Output, OutOfMemory}
+use Rattle.uca_cli.specs.declared.output.LineForm.{LineForm}
+use Rattle.uca_cli.specs.declared.output.LineForm.TheVariants.{Elements, Key}
 
--- the writer stopped a line
-abbrev pub StopsLine : WriterState → Outgoing → WriterState → List ℕ → CliFault → Type 0
-StopsLine old before new line (Output fault) = StopsSending old before new line fault
-StopsLine old before new line _ = ⊥
+-- what goes out for a line
+abbrev pub line_text : LineForm → ElementTable → Settings → List ℕ → List ℕ
+line_text Elements t s line = elements_line t line
+line_text Key t s line = key_line t s line
+
+-- what goes out for all lines
+abbrev pub lines_text : LineForm → ElementTable → Settings → List ℕ → List ℕ
+lines_text form t s bytes = flat_map (line_text form t s) (lines_of bytes)
+
+-- the writer stopped a line, or memory was wanted before anything of it was handed over
+abbrev pub StopsLine : WriterState → Outgoing → WriterState → Outgoing → List ℕ → CliFault → Type 0
+StopsLine old before new after line (Output fault) = StopsSending old before new line fault
+StopsLine old before new after line OutOfMemory = (new ≡ old) × (after ≡ before)
+StopsLine old before new after line _ = ⊥
 
 -- the writer stopped the output, or memory was wanted when a front of it had gone out
 abbrev pub StopsOutput : WriterState → WriterState → List ℕ → CliFault → Type 0

@@ -14,6 +14,8 @@ use uca_weights::{Strength, Variable};
 /// What the program does with its input.
 #[derive(Clone, Copy, Debug, PartialEq, Eq)]
 pub enum Task {
+    /// Writes the collation elements of each line (UTS #10, section 7.2).
+    Elements,
     /// Writes the sort key of each line (UTS #10, section 7.3).
     Key,
     /// Writes the collation element table as text.
@@ -145,7 +147,7 @@ fn table_path(
     ensures { IfOk result (λ path. option_map string_bytes path ≡ table_path command (rows_of (found_of options.now))) }
 {
     match command {
-        Task::Key => Ok(None),
+        Task::Elements | Task::Key => Ok(None),
         Task::Table => path_of(alloc, options, "table"),
     }
 }

@@ -8,10 +8,8 @@ pub mod faults;
 mod hex;
 mod input;
 pub mod job;
-pub mod keys;
 mod lines;
 mod output;
-pub mod passage;
 pub mod performing;
 mod small_table;
 #[cfg(test)]
@@ -19,7 +17,5 @@ mod tests;
 
 pub use faults::{CliFault, InputCause, InputFault};
 pub use job::{Job, JobFault, Task, job_of};
-pub use keys::key_of;
-pub use passage::{LongRun, Passage};
 pub use performing::{perform, status_of};
 pub use small_table::built_in;

@@ -3,9 +3,9 @@ ghost use Rattle.uca_model.specs.Lines.{line_feed, lines_of, without_return, IsT
 ghost use Rattle.uca_cli.specs.Input.{HasInputFault, HasFaultAt};
 
 use crate::faults::{InputCause, InputFault};
-use crate::passage::Passage;
 use memchr::memchr;
 use simdutf8::compat::from_utf8;
+use uca_window::Passage;
 
 /// Where the first line ends: at its LF, or at the end of the input.
 fn line_end(bytes: &[u8]) -> usize

@@ -1,31 +1,39 @@
-ghost use Rattle.std.specs.Prelude.{◌≡◌, ◌+◌, ◌^◌, ◌<◌, ◌≤◌, length, All, OnOk, IfOk, MatchResult, chars};
-ghost use Rattle.uca_weights.specs.Settings.{levels};
-ghost use Rattle.uca_weights.specs.Outgoing.{handed, Sends};
+ghost use Rattle.std.specs.Prelude.{◌≡◌, ◌+◌, ◌*◌, ◌^◌, ◌<◌, ◌≤◌, ◌++◌, length, flat_map, All, OnOk, MatchResult, chars};
+ghost use Rattle.uca_weights.specs.Outgoing.{handed, Sends, StopsSending};
 ghost use Rattle.uca_weights.specs.Writer.{WritesAll};
 ghost use Rattle.uca_weights.specs.declared.limits.TheConstants.{MAX_INPUT};
-ghost use Rattle.uca_model.specs.Table.{longest};
+ghost use Rattle.uca_model.specs.CanonicalText.{element_text};
+ghost use Rattle.uca_model.specs.ElementLines.{elements_text};
 ghost use Rattle.uca_model.specs.Lines.{lines_of, IsTextLine};
-ghost use Rattle.uca_model.specs.SortKey.{sort_key};
-ghost use Rattle.uca_model.specs.Output.{hex_line, key_output};
-ghost use Rattle.uca_cli.specs.Sending.{StopsLine, StopsOutput};
+ghost use Rattle.uca_model.specs.Output.{hex_line};
+ghost use Rattle.uca_window.specs.Passage.{text_of};
+ghost use Rattle.uca_cli.specs.Sending.{line_text, lines_text, StopsLine, StopsOutput};
 
 use crate::faults::CliFault;
 use crate::hex::send_hex;
-use crate::keys::key_of;
 use crate::lines::first_line;
-use crate::passage::Passage;
 use simdutf8::compat::from_utf8;
-use std::alloc::{AllocError, Global};
+use std::alloc::Global;
+use uca_allkeys::element_text;
+use uca_key::key_of;
+use uca_match::elements_of;
 use uca_table::Table;
-use uca_weights::{Outgoing, Settings, Variable, Writer};
+use uca_weights::{Element, Outgoing, Settings, WriteFault, Writer};
+use uca_window::Passage;
 
-/// The sort key of a line that is a safe text.
-fn line_key(alloc: Global, t: &Table, s: Settings, line: &[u8]) -> Result<Vec<u8>, AllocError>
-    requires single { longest t.now ≡ 1 }
-    requires few { levels s.strength ≤ 3 }
-    requires unweighted { s.weighting ≡ Variable.NonIgnorable }
-    requires text { IsTextLine line.now }
-    ensures { IfOk result (λ v. v.items ≡ sort_key t.now s (chars line.now)) }
+/// What a command writes for each line.
+#[derive(Clone, Copy)]
+pub enum LineForm {
+    /// The line's collation elements.
+    Elements,
+    /// The line's sort key, as digits.
+    Key,
+}
+
+/// The text of a line that was checked.
+fn text_of_line(line: &[u8]) -> Passage<'_>
+    requires { IsTextLine line.now }
+    ensures { text_of result ≡ chars line.now }
 {
     let Ok(text) = from_utf8(line) else {
         unreachable!();
@@ -33,53 +41,116 @@ fn line_key(alloc: Global, t: &Table, s: Settings, line: &[u8]) -> Result<Vec<u8
     let Ok(passage) = Passage::check(text) else {
         unreachable!();
     };
-    key_of(alloc, t, s, &passage)
+    passage
 }
 
-/// Has the key of a line go out.
-fn send_key<W: Writer>(w: &mut W, out: &mut Outgoing, key: &[u8]) -> Result<(), CliFault>
+/// Has collation elements go out one behind the other.
+fn send_each<W: Writer>(
+    w: &mut W,
+    out: &mut Outgoing,
+    elements: &[Element],
+) -> Result<(), WriteFault>
+    requires { handed out.old + 17 * length elements.now < 2 ^ 128 }
+    ensures { MatchResult result
+        (λ _. Sends (W.state w.old) out.old (W.state w.new) out.new (flat_map element_text elements.now))
+        (λ f. StopsSending (W.state w.old) out.old (W.state w.new) (flat_map element_text elements.now) f) }
+{
+    for element in elements {
+        out.send(w, &element_text(element))?;
+    }
+    Ok(())
+}
+
+/// Has the line of some collation elements go out.
+fn send_elements<W: Writer>(
+    w: &mut W,
+    out: &mut Outgoing,
+    elements: &[Element],
+) -> Result<(), WriteFault>
     requires { handed out.old < 2 ^ 127 }
     ensures sends { MatchResult result
-        (λ _. Sends (W.state w.old) out.old (W.state w.new) out.new (hex_line key.now))
-        (StopsLine (W.state w.old) out.old (W.state w.new) (hex_line key.now)) }
-    ensures small { OnOk result (handed out.new < handed out.old + 2 ^ 66) }
+        (λ _. Sends (W.state w.old) out.old (W.state w.new) out.new (elements_text elements.now))
+        (StopsSending (W.state w.old) out.old (W.state w.new) (elements_text elements.now)) }
+    ensures small { OnOk result (handed out.new < handed out.old + 2 ^ 70) }
 {
-    match send_hex(w, out, key) {
-        Ok(()) => match out.send(w, b"\n") {
-            Ok(()) => Ok(()),
-            Err(fault) => Err(CliFault::Output(fault)),
-        },
-        Err(fault) => Err(CliFault::Output(fault)),
+    match send_each(w, out, elements) {
+        Ok(()) => out.send(w, b"\n"),
+        Err(fault) => Err(fault),
     }
 }
 
-/// Writes the key of each line of an input, which was checked.
-pub fn write_keys<W: Writer>(
+/// Has the line of a key go out.
+fn send_key<W: Writer>(w: &mut W, out: &mut Outgoing, key: &[u8]) -> Result<(), WriteFault>
+    requires { handed out.old < 2 ^ 127 }
+    ensures sends { MatchResult result
+        (λ _. Sends (W.state w.old) out.old (W.state w.new) out.new (hex_line key.now))
+        (StopsSending (W.state w.old) out.old (W.state w.new) (hex_line key.now)) }
+    ensures small { OnOk result (handed out.new < handed out.old + 2 ^ 70) }
+{
+    match send_hex(w, out, key) {
+        Ok(()) => out.send(w, b"\n"),
+        Err(fault) => Err(fault),
+    }
+}
+
+/// Has what a command writes for a line go out.
+fn send_line<W: Writer>(
     alloc: Global,
+    form: LineForm,
+    t: &Table,
+    s: Settings,
+    line: &[u8],
+    w: &mut W,
+    out: &mut Outgoing,
+) -> Result<(), CliFault>
+    requires text { IsTextLine line.now }
+    requires room { handed out.old < 2 ^ 127 }
+    ensures sends { MatchResult result
+        (λ _. Sends (W.state w.old) out.old (W.state w.new) out.new (line_text form t.now s line.now))
+        (StopsLine (W.state w.old) out.old (W.state w.new) out.new (line_text form t.now s line.now)) }
+    ensures small { OnOk result (handed out.new < handed out.old + 2 ^ 70) }
+{
+    let passage = text_of_line(line);
+    match form {
+        LineForm::Elements => match elements_of(alloc, t, &passage) {
+            Ok(elements) => match send_elements(w, out, &elements) {
+                Ok(()) => Ok(()),
+                Err(fault) => Err(CliFault::Output(fault)),
+            },
+            Err(_) => Err(CliFault::OutOfMemory),
+        },
+        LineForm::Key => match key_of(alloc, t, s, &passage) {
+            Ok(key) => match send_key(w, out, &key) {
+                Ok(()) => Ok(()),
+                Err(fault) => Err(CliFault::Output(fault)),
+            },
+            Err(_) => Err(CliFault::OutOfMemory),
+        },
+    }
+}
+
+/// Writes what a command writes for each line of an input, which was checked.
+pub fn write_lines<W: Writer>(
+    alloc: Global,
+    form: LineForm,
     t: &Table,
     s: Settings,
     bytes: &[u8],
     w: &mut W,
 ) -> Result<(), CliFault>
-    requires single { longest t.now ≡ 1 }
-    requires few { levels s.strength ≤ 3 }
-    requires unweighted { s.weighting ≡ Variable.NonIgnorable }
     requires small { length bytes.now ≤ MAX_INPUT }
     requires texts { All IsTextLine (lines_of bytes.now) }
     ensures { MatchResult result
-        (λ _. WritesAll (W.state w.old) (W.state w.new) (key_output t.now s bytes.now))
-        (StopsOutput (W.state w.old) (W.state w.new) (key_output t.now s bytes.now)) }
+        (λ _. WritesAll (W.state w.old) (W.state w.new) (lines_text form t.now s bytes.now))
+        (StopsOutput (W.state w.old) (W.state w.new) (lines_text form t.now s bytes.now)) }
 {
     let mut out = Outgoing::new();
     let mut left = bytes;
     while !left.is_empty() {
         let (line, rest) = first_line(left);
-        match line_key(alloc, t, s, line) {
-            Ok(key) => match send_key(w, &mut out, &key) {
-                Ok(()) => left = rest,
-                Err(fault) => return Err(fault),
-            },
-            Err(_) => return Err(CliFault::OutOfMemory),
+        match send_line(alloc, form, t, s, line, w, &mut out) {
+            Ok(()) => left = rest,
+            Err(fault) => return Err(fault),
         }
     }
     match out.flush(w) {

@@ -1,6 +1,4 @@
-ghost use Rattle.std.specs.Prelude.{◌≡◌, ◌≢◌, ◌≤◌, false, IfErr, IfOk, IsNone, None, Some, option_map};
-ghost use Rattle.uca_weights.specs.Settings.{levels};
-ghost use Rattle.uca_model.specs.Table.{longest};
+ghost use Rattle.std.specs.Prelude.{◌≡◌, false, IfErr, IfOk, IsNone, None, Some, option_map};
 ghost use Rattle.uca_cli.specs.Lent.{left_behind, lent};
 ghost use Rattle.uca_cli.specs.Performing.{Performs, Refuses, ReadsLines, ReadsTable, RefusesInput, StopsTable, StopsWork, Works};
 
@@ -8,12 +6,12 @@ use crate::faults::{CliFault, InputFault};
 use crate::input::read_input;
 use crate::job::{Job, Task};
 use crate::lines::check_lines;
-use crate::output::write_keys;
+use crate::output::{LineForm, write_lines};
 use crate::small_table::built_in;
 use std::alloc::Global;
 use uca_allkeys::{read_table, write_table};
 use uca_table::Table;
-use uca_weights::{Reader, Settings, Variable, Writer};
+use uca_weights::{Reader, Settings, Writer};
 
 /// The table that the text in a reader says.
 fn table_in<T: Reader>(alloc: Global, reader: &mut T) -> Result<Table, CliFault>
@@ -59,9 +57,6 @@ fn work<I: Reader, W: Writer>(
     input: &mut I,
     output: &mut W,
 ) -> Result<u8, CliFault>
-    requires few { levels job.now.strength ≤ 3 }
-    requires unweighted { job.now.weighting ≡ Variable.NonIgnorable }
-    requires single { job.now.command ≡ Task.Key → longest t.now ≡ 1 }
     ensures done { IfOk result (λ _. Works job.now t.now
         (record { input = I.state input.old; output = W.state output.old })
         (record { input = I.state input.new; output = W.state output.new })) }
@@ -74,18 +69,22 @@ fn work<I: Reader, W: Writer>(
         strength: job.strength,
         weighting: job.weighting,
     };
-    match job.command {
-        Task::Key => match read_lines(alloc, input) {
-            Ok(bytes) => match write_keys(alloc, t, settings, &bytes, output) {
-                Ok(()) => Ok(0),
-                Err(fault) => Err(fault),
-            },
-            Err(fault) => Err(CliFault::Input(fault)),
+    let form = match job.command {
+        Task::Elements => LineForm::Elements,
+        Task::Key => LineForm::Key,
+        Task::Table => {
+            return match write_table(output, t) {
+                Ok(_) => Ok(0),
+                Err(fault) => Err(CliFault::Output(fault)),
+            };
+        }
+    };
+    match read_lines(alloc, input) {
+        Ok(bytes) => match write_lines(alloc, form, t, settings, &bytes, output) {
+            Ok(()) => Ok(0),
+            Err(fault) => Err(fault),
         },
-        Task::Table => match write_table(output, t) {
-            Ok(_) => Ok(0),
-            Err(fault) => Err(CliFault::Output(fault)),
-        },
+        Err(fault) => Err(CliFault::Input(fault)),
     }
 }
 
@@ -97,9 +96,6 @@ fn perform_with<T: Reader, I: Reader, W: Writer>(
     input: &mut I,
     output: &mut W,
 ) -> Result<u8, CliFault>
-    requires few { levels job.now.strength ≤ 3 }
-    requires unweighted { job.now.weighting ≡ Variable.NonIgnorable }
-    requires built_in { job.now.command ≢ Task.Key }
     ensures done { IfOk result (λ _. Performs job.now (Some (T.state reader.old)) (Some (T.state reader.new))
         (record { input = I.state input.old; output = W.state output.old })
         (record { input = I.state input.new; output = W.state output.new })) }
@@ -121,8 +117,6 @@ fn perform_alone<I: Reader, W: Writer>(
     input: &mut I,
     output: &mut W,
 ) -> Result<u8, CliFault>
-    requires few { levels job.now.strength ≤ 3 }
-    requires unweighted { job.now.weighting ≡ Variable.NonIgnorable }
     ensures done { IfOk result (λ _. Performs job.now None None
         (record { input = I.state input.old; output = W.state output.old })
         (record { input = I.state input.new; output = W.state output.new })) }
@@ -151,10 +145,7 @@ pub fn perform<T: Reader, U: Reader, I: Reader, W: Writer>(
     input: &mut I,
     output: &mut W,
 ) -> Result<u8, CliFault>
-    requires few { levels job.now.strength ≤ 3 }
-    requires unweighted { job.now.weighting ≡ Variable.NonIgnorable }
     requires digits { job.now.raw ≡ false }
-    requires built_in { job.now.command ≡ Task.Key → IsNone table }
     requires untailored { IsNone rules }
     ensures done { IfOk result (λ _. Performs job.now
         (option_map T.state (lent table.entry)) (option_map T.state (left_behind table.exit))

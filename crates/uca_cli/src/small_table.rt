@@ -1,11 +1,12 @@
-ghost use Rattle.std.specs.Prelude.{◌≡◌, fold, IfOk, OnOk};
-ghost use Rattle.uca_cli.specs.BuiltIn.{with_point, built_in_table};
+ghost use Rattle.std.specs.Prelude.{◌≡◌, ◌∷◌, [], fold, IfOk, OnOk};
+ghost use Rattle.uca_table.specs.Builder.{with_entry};
+ghost use Rattle.uca_cli.specs.BuiltIn.{built_in_table, plain, with_contractions, with_point, with_ranges};
 
 use std::alloc::{AllocError, Global};
 use uca_table::{Table, TableBuilder};
 use uca_weights::Element;
 
-/// The keys of the built-in table, each with its element, by key order.
+/// The keys of one code point of the built-in table, each with its element, by key order.
 #[rattlefmt::skip]
 const ENTRIES: [(char, Element); 14] = [
     ('\u{1}', Element { starred: false, l1: 0, l2: 0, l3: 0 }),
@@ -38,12 +39,56 @@ fn insert_points(builder: &mut TableBuilder, points: &[(char, Element)]) -> Resu
     Ok(())
 }
 
-/// A small table for trials: ignorable and variable elements, some Latin letters and marks.
+/// Adds a contraction with this primary weight.
+fn insert_contraction(builder: &mut TableBuilder, key: &[char], l1: u16) -> Result<(), AllocError>
+    ensures { OnOk result (builder.new ≡ with_entry builder.old key.now (plain l1 0x20 2 ∷ [])) }
+{
+    let element = Element {
+        starred: false,
+        l1,
+        l2: 0x20,
+        l3: 2,
+    };
+    match builder.insert(key, &[element]) {
+        Ok(()) => Ok(()),
+        // No contraction of the table has another fault than want of memory.
+        Err(_) => Err(AllocError),
+    }
+}
+
+/// Adds the contractions of the built-in table.
+fn insert_contractions(builder: &mut TableBuilder) -> Result<(), AllocError>
+    ensures { OnOk result (builder.new ≡ with_contractions builder.old) }
+{
+    insert_contraction(builder, &['c', 'h'], 0x1007)?;
+    insert_contraction(builder, &['a', '\u{301}'], 0x1008)?;
+    insert_contraction(builder, &['b', '\u{301}'], 0x1009)?;
+    insert_contraction(builder, &['b', '\u{301}', '\u{308}'], 0x100A)
+}
+
+/// Adds the ranges of implicit weights of the built-in table: Tangut, and its supplement under the same base.
+fn add_ranges(builder: &mut TableBuilder) -> Result<(), AllocError>
+    ensures { OnOk result (builder.new ≡ with_ranges builder.old) }
+{
+    match builder.add_implicit('\u{17000}', '\u{18AFF}', 0xFB00) {
+        Ok(()) => match builder.add_implicit('\u{18D00}', '\u{18D8F}', 0xFB00) {
+            Ok(()) => Ok(()),
+            // No range of the table has another fault than want of memory.
+            Err(_) => Err(AllocError),
+        },
+        Err(_) => Err(AllocError),
+    }
+}
+
+/// A small table for trials: ignorable and variable elements, some Latin letters and marks, contractions, and ranges of
+/// implicit weights.
 pub fn built_in(alloc: Global) -> Result<Table, AllocError>
     ensures { IfOk result (λ t. t ≡ built_in_table) }
 {
     let mut builder = TableBuilder::new(alloc);
     insert_points(&mut builder, &ENTRIES)?;
+    insert_contractions(&mut builder)?;
+    add_ranges(&mut builder)?;
     match builder.finish() {
         Ok(table) => Ok(table),
         Err(_) => Err(AllocError),

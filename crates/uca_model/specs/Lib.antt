@@ -17,6 +17,7 @@ pub mod Lines
 pub mod Output
 pub mod TableText
 pub mod CanonicalText
+pub mod ElementLines
 pub mod Laws
 pub mod Plain
 pub mod PlainText

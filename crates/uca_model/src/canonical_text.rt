@@ -102,7 +102,7 @@ fn push_element(out: &mut Vec<u8>, element: &Element) -> Result<(), AllocError>
 }
 
 /// Appends elements one behind the other.
-fn push_elements(out: &mut Vec<u8>, elements: &[Element]) -> Result<(), AllocError>
+pub(crate) fn push_elements(out: &mut Vec<u8>, elements: &[Element]) -> Result<(), AllocError>
     ensures { OnOk result (out.new.items ≡ out.old.items ++ flat_map element_text elements.now) }
 {
     for element in elements {

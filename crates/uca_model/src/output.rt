@@ -1,8 +1,11 @@
 ghost use Rattle.std.specs.Prelude.{◌≡◌, ◌<◌, ◌++◌, ◌∷◌, [], chars, IfOk, OnOk};
+ghost use Rattle.uca_model.specs.ElementLines.{elements_line};
 ghost use Rattle.uca_model.specs.Plain.{table_of};
 ghost use Rattle.uca_model.specs.Table.{AreRanges};
 ghost use Rattle.uca_model.specs.Output.{hex_digit, hex_pair, hex_text, key_line};
 
+use crate::canonical_text::push_elements;
+use crate::collation::{elements, nfd};
 use crate::entry::Entry;
 use crate::keys::sort_key;
 use std::alloc::{AllocError, Global};
@@ -54,4 +57,22 @@ pub fn key_line(
     let mut text = hex_text(alloc, &key)?;
     text.push(b'\n')?;
     Ok(text)
+}
+
+/// What the command `elements` writes for a line.
+pub fn elements_line(
+    alloc: Global,
+    entries: &[Entry],
+    ranges: &[Range],
+    line: &str,
+) -> Result<Vec<u8>, AllocError>
+    requires { AreRanges ranges.now }
+    ensures { IfOk result (λ v. v.items ≡ elements_line (table_of entries.now ranges.now) line.now) }
+{
+    let text = nfd(alloc, line)?;
+    let elements = elements(alloc, entries, ranges, &text)?;
+    let mut out = Vec::new(alloc);
+    push_elements(&mut out, &elements)?;
+    out.push(b'\n')?;
+    Ok(out)
 }

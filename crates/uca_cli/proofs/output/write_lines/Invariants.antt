@@ -1,16 +1,16 @@
 use Rattle.std.proofs.Common.{◌≡◌, ℕ, ◌+◌, ◌*◌, ◌^◌, ◌≤◌, List, ◌++◌, length, All}
 use Rattle.uca_weights.specs.Outgoing.{handed, Sends}
 use Rattle.uca_model.specs.Lines.{lines_of, IsTextLine}
-use Rattle.uca_model.specs.Output.{key_output}
-use Rattle.uca_cli.proofs.output.write_keys.Given as goal
+use Rattle.uca_cli.specs.Sending.{lines_text}
+use Rattle.uca_cli.proofs.output.write_lines.Given as goal
 
 abbrev pub invariant-loop-left : goal.invariant-loop-left
 invariant-loop-left g l = record {
   sent : List ℕ;
   sends : Sends (g.W.Writer.state l.fn.w) l.initial.out (g.W.Writer.state l.w) l.out sent;
-  told : sent ++ key_output l.t l.s l.left ≡ key_output l.t l.s l.bytes;
+  told : sent ++ lines_text l.form l.t l.s l.left ≡ lines_text l.form l.t l.s l.bytes;
   texts : All IsTextLine (lines_of l.left);
-  room : handed l.out + 2 ^ 66 * length l.left ≤ 2 ^ 66 * length l.bytes;
+  room : handed l.out + 2 ^ 70 * length l.left ≤ 2 ^ 70 * length l.bytes;
 }
 
 abbrev pub decreases-loop-left : goal.decreases-loop-left
