@@ -1,13 +1,11 @@
 -- The extension of a match mark after mark, and the keys that are looked up.
-use Rattle.std.proofs.Common.{◌≡◌, ℕ, suc, zero, ◌+◌, ◌-◌, ◌≤◌, ◌<◌, max, min, Bool, true, false, cond, not, ◌&&◌, ◌||◌, nat_le, nat_lt, List, [], ◌∷◌, ◌++◌, length, take, drop, get_or, refl, sym, ap, ap₂, subst, ◌∙◌, arith, inl, inr, append_assoc, append-nil}
+use Rattle.std.proofs.Common.{◌≡◌, ℕ, suc, zero, ◌+◌, ◌-◌, ◌≤◌, ◌<◌, max, Bool, true, false, cond, not, ◌&&◌, ◌||◌, nat_le, nat_lt, List, [], ◌∷◌, ◌++◌, length, take, drop, get_or, sym, ap, ap₂, subst, ◌∙◌, arith, inl, inr, append-nil}
 use Rattle.std.proofs.lemmas.Bool.{cases_Bool, cases_lt, lt-ltb, le-ltb, le-leb, lt-leb}
 use Rattle.std.proofs.lemmas.List.{length-take-le, drop_all, get_or_read}
 use Rattle.std.proofs.Math.Nat.{pos_of_ne-zero}
-use Rattle.std.specs.List.{list_any}
 use Rattle.unicode.specs.CanonicalCombiningClass.{canonical_combining_class as ccc}
-use Rattle.unicode_normalization.specs.Order.{is_starter}
 use Rattle.uca_model.specs.Table.{ElementTable, is_key, longest}
-use Rattle.uca_model.specs.Match.{Step, took, greatest, start_len, is_blocked, extension_of}
+use Rattle.uca_model.specs.Match.{took, greatest, start_len, is_blocked, extension_of}
 use Rattle.uca_model.proofs.KeysLemmas.{longest-covers}
 use Rattle.uca_model.proofs.MatchingLemmas.{extended_ends, extended_takes, extended_passes, extended_done}
 use Rattle.uca_match.specs.Running.{brought_forward, highest_class, passed_over, IsExtending}
@@ -33,9 +31,9 @@ pub start_len-short : (t : ElementTable) (text : List ℕ) (n : ℕ) → n ≤ l
 start_len-short t text n within short =
     let whole : n + (length text - n) ≡ length text = omega arith in
     sym (greatest-below (λ k. is_key t (take k text)) n (length text - n) (λ k above upto.
-        let size : length (take k text) ≡ k = length-take-le k text (omega arith) in
-        let last : n ≡ longest t = short (omega arith) in
-        longer_than_keys t (take k text) (omega arith)))
+    let size : length (take k text) ≡ k = length-take-le k text (omega arith) in
+    let last : n ≡ longest t = short (omega arith) in
+    longer_than_keys t (take k text) (omega arith)))
     ∙ ap (greatest (λ k. is_key t (take k text))) whole
 
 pub highest_class-more : (cs : List ℕ) (c : ℕ) → highest_class (cs ++ c ∷ []) ≡ max (highest_class cs) (ccc c)

@@ -1,4 +1,4 @@
-use Rattle.std.proofs.Common.{◌∷◌, [], sym, arith}
+use Rattle.std.proofs.Common.{sym, arith}
 use Rattle.std.proofs.lemmas.List.{length_push}
 use Rattle.uca_match.proofs.MatchLemmas.{longer_than_keys}
 use Rattle.uca_match.proofs.matching.makes_key.Goals as goal
