@@ -22,3 +22,6 @@ pub mod CanonicalRanges
 pub mod RangeLemmas
 pub mod SortedLemmas
 pub mod ReadBackLemmas
+pub mod NumberLemmas
+pub mod PartLemmas
+pub mod TextLemmas
