@@ -13,10 +13,13 @@ pub mod TableLemmas
 pub mod WeightLemmas
 pub mod LevelLemmas
 pub mod CanonicalLemmas
+pub mod NumberLemmas
+pub mod PartLemmas
+pub mod TextLemmas
+pub mod StepLemmas
 pub mod CutLemmas
 pub mod CanonicalLines
 pub mod CanonicalDigits
-pub mod TableTextLemmas
 pub mod CanonicalEntries
 pub mod CanonicalRanges
 pub mod RangeLemmas

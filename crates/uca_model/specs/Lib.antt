@@ -17,3 +17,4 @@ pub mod TableText
 pub mod CanonicalText
 pub mod Laws
 pub mod Plain
+pub mod PlainText

@@ -30,7 +30,7 @@ const UNIFIED_IDEOGRAPHS: [(u32, u32); 17] = [
 const CORE_BLOCKS: [(u32, u32); 2] = [(0x4E00, 0x9FFF), (0xF900, 0xFAFF)];
 
 /// The lowest of `low` and of the first code points of the ranges with this base.
-fn lowest_first(ranges: &[Range], base: u16, low: u32) -> u32
+pub(crate) fn lowest_first(ranges: &[Range], base: u16, low: u32) -> u32
     ensures { result ≡ lowest_first ranges.now base low }
 {
     let mut lowest = low;

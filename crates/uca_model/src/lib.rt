@@ -13,7 +13,9 @@ pub mod laws;
 pub mod lines;
 pub mod matching;
 pub mod output;
+pub mod ranges;
 pub mod safety;
+pub mod table_text;
 #[cfg(test)]
 mod tests;
 pub mod weighting;

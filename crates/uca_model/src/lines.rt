@@ -4,7 +4,7 @@ ghost use Rattle.uca_model.specs.Lines.{lines_of, without_return};
 use std::alloc::{AllocError, Global};
 
 /// A line without one CR at its end.
-fn without_return(line: &[u8]) -> &[u8]
+pub(crate) fn without_return(line: &[u8]) -> &[u8]
     ensures { result.now ≡ without_return line.now }
 {
     if line.is_empty() {

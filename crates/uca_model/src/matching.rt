@@ -23,7 +23,7 @@ pub fn get<'a>(entries: &'a [Entry], key: &[char]) -> Option<&'a [Element]>
 }
 
 /// Whether some entry has this key.
-fn is_key(entries: &[Entry], key: &[char]) -> bool
+pub(crate) fn is_key(entries: &[Entry], key: &[char]) -> bool
     ensures { result ≡ key_test entries.now key.now }
 {
     get(entries, key).is_some()

@@ -1,0 +1,126 @@
+ghost use Rattle.std.specs.Prelude.{◌≡◌, ◌≤◌, length, Ok};
+ghost use Rattle.std.specs.List.{position_or_len};
+ghost use Rattle.uca_model.specs.TableText.{ends_point, range_end, range_base, two_stops, range_of_text, directive, some_text, skip_blanks, version};
+ghost use Rattle.uca_model.specs.PlainText.{Tells, with_rest, said_by};
+
+use crate::table_text::bytes::{
+    behind, code_point, four_digits, is_blank, place_of_blank, skip_blanks,
+};
+use crate::table_text::faults::Cause;
+use crate::table_text::statement::Statement;
+use uca_weights::Range;
+
+/// Whether a byte ends a code point of a directive.
+fn ends_point(byte: u8) -> bool
+    ensures { result ≡ ends_point byte }
+{
+    is_blank(byte) || byte == b';' || byte == b'.'
+}
+
+/// Where the first byte stands that ends a code point, or the length.
+fn place_of_end(text: &[u8]) -> usize
+    ensures value { result ≡ position_or_len ends_point text.now }
+    ensures within { result ≤ length text.now }
+{
+    let mut at = 0;
+    let mut rest = text;
+    while let Some((first, others)) = rest.split_first() {
+        if ends_point(*first) {
+            return at;
+        }
+        at += 1;
+        rest = others;
+    }
+    at
+}
+
+/// An end of a range: a code point up to a blank, `;` or `.`, and what stands behind it.
+#[tactic(auto, unfolding(crate::specs::TableText::range_end))]
+fn range_end(text: &[u8]) -> Result<(char, &[u8]), Cause>
+    ensures { Tells with_rest (range_end text.now) result }
+{
+    let end = place_of_end(text);
+    match code_point(&text[..end]) {
+        Some(point) => Ok((point, &text[end..])),
+        None => Err(Cause::BadCodePoint),
+    }
+}
+
+/// What stands behind the `..` between the ends of a range.
+#[tactic(auto, unfolding(crate::specs::TableText::two_stops))]
+fn two_stops(text: &[u8]) -> Result<&[u8], Cause>
+    ensures { Tells (λ rest. rest.now) (two_stops text.now) result }
+{
+    let Some(rest) = behind(b'.', skip_blanks(text)) else {
+        return Err(Cause::BadDirective);
+    };
+    match behind(b'.', rest) {
+        Some(rest) => Ok(rest),
+        None => Err(Cause::BadDirective),
+    }
+}
+
+/// The base behind a `;`, with blanks before both.
+#[tactic(auto, unfolding(crate::specs::TableText::range_base))]
+fn range_base(text: &[u8]) -> Result<u16, Cause>
+    ensures { Tells (λ base. base) (range_base text.now) result }
+{
+    let Some(rest) = behind(b';', skip_blanks(text)) else {
+        return Err(Cause::BadDirective);
+    };
+    match four_digits(skip_blanks(rest)) {
+        Some(base) => Ok(base),
+        None => Err(Cause::BadDirective),
+    }
+}
+
+/// What `@implicitweights` says: the ends of a range, and its base.
+#[tactic(auto, unfolding(crate::specs::TableText::range_of_text))]
+fn range_of_text(text: &[u8]) -> Result<Statement, Cause>
+    ensures { Tells said_by (range_of_text text.now) result }
+{
+    let (first, rest) = range_end(skip_blanks(text))?;
+    let rest = two_stops(rest)?;
+    let (last, rest) = range_end(skip_blanks(rest))?;
+    let base = range_base(rest)?;
+    Ok(Statement::Range(Range { first, last, base }))
+}
+
+/// The same, behind the word of the directive.
+fn range_directive(rest: &[u8]) -> Result<Statement, Cause>
+    ensures { Tells said_by (some_text rest.now (range_of_text rest.now)) result }
+{
+    if rest.is_empty() {
+        Err(Cause::BadDirective)
+    } else {
+        range_of_text(rest)
+    }
+}
+
+/// A version, whose text isn't kept, behind the word of the directive.
+fn version_directive(rest: &[u8]) -> Result<Statement, Cause>
+    ensures { Tells said_by (some_text (skip_blanks rest.now) (Ok version)) result }
+{
+    if skip_blanks(rest).is_empty() {
+        Err(Cause::BadDirective)
+    } else {
+        Ok(Statement::Version)
+    }
+}
+
+/// A directive, which begins with `@`.
+#[tactic(auto, unfolding(crate::specs::TableText::directive))]
+pub(super) fn directive(text: &[u8]) -> Result<Statement, Cause>
+    ensures { Tells said_by (directive text.now) result }
+{
+    let end = place_of_blank(text);
+    let word = &text[..end];
+    let rest = &text[end..];
+    if word == b"@version".as_slice() {
+        version_directive(rest)
+    } else if word == b"@implicitweights".as_slice() {
+        range_directive(rest)
+    } else {
+        Err(Cause::BadDirective)
+    }
+}
