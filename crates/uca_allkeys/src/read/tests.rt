@@ -1,6 +1,7 @@
 use crate::{ReadCause, ReadFault, read_table};
 use std::alloc::{AllocError, Global};
 use std::process::Abort;
+use uca_model::table_text::{Cause, PlainTable, TextEnd, TextFault, table_of_text};
 use uca_table::Table;
 use uca_weights::{MAX_INPUT, Range, Reader, Reading, Refused};
 
@@ -197,6 +198,69 @@ fn a_cut_text_says_the_same_at_once_and_in_pieces(rt: HostRuntime) {
         let at_once = fault(read(rt.alloc(), &text[..end]));
         if at_once != WANTS_MEMORY {
             assert_answer(&rt, rt.alloc(), &text[..end], at_once);
+        }
+    }
+}
+
+/// The cause by the words of the plain program, which knows no want of memory.
+fn plain_cause(cause: ReadCause) -> Option<Cause> {
+    match cause {
+        ReadCause::LineTooLong => Some(Cause::LineTooLong),
+        ReadCause::BadDirective => Some(Cause::BadDirective),
+        ReadCause::BadCodePoint => Some(Cause::BadCodePoint),
+        ReadCause::KeyTooLong => Some(Cause::KeyTooLong),
+        ReadCause::NoSemicolon => Some(Cause::NoSemicolon),
+        ReadCause::BadElement => Some(Cause::BadElement),
+        ReadCause::NoElement => Some(Cause::NoElement),
+        ReadCause::TooManyElements => Some(Cause::TooManyElements),
+        ReadCause::Repeated => Some(Cause::Repeated),
+        ReadCause::BadRange => Some(Cause::BadRange),
+        ReadCause::TooLarge => Some(Cause::TooLarge),
+        ReadCause::Read => Some(Cause::Read),
+        ReadCause::OutOfMemory => None,
+    }
+}
+
+/// Looks whether a table has just the entries and the ranges of the plain one.
+fn assert_plain_table(rt: &impl Abort, table: &Table, plain: &PlainTable) {
+    assert_eq!(rt; table.entries().count(), plain.entries.len());
+    for entry in &plain.entries {
+        let elements = table.get(&entry.key).expect(rt, "an entry of the plain table");
+        assert_eq!(rt; elements, entry.elements.as_slice());
+    }
+    assert_eq!(rt; table.ranges(), plain.ranges.as_slice());
+}
+
+/// Looks whether the answer is the one of the plain program; one that wants memory is passed over.
+fn assert_plain(
+    rt: &impl Abort,
+    answer: Result<Table, ReadFault>,
+    plain: &Result<PlainTable, TextFault>,
+) {
+    match answer {
+        Ok(table) => match plain {
+            Ok(plain) => assert_plain_table(rt, &table, plain),
+            Err(_) => assert!(rt; false, "the plain program refuses the text"),
+        },
+        Err(fault) => {
+            if let Some(cause) = plain_cause(fault.cause) {
+                let told = Some((fault.line, cause));
+                assert_eq!(rt; told, plain.as_ref().err().map(|f| (f.line, f.cause)));
+            }
+        }
+    }
+}
+
+#[test]
+fn a_cut_text_says_what_the_plain_program_says(rt: HostRuntime) {
+    let text = SMALL_TEXT.as_bytes();
+    for end in 0..=text.len() {
+        let cut = &text[..end];
+        if let Ok(plain) = table_of_text(rt.alloc(), TextEnd::Ends, cut) {
+            assert_plain(&rt, read(rt.alloc(), cut), &plain);
+        }
+        if let Ok(plain) = table_of_text(rt.alloc(), TextEnd::Stops(Cause::Read), cut) {
+            assert_plain(&rt, read_slowly(rt.alloc(), cut, 50, true), &plain);
         }
     }
 }

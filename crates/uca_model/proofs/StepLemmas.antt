@@ -1,4 +1,4 @@
--- What a text says, part by part and line by line.
+-- One step in what a text says, and all of them.
 use Rattle.std.proofs.Common.{◌≡◌, ℕ, ◌+◌, ◌<◌, ◌≤◌, Bool, List, [], ◌∷◌, ◌++◌, length, refl, ap, ap₂, ◌∙◌, arith}
 use Rattle.std.proofs.lemmas.Bool.{cond-true, cond-false, lt-ltb, le-ltb}
 use Rattle.std.proofs.lemmas.List.{take_all}
@@ -8,6 +8,7 @@ use Rattle.std.specs.Prelude.{Result, Ok, Err}
 use Rattle.uca_weights.specs.declared.element.Element.{Element}
 use Rattle.uca_weights.specs.declared.limits.TheConstants.{MAX_ELEMENTS, MAX_LINE, MAX_INPUT}
 use Rattle.uca_model.specs.TableText.{◌>>=◌, Cause, line_too_long, too_large, TextState, TextEnd, stops, no_lines, skip_blanks, element, elements_after, at_line, unless_long, add_line, add_lines, add_bytes, read_text}
+use Rattle.uca_model.proofs.TextLemmas.{lines-more}
 
 -- what follows a step without fault
 pub step_done : {A B : Type 0} (r : Result A Cause) (a : A) (f : A → Result B Cause) → r ≡ Ok a → (r >>= f) ≡ f a
@@ -17,20 +18,10 @@ step_done {A} r a f is = ap (λ (x : Result A Cause). x >>= f) is
 pub some_parts : (p : ℕ → Bool) (xs : List ℕ) → 0 < length (slice_split p xs)
 some_parts p xs = omega (arith, length-slice_split p xs)
 
--- one part more: where others stand behind it, its element is added
-pub element-added : (es : List Element) (text : List ℕ) (parts : List (List ℕ)) (e : Element) → 0 < length parts → element (skip_blanks text) ≡ Ok e → length es < MAX_ELEMENTS → elements_after es (text ∷ parts) ≡ elements_after (es ++ e ∷ []) parts
-element-added es text [] e some is few = absurd (omega arith)
-element-added es text (next ∷ more) e some is few = rw is (cond-true _ _ _ (lt-ltb (length es) MAX_ELEMENTS few))
-
--- one line more, behind which others stand
-pub lines-more : (end : TextEnd) (n : ℕ) (s : TextState) (line : List ℕ) (parts : List (List ℕ)) → 0 < length parts
-    → add_lines end n s (line ∷ parts) ≡ (at_line n (unless_long line (add_line s line)) >>= (λ after. add_lines end (n + 1) after parts))
-lines-more end n s line [] some = absurd (omega arith)
-lines-more end n s line (next ∷ more) some = refl
-
-pub line_added : (end : TextEnd) (n : ℕ) (s after : TextState) (line : List ℕ) (parts : List (List ℕ)) → 0 < length parts → length line ≤ MAX_LINE → add_line s line ≡ Ok after
+-- a line that is read, behind which others stand
+pub line_read : (end : TextEnd) (n : ℕ) (s after : TextState) (line : List ℕ) (parts : List (List ℕ)) → 0 < length parts → length line ≤ MAX_LINE → add_line s line ≡ Ok after
     → add_lines end n s (line ∷ parts) ≡ add_lines end (n + 1) after parts
-line_added end n s after line parts some short is =
+line_read end n s after line parts some short is =
     lines-more end n s line parts some
     ∙ ap (λ (r : Result TextState Cause). at_line n r >>= (λ t. add_lines end (n + 1) t parts)) (cond-false _ (Err line_too_long) (add_line s line) (le-ltb MAX_LINE (length line) short) ∙ is)
 
