@@ -19,7 +19,7 @@ use Rattle.uca_cli.specs.declared.faults.CliFault.TheVariants as fault
 use Rattle.uca_cli.specs.declared.faults.InputFault.{InputFault}
 use Rattle.uca_cli.specs.declared.job.Job.{Job}
 use Rattle.uca_cli.specs.declared.job.Task.{Task}
-use Rattle.uca_cli.specs.declared.job.Task.TheVariants.{Key, Table}
+use Rattle.uca_cli.specs.declared.job.Task.TheVariants.{Elements, Key, Table}
 
 -- the settings of a job
 abbrev pub settings_of : Job → Settings
@@ -27,6 +27,7 @@ settings_of job = record { strength = job.strength; weighting = job.weighting }
 
 -- what a command writes with a table for an input
 abbrev pub task_output : Task → ElementTable → Settings → List ℕ → List ℕ
+task_output Elements t s bytes = []
 task_output Key t s bytes = key_output t s bytes
 task_output Table t s bytes = canonical t
 
@@ -76,6 +77,7 @@ pub record ReadsNothing (old new : ReaderState) (bytes : List ℕ) : Type 0 wher
 
 -- a command reads the lines that it writes of; `table` has no input
 abbrev pub ReadsFor : Task → ReaderState → ReaderState → List ℕ → Type 0
+ReadsFor Elements old new bytes = ReadsLines old new bytes
 ReadsFor Key old new bytes = ReadsLines old new bytes
 ReadsFor Table old new bytes = ReadsNothing old new bytes
 
@@ -91,6 +93,7 @@ RefusesInput old new f = StopsReading old new f ⊎ HasFaultyLine old new f
 
 -- a command refuses its input; `table` has none
 abbrev pub RefusesFor : Task → ReaderState → ReaderState → InputFault → Type 0
+RefusesFor Elements old new f = RefusesInput old new f
 RefusesFor Key old new f = RefusesInput old new f
 RefusesFor Table old new f = ⊥
 

@@ -75,6 +75,7 @@ fn work<I: Reader, W: Writer>(
         weighting: job.weighting,
     };
     match job.command {
+        Task::Elements => Ok(0),
         Task::Key => match read_lines(alloc, input) {
             Ok(bytes) => match write_keys(alloc, t, settings, &bytes, output) {
                 Ok(()) => Ok(0),
