@@ -1,13 +1,12 @@
 -- One step in what a text says, and all of them.
-use Rattle.std.proofs.Common.{◌≡◌, ℕ, ◌+◌, ◌<◌, ◌≤◌, Bool, List, [], ◌∷◌, ◌++◌, length, refl, ap, ap₂, ◌∙◌, arith}
-use Rattle.std.proofs.lemmas.Bool.{cond-true, cond-false, lt-ltb, le-ltb}
+use Rattle.std.proofs.Common.{◌≡◌, ℕ, ◌+◌, ◌<◌, ◌≤◌, Bool, List, ◌∷◌, length, ap, ap₂, ◌∙◌, arith}
+use Rattle.std.proofs.lemmas.Bool.{cond-false, le-ltb}
 use Rattle.std.proofs.lemmas.List.{take_all}
 use Rattle.std.proofs.lemmas.List.Splits.{length-slice_split}
 use Rattle.std.specs.List.{slice_split}
 use Rattle.std.specs.Prelude.{Result, Ok, Err}
-use Rattle.uca_weights.specs.declared.element.Element.{Element}
-use Rattle.uca_weights.specs.declared.limits.TheConstants.{MAX_ELEMENTS, MAX_LINE, MAX_INPUT}
-use Rattle.uca_model.specs.TableText.{◌>>=◌, Cause, line_too_long, too_large, TextState, TextEnd, stops, no_lines, skip_blanks, element, elements_after, at_line, unless_long, add_line, add_lines, add_bytes, read_text}
+use Rattle.uca_weights.specs.declared.limits.TheConstants.{MAX_LINE, MAX_INPUT}
+use Rattle.uca_model.specs.TableText.{◌>>=◌, Cause, line_too_long, too_large, TextState, TextEnd, stops, no_lines, at_line, add_line, add_lines, add_bytes, read_text}
 use Rattle.uca_model.proofs.TextLemmas.{lines-more}
 
 -- what follows a step without fault

@@ -225,7 +225,9 @@ fn plain_cause(cause: ReadCause) -> Option<Cause> {
 fn assert_plain_table(rt: &impl Abort, table: &Table, plain: &PlainTable) {
     assert_eq!(rt; table.entries().count(), plain.entries.len());
     for entry in &plain.entries {
-        let elements = table.get(&entry.key).expect(rt, "an entry of the plain table");
+        let elements = table
+            .get(&entry.key)
+            .expect(rt, "an entry of the plain table");
         assert_eq!(rt; elements, entry.elements.as_slice());
     }
     assert_eq!(rt; table.ranges(), plain.ranges.as_slice());
