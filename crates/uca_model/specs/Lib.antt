@@ -11,6 +11,8 @@ pub mod CollationElements
 pub mod LevelWeights
 pub mod SortKey
 pub mod Reading
+pub mod Source
+pub mod Window
 pub mod Lines
 pub mod Output
 pub mod TableText

@@ -1,2 +1,4 @@
 pub mod Passage
 pub mod Scan
+pub mod Reading
+pub mod Segment

@@ -1,0 +1,76 @@
+-- The window: decomposed code points of a text in canonical order (UAX #15, D109), those of whole segments first.
+use Rattle.std.specs.Prelude.{◌≡◌, ℕ, ◌+◌, ◌<◌, ◌≤◌, Bool, true, false, List, [], ◌∷◌, ◌++◌, length, take, drop, if◌then◌else◌}
+use Rattle.std.specs.List.{list_all}
+use Rattle.unicode_normalization.specs.Forms.{Nfd, nfd, IsInForm}
+use Rattle.unicode_normalization.specs.Order.{is_starter, is_nonstarter}
+use Rattle.uca_weights.specs.declared.limits.TheConstants.{MAX_KEY, MAX_LOOKAHEAD}
+use Rattle.uca_model.specs.SafeText.{IsSafe}
+use Rattle.uca_model.specs.Source.{SourceState, unread}
+
+-- its points, how many of them stand in closed segments, the length of the longest key, and whether a source told it the end
+pub record WindowState : Type 0 where
+  pub points : List ℕ
+  pub closed : ℕ
+  pub longest : ℕ
+  pub ended : Bool
+
+-- a window that has read nothing
+abbrev pub empty_window : ℕ → WindowState
+empty_window longest = record { points = []; closed = 0; longest = longest; ended = false }
+
+-- ---- its rest, over the unread characters of a source
+
+-- the rest: the NFD of one list, its points and then the unread characters
+abbrev pub rest_of : WindowState → List ℕ → List ℕ
+rest_of w left = nfd (w.points ++ left)
+
+-- it may read these characters: together with its points they are safe, and none are left once it was told the end
+pub record Fits (w : WindowState) (left : List ℕ) : Type 0 where
+  pub safe : IsSafe (w.points ++ left)
+  pub ended : w.ended ≡ true → left ≡ []
+
+-- how often it may still call `next`: once for each unread character, and once for the end
+abbrev pub credit : WindowState → List ℕ → ℕ
+credit w left = length left + (if w.ended then 0 else 1)
+
+-- nothing, or a starter first
+abbrev pub begins_segment : List ℕ → Bool
+begins_segment [] = true
+begins_segment (c ∷ cs) = is_starter c
+
+-- the closed points are the first of the rest, and a starter or nothing follows them there
+pub record ShowsFront (w : WindowState) (rest : List ℕ) : Type 0 where
+  pub front : take w.closed rest ≡ take w.closed w.points
+  pub follows : 0 < w.closed → begins_segment (drop w.closed rest) ≡ true
+
+-- ---- what its calls do
+
+-- it read on: no more calls of `next` than its credit fell by, and no way back
+pub record ReadsOn (old : WindowState) (before : SourceState) (new : WindowState) (after : SourceState) : Type 0 where
+  pub text : after.text ≡ before.text
+  pub fits : Fits new (unread after)
+  pub longest : new.longest ≡ old.longest
+  pub taken : after.taken + credit new (unread after) ≤ before.taken + credit old (unread before)
+  pub backs : after.backs ≡ before.backs
+
+-- over all characters that the old window fits, the new one fits them too, and its rest is the old rest so changed
+abbrev pub ChangesRest : (List ℕ → List ℕ) → WindowState → WindowState → Type 0
+ChangesRest change old new = (left : List ℕ) → Fits old left → Fits new left × (rest_of new left ≡ change (rest_of old left))
+
+-- ---- what is true of every window
+
+-- the closed points are whole segments, each a starter with the marks behind it, or marks at the start. The others are
+-- one segment to which marks may still come, and there are none once the end was told
+pub record HasSegments (w : WindowState) : Type 0 where
+  pub within : w.closed ≤ length w.points
+  pub begins : 0 < w.closed → begins_segment (drop w.closed w.points) ≡ true
+  pub marks : list_all is_nonstarter (drop 1 (drop w.closed w.points)) ≡ true
+  pub running : w.ended ≡ false → 0 < w.closed → w.closed < length w.points
+  pub ended : w.ended ≡ true → w.closed ≡ length w.points
+
+-- its points are in NFD, its segments so far are closed, and it holds few points beyond the length of the longest key
+pub record IsWindow (w : WindowState) : Type 0 where
+  pub form : IsInForm Nfd w.points
+  pub segments : HasSegments w
+  pub bound : length w.points ≤ w.longest + MAX_LOOKAHEAD
+  pub longest : (1 ≤ w.longest) × (w.longest ≤ MAX_KEY)

@@ -1,0 +1,49 @@
+use Rattle.std.proofs.Common.{◌++◌, length, take_all, ap, sym, ◌∙◌, arith}
+use Rattle.unicode_normalization.specs.Order.{is_ordered, canonical_order}
+use Rattle.unicode_normalization.proofs.OrderLemmas.{is_ordered-canonical_order}
+use Rattle.unicode_normalization.proofs.FormsLemmas.{class-latin}
+use Rattle.uca_window.proofs.ScanLemmas.{latin_parts}
+use Rattle.uca_window.proofs.PlaceLemmas.{order-more, order-none, length-ordered}
+use Rattle.uca_window.proofs.points.push_decomposed.Goals as goal
+
+pub loop-point-init : goal.loop-point-init
+loop-point-init c = record { points = order-none c.args.points.now.items c.requires.ordered; segments = c.requires.segments }
+
+pub push_point-ends_at-requires-clause-room : goal.push_point-ends_at-requires-clause-room
+push_point-ends_at-requires-clause-room c =
+    omega (
+      arith,
+      length-ordered c.args.points.now.items c.decomposition-point-items.result.now c.loop-point.points.items c.loop-point.point-index (omega arith) c.loop-point.invariant.points,
+      ap length c.decomposition-point-items.ensures.value,
+    )
+
+pub push_point-ends_at-requires-clause-ordered : goal.push_point-ends_at-requires-clause-ordered
+push_point-ends_at-requires-clause-ordered c = ap is_ordered c.loop-point.invariant.points ∙ is_ordered-canonical_order _
+
+pub push_point-ends_at-requires-clause-segments : goal.push_point-ends_at-requires-clause-segments
+push_point-ends_at-requires-clause-segments c = c.loop-point.invariant.segments
+
+pub loop-point-preserved : goal.loop-point-preserved
+loop-point-preserved c =
+    record {
+      points = order-more c.args.points.now.items c.decomposition-point-items.result.now c.loop-point.point-index c.point-item.result c.loop-point.points.items _ c.loop-point-test.true c.point-item.is c.loop-point.invariant.points c.push_point-ends_at.ensures.points;
+      segments = c.push_point-ends_at.ensures.segments;
+    }
+
+pub returns-clause-segments : goal.returns-clause-segments
+returns-clause-segments c = c.loop-point.invariant.segments
+
+pub returns-clause-points : goal.returns-clause-points
+returns-clause-points c =
+    c.loop-point.invariant.points
+    ∙ ap (λ l. canonical_order (c.args.points.now.items ++ l)) (take_all c.loop-point.point-index c.decomposition-point-items.result.now (omega arith) ∙ c.decomposition-point-items.ensures.value)
+
+pub push_starter-requires-clause-room : goal.push_starter-requires-clause-room
+push_starter-requires-clause-room c = omega (arith, ap length (latin_parts c.args.c c.if-c-lt192.true), c.requires.room)
+
+pub push_starter-requires-clause-starter : goal.push_starter-requires-clause-starter
+push_starter-requires-clause-starter c = class-latin c.args.c (omega (arith, c.if-c-lt192.true))
+
+pub returns-then-c-lt192-clause-points : goal.returns-then-c-lt192-clause-points
+returns-then-c-lt192-clause-points c =
+    c.push_starter.ensures.points ∙ ap (λ l. canonical_order (c.args.points.now.items ++ l)) (sym (latin_parts c.args.c c.if-c-lt192.true))

@@ -1,0 +1,18 @@
+-- Where an iterator over the characters of a text stands.
+use Rattle.std.specs.Prelude.{◌≡◌, ℕ, ◌-◌, ◌≤◌, List, length, drop, chars}
+use Rattle.std.specs.Str.{IsUtf8}
+use Rattle.uca_model.specs.Source.{SourceState}
+
+-- a source of this text of which these characters are left
+abbrev pub state_at : List ℕ → List ℕ → ℕ → ℕ → SourceState
+state_at text left taken backs = record { text = text; place = length text - length left; taken = taken; backs = backs }
+
+-- the characters that are left are the text without its first ones
+pub record Follows (text left : List ℕ) : Type 0 where
+  pub within : length left ≤ length text
+  pub follows : drop (length text - length left) text ≡ left
+
+-- these bytes are what is left of a text, and a text themselves
+pub record StandsIn (text left : List ℕ) : Type 0 where
+  pub utf8 : IsUtf8 left
+  pub follows : Follows (chars text) (chars left)

@@ -1,0 +1,135 @@
+ghost use Rattle.std.specs.Prelude.{◌≡◌, ℕ, List, ◌+◌, ◌-◌, ◌<◌, ◌≤◌, false, length, drop, nat_lt, not, ◌&&◌, slice_index};
+ghost use Rattle.std.specs.List.{remove};
+ghost use Rattle.unicode.specs.CanonicalCombiningClass.{canonical_combining_class};
+ghost use Rattle.uca_weights.specs.declared.limits.TheConstants.{MAX_KEY, MAX_LOOKAHEAD};
+ghost use Rattle.uca_model.specs.Source.{unread};
+
+use crate::points::{ROOM, drop_points, push_decomposed};
+use crate::source::Source;
+use arrayvec::ArrayVec;
+use std::marker::Model;
+
+/// A stretch of a text in NFD, at most `longest + MAX_LOOKAHEAD` code points of it. It is lent a source at each call
+/// that reads. Its rest over a source is the NFD of one list: its points, and then the characters that the source has
+/// not given yet. It takes no memory.
+#[derive(Drop)]
+pub struct Window {
+    points: ArrayVec<char, ROOM>,
+    closed: usize,
+    longest: usize,
+    ended: bool,
+}
+
+impl Model for Window {
+    ghost use Rattle.uca_model.specs.Window.{WindowState, IsWindow};
+
+    ghost Value = { WindowState };
+
+    ghost view = { λ w. record { points = w.points.items; closed = w.closed; longest = w.longest; ended = w.ended } };
+
+    ghost invariant = { λ w. IsWindow (record { points = w.points.items; closed = w.closed; longest = w.longest; ended = w.ended }) };
+}
+
+impl Window {
+    ghost use Rattle.uca_model.specs.SafeText.{IsSafe};
+    ghost use Rattle.uca_model.specs.Window.{empty_window, rest_of, Fits, credit, ShowsFront, ReadsOn, ChangesRest, IsWindow};
+
+    /// A window that has read nothing, for keys of up to `longest` code points. It fits each source whose unread
+    /// characters are a safe text.
+    pub fn new(longest: usize) -> Window
+        requires first { 1 ≤ longest }
+        requires last { longest ≤ MAX_KEY }
+        ensures value { result ≡ empty_window longest }
+        ensures fits { (left : List ℕ) → IsSafe left → Fits result left }
+    {
+        Window {
+            points: ArrayVec::new(),
+            closed: 0,
+            longest,
+            ended: false,
+        }
+    }
+
+    /// The points, in NFD. The first of them, which are closed, are the first code points of the rest over each source
+    /// that the window fits.
+    pub fn points(&self) -> &[char]
+        ensures value { result.now ≡ self.now.points }
+        ensures bound { length result.now ≤ self.now.longest + MAX_LOOKAHEAD }
+        ensures valid { IsWindow self.now }
+        ensures front { (left : List ℕ) → Fits self.now left → ShowsFront self.now (rest_of self.now left) }
+    {
+        self.points.as_slice()
+    }
+
+    /// How many points are closed: those of whole segments. A segment is a starter with the marks behind it, or marks
+    /// at the start. It is whole once the starter behind it or the end was read.
+    pub fn closed(&self) -> usize
+        ensures value { result ≡ self.now.closed }
+        ensures valid { IsWindow self.now }
+        ensures front { (left : List ℕ) → Fits self.now left → ShowsFront self.now (rest_of self.now left) }
+    {
+        self.closed
+    }
+
+    /// Reads on until at least `longest` points are closed, or to the end of the text. It leaves the rest as it is.
+    pub fn fill<S: Source>(&mut self, source: &mut S)
+        requires { Fits self.old (unread (S.state source.old)) }
+        ensures reads { ReadsOn self.old (S.state source.old) self.new (S.state source.new) }
+        ensures rest { rest_of self.new (unread (S.state source.new)) ≡ rest_of self.old (unread (S.state source.old)) }
+        ensures enough { self.new.closed < self.new.longest → self.new.closed ≡ length (rest_of self.new (unread (S.state source.new))) }
+    {
+        while self.wants() {
+            self.read(source);
+        }
+    }
+
+    /// Takes the first points out, and so out of the rest.
+    pub fn drop_front(&mut self, n: usize)
+        requires { n ≤ self.old.closed }
+        ensures points { self.new ≡ record self.old { points = drop n self.old.points; closed = self.old.closed - n } }
+        ensures rest { ChangesRest (drop n) self.old self.new }
+    {
+        drop_points(&mut self.points, n);
+        self.closed -= n;
+    }
+
+    /// Takes out the nonstarter at a place among the closed points, and so out of the rest.
+    pub fn remove(&mut self, at: usize)
+        requires closed { at < self.old.closed }
+        requires nonstarter { 0 < canonical_combining_class (slice_index self.old.points at) }
+        ensures points { self.new ≡ record self.old { points = remove self.old.points at; closed = self.old.closed - 1 } }
+        ensures rest { ChangesRest (λ rest. remove rest at) self.old self.new }
+    {
+        self.points.remove(at);
+        self.closed -= 1;
+    }
+
+    // Whether too few points are closed, and more may come.
+    fn wants(&self) -> bool
+        ensures value { result ≡ (nat_lt self.now.closed self.now.longest && not self.now.ended) }
+        ensures valid { IsWindow self.now }
+    {
+        self.closed < self.longest && !self.ended
+    }
+
+    // Reads one character, or the end. Only what a character decomposes to tells whether it closes a segment.
+    fn read<S: Source>(&mut self, source: &mut S)
+        requires few { self.old.closed < self.old.longest }
+        requires running { self.old.ended ≡ false }
+        requires fits { Fits self.old (unread (S.state source.old)) }
+        ensures reads { ReadsOn self.old (S.state source.old) self.new (S.state source.new) }
+        ensures rest { rest_of self.new (unread (S.state source.new)) ≡ rest_of self.old (unread (S.state source.old)) }
+        ensures fewer { credit self.new (unread (S.state source.new)) < credit self.old (unread (S.state source.old)) }
+    {
+        match source.next() {
+            Some(c) => self.closed = push_decomposed(&mut self.points, self.closed, c),
+            None => {
+                self.closed = self.points.len();
+                self.ended = true;
+            }
+        }
+    }
+}
+
+#[cfg(test)]
+mod tests;
