@@ -6,11 +6,15 @@ ghost use Rattle.unicode_normalization.specs.Order.{is_ordered, canonical_order}
 ghost use Rattle.uca_window.specs.Segment.{IsOpen, IsPlaceOf};
 
 use arrayvec::ArrayVec;
+use uca_weights::{MAX_KEY, MAX_LOOKAHEAD};
 use unicode_normalization::Form;
 use unicode_normalization::char::{canonical_combining_class, decomposition};
 
-// The most points that a window can hold: `MAX_KEY + MAX_LOOKAHEAD`.
-pub(crate) const ROOM: usize = 96;
+// The most points that a window can hold.
+pub(crate) const ROOM: usize = MAX_KEY + MAX_LOOKAHEAD;
+
+// The first character that has a decomposition. Each one below is a starter, too.
+const FIRST_DECOMPOSED: char = '\u{C0}';
 
 // Puts what a character decomposes to behind points in canonical order, and keeps them in order. The first `closed`
 // points stand in closed segments; gives how many do then.
@@ -21,8 +25,7 @@ pub(crate) fn push_decomposed(points: &mut ArrayVec<char, ROOM>, closed: usize, 
     ensures points { points.new.items ≡ canonical_order (points.old.items ++ decompose_canonical c) }
     ensures segments { IsOpen result points.new.items }
 {
-    // Below U+00C0 each character is a starter, and its own decomposition.
-    if c < '\u{C0}' {
+    if c < FIRST_DECOMPOSED {
         return push_starter(points, c);
     }
     let mut room = [c; 3];

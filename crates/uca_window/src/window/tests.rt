@@ -4,10 +4,10 @@ ghost use Rattle.uca_weights.specs.declared.limits.TheConstants.{MAX_KEY};
 ghost use Rattle.uca_model.specs.SafeText.{IsSafe};
 ghost use Rattle.uca_model.specs.Source.{unread};
 
-use crate::{Passage, PassageSource, Source, Window};
+use crate::decomposition::chars_of;
+use crate::{Passage, PassageSource, Source, Window, nfd_of};
 use std::alloc::{AllocError, Global};
 use unicode_normalization::char::canonical_combining_class;
-use unicode_normalization::slice;
 
 /// Characters of a slice, with its calls counted.
 #[derive(Drop)]
@@ -74,12 +74,6 @@ fn safe_chars(alloc: Global, text: &str) -> Option<Vec<char>>
 {
     let p = Passage::check(text).ok()?;
     chars_of(alloc, p.as_str()).ok()
-}
-
-fn chars_of(alloc: Global, text: &str) -> Result<Vec<char>, AllocError>
-    ensures { IfOk result (λ v. v.items ≡ chars text.now) }
-{
-    text.chars().collect(alloc)
 }
 
 #[test]
@@ -199,13 +193,12 @@ fn the_windows_of_a_text_are_its_nfd(rt: HostRuntime) {
         "\u{AC01}\u{1F82}\u{301}\u{345}\u{323}x",
     ];
     for text in texts {
-        let (Ok(chars), Ok(p)) = (chars_of(rt.alloc(), text), Passage::check(text)) else {
+        let Ok(p) = Passage::check(text) else {
             return;
         };
-        let mut want = Vec::new(rt.alloc());
-        if slice::extend_nfd(&mut want, &chars).is_err() {
+        let Ok(want) = nfd_of(rt.alloc(), &p) else {
             return;
-        }
+        };
         for longest in [1, 3, 32] {
             let Ok(all) = nfd_by_window(rt.alloc(), &mut PassageSource::new(&p), longest) else {
                 return;

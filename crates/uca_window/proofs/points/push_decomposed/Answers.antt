@@ -39,11 +39,11 @@ returns-clause-points c =
     ∙ ap (λ l. canonical_order (c.args.points.now.items ++ l)) (take_all c.loop-point.point-index c.decomposition-point-items.result.now (omega arith) ∙ c.decomposition-point-items.ensures.value)
 
 pub push_starter-requires-clause-room : goal.push_starter-requires-clause-room
-push_starter-requires-clause-room c = omega (arith, ap length (latin_parts c.args.c c.if-c-lt192.true), c.requires.room)
+push_starter-requires-clause-room c = omega (arith, ap length (latin_parts c.args.c c.if-c-lt-FIRST_DECOMPOSED.true), c.requires.room)
 
 pub push_starter-requires-clause-starter : goal.push_starter-requires-clause-starter
-push_starter-requires-clause-starter c = class-latin c.args.c (omega (arith, c.if-c-lt192.true))
+push_starter-requires-clause-starter c = class-latin c.args.c (omega (arith, c.if-c-lt-FIRST_DECOMPOSED.true))
 
-pub returns-then-c-lt192-clause-points : goal.returns-then-c-lt192-clause-points
-returns-then-c-lt192-clause-points c =
-    c.push_starter.ensures.points ∙ ap (λ l. canonical_order (c.args.points.now.items ++ l)) (sym (latin_parts c.args.c c.if-c-lt192.true))
+pub returns-then-c-lt-FIRST_DECOMPOSED-clause-points : goal.returns-then-c-lt-FIRST_DECOMPOSED-clause-points
+returns-then-c-lt-FIRST_DECOMPOSED-clause-points c =
+    c.push_starter.ensures.points ∙ ap (λ l. canonical_order (c.args.points.now.items ++ l)) (sym (latin_parts c.args.c c.if-c-lt-FIRST_DECOMPOSED.true))
