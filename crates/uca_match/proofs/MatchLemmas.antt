@@ -1,13 +1,11 @@
 -- The extension of a match mark after mark, and the keys that are looked up.
-use Rattle.std.proofs.Common.{◌≡◌, ℕ, suc, zero, ◌+◌, ◌-◌, ◌≤◌, ◌<◌, max, min, Bool, true, false, cond, not, ◌&&◌, ◌||◌, nat_le, nat_lt, List, [], ◌∷◌, ◌++◌, length, take, drop, get_or, refl, sym, ap, ap₂, subst, ◌∙◌, arith, inl, inr, append_assoc, append-nil}
+use Rattle.std.proofs.Common.{◌≡◌, ℕ, suc, zero, ◌+◌, ◌-◌, ◌≤◌, ◌<◌, max, Bool, true, false, cond, not, ◌&&◌, ◌||◌, nat_le, nat_lt, List, [], ◌∷◌, ◌++◌, length, take, drop, get_or, sym, ap, ap₂, subst, ◌∙◌, arith, inl, inr, append-nil}
 use Rattle.std.proofs.lemmas.Bool.{cases_Bool, cases_lt, lt-ltb, le-ltb, le-leb, lt-leb}
 use Rattle.std.proofs.lemmas.List.{length-take-le, drop_all, get_or_read}
 use Rattle.std.proofs.Math.Nat.{pos_of_ne-zero}
-use Rattle.std.specs.List.{list_any}
 use Rattle.unicode.specs.CanonicalCombiningClass.{canonical_combining_class as ccc}
-use Rattle.unicode_normalization.specs.Order.{is_starter}
 use Rattle.uca_model.specs.Table.{ElementTable, is_key, longest}
-use Rattle.uca_model.specs.Match.{Step, took, greatest, start_len, is_blocked, extension_of}
+use Rattle.uca_model.specs.Match.{took, greatest, start_len, is_blocked, extension_of}
 use Rattle.uca_model.proofs.KeysLemmas.{longest-covers}
 use Rattle.uca_model.proofs.MatchingLemmas.{extended_ends, extended_takes, extended_passes, extended_done}
 use Rattle.uca_match.specs.Running.{brought_forward, highest_class, passed_over, IsExtending}
@@ -29,13 +27,13 @@ greatest-below p n (suc d) fails =
     ap (greatest p) next ∙ ap (λ b. cond b (suc (n + d)) (greatest p (n + d))) here ∙ greatest-below p n d (λ k above upto. fails k above (omega arith))
 
 -- it is enough to look up what is no longer than the longest key
-pub start_len-short : (t : ElementTable) (text : List ℕ) (n : ℕ) → n ≤ length text → (n < length text → n ≡ longest t) → greatest (λ k. is_key t (take k text)) n ≡ start_len (is_key t) text
+pub start_len-short : (t : ElementTable) (text : List ℕ) (n : ℕ) → n ≤ length text → (n < length text → longest t ≤ n) → greatest (λ k. is_key t (take k text)) n ≡ start_len (is_key t) text
 start_len-short t text n within short =
     let whole : n + (length text - n) ≡ length text = omega arith in
     sym (greatest-below (λ k. is_key t (take k text)) n (length text - n) (λ k above upto.
-        let size : length (take k text) ≡ k = length-take-le k text (omega arith) in
-        let last : n ≡ longest t = short (omega arith) in
-        longer_than_keys t (take k text) (omega arith)))
+    let size : length (take k text) ≡ k = length-take-le k text (omega arith) in
+    let last : longest t ≤ n = short (omega arith) in
+    longer_than_keys t (take k text) (omega arith)))
     ∙ ap (greatest (λ k. is_key t (take k text))) whole
 
 pub highest_class-more : (cs : List ℕ) (c : ℕ) → highest_class (cs ++ c ∷ []) ≡ max (highest_class cs) (ccc c)
@@ -57,6 +55,13 @@ not_blocked (b ∷ passed) c mark = elim (cases_lt (ccc b) (ccc c)) [
       ap (λ x. not (x || is_blocked passed c)) first ∙ sym (le-ltb (max (ccc b) (highest_class passed)) (ccc c) (omega arith))
 ]
 
+-- whether a mark is taken, by the highest class or by the marks that were passed over
+pub taken_as : (is_key : List ℕ → Bool) (s passed : List ℕ) (high x class : ℕ) (taken : Bool) → high ≡ highest_class passed → class ≡ ccc x → (class ≡ 0 → ⊥) → taken ≡ (nat_lt high (ccc x) && is_key (s ++ x ∷ []))
+    → taken ≡ (not (is_blocked passed x) && is_key (s ++ x ∷ []))
+taken_as is_key s passed high x class taken highest e mark t =
+    let above : 0 < ccc x = pos_of_ne-zero (λ z. mark (e ∙ z)) in
+    t ∙ ap (λ b. b && is_key (s ++ x ∷ [])) (ap (λ h. nat_lt h (ccc x)) highest ∙ sym (not_blocked passed x above))
+
 module _ (is_key : List ℕ → Bool) (start : ℕ) (old : List ℕ) where
   -- nothing was passed over at the start
   pub IsExtending-start : IsExtending is_key start old old start start 0
@@ -66,13 +71,6 @@ module _ (is_key : List ℕ → Bool) (start : ℕ) (old : List ℕ) where
     highest = sym (ap highest_class (passed_over-none old start));
     same = ap (λ p. extension_of is_key (take start old) p (drop start old)) (passed_over-none old start);
   }
-
-  -- whether a mark is taken
-  taken_as : (text : List ℕ) (end at high x class : ℕ) (taken : Bool) → IsExtending is_key start old text end at high → class ≡ ccc x → (class ≡ 0 → ⊥) → taken ≡ (nat_lt high (ccc x) && is_key (take end text ++ x ∷ []))
-      → taken ≡ (not (is_blocked (passed_over text end at) x) && is_key (take end text ++ x ∷ []))
-  taken_as text end at high x class taken so e mark t =
-      let above : 0 < ccc x = pos_of_ne-zero (λ z. mark (e ∙ z)) in
-      t ∙ ap (λ b. b && is_key (take end text ++ x ∷ [])) (ap (λ h. nat_lt h (ccc x)) so.highest ∙ sym (not_blocked (passed_over text end at) x above))
 
   -- a mark was taken, and moved to the end of the match
   pub IsExtending-takes : (text new : List ℕ) (end at high x class : ℕ) (taken : Bool) → IsExtending is_key start old text end at high → at < length text → x ≡ get_or text at x → class ≡ ccc x → (class ≡ 0 → ⊥)
@@ -90,7 +88,7 @@ module _ (is_key : List ℕ → Bool) (start : ℕ) (old : List ℕ) where
         same =
             ap (λ s. extension_of is_key s (passed_over (brought_forward text end at) (end + 1) (at + 1)) (drop (at + 1) (brought_forward text end at))) front
             ∙ ap₂ (λ p r. extension_of is_key (take end text ++ x ∷ []) p r) between rest
-            ∙ sym (extended_takes is_key (take end text) (passed_over text end at) text at x class taken within is e mark (taken_as text end at high x class taken so e mark t) holds)
+            ∙ sym (extended_takes is_key (take end text) (passed_over text end at) text at x class taken within is e mark (taken_as is_key (take end text) (passed_over text end at) high x class taken so.highest e mark t) holds)
             ∙ so.same;
       })
 
@@ -106,7 +104,7 @@ module _ (is_key : List ℕ → Bool) (start : ℕ) (old : List ℕ) where
         highest = more ∙ ap₂ max so.highest e ∙ sym (ap highest_class passed ∙ highest_class-more (passed_over text end at) x);
         same =
             ap (λ p. extension_of is_key (take end text) p (drop (at + 1) text)) passed
-            ∙ sym (extended_passes is_key (take end text) (passed_over text end at) text at x class taken within is e mark (taken_as text end at high x class taken so e mark t) fails)
+            ∙ sym (extended_passes is_key (take end text) (passed_over text end at) text at x class taken within is e mark (taken_as is_key (take end text) (passed_over text end at) high x class taken so.highest e mark t) fails)
             ∙ so.same;
       }
 

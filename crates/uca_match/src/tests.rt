@@ -1,5 +1,7 @@
 ghost use Rattle.uca_model.specs.Table.{AreRanges};
 
+mod one_by_one;
+
 use crate::elements_of;
 use std::alloc::{AllocError, Global};
 use std::process::Abort;
@@ -135,32 +137,39 @@ fn contractions_are_matched_whole(rt: HostRuntime) {
         ("", &[]),
         ("ch", &[plain(0x1007, 0x20)]),
         ("cch", &[plain(0x1002, 0x20), plain(0x1007, 0x20)]),
-        ("c\u{301}h", &[
-            plain(0x1002, 0x20),
-            plain(0, 0x22),
-            plain(0x1005, 0x20),
-        ]),
+        (
+            "c\u{301}h",
+            &[plain(0x1002, 0x20), plain(0, 0x22), plain(0x1005, 0x20)],
+        ),
         // The mark below, of another class, is passed over.
         ("\u{1EA1}\u{301}", &[plain(0x1008, 0x20), plain(0, 0x24)]),
         // A mark of the same class blocks.
-        ("a\u{300}\u{301}", &[
-            plain(0x1000, 0x20),
-            plain(0, 0x21),
-            plain(0, 0x22),
-        ]),
+        (
+            "a\u{300}\u{301}",
+            &[plain(0x1000, 0x20), plain(0, 0x21), plain(0, 0x22)],
+        ),
         // One mark after the other is taken.
-        ("b\u{323}\u{301}\u{308}", &[plain(0x100A, 0x20), plain(0, 0x24)]),
+        (
+            "b\u{323}\u{301}\u{308}",
+            &[plain(0x100A, 0x20), plain(0, 0x24)],
+        ),
         // A starter ends the run.
-        ("b-\u{301}", &[
-            plain(0x1001, 0x20),
-            element(true, [0x202, 0x20, 2]),
-            plain(0, 0x22),
-        ]),
-        ("\u{4E00}-", &[
-            plain(0xFB40, 0x20),
-            element(false, [0xCE00, 0, 0]),
-            element(true, [0x202, 0x20, 2]),
-        ]),
+        (
+            "b-\u{301}",
+            &[
+                plain(0x1001, 0x20),
+                element(true, [0x202, 0x20, 2]),
+                plain(0, 0x22),
+            ],
+        ),
+        (
+            "\u{4E00}-",
+            &[
+                plain(0xFB40, 0x20),
+                element(false, [0xCE00, 0, 0]),
+                element(true, [0x202, 0x20, 2]),
+            ],
+        ),
     ];
     for (text, wanted) in cases {
         let elements = elements_again(&rt, rt.alloc(), &t, text);
@@ -171,7 +180,8 @@ fn contractions_are_matched_whole(rt: HostRuntime) {
 #[test]
 fn marks_far_behind_are_taken(rt: HostRuntime) {
     let t = table(&rt, rt.alloc(), &[]);
-    let text = "b\u{323}\u{323}\u{323}\u{323}\u{323}\u{323}\u{323}\u{323}\u{323}\u{323}\u{323}\u{323}\u{323}\u{323}\u{301}\u{308}";
+    let text =
+        "b\u{323}\u{323}\u{323}\u{323}\u{323}\u{323}\u{323}\u{323}\u{323}\u{323}\u{323}\u{323}\u{323}\u{323}\u{301}\u{308}";
     let elements = elements_again(&rt, rt.alloc(), &t, text);
     let mut wanted = [plain(0, 0x24); 15];
     wanted[0] = plain(0x100A, 0x20);
