@@ -22,9 +22,9 @@ print(f"{best:.3f} {resource.getrusage(resource.RUSAGE_CHILDREN).ru_maxrss}")
 PYTHON
 }
 
-# beside NAME FILE: the same file by uca and by perl, which keeps it in a table and writes nothing
+# beside NAME FILE WORD: the same file by uca and by perl, which calls it by this word; both read it and write nothing
 beside() {
-    read -r ours our_memory <<<"$(measured crates/uca/out/uca table --table "$2")"
+    read -r ours our_memory <<<"$(measured crates/uca/out/uca key --table "$2")"
     read -r theirs their_memory <<<"$(measured perl -MUnicode::Collate -e 'Unicode::Collate->new(table => $ARGV[0])' "$3")"
     awk -v name="$1" -v a="$ours" -v b="$theirs" -v m="$our_memory" -v n="$their_memory" \
         'BEGIN { printf "%s: uca %.3f s, %d KiB; perl %.3f s, %d KiB; ratio %.4f in time, %.3f in memory\n", name, a, m, b, n, a / b, m / n }'
@@ -49,7 +49,7 @@ entries() {
 }
 entries $((2 * 1024 * 1024)) >"$work/small"
 entries $((64 * 1024 * 1024)) >"$work/large"
-read -r small small_memory <<<"$(measured crates/uca/out/uca table --table "$work/small")"
-read -r large large_memory <<<"$(measured crates/uca/out/uca table --table "$work/large")"
+read -r small small_memory <<<"$(measured crates/uca/out/uca key --table "$work/small")"
+read -r large large_memory <<<"$(measured crates/uca/out/uca key --table "$work/large")"
 awk -v a="$small" -v b="$large" -v m="$small_memory" -v n="$large_memory" -v lines="$(wc -l <"$work/large")" \
     'BEGIN { printf "short entries: 2 MiB %.3f s, %d KiB; 64 MiB (%d entries) %.3f s, %d KiB; ratio %.1f\n", a, m, lines, b, n, b / a }'

@@ -43,7 +43,12 @@ is "a run of 31 marks" "|uca: input line 2 byte 61: LongRun|3" "$(cat "$work/out
 runs key < <(printf 'a'; marks 30)
 is "a run of 30 marks" "|0" "$(cat "$work/err")|$status"
 
-for words in "" "sort" "key --strength primary" "--help"; do
+runs elements < <(printf 'ch\n\xe1\xba\xa1\xcc\x81\n\n\xe4\xb8\x80-\n')
+is "elements" "[.1007.0020.0002]|[.1008.0020.0002][.0000.0024.0002]||[.FB40.0020.0002][.CE00.0000.0000][*0202.0020.0002]|0" "$(paste -sd'|' "$work/out")|$status"
+runs key --variable shifted --strength quaternary < <(printf 'a-b')
+is "four levels, shifted" "10 00 10 01 00 00 00 20 00 20 00 00 00 02 00 02 00 00 FF FF 02 02 FF FF|0" "$(cat "$work/out")|$status"
+
+for words in "" "sort" "key --strength third" "key extra" "--help"; do
     # shellcheck disable=SC2086
     runs $words </dev/null
     is "words that are no job: $words" "0|2" "$(wc -c <"$work/out")|$status"
@@ -63,6 +68,13 @@ echo "tests/key.sh: 64 MiB of short lines took $(($(date +%s) - from)) s"
 printf 'x' >>"$work/large"
 runs key <"$work/large"
 is "one byte more than 64 MiB" "0|uca: input: TooLarge|3" "$(wc -c <"$work/out")|$(cat "$work/err")|$status"
+
+# A line of letters with thirty marks each takes time near to linear, too.
+perl -e 'print(("a" . "\xCC\xA3\xCC\x81" x 15) x (67108864 / 61))' >"$work/marks"
+from=$(date +%s)
+runs key <"$work/marks"
+is "64 MiB in one line of letters with thirty marks" "$(((67108864 / 61) * (2 + 2 * 30 + 2 * 30) * 3 + 12))|0" "$(wc -c <"$work/out")|$status"
+echo "tests/key.sh: 64 MiB of letters with thirty marks took $(($(date +%s) - from)) s"
 
 echo "tests/key.sh: $passed passed, $failed failed"
 [ "$failed" -eq 0 ]

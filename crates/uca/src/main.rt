@@ -1,16 +1,15 @@
 //! The program `uca`: its words, its streams and its status. What it does is `uca_cli`'s.
 #![tactic(auto)]
 
-ghost use Rattle.std.specs.Prelude.{◌≡◌, ◌≤◌, false, IsNone, None};
-ghost use Rattle.uca_weights.specs.Settings.{levels};
+ghost use Rattle.std.specs.Prelude.{◌≡◌, false};
 
 use std::alloc::AllocError;
 use std::fs::File;
 use std::io::{ErrorKind, Write};
 use std::process::ExitCode;
 use std::{env, fs, io};
-use uca_cli::{Job, JobFault, Task, job_of, perform, status_of};
-use uca_weights::{Reading, Variable, Writing};
+use uca_cli::{Job, JobFault, job_of, perform, status_of};
+use uca_weights::{Reading, Writing};
 
 /// The status for words that are no job.
 const REFUSED_WORDS: u8 = 2;
@@ -77,10 +76,7 @@ fn refuse_job(rt: &HostRuntime, fault: &JobFault) -> u8 {
 
 /// Opens the file of the table, if the job names one, and does the job.
 fn do_job(rt: &HostRuntime, job: &Job) -> u8
-    requires few { levels job.now.strength ≤ 3 }
-    requires unweighted { job.now.weighting ≡ Variable.NonIgnorable }
     requires digits { job.now.raw ≡ false }
-    requires key { job.now.command ≡ Task.Key → job.now.table ≡ None }
 {
     let Some(path) = &job.table else {
         return perform_on_streams(rt, job, None);
@@ -96,10 +92,7 @@ fn do_job(rt: &HostRuntime, job: &Job) -> u8
 
 /// Does a job on the standard streams, with the reader of the table if there is one.
 fn perform_on_streams(rt: &HostRuntime, job: &Job, table: Option<&mut Reading<File>>) -> u8
-    requires few { levels job.now.strength ≤ 3 }
-    requires unweighted { job.now.weighting ≡ Variable.NonIgnorable }
     requires digits { job.now.raw ≡ false }
-    requires key { job.now.command ≡ Task.Key → IsNone table }
 {
     let mut input = Reading::new(rt.stdin());
     let mut output = Writing::new(rt.stdout());

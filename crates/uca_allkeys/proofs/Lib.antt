@@ -1,5 +1,4 @@
 pub mod SendLemmas
-pub mod NumberLemmas
 pub mod SplitLemmas
 pub mod TextLemmas
 pub mod ProgressLemmas

@@ -7,6 +7,7 @@ pub mod canonical;
 mod directive;
 mod entry;
 pub mod faults;
+pub mod laws;
 mod lines;
 pub mod read;
 mod reading;

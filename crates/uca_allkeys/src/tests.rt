@@ -1,4 +1,5 @@
-use crate::write_table;
+use crate::laws::written_table_is_read_back;
+use crate::{read_table, write_table};
 use arrayvec::ArrayVec;
 use std::alloc::{AllocError, Global};
 use std::io;
@@ -6,7 +7,7 @@ use std::io::Write;
 use std::process::Abort;
 use uca_model::{Entry, canonical_text};
 use uca_table::{Table, TableBuilder};
-use uca_weights::{Element, Range, WriteCause, Writing};
+use uca_weights::{Element, Range, Reading, WriteCause, Writing};
 
 /// Keys with their one element, whose mark is `*` where the flag is true, in no order.
 const SMALL_TABLE: [(&[char], bool, [u16; 3]); 18] = [
@@ -172,6 +173,21 @@ fn the_plain_program_has_the_same_text(rt: HostRuntime) {
         return;
     };
     assert_eq!(rt; text.as_slice(), SMALL_TEXT);
+}
+
+#[test]
+fn a_written_table_is_read_back(rt: HostRuntime) {
+    let table = small_table(&rt, rt.alloc());
+    written_table_is_read_back(&table);
+    let first = read_table(rt.alloc(), &mut Reading::new(SMALL_TEXT));
+    let Ok(table) = first.or_else(|_| read_table(rt.alloc(), &mut Reading::new(SMALL_TEXT))) else {
+        return assert!(rt; false, "a table");
+    };
+    let mut writer = with_room(1024, true);
+    let count = SMALL_TEXT.len() as u128;
+    assert_eq!(rt; write_table(&mut writer, &table), Ok(count));
+    let taken = writer.into_inner().taken;
+    assert_eq!(rt; taken.as_slice(), SMALL_TEXT);
 }
 
 #[test]

@@ -23,10 +23,10 @@ put_point es p = put_key es (p.0 ∷ []) (p.1 ∷ [])
 abbrev put_contractions : List (List ℕ × List Element) → List (List ℕ × List Element)
 put_contractions es =
     put_key (put_key (put_key (put_key es
-        (0x0063 ∷ 0x0068 ∷ []) (plain 0x1007 0x0020 0x0002 ∷ []))
-        (0x0061 ∷ 0x0301 ∷ []) (plain 0x1008 0x0020 0x0002 ∷ []))
-        (0x0062 ∷ 0x0301 ∷ []) (plain 0x1009 0x0020 0x0002 ∷ []))
-        (0x0062 ∷ 0x0301 ∷ 0x0308 ∷ []) (plain 0x100A 0x0020 0x0002 ∷ [])
+    (0x0063 ∷ 0x0068 ∷ []) (plain 0x1007 0x0020 0x0002 ∷ []))
+    (0x0061 ∷ 0x0301 ∷ []) (plain 0x1008 0x0020 0x0002 ∷ []))
+    (0x0062 ∷ 0x0301 ∷ []) (plain 0x1009 0x0020 0x0002 ∷ []))
+    (0x0062 ∷ 0x0301 ∷ 0x0308 ∷ []) (plain 0x100A 0x0020 0x0002 ∷ [])
 
 entries-put : (t : ElementTable) (key : List ℕ) (elements : List Element) (es : List (List ℕ × List Element)) → entries t.entries ≡ es → entries (with_entry t key elements).entries ≡ put_key es key elements
 entries-put t key elements es is = entries-insert nat_list_cmp_total t.entries key elements ∙ ap (λ xs. put_key xs key elements) is

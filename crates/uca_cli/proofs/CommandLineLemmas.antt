@@ -9,7 +9,7 @@ use Rattle.clap.specs.Simple.{App, Shape, built, entered, is_simple, label_of, n
 use Rattle.clap.specs.Kinds.{check_kinds}
 use Rattle.clap.specs.Faults.{built_fault, check_fault, defaults_fault, entered_fault, is_simple_and_free, settle_fault, walk_fault}
 use Rattle.clap.proofs.OnLiterals.{clap_on_literals}
-use Rattle.uca_cli.specs.CommandLine.{IsTaken, task_named, uca_app}
+use Rattle.uca_cli.specs.CommandLine.{Choices, IsTaken, task_named, uca_with}
 use Rattle.uca_cli.proofs.HelpLemmas.{IsNotHelp, StopsAtNoHelp, or_else-nil, walk_no_help}
 
 -- the name found is that of a task
@@ -84,15 +84,15 @@ faultless_task a words help required known fine =
     (required_met a.top (finished c end) (is_some (entered a stop)) required checks.1)
 
 -- words that clap takes name the command of a task
-pub taken_task : (words : List Text) → IsTaken words → IsSomeAnd (subcommand_of uca_app words) NamesTask
-taken_task words taken = faultless_task (built uca_app) words refl refl refl taken
+pub taken_task : (choices : Choices) (words : List Text) → IsTaken choices words → IsSomeAnd (subcommand_of (uca_with choices) words) NamesTask
+taken_task choices words taken = faultless_task (built (uca_with choices)) words refl refl refl taken
 
 -- clap's definition of the matches speaks of the program
-pub uca_is_simple : is_simple uca_app ≡ true
+pub uca_is_simple : (choices : Choices) → is_simple (uca_with choices) ≡ true
 unfolding clap_on_literals
-uca_is_simple = refl
+uca_is_simple choices = refl
 
 -- and so does that of the faults
-pub uca_is_free : is_simple_and_free uca_app ≡ true
+pub uca_is_free : (choices : Choices) → is_simple_and_free (uca_with choices) ≡ true
 unfolding clap_on_literals
-uca_is_free = refl
+uca_is_free choices = refl

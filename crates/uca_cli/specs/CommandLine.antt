@@ -1,30 +1,76 @@
 -- The command line of the program: which job the words after the program's name ask for, by clap's own definition of
 -- what a command takes and finds.
-use Rattle.std.specs.Prelude.{◌≡◌, ◌≢◌, ⊤, true, false, List, [], Option, Some, None, IsSomeAnd, codes, if◌then◌else◌, option_map, string_bytes}
+use Rattle.std.specs.Prelude.{◌≡◌, ◌≢◌, ⊤, true, false, List, [], ◌∷◌, Option, Some, None, IsSomeAnd, codes, if◌then◌else◌, map, option_and_then, option_map, string_bytes, unwrap_or}
+use Rattle.std.specs.Borrow.{Bor}
 use Rattle.std.specs.Str.{bytes_eq}
 use Rattle.clap.specs.Words.{App, Row, Rule, Text, fault_of, first_of, new_app, new_rule, subcommand_of, with_rule, with_subcommand}
 use Rattle.clap.specs.Simple.{on_top}
-use Rattle.uca_weights.specs.declared.settings.Strength.TheVariants.{Tertiary}
-use Rattle.uca_weights.specs.declared.settings.Variable.TheVariants.{NonIgnorable}
+use Rattle.clap.specs.declared.builder.value_parser.ValueParser.TheVariants.{Names}
+use Rattle.uca_weights.specs.declared.settings.Strength.{Strength}
+use Rattle.uca_weights.specs.declared.settings.Strength.TheVariants.{Primary, Secondary, Tertiary, Quaternary, Identical}
+use Rattle.uca_weights.specs.declared.settings.Variable.{Variable}
+use Rattle.uca_weights.specs.declared.settings.Variable.TheVariants.{NonIgnorable, Blanked, Shifted}
 use Rattle.uca_cli.specs.declared.job.Job.{Job}
 use Rattle.uca_cli.specs.declared.job.JobFault.{JobFault}
 use Rattle.uca_cli.specs.declared.job.JobFault.TheVariants.{Usage, OutOfMemory}
 use Rattle.uca_cli.specs.declared.job.Task.{Task}
 use Rattle.uca_cli.specs.declared.job.Task.TheVariants.{Elements, Key, Table}
 
+-- ---- the names that the options take
+
+-- the strength of this name
+abbrev pub strength_named : Text → Option Strength
+strength_named name =
+    if bytes_eq name (codes "primary") then Some Primary
+    else (if bytes_eq name (codes "secondary") then Some Secondary
+    else (if bytes_eq name (codes "tertiary") then Some Tertiary
+    else (if bytes_eq name (codes "quaternary") then Some Quaternary
+    else (if bytes_eq name (codes "identical") then Some Identical else None))))
+
+-- the way of weighting variable elements that has this name
+abbrev pub weighting_named : Text → Option Variable
+weighting_named name =
+    if bytes_eq name (codes "non-ignorable") then Some NonIgnorable
+    else (if bytes_eq name (codes "blanked") then Some Blanked
+    else (if bytes_eq name (codes "shifted") then Some Shifted else None))
+
+-- the lists of names that clap is lent: it takes no other value of these options
+pub record Choices : Type 0 where
+  pub strengths : Bor (List (Bor Text))
+  pub weightings : Bor (List (Bor Text))
+
+-- the lists have just the names that mean something
+pub record AreChoices (choices : Choices) : Type 0 where
+  pub strengths : map (λ name. name.now) choices.strengths.now
+      ≡ codes "primary" ∷ codes "secondary" ∷ codes "tertiary" ∷ codes "quaternary" ∷ codes "identical" ∷ []
+  pub weightings : map (λ name. name.now) choices.weightings.now
+      ≡ codes "non-ignorable" ∷ codes "blanked" ∷ codes "shifted" ∷ []
+
 -- ---- the commands of the program, as clap reads them
 
--- the option `--table FILE`: it takes one value, and may be left out
+-- an option that takes one value, and may be left out
+abbrev pub option_of : Text → Rule
+option_of name = record (new_rule name) { long = Some name; value_names = 1 }
+
+-- `--table FILE`
 abbrev pub table_option : Rule
-table_option = record (new_rule (codes "table")) { long = Some (codes "table"); value_names = 1 }
+table_option = option_of (codes "table")
 
--- the command `key`
-abbrev pub key_command : App
-key_command = new_app (codes "key")
+-- `--strength S`
+abbrev pub strength_option : Bor (List (Bor Text)) → Rule
+strength_option names =
+    record (option_of (codes "strength")) { parser = Some (Names names); defaults = codes "tertiary" ∷ [] }
 
--- the command `table`
-abbrev pub table_command : App
-table_command = with_rule (new_app (codes "table")) table_option
+-- `--variable V`
+abbrev pub variable_option : Bor (List (Bor Text)) → Rule
+variable_option names =
+    record (option_of (codes "variable")) { parser = Some (Names names); defaults = codes "non-ignorable" ∷ [] }
+
+-- a command: each takes all options
+abbrev pub command_with : Choices → Text → App
+command_with choices name =
+    with_rule (with_rule (with_rule (new_app name) table_option) (strength_option choices.strengths))
+    (variable_option choices.weightings)
 
 -- the program without its commands: its own name is not among the words, and they have to name a command
 abbrev pub bare_program : App
@@ -32,48 +78,53 @@ bare_program =
     on_top (λ s. record s { no_binary_name = true; subcommand_required = true }) (new_app (codes "uca"))
 
 -- the program
-abbrev pub uca_app : App
-uca_app = with_subcommand (with_subcommand bare_program key_command.top) table_command.top
+abbrev pub uca_with : Choices → App
+uca_with choices =
+    with_subcommand (with_subcommand (with_subcommand bare_program (command_with choices (codes "elements")).top)
+    (command_with choices (codes "key")).top) (command_with choices (codes "table")).top
 
 -- the task of the command of this name
 abbrev pub task_named : Text → Option Task
 task_named name =
-    if bytes_eq name (codes "key") then Some Key else (if bytes_eq name (codes "table") then Some Table else None)
+    if bytes_eq name (codes "elements") then Some Elements
+    else (if bytes_eq name (codes "key") then Some Key
+    else (if bytes_eq name (codes "table") then Some Table else None))
 
 -- ---- the job that the words ask for
 
--- the path of the table's file: `key` does not take it, and to `table` it is the value of the option
-abbrev pub table_path : Task → List Row → Option Text
-table_path Elements rows = None
-table_path Key rows = None
-table_path Table rows = first_of (codes "table") rows
+-- the strength that the option asks for: where it is left out, the third
+abbrev pub strength_in : List Row → Strength
+strength_in rows = unwrap_or (option_and_then strength_named (first_of (codes "strength") rows)) Tertiary
 
--- the job of a command's name and of what was found for its options
+-- the weighting that the option asks for: where it is left out, variable elements are as others
+abbrev pub weighting_in : List Row → Variable
+weighting_in rows = unwrap_or (option_and_then weighting_named (first_of (codes "variable") rows)) NonIgnorable
+
+-- the job of a command's name and of what was found for its options; what no option gives has its default
 pub record IsJobFrom (job : Job) (found : Text × List Row) : Type 0 where
   pub command : task_named found.0 ≡ Some job.command
-  pub table : option_map string_bytes job.table ≡ table_path job.command found.1
-
--- what no option gives has its default: so has every field of a job of `key`
-pub record HasDefaults (job : Job) : Type 0 where
-  pub strength : job.strength ≡ Tertiary
-  pub weighting : job.weighting ≡ NonIgnorable
+  pub strength : job.strength ≡ strength_in found.1
+  pub weighting : job.weighting ≡ weighting_in found.1
+  pub table : option_map string_bytes job.table ≡ first_of (codes "table") found.1
   pub raw : job.raw ≡ false
   pub rules : job.rules ≡ None
-  pub key_table : job.command ≡ Key → job.table ≡ None
 
 -- clap takes the words: they have no mistake, and ask for no help
-abbrev pub IsTaken : List Text → Type 0
-IsTaken words = fault_of uca_app words ≡ []
+abbrev pub IsTaken : Choices → List Text → Type 0
+IsTaken choices words = fault_of (uca_with choices) words ≡ []
+
+-- clap takes the words, and the job is that of the command and the options that it finds in them
+pub record IsJobOf (words : List Text) (job : Job) : Type 0 where
+  pub choices : Choices
+  pub right : AreChoices choices
+  pub taken : IsTaken choices words
+  pub found : IsSomeAnd (subcommand_of (uca_with choices) words) (IsJobFrom job)
 
 -- clap refuses the words, or answers them with help
-abbrev pub IsRefused : List Text → Type 0
-IsRefused words = fault_of uca_app words ≢ []
-
--- clap takes the words, and the job is that of the command and the options that it finds in them, with the defaults
-pub record IsJobOf (words : List Text) (job : Job) : Type 0 where
-  pub taken : IsTaken words
-  pub found : IsSomeAnd (subcommand_of uca_app words) (IsJobFrom job)
-  pub defaults : HasDefaults job
+pub record IsRefused (words : List Text) : Type 0 where
+  pub choices : Choices
+  pub right : AreChoices choices
+  pub refused : fault_of (uca_with choices) words ≢ []
 
 -- the fault lies with the words, and not with memory
 abbrev pub IsUsage : JobFault → Type 0

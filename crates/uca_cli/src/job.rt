@@ -1,15 +1,28 @@
 //! The words of the command line, and the job that they ask for.
-ghost use Rattle.std.specs.Prelude.{◌≡◌, ◌≢◌, IfErr, IfOk, IsSome, IsSomeAnd, false, map, option_map, string_bytes};
+ghost use Rattle.std.specs.Prelude.{◌≡◌, ◌≢◌, IfErr, IfOk, IsSome, IsSomeAnd, codes, false, map, option_map, string_bytes};
 ghost use Rattle.clap.specs.declared.builder.command.Command.TheViews.{out-Command};
 ghost use Rattle.clap.specs.Words.{app_of, first_of, found_of, kind_of, rows_of, rule_of, subcommand_rows_of};
-ghost use Rattle.uca_cli.specs.CommandLine.{HasDefaults, IsJobFrom, IsJobOf, IsRefused, IsUsage};
-ghost use Rattle.uca_cli.specs.CommandLine.{key_command, table_command, table_option, table_path, task_named, uca_app};
+ghost use Rattle.uca_cli.specs.CommandLine.{IsJobFrom, IsJobOf, IsRefused, IsUsage};
+ghost use Rattle.uca_cli.specs.CommandLine.{command_with, strength_option, table_option, uca_with, variable_option};
+ghost use Rattle.uca_cli.specs.CommandLine.{strength_in, strength_named, task_named, weighting_in, weighting_named};
 
 use clap::error::ErrorKind;
 use clap::{Arg, ArgMatches, Command};
 use std::alloc::{AllocError, Global};
 use thiserror::Error;
 use uca_weights::{Strength, Variable};
+
+/// The names that the option `--strength` takes.
+static STRENGTHS: [&str; 5] = [
+    "primary",
+    "secondary",
+    "tertiary",
+    "quaternary",
+    "identical",
+];
+
+/// The names that the option `--variable` takes.
+static WEIGHTINGS: [&str; 3] = ["non-ignorable", "blanked", "shifted"];
 
 /// What the program does with its input.
 #[derive(Clone, Copy, Debug, PartialEq, Eq)]
@@ -47,13 +60,13 @@ pub enum JobFault {
     OutOfMemory,
 }
 
-/// The job that the words after the program's name ask for. What they name is told by `clap`, and no option changes the
-/// comparison, so that it is tertiary and leaves variable elements as they stand.
+/// The job that the words after the program's name ask for. What they name is told by `clap`. Where no option says
+/// otherwise, the comparison is tertiary and leaves variable elements as they stand.
 pub fn job_of(alloc: Global, words: &[&str]) -> Result<Job, JobFault>
     ensures job { IfOk result (IsJobOf (map (λ w. w.now) words.now)) }
     ensures usage { IfErr result (λ f. IsUsage f → IsRefused (map (λ w. w.now) words.now)) }
 {
-    let Ok(command) = uca_command(alloc) else {
+    let Ok(command) = uca_command(alloc, STRENGTHS.as_slice(), WEIGHTINGS.as_slice()) else {
         return Err(JobFault::OutOfMemory);
     };
     match command.try_get_matches_from(words) {
@@ -63,38 +76,65 @@ pub fn job_of(alloc: Global, words: &[&str]) -> Result<Job, JobFault>
 }
 
 // The program with its commands. The words come without its name, so usage lines are given it.
-fn uca_command<'a>(alloc: Global) -> Result<Command<'a>, AllocError>
-    ensures { IfOk result (λ c. app_of c ≡ uca_app) }
+fn uca_command<'a>(
+    alloc: Global,
+    strengths: &'a [&'a str],
+    weightings: &'a [&'a str],
+) -> Result<Command<'a>, AllocError>
+    ensures { IfOk result (λ c. app_of c
+        ≡ uca_with (record { strengths = strengths.entry; weightings = weightings.entry })) }
 {
-    let uca = Command::new(alloc, "uca")
+    let elements = command(
+        alloc,
+        "elements",
+        "Writes the collation elements of each line of the input",
+        strengths,
+        weightings,
+    )?;
+    let key = command(
+        alloc,
+        "key",
+        "Writes the sort key of each line of the input",
+        strengths,
+        weightings,
+    )?;
+    let table = command(
+        alloc,
+        "table",
+        "Writes the collation element table as text",
+        strengths,
+        weightings,
+    )?;
+    Command::new(alloc, "uca")
         .about("Sorts and compares text by the Unicode Collation Algorithm")
         .bin_name("uca")?
         .no_binary_name(true)
         .subcommand_required(true)
-        .subcommand(key_command(alloc))?
-        .subcommand(table_command(alloc)?)?;
-    Ok(uca)
+        .subcommand(elements)?
+        .subcommand(key)?
+        .subcommand(table)
 }
 
-// The command `key`.
-fn key_command<'a>(alloc: Global) -> Command<'a>
-    ensures app { app_of result ≡ key_command }
-    ensures local { (out-Command result).has_globals ≡ false }
-{
-    Command::new(alloc, "key").about("Writes the sort key of each line of the input")
-}
-
-// The command `table`.
-fn table_command<'a>(alloc: Global) -> Result<Command<'a>, AllocError>
-    ensures app { IfOk result (λ c. app_of c ≡ table_command) }
+// A command. Each takes all options, also those without meaning for it.
+fn command<'a>(
+    alloc: Global,
+    name: &'a str,
+    about: &'a str,
+    strengths: &'a [&'a str],
+    weightings: &'a [&'a str],
+) -> Result<Command<'a>, AllocError>
+    ensures app { IfOk result (λ c. app_of c
+        ≡ command_with (record { strengths = strengths.entry; weightings = weightings.entry }) name.entry.now) }
     ensures local { IfOk result (λ c. (out-Command c).has_globals ≡ false) }
 {
-    Command::new(alloc, "table")
-        .about("Writes the collation element table as text")
-        .arg(table_option(alloc))
+    Command::new(alloc, name)
+        .about(about)
+        .arg(table_option(alloc))?
+        .arg(strength_option(alloc, strengths))?
+        .arg(variable_option(alloc, weightings))
 }
 
-// The option `--table FILE`, which may be left out.
+// The option `--table FILE`.
 fn table_option<'a>(alloc: Global) -> Arg<'a>
     ensures rule { rule_of result ≡ table_option }
     ensures local { result.global ≡ false }
@@ -105,13 +145,66 @@ fn table_option<'a>(alloc: Global) -> Arg<'a>
         .help("The table's file, in place of the built-in table")
 }
 
+// The option `--strength S`.
+fn strength_option<'a>(alloc: Global, names: &'a [&'a str]) -> Arg<'a>
+    ensures rule { rule_of result ≡ strength_option names.entry }
+    ensures local { result.global ≡ false }
+{
+    Arg::new(alloc, "strength")
+        .long("strength")
+        .value_name("S")
+        .help("The last level that is compared")
+        .value_parser(names)
+        .default_value("tertiary")
+}
+
+// The option `--variable V`.
+fn variable_option<'a>(alloc: Global, names: &'a [&'a str]) -> Arg<'a>
+    ensures rule { rule_of result ≡ variable_option names.entry }
+    ensures local { result.global ≡ false }
+{
+    Arg::new(alloc, "variable")
+        .long("variable")
+        .value_name("V")
+        .help("How variable elements are weighted")
+        .value_parser(names)
+        .default_value("non-ignorable")
+}
+
 // The task of the command of this name.
 fn task_named(name: &str) -> Option<Task>
     ensures { result ≡ task_named name.now }
 {
     match name {
+        "elements" => Some(Task::Elements),
         "key" => Some(Task::Key),
         "table" => Some(Task::Table),
+        _ => None,
+    }
+}
+
+// The strength of this name.
+fn strength_named(name: &str) -> Option<Strength>
+    ensures { result ≡ strength_named name.now }
+{
+    match name {
+        "primary" => Some(Strength::Primary),
+        "secondary" => Some(Strength::Secondary),
+        "tertiary" => Some(Strength::Tertiary),
+        "quaternary" => Some(Strength::Quaternary),
+        "identical" => Some(Strength::Identical),
+        _ => None,
+    }
+}
+
+// The way of weighting variable elements that has this name.
+fn weighting_named(name: &str) -> Option<Variable>
+    ensures { result ≡ weighting_named name.now }
+{
+    match name {
+        "non-ignorable" => Some(Variable::NonIgnorable),
+        "blanked" => Some(Variable::Blanked),
+        "shifted" => Some(Variable::Shifted),
         _ => None,
     }
 }
@@ -119,8 +212,7 @@ fn task_named(name: &str) -> Option<Task>
 // The job of the command that was met. There is one, since the program requires it, and each has its task.
 fn job_from(alloc: Global, matches: &ArgMatches<'_>) -> Result<Job, AllocError>
     requires { IsSomeAnd (subcommand_rows_of matches.now) (λ found. IsSome (task_named found.0)) }
-    ensures found { IfOk result (λ job. IsSomeAnd (subcommand_rows_of matches.now) (IsJobFrom job)) }
-    ensures defaults { IfOk result HasDefaults }
+    ensures { IfOk result (λ job. IsSomeAnd (subcommand_rows_of matches.now) (IsJobFrom job)) }
 {
     let Some((name, options)) = matches.subcommand() else {
         unreachable!();
@@ -130,36 +222,47 @@ fn job_from(alloc: Global, matches: &ArgMatches<'_>) -> Result<Job, AllocError>
     };
     Ok(Job {
         command,
-        strength: Strength::Tertiary,
-        weighting: Variable::NonIgnorable,
+        strength: strength_in(options),
+        weighting: weighting_in(options),
         raw: false,
-        table: table_path(alloc, command, options)?,
+        table: path_of(alloc, options, "table")?,
         rules: None,
     })
 }
 
-// The path of the table's file, which `key` does not take.
-fn table_path(
-    alloc: Global,
-    command: Task,
-    options: &ArgMatches<'_>,
-) -> Result<Option<String>, AllocError>
-    ensures { IfOk result (λ path. option_map string_bytes path ≡ table_path command (rows_of (found_of options.now))) }
+// The strength that the option asks for. `clap` lets only known names pass.
+fn strength_in(options: &ArgMatches<'_>) -> Strength
+    ensures { result ≡ strength_in (rows_of (found_of options.now)) }
 {
-    match command {
-        Task::Elements | Task::Key => Ok(None),
-        Task::Table => path_of(alloc, options, "table"),
-    }
+    value_of(options, "strength")
+        .and_then(strength_named)
+        .unwrap_or(Strength::Tertiary)
+}
+
+// The weighting that the option asks for. `clap` lets only known names pass.
+fn weighting_in(options: &ArgMatches<'_>) -> Variable
+    ensures { result ≡ weighting_in (rows_of (found_of options.now)) }
+{
+    value_of(options, "variable")
+        .and_then(weighting_named)
+        .unwrap_or(Variable::NonIgnorable)
 }
 
 // The path that an option names.
 fn path_of(alloc: Global, options: &ArgMatches<'_>, id: &str) -> Result<Option<String>, AllocError>
     ensures { IfOk result (λ path. option_map string_bytes path ≡ first_of id.now (rows_of (found_of options.now))) }
 {
-    match options.get_str(id) {
+    match value_of(options, id) {
         Some(path) => Ok(Some(String::from_str(alloc, path)?)),
         None => Ok(None),
     }
+}
+
+// The value of an option, where it was given or has a default.
+fn value_of<'a>(options: &ArgMatches<'a>, id: &str) -> Option<&'a str>
+    ensures { option_map (λ value. value.now) result ≡ first_of id.now (rows_of (found_of options.now)) }
+{
+    options.get_str(id)
 }
 
 // What an error of clap's is to the caller.

@@ -1,20 +1,16 @@
+mod agreement;
 mod ends;
 mod tables;
 
 use crate::input::read_input;
-use crate::keys::key_of;
-use crate::passage::Passage;
-use crate::{CliFault, InputCause, InputFault, Job, Task, built_in, perform, status_of};
+use crate::{CliFault, InputCause, InputFault, Job, Task, perform, status_of};
 use ends::{Expecting, Pieces, Zeros};
 use simdutf8::compat::from_utf8;
 use std::alloc::{AllocError, Global};
-use std::process::Abort;
 use std::test::Fail;
-use uca_model::{Entry, lines, output};
-use uca_table::Table;
 use uca_weights::{
-    Element, MAX_INPUT, Range, Reader, Reading, Settings, Strength, Variable, WriteCause,
-    WriteFault, Writer, Writing,
+    MAX_INPUT, Reader, Reading, Settings, Strength, Variable, WriteCause, WriteFault, Writer,
+    Writing,
 };
 
 /// The lines `a` and `ab`, and their keys.
@@ -30,16 +26,24 @@ struct Outcome {
     output: Vec<u8>,
 }
 
-/// Does the job `key` without options.
-fn perform_key<I: Reader, W: Writer>(
+/// The settings of a job without options.
+const PLAIN: Settings = Settings {
+    strength: Strength::Tertiary,
+    weighting: Variable::NonIgnorable,
+};
+
+/// Does a job with the built-in table.
+fn perform_as<I: Reader, W: Writer>(
     alloc: Global,
+    command: Task,
+    settings: Settings,
     input: &mut I,
     output: &mut W,
 ) -> Result<u8, CliFault> {
     let job = Job {
-        command: Task::Key,
-        strength: Strength::Tertiary,
-        weighting: Variable::NonIgnorable,
+        command,
+        strength: settings.strength,
+        weighting: settings.weighting,
         raw: false,
         table: None,
         rules: None,
@@ -47,6 +51,15 @@ fn perform_key<I: Reader, W: Writer>(
     let table: Option<&mut Zeros> = None;
     let rules: Option<&mut Zeros> = None;
     perform(alloc, &job, table, rules, input, output)
+}
+
+/// Does the job `key` without options.
+fn perform_key<I: Reader, W: Writer>(
+    alloc: Global,
+    input: &mut I,
+    output: &mut W,
+) -> Result<u8, CliFault> {
+    perform_as(alloc, Task::Key, PLAIN, input, output)
 }
 
 /// Whether a growth was refused.
@@ -58,23 +71,28 @@ fn wants_memory(answer: &Result<u8, CliFault>) -> bool {
     }
 }
 
-fn run_once(alloc: Global, input: &[u8]) -> Outcome {
+fn run_once(alloc: Global, command: Task, settings: Settings, input: &[u8]) -> Outcome {
     let mut reader = Reading::new(input);
     let mut writer = Writing::new(Vec::new(alloc));
-    let answer = perform_key(alloc, &mut reader, &mut writer);
+    let answer = perform_as(alloc, command, settings, &mut reader, &mut writer);
     let output = writer.into_inner();
     Outcome { answer, output }
 }
 
-/// Does the job `key` over bytes in memory, once more where memory was refused.
-fn run(alloc: Global, input: &[u8]) -> Outcome {
-    let first = run_once(alloc, input);
+/// Does a job over bytes in memory, once more where memory was refused.
+fn run_as(alloc: Global, command: Task, settings: Settings, input: &[u8]) -> Outcome {
+    let first = run_once(alloc, command, settings, input);
     match first.answer {
         // A vector that cannot grow fails as a writer.
-        Err(CliFault::Output(_)) => run_once(alloc, input),
-        _ if wants_memory(&first.answer) => run_once(alloc, input),
+        Err(CliFault::Output(_)) => run_once(alloc, command, settings, input),
+        _ if wants_memory(&first.answer) => run_once(alloc, command, settings, input),
         _ => first,
     }
+}
+
+/// Does the job `key` over bytes in memory.
+fn run(alloc: Global, input: &[u8]) -> Outcome {
+    run_as(alloc, Task::Key, PLAIN, input)
 }
 
 /// The fault of a job that writes nothing, asked for once more where memory was refused.
@@ -100,14 +118,6 @@ fn repeated(alloc: Global, piece: &[u8], times: usize) -> Result<Vec<u8>, AllocE
         bytes.extend_from_slice(piece)?;
     }
     Ok(bytes)
-}
-
-/// The built-in table, asked for once more where memory was refused.
-fn table(rt: &impl Abort, alloc: Global) -> Table {
-    match built_in(alloc) {
-        Ok(table) => table,
-        Err(_) => built_in(alloc).expect(rt, "a table"),
-    }
 }
 
 #[test]
@@ -306,156 +316,59 @@ fn lines_may_lie_across_the_pieces_read(rt: HostRuntime) {
     assert!(rt; stops(alloc, &input, &output, room, WriteCause::Failed));
 }
 
-/// The key of a text without variable weighting, asked for once more where memory was refused.
-fn key(rt: &impl Abort, alloc: Global, strength: Strength, text: &str) -> Vec<u8> {
-    let t = table(rt, alloc);
-    assert_eq!(rt; t.longest(), 1);
-    let settings = Settings {
-        strength,
-        weighting: Variable::NonIgnorable,
-    };
-    assert!(rt; settings.levels() <= 3);
-    let passage = Passage::check(text).ok().expect(rt, "a safe text");
-    match key_of(alloc, &t, settings, &passage) {
-        Ok(key) => key,
-        Err(_) => key_of(alloc, &t, settings, &passage).expect(rt, "a key"),
-    }
-}
-
 #[test]
-fn keys_of_texts(rt: HostRuntime) {
-    let cases: [(&str, Strength, &[u8]); 8] = [
-        ("", Strength::Primary, &[]),
-        ("", Strength::Secondary, &[0, 0]),
-        ("", Strength::Tertiary, &[0, 0, 0, 0]),
+fn each_line_gets_its_elements(rt: HostRuntime) {
+    let cases: [(&[u8], &[u8]); 3] = [
+        (b"", b""),
         (
-            "\u{E0}",
-            Strength::Tertiary,
-            &[0x10, 0, 0, 0, 0, 0x20, 0, 0x21, 0, 0, 0, 2, 0, 2],
+            "ch\n\u{1EA1}\u{301}\n\n\u{4E00}-".as_bytes(),
+            b"[.1007.0020.0002]\n[.1008.0020.0002][.0000.0024.0002]\n\n[.FB40.0020.0002][.CE00.0000.0000][*0202.0020.0002]\n",
         ),
+        // A range of implicit weights, and a mark that is blocked.
         (
-            "\u{4E00}",
-            Strength::Tertiary,
-            &[0xFB, 0x40, 0xCE, 0, 0, 0, 0, 0x20, 0, 0, 0, 2],
-        ),
-        ("A\u{1}", Strength::Primary, &[0x10, 0]),
-        ("A", Strength::Secondary, &[0x10, 0, 0, 0, 0, 0x20]),
-        // A variable element keeps its weights.
-        (
-            "-\u{300}",
-            Strength::Tertiary,
-            &[2, 2, 0, 0, 0, 0x20, 0, 0x21, 0, 0, 0, 2, 0, 2],
+            "\u{18D00}\r\na\u{300}\u{301}".as_bytes(),
+            b"[.FB00.0020.0002][.9D00.0000.0000]\n[.1000.0020.0002][.0000.0021.0002][.0000.0022.0002]\n",
         ),
     ];
-    for (text, strength, want) in cases {
-        let found = key(&rt, rt.alloc(), strength, text);
-        assert_eq!(rt; found.as_slice(), want, "{text:?} {strength:?}");
-    }
-}
-
-/// The entries of the built-in table: a code point, the mark `*` or none, and the weights.
-const BUILT_IN: [(char, bool, [u16; 3]); 14] = [
-    ('\u{1}', false, [0, 0, 0]),
-    (' ', true, [0x201, 0x20, 2]),
-    ('-', true, [0x202, 0x20, 2]),
-    ('\u{300}', false, [0, 0x21, 2]),
-    ('\u{301}', false, [0, 0x22, 2]),
-    ('\u{308}', false, [0, 0x23, 2]),
-    ('\u{323}', false, [0, 0x24, 2]),
-    ('a', false, [0x1000, 0x20, 2]),
-    ('A', false, [0x1000, 0x20, 8]),
-    ('b', false, [0x1001, 0x20, 2]),
-    ('c', false, [0x1002, 0x20, 2]),
-    ('e', false, [0x1004, 0x20, 2]),
-    ('h', false, [0x1005, 0x20, 2]),
-    ('z', false, [0x1006, 0x20, 2]),
-];
-
-fn element(starred: bool, [l1, l2, l3]: [u16; 3]) -> Element {
-    Element {
-        starred,
-        l1,
-        l2,
-        l3,
-    }
-}
-
-#[test]
-fn the_built_in_table_has_fourteen_keys(rt: HostRuntime) {
-    let t = table(&rt, rt.alloc());
-    assert_eq!(rt; t.longest(), 1);
-    assert_eq!(rt; t.entries().count(), 14);
-    assert!(rt; t.ranges().is_empty());
-    for (c, starred, weights) in BUILT_IN {
-        let want = [element(starred, weights)];
-        assert_eq!(rt; t.get(&[c]), Some(want.as_slice()), "{c:?}");
-    }
-    assert!(rt; t.get(&['d']).is_none());
-    let ideograph = [
-        element(false, [0xFB40, 0x20, 2]),
-        element(false, [0xCE00, 0, 0]),
-    ];
-    assert_eq!(rt; t.implicit('\u{4E00}'), ideograph);
-}
-
-/// The built-in table as the plain programs keep it.
-fn plain_entries(alloc: Global) -> Result<Vec<Entry>, AllocError> {
-    let mut entries = Vec::new(alloc);
-    for (c, starred, weights) in BUILT_IN {
-        let key = [c].to_vec(alloc)?;
-        let elements = [element(starred, weights)].to_vec(alloc)?;
-        entries.push(Entry { key, elements })?;
-    }
-    Ok(entries)
-}
-
-/// What the plain programs write for an input of texts.
-fn plain_output(alloc: Global, entries: &[Entry], input: &str) -> Result<Vec<u8>, AllocError> {
-    let settings = Settings {
-        strength: Strength::Tertiary,
-        weighting: Variable::NonIgnorable,
-    };
-    let no_ranges: [Range; 0] = [];
-    let mut out = Vec::new(alloc);
-    for line in lines::lines_of(alloc, input.as_bytes())? {
-        let Ok(text) = from_utf8(&line) else {
-            break;
-        };
-        let written = output::key_line(alloc, entries, &no_ranges, settings, text)?;
-        out.extend_from_slice(&written)?;
-    }
-    Ok(out)
-}
-
-#[test]
-fn agrees_with_the_plain_programs(rt: HostRuntime) {
-    let alloc = rt.alloc();
-    let Ok(entries) = plain_entries(alloc) else {
-        return;
-    };
-    let inputs = [
-        "",
-        "\r\n\n\r",
-        "a\r\nA\n\rb\r\r\nzh",
-        "a-b c\n\u{1}\u{301}-\u{300}\n",
-        // Decompositions, of several steps too, and marks that change places.
-        "\u{E9}\u{212B}\n\u{1EA1}\u{301}\n\u{1E69}",
-        "e\u{301}\u{323}\ne\u{323}\u{301}\r\n\u{344}\u{F73}",
-        // No contraction and no range is known.
-        "ch\ncz\na\u{301}b\u{301}\u{308}\n\u{17000}\u{18D00}",
-        "\u{4E00}\u{9FFF}\n\u{3400}\u{20000}\u{323AF}\n\u{FA0E}\u{F900}\n",
-        "\u{AC00}\u{AC01}\u{D7A3}\n\u{1100}\u{1161}\u{11A8}",
-        "\u{0}\u{9}\u{B}\u{C}\u{85}\u{2028}\u{FEFF}\n\u{10FFFF}\u{E000}\u{378}",
-        "\u{1D15E}\u{1F600}\n\u{1F82}",
-        "\u{301}\u{323}\u{300}\n\u{308}\u{1}\u{345}\n \n",
-    ];
-    for input in inputs {
-        let Ok(want) = plain_output(alloc, &entries, input) else {
-            return;
-        };
-        let done = run(alloc, input.as_bytes());
+    for (input, want) in cases {
+        let done = run_as(rt.alloc(), Task::Elements, PLAIN, input);
         assert_eq!(rt; done.answer, Ok(0), "{input:?}");
-        assert_eq!(rt; done.output.as_slice(), want.as_slice(), "{input:?}");
+        assert_eq!(rt; done.output.as_slice(), want, "{input:?}");
+    }
+}
+
+#[test]
+fn settings_are_those_of_the_job(rt: HostRuntime) {
+    let shifted = Settings {
+        strength: Strength::Quaternary,
+        weighting: Variable::Shifted,
+    };
+    let identical = Settings {
+        strength: Strength::Identical,
+        weighting: Variable::NonIgnorable,
+    };
+    let blanked = Settings {
+        strength: Strength::Primary,
+        weighting: Variable::Blanked,
+    };
+    let cases: [(Settings, &[u8], &[u8]); 4] = [
+        (
+            shifted,
+            b"a-b",
+            b"10 00 10 01 00 00 00 20 00 20 00 00 00 02 00 02 00 00 FF FF 02 02 FF FF\n",
+        ),
+        (
+            identical,
+            b"a",
+            b"10 00 00 00 00 20 00 00 00 02 00 00 00 00 00 00 61\n",
+        ),
+        (identical, b"\n", b"00 00 00 00 00 00 00 00\n"),
+        (blanked, b"a-b", b"10 00 10 01\n"),
+    ];
+    for (settings, input, want) in cases {
+        let done = run_as(rt.alloc(), Task::Key, settings, input);
+        assert_eq!(rt; done.answer, Ok(0), "{input:?}");
+        assert_eq!(rt; done.output.as_slice(), want, "{input:?}");
     }
 }
 

@@ -113,20 +113,30 @@ fn levels_are_joined_by_the_strength(rt: HostRuntime) {
         ("", Strength::Identical, &[0; 8]),
         ("ch", Strength::Primary, &[0x10, 7]),
         ("ch", Strength::Secondary, &[0x10, 7, 0, 0, 0, 0x20]),
-        ("ch", Strength::Tertiary, &[
-            0x10, 7, 0, 0, 0, 0x20, 0, 0, 0, 2,
-        ]),
-        ("ch", Strength::Quaternary, &[
-            0x10, 7, 0, 0, 0, 0x20, 0, 0, 0, 2, 0, 0,
-        ]),
-        ("a", Strength::Identical, &[
-            0x10, 0, 0, 0, 0, 0x20, 0, 0, 0, 2, 0, 0, 0, 0, 0, 0, 0x61,
-        ]),
+        (
+            "ch",
+            Strength::Tertiary,
+            &[0x10, 7, 0, 0, 0, 0x20, 0, 0, 0, 2],
+        ),
+        (
+            "ch",
+            Strength::Quaternary,
+            &[0x10, 7, 0, 0, 0, 0x20, 0, 0, 0, 2, 0, 0],
+        ),
+        (
+            "a",
+            Strength::Identical,
+            &[0x10, 0, 0, 0, 0, 0x20, 0, 0, 0, 2, 0, 0, 0, 0, 0, 0, 0x61],
+        ),
         // The fifth level has the text in NFD, with the mark that the contraction took in its place.
-        ("\u{1EA1}\u{301}", Strength::Identical, &[
-            0x10, 8, 0, 0, 0, 0x20, 0, 0x24, 0, 0, 0, 2, 0, 2, 0, 0, 0, 0, 0, 0, 0x61, 0, 3, 0x23,
-            0, 3, 1,
-        ]),
+        (
+            "\u{1EA1}\u{301}",
+            Strength::Identical,
+            &[
+                0x10, 8, 0, 0, 0, 0x20, 0, 0x24, 0, 0, 0, 2, 0, 2, 0, 0, 0, 0, 0, 0, 0x61, 0, 3,
+                0x23, 0, 3, 1,
+            ],
+        ),
     ];
     for (text, strength, wanted) in cases {
         let key = key_again(&rt, rt.alloc(), &t, strength, Variable::NonIgnorable, text);
@@ -138,19 +148,33 @@ fn levels_are_joined_by_the_strength(rt: HostRuntime) {
 fn variable_elements_are_weighted_by_the_option(rt: HostRuntime) {
     let t = table(&rt, rt.alloc());
     let cases: [(&str, Strength, Variable, &[u8]); 4] = [
-        ("a-b", Strength::Quaternary, Variable::Shifted, &[
-            0x10, 0, 0x10, 1, 0, 0, 0, 0x20, 0, 0x20, 0, 0, 0, 2, 0, 2, 0, 0, 0xFF, 0xFF, 2, 2,
-            0xFF, 0xFF,
-        ]),
-        ("-\u{1}\u{300}", Strength::Quaternary, Variable::Shifted, &[
-            0, 0, 0, 0, 0, 0, 2, 2,
-        ]),
-        ("-\u{300}", Strength::Tertiary, Variable::Blanked, &[
-            0, 0, 0, 0,
-        ]),
-        ("-\u{300}", Strength::Tertiary, Variable::NonIgnorable, &[
-            2, 2, 0, 0, 0, 0x20, 0, 0x21, 0, 0, 0, 2, 0, 2,
-        ]),
+        (
+            "a-b",
+            Strength::Quaternary,
+            Variable::Shifted,
+            &[
+                0x10, 0, 0x10, 1, 0, 0, 0, 0x20, 0, 0x20, 0, 0, 0, 2, 0, 2, 0, 0, 0xFF, 0xFF, 2, 2,
+                0xFF, 0xFF,
+            ],
+        ),
+        (
+            "-\u{1}\u{300}",
+            Strength::Quaternary,
+            Variable::Shifted,
+            &[0, 0, 0, 0, 0, 0, 2, 2],
+        ),
+        (
+            "-\u{300}",
+            Strength::Tertiary,
+            Variable::Blanked,
+            &[0, 0, 0, 0],
+        ),
+        (
+            "-\u{300}",
+            Strength::Tertiary,
+            Variable::NonIgnorable,
+            &[2, 2, 0, 0, 0, 0x20, 0, 0x21, 0, 0, 0, 2, 0, 2],
+        ),
     ];
     for (text, strength, weighting, wanted) in cases {
         let key = key_again(&rt, rt.alloc(), &t, strength, weighting, text);

@@ -19,7 +19,8 @@ use Rattle.uca_model.proofs.CanonicalLemmas.{points_behind, key_text-cons}
 use Rattle.uca_model.proofs.CanonicalLines.{entry_said, plain-entry, length-point_text, statement-plain}
 use Rattle.uca_model.proofs.CanonicalDigits.{no_hex, hex_no_blank, hex_no_semicolon, hex_no_bracket, hex-four, hex-point, code_point-said, four_digits-said, scalar-below, BeginsHex, begins-append, begins-point, skip-hex}
 use Rattle.uca_model.proofs.CutLemmas.{none-append, position_at, before_at, after_at, EndsVisible, ends-append}
-use Rattle.uca_model.proofs.TableTextLemmas.{step_done, element-added}
+use Rattle.uca_model.proofs.StepLemmas.{step_done}
+use Rattle.uca_model.proofs.PartLemmas.{part-added}
 
 -- The key
 
@@ -123,7 +124,7 @@ element-said e is =
 elements_of_fronts : (done es : List Element) → 0 < length done + length es → length done + length es ≤ MAX_ELEMENTS → AllByRecursion IsElement es → elements_after done (map element_front es ++ [] ∷ []) ≡ Ok (done ++ es)
 elements_of_fronts done [] some few all = cond-false _ _ _ (ne_eqb (length done) 0 (λ none. omega arith)) ∙ ap Ok (sym (append-nil done))
 elements_of_fronts done (e ∷ es) some few all =
-    element-added done (element_front e) (map element_front es ++ [] ∷ []) e (omega (arith, length-append (map element_front es) ([] ∷ []))) (element-said e all.0) (omega arith)
+    part-added done (element_front e) (map element_front es ++ [] ∷ []) e (omega (arith, length-append (map element_front es) ([] ∷ []))) (element-said e all.0) (omega arith)
     ∙ elements_of_fronts (done ++ e ∷ []) es (omega (arith, length-append done (e ∷ []))) (omega (arith, length-append done (e ∷ []))) all.1
     ∙ ap Ok (append_assoc done (e ∷ []) es)
 
@@ -134,7 +135,7 @@ elements-said (e ∷ es) some few all =
     let cut : slice_split is_right_bracket (32 ∷ flat_map element_text (e ∷ es)) ≡ (32 ∷ element_front e) ∷ (map element_front es ++ [] ∷ [])
     = slice_split-cons_no is_right_bracket 32 (flat_map element_text (e ∷ es)) refl ∙ ap (onto_first 32) (cut_elements (e ∷ es) all) in
     ap (elements_after []) cut
-    ∙ element-added [] (32 ∷ element_front e) (map element_front es ++ [] ∷ []) e (omega (arith, length-append (map element_front es) ([] ∷ []))) (element-said e all.0) (omega arith)
+    ∙ part-added [] (32 ∷ element_front e) (map element_front es ++ [] ∷ []) e (omega (arith, length-append (map element_front es) ([] ∷ []))) (element-said e all.0) (omega arith)
     ∙ elements_of_fronts (e ∷ []) es (omega arith) (omega arith) all.1
 
 -- The line

@@ -14,7 +14,7 @@ use Rattle.uca_model.specs.CanonicalText.{four_digits, point_text, ends_text}
 use Rattle.uca_model.proofs.CanonicalLines.{range_said, plain-range, statement-plain}
 use Rattle.uca_model.proofs.CanonicalDigits.{is_hex, no_hex, hex_no_blank, hex_ends_no_point, hex-point, code_point-said, four_digits-said, scalar-below, begins-append, begins-point, skip-hex}
 use Rattle.uca_model.proofs.CutLemmas.{before_at, from_at, ends-append}
-use Rattle.uca_model.proofs.TableTextLemmas.{step_done}
+use Rattle.uca_model.proofs.StepLemmas.{step_done}
 
 -- a code point before what ends it
 end_said : (c b : ℕ) (rest : List ℕ) → IsScalar c → ends_point b ≡ true → range_end (point_text c ++ b ∷ rest) ≡ Ok (c, b ∷ rest)

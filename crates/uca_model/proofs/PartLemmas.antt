@@ -20,7 +20,7 @@ pub parts-behind : (parts : List (Bor (List ℕ))) (i : ℕ) → i < length part
 parts-behind parts i low other = omega (arith, length-map (drop (i + 1) parts) (λ (part : Bor (List ℕ)). part.now), length-drop (i + 1) parts)
 
 -- one part more of an entry: where others stand behind it, it has to be an element
-part-added : (es : List Element) (text : List ℕ) (parts : List (List ℕ)) (e : Element) → 0 < length parts → element (skip_blanks text) ≡ Ok e → length es < MAX_ELEMENTS → elements_after es (text ∷ parts) ≡ elements_after (es ++ e ∷ []) parts
+pub part-added : (es : List Element) (text : List ℕ) (parts : List (List ℕ)) (e : Element) → 0 < length parts → element (skip_blanks text) ≡ Ok e → length es < MAX_ELEMENTS → elements_after es (text ∷ parts) ≡ elements_after (es ++ e ∷ []) parts
 part-added es text [] e some is few = absurd (omega arith)
 part-added es text (next ∷ more) e some is few = rw is (cond-true _ _ _ (lt-ltb (length es) MAX_ELEMENTS few))
 

@@ -20,7 +20,7 @@ use Rattle.uca_model.proofs.CanonicalEntries.{statement-entry}
 use Rattle.uca_model.proofs.CanonicalRanges.{statement-range}
 use Rattle.uca_model.proofs.RangeLemmas.{behind_front, good_range, put_range-last}
 use Rattle.uca_model.proofs.SortedLemmas.{IsAbove, above_front, find-above, put-above}
-use Rattle.uca_model.proofs.TableTextLemmas.{step_done, line_added, read_text-within}
+use Rattle.uca_model.proofs.StepLemmas.{step_done, line_read, read_text-within}
 
 -- what some lines have said, with no version among them
 abbrev so_far : FinMap key_cmp (List Element) → List Range → TextState
@@ -44,7 +44,7 @@ module _ (t : ElementTable) (table : IsTable t) where
       let above : IsAbove e.0 (entries m) = above_front (entries m) e es (subst (λ (l : List (List ℕ × List Element)). T (is_sorted key_cmp l)) (sym is) (entries_sorted t.entries)) in
       let more : entries (insert m e.0 e.1) ≡ entries m ++ e ∷ [] = entries-insert nat_list_cmp_total m e.0 e.1 ∙ put-above e.0 e.1 (entries m) above in
       let rest : entries (insert m e.0 e.1) ++ es ≡ entries t.entries = ap (λ (l : List (List ℕ × List Element)). l ++ es) more ∙ append_assoc (entries m) (e ∷ []) es ∙ is in
-      line_added ends n (so_far m t.ranges) (so_far (insert m e.0 e.1) t.ranges) (entry_said e) (map entry_said es ++ [] ∷ []) (omega (arith, length-append (map entry_said es) ([] ∷ []))) (length-entry e all.0) (entry_added m t.ranges e.0 e.1 all.0 above)
+      line_read ends n (so_far m t.ranges) (so_far (insert m e.0 e.1) t.ranges) (entry_said e) (map entry_said es ++ [] ∷ []) (omega (arith, length-append (map entry_said es) ([] ∷ []))) (length-entry e all.0) (entry_added m t.ranges e.0 e.1 all.0 above)
       ∙ entries_added (n + 1) (insert m e.0 e.1) es rest all.1
 
   ranges_added : (n : ℕ) (front rs : List Range) → front ++ rs ≡ t.ranges → AreByFirst t.ranges
@@ -55,7 +55,7 @@ module _ (t : ElementTable) (table : IsTable t) where
   ranges_added n front (r ∷ rs) is by_first =
       let parts : List (List ℕ) = map range_said rs ++ (map entry_said (entries t.entries) ++ [] ∷ []) in
       let some : 0 < length parts = omega (arith, length-append (map range_said rs) (map entry_said (entries t.entries) ++ [] ∷ []), length-append (map entry_said (entries t.entries)) ([] ∷ [])) in
-      line_added ends n (so_far empty front) (so_far empty (front ++ r ∷ [])) (range_said r) parts some (length-range r) (range_added empty front r rs (subst AreRanges (sym is) table.ranges) (subst AreByFirst (sym is) by_first))
+      line_read ends n (so_far empty front) (so_far empty (front ++ r ∷ [])) (range_said r) parts some (length-range r) (range_added empty front r rs (subst AreRanges (sym is) table.ranges) (subst AreByFirst (sym is) by_first))
       ∙ ranges_added (n + 1) (front ++ r ∷ []) rs (append_assoc front (r ∷ []) rs ∙ is) by_first
 
   lines_added : AreByFirst t.ranges → add_bytes ends 1 no_lines (canonical t) ≡ Ok (so_far t.entries t.ranges)

@@ -27,7 +27,7 @@ entry-pushed entries new e fresh is =
     ∙ from_entries_push nat_list_cmp_total (slice_cmp-IsAntisymmetric nat_cmp-IsAntisymmetric) (map pair_of entries) e.key.items e.elements.items none
 
 -- a line with its LF, before others
-lines-more : (end : TextEnd) (n : ℕ) (s : TextState) (line : List ℕ) (parts : List (List ℕ)) → 0 < length parts
+pub lines-more : (end : TextEnd) (n : ℕ) (s : TextState) (line : List ℕ) (parts : List (List ℕ)) → 0 < length parts
     → add_lines end n s (line ∷ parts) ≡ (at_line n (unless_long line (add_line s line)) >>= (λ after. add_lines end (n + 1) after parts))
 lines-more end n s line [] some = absurd (omega arith)
 lines-more end n s line (next ∷ more) some = refl

@@ -47,7 +47,7 @@ scanned_stop front count c s unfit safe =
     unfit (subst (λ k. k ≤ MAX_DECOMPOSITION) (length-nfd_one c) (short_last front c safe), omega (arith, safe.runs))
 
 -- below U+00C0 a character is its own decomposition
-latin_parts : (c : ℕ) → c < 0xC0 → decompose_canonical c ≡ c ∷ []
+pub latin_parts : (c : ℕ) → c < 0xC0 → decompose_canonical c ≡ c ∷ []
 latin_parts c h = decompose-final Nfd c (is_final-Nfd c (quick_check-below Nfd c h))
 
 -- and a starter

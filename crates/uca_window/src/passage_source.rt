@@ -60,3 +60,6 @@ impl<'t> Source for PassageSource<'t> {
         self.rest = self.text.chars();
     }
 }
+
+#[cfg(test)]
+mod tests;

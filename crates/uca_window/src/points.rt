@@ -1,5 +1,6 @@
 ghost use Rattle.std.specs.Prelude.{◌≡◌, ◌+◌, ◌<◌, ◌≤◌, ◌++◌, ◌∷◌, [], true, length, drop};
 ghost use Rattle.arrayvec.specs.ArrayVec.{array_vec_len};
+ghost use Rattle.unicode.specs.CanonicalCombiningClass.{canonical_combining_class};
 ghost use Rattle.unicode_normalization.specs.Decompose.{decompose_canonical};
 ghost use Rattle.unicode_normalization.specs.Order.{is_ordered, canonical_order};
 ghost use Rattle.uca_window.specs.Segment.{IsOpen, IsPlaceOf};
@@ -20,6 +21,10 @@ pub(crate) fn push_decomposed(points: &mut ArrayVec<char, ROOM>, closed: usize, 
     ensures points { points.new.items ≡ canonical_order (points.old.items ++ decompose_canonical c) }
     ensures segments { IsOpen result points.new.items }
 {
+    // Below U+00C0 each character is a starter, and its own decomposition.
+    if c < '\u{C0}' {
+        return push_starter(points, c);
+    }
     let mut room = [c; 3];
     let mut ends_at = closed;
     for point in decomposition(c, Form::Nfd, &mut room) {
@@ -28,8 +33,21 @@ pub(crate) fn push_decomposed(points: &mut ArrayVec<char, ROOM>, closed: usize, 
     ends_at
 }
 
-// Puts a point behind points in canonical order: a starter at the end, where it closes the segment before it, and a
-// mark in its place.
+// Puts a starter at the end of points in canonical order, where it closes the segment before it.
+fn push_starter(points: &mut ArrayVec<char, ROOM>, point: char) -> usize
+    requires room { array_vec_len points.old < ROOM }
+    requires ordered { is_ordered points.old.items ≡ true }
+    requires starter { canonical_combining_class point ≡ 0 }
+    ensures points { points.new.items ≡ canonical_order (points.old.items ++ point ∷ []) }
+    ensures segments { IsOpen result points.new.items }
+    ensures len { array_vec_len points.new ≡ array_vec_len points.old + 1 }
+{
+    let closed = points.len();
+    points.push(point);
+    closed
+}
+
+// Puts a point behind points in canonical order: a starter at the end, and a mark in its place.
 fn push_point(points: &mut ArrayVec<char, ROOM>, closed: usize, point: char) -> usize
     requires room { array_vec_len points.old < ROOM }
     requires ordered { is_ordered points.old.items ≡ true }
@@ -40,9 +58,7 @@ fn push_point(points: &mut ArrayVec<char, ROOM>, closed: usize, point: char) -> 
 {
     let class = canonical_combining_class(point);
     if class == 0 {
-        let closed = points.len();
-        points.push(point);
-        return closed;
+        return push_starter(points, point);
     }
     let at = place_of(points.as_slice(), class);
     points.insert(at, point);

@@ -31,6 +31,7 @@ impl Model for Window {
 }
 
 impl Window {
+    ghost use Rattle.uca_model.specs.SafeText.{IsSafe};
     ghost use Rattle.uca_model.specs.Window.{empty_window, rest_of, Fits, credit, ShowsFront, ReadsOn, ChangesRest, IsWindow};
 
     /// A window that has read nothing, for keys of up to `longest` code points. It fits each source whose unread
@@ -38,7 +39,8 @@ impl Window {
     pub fn new(longest: usize) -> Window
         requires first { 1 ≤ longest }
         requires last { longest ≤ MAX_KEY }
-        ensures { result ≡ empty_window longest }
+        ensures value { result ≡ empty_window longest }
+        ensures fits { (left : List ℕ) → IsSafe left → Fits result left }
     {
         Window {
             points: ArrayVec::new(),
@@ -128,3 +130,6 @@ impl Window {
         }
     }
 }
+
+#[cfg(test)]
+mod tests;

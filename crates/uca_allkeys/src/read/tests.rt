@@ -1,6 +1,7 @@
 use crate::{ReadCause, ReadFault, read_table};
 use std::alloc::{AllocError, Global};
 use std::process::Abort;
+use uca_model::table_text::{Cause, PlainTable, TextEnd, TextFault, table_of_text};
 use uca_table::Table;
 use uca_weights::{MAX_INPUT, Range, Reader, Reading, Refused};
 
@@ -83,28 +84,51 @@ impl Reader for Comments {
     }
 }
 
-fn read(alloc: Global, text: &[u8]) -> Result<Table, ReadFault> {
-    read_table(alloc, &mut Reading::new(text))
-}
-
-fn read_slowly(alloc: Global, text: &[u8], step: usize, fails: bool) -> Result<Table, ReadFault> {
-    let mut reader = Slow {
-        rest: text,
+fn slow_reader(rest: &[u8], step: usize, fails: bool) -> Slow<'_> {
+    Slow {
+        rest,
         step,
         fails,
         failed: 0,
-    };
-    read_table(alloc, &mut reader)
+    }
 }
 
-/// Reads lines of so many `#`, up to so many bytes in all.
-fn read_comments(alloc: Global, width: usize, bytes: usize) -> Result<Table, ReadFault> {
-    let mut reader = Comments {
+/// Lines of so many `#`, up to so many bytes in all.
+fn comment_reader(width: usize, left: usize) -> Comments {
+    Comments {
         width,
         column: 0,
-        left: bytes,
-    };
-    read_table(alloc, &mut reader)
+        left,
+    }
+}
+
+/// Whether memory was refused: then the call is made again, for a run refuses one growth at most.
+fn was_refused(answer: &Result<Table, ReadFault>) -> bool {
+    matches!(answer, Err(fault) if fault.cause == ReadCause::OutOfMemory)
+}
+
+fn read(alloc: Global, text: &[u8]) -> Result<Table, ReadFault> {
+    let answer = read_table(alloc, &mut Reading::new(text));
+    if was_refused(&answer) {
+        return read_table(alloc, &mut Reading::new(text));
+    }
+    answer
+}
+
+fn read_slowly(alloc: Global, text: &[u8], step: usize, fails: bool) -> Result<Table, ReadFault> {
+    let answer = read_table(alloc, &mut slow_reader(text, step, fails));
+    if was_refused(&answer) {
+        return read_table(alloc, &mut slow_reader(text, step, fails));
+    }
+    answer
+}
+
+fn read_comments(alloc: Global, width: usize, bytes: usize) -> Result<Table, ReadFault> {
+    let answer = read_table(alloc, &mut comment_reader(width, bytes));
+    if was_refused(&answer) {
+        return read_table(alloc, &mut comment_reader(width, bytes));
+    }
+    answer
 }
 
 /// The line and the cause, where a text is refused.
@@ -115,30 +139,26 @@ fn fault(answer: Result<Table, ReadFault>) -> Option<(u64, ReadCause)> {
     }
 }
 
-/// Looks at the table of the small text; an answer that wants memory is passed over.
+/// Looks at the table of the small text.
 fn assert_small(rt: &impl Abort, answer: Result<Table, ReadFault>) {
-    match answer {
-        Ok(table) => {
-            assert_eq!(rt; table.longest(), 3);
-            assert_eq!(rt; table.entries().count(), 18);
-            let ranges = table.ranges();
-            assert_eq!(rt; ranges.len(), 2);
-            let first = Range {
-                first: '\u{17000}',
-                last: '\u{18AFF}',
-                base: 0xFB00,
-            };
-            assert_eq!(rt; ranges[0], first);
-            let hyphen = table.get(&['-']).expect(rt, "a hyphen");
-            assert!(rt; hyphen[0].starred);
-            assert_eq!(rt; hyphen[0].l1, 0x202);
-            let long = table
-                .get(&['b', '\u{301}', '\u{308}'])
-                .expect(rt, "a key of three");
-            assert_eq!(rt; long[0].l1, 0x100A);
-        }
-        Err(fault) => assert_eq!(rt; fault.cause, ReadCause::OutOfMemory),
-    }
+    let table = answer.expect(rt, "a table");
+    assert_eq!(rt; table.longest(), 3);
+    assert_eq!(rt; table.entries().count(), 18);
+    let ranges = table.ranges();
+    assert_eq!(rt; ranges.len(), 2);
+    let first = Range {
+        first: '\u{17000}',
+        last: '\u{18AFF}',
+        base: 0xFB00,
+    };
+    assert_eq!(rt; ranges[0], first);
+    let hyphen = table.get(&['-']).expect(rt, "a hyphen");
+    assert!(rt; hyphen[0].starred);
+    assert_eq!(rt; hyphen[0].l1, 0x202);
+    let long = table
+        .get(&['b', '\u{301}', '\u{308}'])
+        .expect(rt, "a key of three");
+    assert_eq!(rt; long[0].l1, 0x100A);
 }
 
 /// The text with CR before each LF.
@@ -164,19 +184,10 @@ fn repeated(alloc: Global, pieces: &[(&str, usize)]) -> Result<Vec<u8>, AllocErr
     Ok(text)
 }
 
-const WANTS_MEMORY: Option<(u64, ReadCause)> = Some((0, ReadCause::OutOfMemory));
-
-/// Looks at an answer; one that wants memory is passed over.
-fn assert_told(rt: &impl Abort, told: Option<(u64, ReadCause)>, answer: Option<(u64, ReadCause)>) {
-    if told != WANTS_MEMORY {
-        assert_eq!(rt; told, answer);
-    }
-}
-
 /// Looks at the answer for a text, given at once and byte by byte.
 fn assert_answer(rt: &impl Abort, alloc: Global, text: &[u8], answer: Option<(u64, ReadCause)>) {
-    assert_told(rt, fault(read(alloc, text)), answer);
-    assert_told(rt, fault(read_slowly(alloc, text, 1, false)), answer);
+    assert_eq!(rt; fault(read(alloc, text)), answer);
+    assert_eq!(rt; fault(read_slowly(alloc, text, 1, false)), answer);
 }
 
 #[test]
@@ -195,18 +206,77 @@ fn a_cut_text_says_the_same_at_once_and_in_pieces(rt: HostRuntime) {
     let text = SMALL_TEXT.as_bytes();
     for end in 0..text.len() {
         let at_once = fault(read(rt.alloc(), &text[..end]));
-        if at_once != WANTS_MEMORY {
-            assert_answer(&rt, rt.alloc(), &text[..end], at_once);
+        let slowly = fault(read_slowly(rt.alloc(), &text[..end], 1, false));
+        assert_eq!(rt; at_once, slowly);
+    }
+}
+
+/// The cause by the words of the plain program, which knows no want of memory.
+fn plain_cause(cause: ReadCause) -> Option<Cause> {
+    match cause {
+        ReadCause::LineTooLong => Some(Cause::LineTooLong),
+        ReadCause::BadDirective => Some(Cause::BadDirective),
+        ReadCause::BadCodePoint => Some(Cause::BadCodePoint),
+        ReadCause::KeyTooLong => Some(Cause::KeyTooLong),
+        ReadCause::NoSemicolon => Some(Cause::NoSemicolon),
+        ReadCause::BadElement => Some(Cause::BadElement),
+        ReadCause::NoElement => Some(Cause::NoElement),
+        ReadCause::TooManyElements => Some(Cause::TooManyElements),
+        ReadCause::Repeated => Some(Cause::Repeated),
+        ReadCause::BadRange => Some(Cause::BadRange),
+        ReadCause::TooLarge => Some(Cause::TooLarge),
+        ReadCause::Read => Some(Cause::Read),
+        ReadCause::OutOfMemory => None,
+    }
+}
+
+/// Looks whether a table has just the entries and the ranges of the plain one.
+fn assert_plain_table(rt: &impl Abort, table: &Table, plain: &PlainTable) {
+    assert_eq!(rt; table.entries().count(), plain.entries.len());
+    for entry in &plain.entries {
+        let elements = table
+            .get(&entry.key)
+            .expect(rt, "an entry of the plain table");
+        assert_eq!(rt; elements, entry.elements.as_slice());
+    }
+    assert_eq!(rt; table.ranges(), plain.ranges.as_slice());
+}
+
+/// Looks whether the answer is the one of the plain program.
+fn assert_plain(
+    rt: &impl Abort,
+    answer: Result<Table, ReadFault>,
+    plain: &Result<PlainTable, TextFault>,
+) {
+    match (answer, plain) {
+        (Ok(table), Ok(plain)) => assert_plain_table(rt, &table, plain),
+        (Err(fault), Err(plain)) => {
+            assert_eq!(rt; fault.line, plain.line);
+            assert_eq!(rt; plain_cause(fault.cause), Some(plain.cause));
+        }
+        _ => assert!(rt; false, "one of the programs refuses the text"),
+    }
+}
+
+#[test]
+fn a_cut_text_says_what_the_plain_program_says(rt: HostRuntime) {
+    let text = SMALL_TEXT.as_bytes();
+    for end in 0..=text.len() {
+        let cut = &text[..end];
+        if let Ok(plain) = table_of_text(rt.alloc(), TextEnd::Ends, cut) {
+            assert_plain(&rt, read(rt.alloc(), cut), &plain);
+        }
+        if let Ok(plain) = table_of_text(rt.alloc(), TextEnd::Stops(Cause::Read), cut) {
+            assert_plain(&rt, read_slowly(rt.alloc(), cut, 50, true), &plain);
         }
     }
 }
 
 #[test]
 fn no_bytes_give_an_empty_table(rt: HostRuntime) {
-    if let Ok(table) = read(rt.alloc(), b"") {
-        assert_eq!(rt; table.longest(), 1);
-        assert_eq!(rt; table.entries().count(), 0);
-    }
+    let table = read(rt.alloc(), b"").expect(&rt, "a table");
+    assert_eq!(rt; table.longest(), 1);
+    assert_eq!(rt; table.entries().count(), 0);
 }
 
 #[test]
@@ -399,28 +469,28 @@ fn a_failure_of_the_reader_is_told_at_its_line(rt: HostRuntime) {
         ),
     ] {
         let told = fault(read_slowly(rt.alloc(), text.as_bytes(), 7, true));
-        assert_told(&rt, told, Some(answer));
+        assert_eq!(rt; told, Some(answer));
     }
 }
 
 #[test]
 fn a_line_without_end_is_refused(rt: HostRuntime) {
     let told = fault(read_comments(rt.alloc(), usize::MAX, usize::MAX));
-    assert_told(&rt, told, Some((1, ReadCause::LineTooLong)));
+    assert_eq!(rt; told, Some((1, ReadCause::LineTooLong)));
 }
 
 #[test]
 fn lines_without_end_are_refused(rt: HostRuntime) {
     for (width, line) in [(63, 1_048_577), (4_095, 16_385)] {
         let told = fault(read_comments(rt.alloc(), width, usize::MAX));
-        assert_told(&rt, told, Some((line, ReadCause::TooLarge)));
+        assert_eq!(rt; told, Some((line, ReadCause::TooLarge)));
     }
 }
 
 #[test]
 fn the_limit_of_the_input_holds_to_the_byte(rt: HostRuntime) {
     let told = fault(read_comments(rt.alloc(), 4_095, MAX_INPUT));
-    assert_told(&rt, told, None);
+    assert_eq!(rt; told, None);
     let told = fault(read_comments(rt.alloc(), 4_095, MAX_INPUT + 1));
-    assert_told(&rt, told, Some((16_385, ReadCause::TooLarge)));
+    assert_eq!(rt; told, Some((16_385, ReadCause::TooLarge)));
 }

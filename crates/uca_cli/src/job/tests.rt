@@ -2,16 +2,28 @@ use super::{Job, JobFault, Task, job_of};
 use std::alloc::Global;
 use uca_weights::{Strength, Variable};
 
-// The job of a command with this table, and with the defaults beside it.
-fn job_with(command: Task, table: Option<String>) -> Job {
+/// The commands by their names.
+const COMMANDS: [(&str, Task); 3] = [
+    ("elements", Task::Elements),
+    ("key", Task::Key),
+    ("table", Task::Table),
+];
+
+// The job of a command with these settings, and with the built-in table.
+fn job_at(command: Task, strength: Strength, weighting: Variable) -> Job {
     Job {
         command,
-        strength: Strength::Tertiary,
-        weighting: Variable::NonIgnorable,
+        strength,
+        weighting,
         raw: false,
-        table,
+        table: None,
         rules: None,
     }
+}
+
+// The job of a command without options.
+fn plain_job(command: Task) -> Job {
+    job_at(command, Strength::Tertiary, Variable::NonIgnorable)
 }
 
 // Asks once more where memory was refused.
@@ -22,12 +34,14 @@ fn job_again(alloc: Global, words: &[&str]) -> Result<Job, JobFault> {
     }
 }
 
-// The words ask for the text of the table in the file of this name.
-fn is_table_of(alloc: Global, words: &[&str], path: &str) -> bool {
-    match String::from_str(alloc, path) {
-        Ok(path) => job_again(alloc, words) == Ok(job_with(Task::Table, Some(path))),
-        Err(_) => true,
-    }
+// The words ask for the command with the table in the file of this name, and with no other option.
+fn is_job_with(alloc: Global, words: &[&str], command: Task, path: &str) -> bool {
+    let Ok(path) = String::from_str(alloc, path) else {
+        return true;
+    };
+    let mut job = plain_job(command);
+    job.table = Some(path);
+    job_again(alloc, words) == Ok(job)
 }
 
 // The words are refused with a text for the user, and not for want of memory.
@@ -39,41 +53,142 @@ fn is_refused(alloc: Global, words: &[&str]) -> bool {
 }
 
 #[test]
-fn key_is_a_job(rt: HostRuntime) {
-    assert!(rt; job_again(rt.alloc(), &["key"]) == Ok(job_with(Task::Key, None)));
+fn a_command_alone_has_the_defaults(rt: HostRuntime) {
+    for (name, command) in COMMANDS {
+        assert!(rt;
+            job_again(rt.alloc(), &[name]) == Ok(plain_job(command)),
+            "{name}"
+        );
+    }
 }
 
 #[test]
-fn table_without_a_file_is_the_built_in_one(rt: HostRuntime) {
-    assert!(rt; job_again(rt.alloc(), &["table"]) == Ok(job_with(Task::Table, None)));
+fn each_command_takes_each_strength(rt: HostRuntime) {
+    let strengths: [(&str, &str, Strength); 5] = [
+        ("primary", "--strength=primary", Strength::Primary),
+        ("secondary", "--strength=secondary", Strength::Secondary),
+        ("tertiary", "--strength=tertiary", Strength::Tertiary),
+        ("quaternary", "--strength=quaternary", Strength::Quaternary),
+        ("identical", "--strength=identical", Strength::Identical),
+    ];
+    for (name, command) in COMMANDS {
+        for (value, joined, strength) in strengths {
+            let apart = job_again(rt.alloc(), &[name, "--strength", value]);
+            assert!(rt;
+                apart == Ok(job_at(command, strength, Variable::NonIgnorable)),
+                "{name} {value}"
+            );
+            let whole = job_again(rt.alloc(), &[name, joined]);
+            assert!(rt;
+                whole == Ok(job_at(command, strength, Variable::NonIgnorable)),
+                "{name} {joined}"
+            );
+        }
+    }
 }
 
 #[test]
-fn table_has_the_path_of_its_option(rt: HostRuntime) {
+fn each_command_takes_each_weighting(rt: HostRuntime) {
+    let weightings: [(&str, &str, Variable); 3] = [
+        (
+            "non-ignorable",
+            "--variable=non-ignorable",
+            Variable::NonIgnorable,
+        ),
+        ("blanked", "--variable=blanked", Variable::Blanked),
+        ("shifted", "--variable=shifted", Variable::Shifted),
+    ];
+    for (name, command) in COMMANDS {
+        for (value, joined, weighting) in weightings {
+            let apart = job_again(rt.alloc(), &[name, "--variable", value]);
+            assert!(rt;
+                apart == Ok(job_at(command, Strength::Tertiary, weighting)),
+                "{name} {value}"
+            );
+            let whole = job_again(rt.alloc(), &[name, joined]);
+            assert!(rt;
+                whole == Ok(job_at(command, Strength::Tertiary, weighting)),
+                "{name} {joined}"
+            );
+        }
+    }
+}
+
+#[test]
+fn each_command_has_the_path_of_its_table(rt: HostRuntime) {
     let alloc = rt.alloc();
-    assert!(rt; is_table_of(alloc, &["table", "--table", "a b.txt"], "a b.txt"));
-    assert!(rt; is_table_of(alloc, &["table", "--table=F"], "F"));
-    assert!(rt; is_table_of(alloc, &["table", "--table", "table"], "table"));
+    for (name, command) in COMMANDS {
+        assert!(rt;
+            is_job_with(alloc, &[name, "--table", "a b.txt"], command, "a b.txt"),
+            "{name}"
+        );
+        assert!(rt;
+            is_job_with(alloc, &[name, "--table=F"], command, "F"),
+            "{name}"
+        );
+        assert!(rt;
+            is_job_with(alloc, &[name, "--table", "table"], command, "table"),
+            "{name}"
+        );
+        assert!(rt;
+            is_job_with(alloc, &[name, "--table="], command, ""),
+            "{name}"
+        );
+    }
+}
+
+#[test]
+fn options_come_in_any_order(rt: HostRuntime) {
+    let alloc = rt.alloc();
+    let lists: [&[&str]; 3] = [
+        &["key", "--variable", "shifted", "--strength", "quaternary"],
+        &["key", "--strength", "quaternary", "--variable", "shifted"],
+        &["key", "--strength=quaternary", "--variable=shifted", "--"],
+    ];
+    for words in lists {
+        let job = job_at(Task::Key, Strength::Quaternary, Variable::Shifted);
+        assert!(rt; job_again(alloc, words) == Ok(job), "{words:?}");
+    }
+}
+
+#[test]
+fn a_job_has_all_options_at_once(rt: HostRuntime) {
+    let alloc = rt.alloc();
+    let Ok(path) = String::from_str(alloc, "F") else {
+        return;
+    };
+    let mut job = job_at(Task::Elements, Strength::Primary, Variable::Blanked);
+    job.table = Some(path);
+    let words = [
+        "elements",
+        "--variable=blanked",
+        "--table=F",
+        "--strength=primary",
+    ];
+    assert!(rt; job_again(alloc, &words) == Ok(job));
 }
 
 #[test]
 fn clap_takes_a_lone_double_dash(rt: HostRuntime) {
-    assert!(rt; job_again(rt.alloc(), &["key", "--"]) == Ok(job_with(Task::Key, None)));
+    assert!(rt; job_again(rt.alloc(), &["key", "--"]) == Ok(plain_job(Task::Key)));
 }
 
 #[test]
-fn other_words_are_refused(rt: HostRuntime) {
+fn words_without_a_command_are_refused(rt: HostRuntime) {
     let alloc = rt.alloc();
-    let lists: [&[&str]; 9] = [
+    let lists: [&[&str]; 12] = [
         &[],
+        &[""],
         &["order", "--strength", "third"],
-        &["key", "--strength", "primary"],
-        &["key", "extra"],
+        &["order", "--strength", "primary"],
         &["uca", "key"],
+        &["Key"],
+        &["ke"],
         &["--version"],
-        &["--help"],
-        &["key", "-h"],
-        &["help", "key"],
+        &["--strength", "primary", "key"],
+        &["--variable=shifted", "key"],
+        &["--table", "F", "table"],
+        &["--", "key"],
     ];
     for words in lists {
         assert!(rt; is_refused(alloc, words), "{words:?}");
@@ -81,22 +196,70 @@ fn other_words_are_refused(rt: HostRuntime) {
 }
 
 #[test]
-fn other_words_of_the_table_are_refused(rt: HostRuntime) {
+fn requests_for_help_are_refused(rt: HostRuntime) {
     let alloc = rt.alloc();
-    let lists: [&[&str]; 10] = [
-        &["key", "--table", "F"],
-        &["--table", "F", "table"],
-        &["table", "--table"],
-        &["table", "--table", "F", "--table", "F"],
-        &["table", "--table", "F", "G"],
-        &["table", "x"],
-        &["table", "-t", "F"],
-        &["table", "--tab", "F"],
-        &["table", "--rules", "F"],
-        &["table", "key"],
+    let lists: [&[&str]; 7] = [
+        &["--help"],
+        &["-h"],
+        &["help"],
+        &["help", "key"],
+        &["key", "-h"],
+        &["elements", "--help"],
+        &["table", "--strength", "primary", "--help"],
     ];
     for words in lists {
         assert!(rt; is_refused(alloc, words), "{words:?}");
+    }
+}
+
+#[test]
+fn other_values_are_refused(rt: HostRuntime) {
+    let alloc = rt.alloc();
+    for (name, _) in COMMANDS {
+        let lists: [&[&str]; 11] = [
+            &[name, "--strength", "third"],
+            &[name, "--strength", "Primary"],
+            &[name, "--strength", ""],
+            &[name, "--strength", "prim"],
+            &[name, "--strength", "shifted"],
+            &[name, "--strength=primary,secondary"],
+            &[name, "--variable", "ignorable"],
+            &[name, "--variable", "Shifted"],
+            &[name, "--variable", ""],
+            &[name, "--variable", "NonIgnorable"],
+            &[name, "--variable=primary"],
+        ];
+        for words in lists {
+            assert!(rt; is_refused(alloc, words), "{words:?}");
+        }
+    }
+}
+
+#[test]
+fn other_words_after_a_command_are_refused(rt: HostRuntime) {
+    let alloc = rt.alloc();
+    for (name, _) in COMMANDS {
+        let lists: [&[&str]; 16] = [
+            &[name, "extra"],
+            &[name, "key"],
+            &[name, "--", "extra"],
+            &[name, "--strength"],
+            &[name, "--variable"],
+            &[name, "--table"],
+            &[name, "--strength", "--variable", "shifted"],
+            &[name, "--strength", "primary", "--strength", "primary"],
+            &[name, "--variable=blanked", "--variable=shifted"],
+            &[name, "--table", "F", "--table", "F"],
+            &[name, "--table", "F", "G"],
+            &[name, "--stren", "primary"],
+            &[name, "--tab", "F"],
+            &[name, "-s", "primary"],
+            &[name, "--rules", "F"],
+            &[name, "--raw"],
+        ];
+        for words in lists {
+            assert!(rt; is_refused(alloc, words), "{words:?}");
+        }
     }
 }
 
@@ -113,23 +276,56 @@ fn a_refused_growth_changes_no_answer(rt: HostRuntime) {
     let alloc = rt.alloc();
     assert!(rt; is_one_answer(alloc, &["key"]));
     assert!(rt; is_one_answer(alloc, &["table", "--table", "F"]));
+    assert!(rt;
+        is_one_answer(
+            alloc,
+            &["elements", "--strength=primary", "--variable", "shifted"]
+        )
+    );
+    assert!(rt; is_one_answer(alloc, &["key", "--strength", "third"]));
     assert!(rt; is_one_answer(alloc, &["key", "extra"]));
     assert!(rt; is_one_answer(alloc, &["--help"]));
+}
+
+// The refusal of the words shows this text, but for want of memory.
+fn shows(alloc: Global, words: &[&str], text: &str) -> bool {
+    match job_again(alloc, words) {
+        Ok(_) => false,
+        Err(fault) => match fault.to_string(alloc) {
+            Ok(shown) => shown.as_str() == text,
+            Err(_) => true,
+        },
+    }
 }
 
 #[test]
 fn a_refusal_shows_the_text_of_clap(rt: HostRuntime) {
     let alloc = rt.alloc();
-    let shown = match job_again(alloc, &["key", "extra"]) {
-        Ok(_) => Ok(String::new(alloc)),
-        Err(fault) => fault.to_string(alloc),
-    };
-    let Ok(shown) = shown else {
-        return;
-    };
-    assert_eq!(rt;
-        shown.as_str(),
-        "error: unexpected argument 'extra' found\n\nUsage: uca key\n\nFor more information, try '--help'."
+    assert!(rt;
+        shows(
+            alloc,
+            &["key", "extra"],
+            "error: unexpected argument 'extra' found\n\nUsage: uca key [OPTIONS]\n\nFor more information, try '--help'."
+        )
+    );
+}
+
+#[test]
+fn a_refused_value_shows_the_names_that_serve(rt: HostRuntime) {
+    let alloc = rt.alloc();
+    assert!(rt;
+        shows(
+            alloc,
+            &["key", "--strength", "0"],
+            "error: invalid value '0' for '--strength <S>'\n  [possible values: primary, secondary, tertiary, quaternary, identical]\n\nFor more information, try '--help'."
+        )
+    );
+    assert!(rt;
+        shows(
+            alloc,
+            &["table", "--variable=0"],
+            "error: invalid value '0' for '--variable <V>'\n  [possible values: non-ignorable, blanked, shifted]\n\nFor more information, try '--help'."
+        )
     );
 }
 

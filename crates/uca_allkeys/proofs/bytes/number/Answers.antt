@@ -1,5 +1,5 @@
 use Rattle.std.proofs.Common.{arith}
-use Rattle.uca_allkeys.proofs.NumberLemmas.{five_digits}
+use Rattle.uca_model.proofs.NumberLemmas.{five_digits}
 use Rattle.uca_allkeys.proofs.bytes.number.Goals as goal
 
 pub overflow_mul-said : goal.overflow_mul-said

@@ -1,6 +1,8 @@
-use Rattle.std.proofs.Common.{◌++◌, length, take_all, ap, ◌∙◌, arith}
+use Rattle.std.proofs.Common.{◌++◌, length, take_all, ap, sym, ◌∙◌, arith}
 use Rattle.unicode_normalization.specs.Order.{is_ordered, canonical_order}
 use Rattle.unicode_normalization.proofs.OrderLemmas.{is_ordered-canonical_order}
+use Rattle.unicode_normalization.proofs.FormsLemmas.{class-latin}
+use Rattle.uca_window.proofs.ScanLemmas.{latin_parts}
 use Rattle.uca_window.proofs.PlaceLemmas.{order-more, order-none, length-ordered}
 use Rattle.uca_window.proofs.points.push_decomposed.Goals as goal
 
@@ -35,3 +37,13 @@ pub returns-clause-points : goal.returns-clause-points
 returns-clause-points c =
     c.loop-point.invariant.points
     ∙ ap (λ l. canonical_order (c.args.points.now.items ++ l)) (take_all c.loop-point.point-index c.decomposition-point-items.result.now (omega arith) ∙ c.decomposition-point-items.ensures.value)
+
+pub push_starter-requires-clause-room : goal.push_starter-requires-clause-room
+push_starter-requires-clause-room c = omega (arith, ap length (latin_parts c.args.c c.if-c-lt192.true), c.requires.room)
+
+pub push_starter-requires-clause-starter : goal.push_starter-requires-clause-starter
+push_starter-requires-clause-starter c = class-latin c.args.c (omega (arith, c.if-c-lt192.true))
+
+pub returns-then-c-lt192-clause-points : goal.returns-then-c-lt192-clause-points
+returns-then-c-lt192-clause-points c =
+    c.push_starter.ensures.points ∙ ap (λ l. canonical_order (c.args.points.now.items ++ l)) (sym (latin_parts c.args.c c.if-c-lt192.true))

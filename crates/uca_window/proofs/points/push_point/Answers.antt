@@ -1,15 +1,10 @@
-use Rattle.std.proofs.Common.{◌≡◌, ◌++◌, ◌∷◌, [], sym, subst, ◌∙◌, arith}
+use Rattle.std.proofs.Common.{◌≡◌, ◌++◌, ◌∷◌, [], subst, ◌∙◌, arith}
 use Rattle.unicode.specs.CanonicalCombiningClass.{canonical_combining_class}
 use Rattle.unicode_normalization.specs.Order.{canonical_order}
 use Rattle.uca_window.specs.Segment.{IsPlaceOf}
-use Rattle.uca_window.proofs.FormLemmas.{order-push}
 use Rattle.uca_window.proofs.PlaceLemmas.{order-placed}
 use Rattle.uca_window.proofs.SegmentLemmas.{IsOpen-mark}
 use Rattle.uca_window.proofs.points.push_point.Goals as goal
-
-pub returns-then-class-eq0-clause-points : goal.returns-then-class-eq0-clause-points
-returns-then-class-eq0-clause-points c =
-    c.push.ensures.items ∙ sym (order-push c.args.points.now.items c.args.point (omega arith) c.requires.ordered)
 
 -- what the mark's place gives
 inserted : (c : goal.After-insert) → c.insert.new.self.items ≡ canonical_order (c.args.points.now.items ++ c.args.point ∷ [])

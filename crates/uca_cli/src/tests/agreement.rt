@@ -1,0 +1,165 @@
+//! The commands beside the plain programs, over the built-in table.
+ghost use Rattle.uca_model.specs.Table.{AreRanges};
+
+use super::run_as;
+use crate::{Task, built_in};
+use simdutf8::compat::from_utf8;
+use std::alloc::{AllocError, Global};
+use std::process::Abort;
+use uca_model::{Entry, lines, output};
+use uca_table::Table;
+use uca_weights::{Element, Range, Settings, Strength, Variable};
+
+/// The entries of the built-in table: a key, the mark `*` or none, and the weights.
+#[rattlefmt::skip]
+const BUILT_IN: [(&[char], bool, [u16; 3]); 18] = [
+    (&['\u{1}'], false, [0, 0, 0]),
+    (&[' '], true, [0x201, 0x20, 2]),
+    (&['-'], true, [0x202, 0x20, 2]),
+    (&['\u{300}'], false, [0, 0x21, 2]),
+    (&['\u{301}'], false, [0, 0x22, 2]),
+    (&['\u{308}'], false, [0, 0x23, 2]),
+    (&['\u{323}'], false, [0, 0x24, 2]),
+    (&['a'], false, [0x1000, 0x20, 2]),
+    (&['A'], false, [0x1000, 0x20, 8]),
+    (&['b'], false, [0x1001, 0x20, 2]),
+    (&['c'], false, [0x1002, 0x20, 2]),
+    (&['e'], false, [0x1004, 0x20, 2]),
+    (&['h'], false, [0x1005, 0x20, 2]),
+    (&['z'], false, [0x1006, 0x20, 2]),
+    (&['c', 'h'], false, [0x1007, 0x20, 2]),
+    (&['a', '\u{301}'], false, [0x1008, 0x20, 2]),
+    (&['b', '\u{301}'], false, [0x1009, 0x20, 2]),
+    (&['b', '\u{301}', '\u{308}'], false, [0x100A, 0x20, 2]),
+];
+
+fn element(starred: bool, [l1, l2, l3]: [u16; 3]) -> Element {
+    Element {
+        starred,
+        l1,
+        l2,
+        l3,
+    }
+}
+
+/// The built-in table, asked for once more where memory was refused.
+fn table(rt: &impl Abort, alloc: Global) -> Table {
+    match built_in(alloc) {
+        Ok(table) => table,
+        Err(_) => built_in(alloc).expect(rt, "a table"),
+    }
+}
+
+#[test]
+fn the_built_in_table_has_eighteen_keys_and_two_ranges(rt: HostRuntime) {
+    let t = table(&rt, rt.alloc());
+    assert_eq!(rt; t.longest(), 3);
+    assert_eq!(rt; t.entries().count(), 18);
+    assert_eq!(rt; t.ranges().len(), 2);
+    for (key, starred, weights) in BUILT_IN {
+        let want = [element(starred, weights)];
+        assert_eq!(rt; t.get(key), Some(want.as_slice()), "{key:?}");
+    }
+    assert!(rt; t.get(&['d']).is_none());
+    let tangut = [
+        element(false, [0xFB00, 0x20, 2]),
+        element(false, [0x9D00, 0, 0]),
+    ];
+    assert_eq!(rt; t.implicit('\u{18D00}'), tangut);
+}
+
+/// The built-in table as the plain programs keep it.
+fn plain_entries(alloc: Global) -> Result<Vec<Entry>, AllocError> {
+    let mut entries = Vec::new(alloc);
+    for (key, starred, weights) in BUILT_IN {
+        let key = key.to_vec(alloc)?;
+        let elements = [element(starred, weights)].to_vec(alloc)?;
+        entries.push(Entry { key, elements })?;
+    }
+    Ok(entries)
+}
+
+/// No range, for the plain programs. The texts of the test have no code point of the built-in ranges.
+fn no_ranges() -> &'static [Range]
+    ensures { AreRanges result.now }
+{
+    &[]
+}
+
+/// What the plain programs write for an input of texts.
+fn plain_output(
+    alloc: Global,
+    entries: &[Entry],
+    command: Task,
+    settings: Settings,
+    input: &str,
+) -> Result<Vec<u8>, AllocError> {
+    let mut out = Vec::new(alloc);
+    for line in lines::lines_of(alloc, input.as_bytes())? {
+        let Ok(text) = from_utf8(&line) else {
+            break;
+        };
+        let written = match command {
+            Task::Elements => output::elements_line(alloc, entries, no_ranges(), text)?,
+            _ => output::key_line(alloc, entries, no_ranges(), settings, text)?,
+        };
+        out.extend_from_slice(&written)?;
+    }
+    Ok(out)
+}
+
+const INPUTS: [&str; 12] = [
+    "",
+    "\r\n\n\r",
+    "a\r\nA\n\rb\r\r\nzh",
+    "a-b c\n\u{1}\u{301}-\u{300}\n-\u{1}\u{300}",
+    // Decompositions, of several steps too, and marks that change places.
+    "\u{E9}\u{212B}\n\u{1EA1}\u{301}\n\u{1E69}",
+    "e\u{301}\u{323}\ne\u{323}\u{301}\r\n\u{344}\u{F73}",
+    // Contractions, with marks between.
+    "ch\ncz\nchh\na\u{301}b\u{301}\u{308}\nb\u{323}\u{323}\u{301}\u{323}\u{308}z",
+    "\u{4E00}\u{9FFF}\n\u{3400}\u{20000}\u{323AF}\n\u{FA0E}\u{F900}\n",
+    "\u{AC00}\u{AC01}\u{D7A3}\n\u{1100}\u{1161}\u{11A8}",
+    "\u{0}\u{9}\u{B}\u{C}\u{85}\u{2028}\u{FEFF}\n\u{10FFFF}\u{E000}\u{378}",
+    "\u{1D15E}\u{1F600}\n\u{1F82}",
+    "\u{301}\u{323}\u{300}\n\u{308}\u{1}\u{345}\n \n",
+];
+
+/// Whether a command writes what the plain programs write for each input.
+fn agrees(alloc: Global, entries: &[Entry], command: Task, settings: Settings) -> bool {
+    INPUTS.iter().all(|input| {
+        match plain_output(alloc, entries, command, settings, input) {
+            Ok(want) => {
+                let done = run_as(alloc, command, settings, input.as_bytes());
+                done.answer == Ok(0) && done.output == want
+            }
+            Err(_) => true,
+        }
+    })
+}
+
+#[test]
+fn agrees_with_the_plain_programs(rt: HostRuntime) {
+    let alloc = rt.alloc();
+    let Ok(entries) = plain_entries(alloc) else {
+        return;
+    };
+    let strengths = [
+        Strength::Primary,
+        Strength::Secondary,
+        Strength::Tertiary,
+        Strength::Quaternary,
+        Strength::Identical,
+    ];
+    for strength in strengths {
+        for weighting in [Variable::NonIgnorable, Variable::Blanked, Variable::Shifted] {
+            let settings = Settings {
+                strength,
+                weighting,
+            };
+            let holds = agrees(alloc, &entries, Task::Key, settings);
+            assert!(rt; holds, "{settings:?}");
+        }
+    }
+    assert!(rt; agrees(alloc, &entries, Task::Elements, super::PLAIN));
+}

@@ -1,0 +1,216 @@
+ghost use Rattle.std.specs.Prelude.{◌≡◌, ◌≤◌, length, chars, IfOk, IfSome};
+ghost use Rattle.unicode_normalization.specs.Forms.{nfd};
+ghost use Rattle.uca_weights.specs.declared.limits.TheConstants.{MAX_KEY};
+ghost use Rattle.uca_model.specs.SafeText.{IsSafe};
+ghost use Rattle.uca_model.specs.Source.{unread};
+
+use crate::{Passage, PassageSource, Source, Window};
+use std::alloc::{AllocError, Global};
+use unicode_normalization::char::canonical_combining_class;
+use unicode_normalization::slice;
+
+/// Characters of a slice, with its calls counted.
+#[derive(Drop)]
+struct CharsSource<'t> {
+    text: &'t [char],
+    place: usize,
+    taken: u128,
+    backs: u128,
+    ghost within: { place ≤ length text.now },
+}
+
+impl<'t> Source for CharsSource<'t> {
+    ghost state = { λ s. record { text = s.text.now; place = s.place; taken = s.taken; backs = s.backs } };
+
+    fn next(&mut self) -> Option<char> {
+        self.taken = self.taken.saturating_add(1);
+        if self.place == self.text.len() {
+            return None;
+        }
+        let c = self.text[self.place];
+        self.place += 1;
+        Some(c)
+    }
+
+    fn restart(&mut self) {
+        self.backs = self.backs.saturating_add(1);
+        self.place = 0;
+    }
+}
+
+/// A source that was never called.
+fn source_of<'t>(text: &'t [char]) -> CharsSource<'t>
+    ensures text { result.text.now ≡ text.now }
+    ensures place { result.place ≡ 0 }
+{
+    CharsSource {
+        text,
+        place: 0,
+        taken: 0,
+        backs: 0,
+    }
+}
+
+/// A text of a start, a mark so often, and an end.
+fn text_of(
+    alloc: Global,
+    start: &str,
+    mark: char,
+    times: usize,
+    end: &str,
+) -> Result<String, AllocError> {
+    let mut text = String::new(alloc);
+    text.push_str(start)?;
+    for _ in 0..times {
+        text.push(mark)?;
+    }
+    text.push_str(end)?;
+    Ok(text)
+}
+
+/// The characters of a text, if it is safe and memory is found.
+fn safe_chars(alloc: Global, text: &str) -> Option<Vec<char>>
+    ensures { IfSome result (λ v. IsSafe v.items) }
+{
+    let p = Passage::check(text).ok()?;
+    chars_of(alloc, p.as_str()).ok()
+}
+
+fn chars_of(alloc: Global, text: &str) -> Result<Vec<char>, AllocError>
+    ensures { IfOk result (λ v. v.items ≡ chars text.now) }
+{
+    text.chars().collect(alloc)
+}
+
+#[test]
+fn a_fill_reads_no_more_than_it_must(rt: HostRuntime) {
+    // How many points there are then, how many of them are closed, and how often `next` was called.
+    let rows: [(&str, char, usize, &str, usize, [usize; 3]); 8] = [
+        ("", 'a', 0, "", 1, [0, 0, 1]),
+        ("abc", '\u{301}', 0, "", 3, [3, 3, 4]),
+        ("abc", '\u{301}', 0, "", 2, [3, 2, 3]),
+        ("b", '\u{323}', 14, "\u{301}\u{308}a", 3, [18, 17, 18]),
+        // A run as long as it may be, and a character of four code points.
+        ("a", '\u{301}', 30, "\u{1F82}", 1, [35, 31, 32]),
+        // Marks at the start of a text are a segment.
+        ("", '\u{344}', 1, "a", 1, [3, 2, 2]),
+        // U+0F73 is a starter, but decomposes to marks.
+        ("a", '\u{F73}', 1, "b", 1, [4, 3, 3]),
+        ("b\u{301}", '\u{323}', 1, "a", 3, [4, 3, 4]),
+    ];
+    for (start, mark, times, end, longest, [points, closed, taken]) in rows {
+        let Ok(text) = text_of(rt.alloc(), start, mark, times, end) else {
+            return;
+        };
+        let Some(chars) = safe_chars(rt.alloc(), &text) else {
+            return;
+        };
+        let mut source = source_of(&chars);
+        let mut window = Window::new(longest);
+        window.fill(&mut source);
+        assert_eq!(rt;
+            (window.points().len(), window.closed()),
+            (points, closed),
+            "{text:?}"
+        );
+        assert_eq!(rt;
+            (source.taken, source.backs),
+            (taken as u128, 0),
+            "{text:?}"
+        );
+    }
+}
+
+#[test]
+fn marks_are_put_in_order_and_taken_out(rt: HostRuntime) {
+    let Some(chars) = safe_chars(rt.alloc(), "b\u{301}\u{323}a") else {
+        return;
+    };
+    let mut source = source_of(&chars);
+    let mut window = Window::new(3);
+    window.fill(&mut source);
+    assert_eq!(rt;
+        window.points(),
+        ['b', '\u{323}', '\u{301}', 'a'].as_slice()
+    );
+    assert_eq!(rt; window.closed(), 3);
+    if window.closed() > 0 {
+        window.drop_front(1);
+    }
+    assert_eq!(rt; window.points(), ['\u{323}', '\u{301}', 'a'].as_slice());
+    assert_eq!(rt; window.closed(), 2);
+    if window.closed() > 1 && canonical_combining_class(window.points()[1]) > 0 {
+        window.remove(1);
+    }
+    assert_eq!(rt; window.points(), ['\u{323}', 'a'].as_slice());
+    assert_eq!(rt; window.closed(), 1);
+}
+
+#[test]
+fn a_window_that_was_told_the_end_asks_no_more(rt: HostRuntime) {
+    let Some(chars) = safe_chars(rt.alloc(), "ab") else {
+        return;
+    };
+    let mut source = source_of(&chars);
+    let mut window = Window::new(5);
+    window.fill(&mut source);
+    window.fill(&mut source);
+    assert_eq!(rt; (window.closed(), source.taken), (2, 3));
+    let n = window.closed();
+    window.drop_front(n);
+    window.fill(&mut source);
+    assert_eq!(rt;
+        (window.points().len(), window.closed(), source.taken),
+        (0, 0, 3)
+    );
+}
+
+/// The NFD of what a source has not given yet, window after window.
+fn nfd_by_window<S: Source>(
+    alloc: Global,
+    source: &mut S,
+    longest: usize,
+) -> Result<Vec<char>, AllocError>
+    requires first { 1 ≤ longest }
+    requires last { longest ≤ MAX_KEY }
+    requires safe { IsSafe (unread (S.state source.old)) }
+    ensures { IfOk result (λ v. v.items ≡ nfd (unread (S.state source.old))) }
+{
+    let mut all = Vec::new(alloc);
+    let mut window = Window::new(longest);
+    window.fill(source);
+    while window.closed() > 0 {
+        let n = window.closed();
+        all.extend_from_slice(&window.points()[..n])?;
+        window.drop_front(n);
+        window.fill(source);
+    }
+    Ok(all)
+}
+
+#[test]
+fn the_windows_of_a_text_are_its_nfd(rt: HostRuntime) {
+    let texts = [
+        "",
+        "plain text, \u{E9}t\u{E9}",
+        "\u{344}\u{301}",
+        "\u{1EA1}\u{301}",
+        "a\u{F73}\u{301}\u{316}b",
+        "\u{AC01}\u{1F82}\u{301}\u{345}\u{323}x",
+    ];
+    for text in texts {
+        let (Ok(chars), Ok(p)) = (chars_of(rt.alloc(), text), Passage::check(text)) else {
+            return;
+        };
+        let mut want = Vec::new(rt.alloc());
+        if slice::extend_nfd(&mut want, &chars).is_err() {
+            return;
+        }
+        for longest in [1, 3, 32] {
+            let Ok(all) = nfd_by_window(rt.alloc(), &mut PassageSource::new(&p), longest) else {
+                return;
+            };
+            assert_eq!(rt; all.as_slice(), want.as_slice(), "{text:?}, {longest}");
+        }
+    }
+}

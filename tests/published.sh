@@ -1,0 +1,90 @@
+#!/usr/bin/env bash
+# Keys under the table that Debian's perl ships, beside those of perl's Unicode::Collate under the same table, over generated
+# texts; and the laws that keys of all settings have.
+set -u
+cd "$(dirname "${BASH_SOURCE[0]}")/.." || exit 2
+work=$(mktemp -d) || exit 2
+trap 'rm -rf "$work"' EXIT
+passed=0
+failed=0
+
+# is NAME WANTED GOT
+is() {
+    if [ "$2" = "$3" ]; then
+        passed=$((passed + 1))
+    else
+        failed=$((failed + 1))
+        printf 'tests/published.sh: %s\n  wanted: %s\n  got:    %s\n' "$1" "$2" "$3"
+    fi
+}
+
+./uca table >/dev/null </dev/null || { echo "tests/published.sh: the program could not be built"; exit 1; }
+perl -MUnicode::Collate -e1 2>/dev/null || { echo "tests/published.sh: perl has no Unicode::Collate, so nothing was compared"; exit 0; }
+published=
+for folder in $(perl -e 'print join " ", @INC'); do
+    [ -f "$folder/Unicode/Collate/allkeys.txt" ] && published=$folder/Unicode/Collate/allkeys.txt && break
+done
+[ -n "$published" ] || { echo "tests/published.sh: no allkeys.txt in perl's folders, so nothing was compared"; exit 0; }
+
+count=30000
+perl tests/texts.pl "$count" >"$work/texts"
+is "texts were generated" "$count" "$(wc -l <"$work/texts")"
+
+# ours STRENGTH VARIABLE: the keys of the texts
+ours() { ./uca key --table "$published" --strength "$1" --variable "$2" <"$work/texts"; }
+
+# theirs LEVEL VARIABLE: the keys of the same texts by perl, which ends each with one more separator at levels 3 and 4
+theirs() {
+    perl -MUnicode::Collate -e '
+        binmode STDIN, ":utf8";
+        my $c = Unicode::Collate->new(table => "allkeys.txt", level => $ARGV[0], variable => $ARGV[1], normalization => "NFD");
+        while (<STDIN>) {
+            chomp;
+            print join(" ", map { sprintf "%02X", $_ } unpack "C*", substr($c->getSortKey($_), 0, -2)), "\n";
+        }' "$1" "$2" <"$work/texts"
+}
+
+ours tertiary non-ignorable >"$work/ours"
+theirs 3 Non-ignorable >"$work/theirs"
+is "tertiary keys, non-ignorable" "same" "$(cmp -s "$work/ours" "$work/theirs" && echo same)"
+ours tertiary blanked >"$work/ours"
+theirs 3 Blanked >"$work/theirs"
+is "tertiary keys, blanked" "same" "$(cmp -s "$work/ours" "$work/theirs" && echo same)"
+ours tertiary shifted >"$work/ours"
+theirs 3 Shifted >"$work/theirs"
+is "tertiary keys, shifted" "same" "$(cmp -s "$work/ours" "$work/theirs" && echo same)"
+
+# Shifted, at level 4: perl gives the second element of an implicit pair no weight there, UTS #10 gives it FFFF. So the
+# keys of texts with implicit weights (FB00 to FBFF) differ there, but the order is the same, pair by pair.
+ours quaternary shifted >"$work/ours"
+theirs 4 Shifted >"$work/theirs"
+paste -d'|' "$work/ours" "$work/theirs" | awk -F'|' '
+    function primary(key) { sub(/ ?00 00 .*/, "", key); return key }
+    function is_implicit(key,   n, w, i) { n = split(primary(key), w, " "); for (i = 1; i <= n; i += 2) if (w[i] == "FB") return 1; return 0 }
+    function order(a, b) { return a < b ? -1 : a > b ? 1 : 0 }
+    $1 != $2 && !is_implicit($1) { other++ }
+    $1 != $2 { differ++ }
+    NR > 1 && order($1, last_ours) != order($2, last_theirs) { swapped++ }
+    { last_ours = $1; last_theirs = $2 }
+    END { printf "%d %d %s\n", other, swapped, (differ > 0 ? "some" : "none") }' >"$work/found"
+is "quaternary keys, shifted: other differences, pairs in another order, differences at implicit weights" "0 0 some" "$(cat "$work/found")"
+
+# The elements of a text are those of its key: their primary weights are the key's first level.
+./uca elements --table "$published" <"$work/texts" |
+    perl -ne 'print join(" ", map { /(..)(..)/ } grep { $_ ne "0000" } /\[.([0-9A-F]{4})/g), "\n"' >"$work/elements"
+ours primary non-ignorable >"$work/ours"
+is "primary weights of the elements" "same" "$(cmp -s "$work/ours" "$work/elements" && echo same)"
+
+# A key is the front of the key of each higher strength.
+for variable in non-ignorable blanked shifted; do
+    : >"$work/lower"
+    for strength in primary secondary tertiary quaternary identical; do
+        ours "$strength" "$variable" >"$work/higher"
+        [ -s "$work/lower" ] && is "keys at $strength begin with those below, $variable" "0" \
+            "$(paste -d'|' "$work/lower" "$work/higher" | awk -F'|' 'substr($2, 1, length($1)) != $1 { n++ } END { print n + 0 }')"
+        mv "$work/higher" "$work/lower"
+    done
+done
+
+echo "tests/published.sh: $passed passed, $failed failed"
+[ "$failed" -eq 0 ]
