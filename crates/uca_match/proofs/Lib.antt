@@ -1,3 +1,5 @@
 pub mod PlaceLemmas
 pub mod MatchLemmas
 pub mod ElementLemmas
+pub mod WindowLemmas
+pub mod ToComeLemmas

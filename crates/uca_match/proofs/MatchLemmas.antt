@@ -27,12 +27,12 @@ greatest-below p n (suc d) fails =
     ap (greatest p) next ∙ ap (λ b. cond b (suc (n + d)) (greatest p (n + d))) here ∙ greatest-below p n d (λ k above upto. fails k above (omega arith))
 
 -- it is enough to look up what is no longer than the longest key
-pub start_len-short : (t : ElementTable) (text : List ℕ) (n : ℕ) → n ≤ length text → (n < length text → n ≡ longest t) → greatest (λ k. is_key t (take k text)) n ≡ start_len (is_key t) text
+pub start_len-short : (t : ElementTable) (text : List ℕ) (n : ℕ) → n ≤ length text → (n < length text → longest t ≤ n) → greatest (λ k. is_key t (take k text)) n ≡ start_len (is_key t) text
 start_len-short t text n within short =
     let whole : n + (length text - n) ≡ length text = omega arith in
     sym (greatest-below (λ k. is_key t (take k text)) n (length text - n) (λ k above upto.
     let size : length (take k text) ≡ k = length-take-le k text (omega arith) in
-    let last : n ≡ longest t = short (omega arith) in
+    let last : longest t ≤ n = short (omega arith) in
     longer_than_keys t (take k text) (omega arith)))
     ∙ ap (greatest (λ k. is_key t (take k text))) whole
 
@@ -55,6 +55,13 @@ not_blocked (b ∷ passed) c mark = elim (cases_lt (ccc b) (ccc c)) [
       ap (λ x. not (x || is_blocked passed c)) first ∙ sym (le-ltb (max (ccc b) (highest_class passed)) (ccc c) (omega arith))
 ]
 
+-- whether a mark is taken, by the highest class or by the marks that were passed over
+pub taken_as : (is_key : List ℕ → Bool) (s passed : List ℕ) (high x class : ℕ) (taken : Bool) → high ≡ highest_class passed → class ≡ ccc x → (class ≡ 0 → ⊥) → taken ≡ (nat_lt high (ccc x) && is_key (s ++ x ∷ []))
+    → taken ≡ (not (is_blocked passed x) && is_key (s ++ x ∷ []))
+taken_as is_key s passed high x class taken highest e mark t =
+    let above : 0 < ccc x = pos_of_ne-zero (λ z. mark (e ∙ z)) in
+    t ∙ ap (λ b. b && is_key (s ++ x ∷ [])) (ap (λ h. nat_lt h (ccc x)) highest ∙ sym (not_blocked passed x above))
+
 module _ (is_key : List ℕ → Bool) (start : ℕ) (old : List ℕ) where
   -- nothing was passed over at the start
   pub IsExtending-start : IsExtending is_key start old old start start 0
@@ -64,13 +71,6 @@ module _ (is_key : List ℕ → Bool) (start : ℕ) (old : List ℕ) where
     highest = sym (ap highest_class (passed_over-none old start));
     same = ap (λ p. extension_of is_key (take start old) p (drop start old)) (passed_over-none old start);
   }
-
-  -- whether a mark is taken
-  taken_as : (text : List ℕ) (end at high x class : ℕ) (taken : Bool) → IsExtending is_key start old text end at high → class ≡ ccc x → (class ≡ 0 → ⊥) → taken ≡ (nat_lt high (ccc x) && is_key (take end text ++ x ∷ []))
-      → taken ≡ (not (is_blocked (passed_over text end at) x) && is_key (take end text ++ x ∷ []))
-  taken_as text end at high x class taken so e mark t =
-      let above : 0 < ccc x = pos_of_ne-zero (λ z. mark (e ∙ z)) in
-      t ∙ ap (λ b. b && is_key (take end text ++ x ∷ [])) (ap (λ h. nat_lt h (ccc x)) so.highest ∙ sym (not_blocked (passed_over text end at) x above))
 
   -- a mark was taken, and moved to the end of the match
   pub IsExtending-takes : (text new : List ℕ) (end at high x class : ℕ) (taken : Bool) → IsExtending is_key start old text end at high → at < length text → x ≡ get_or text at x → class ≡ ccc x → (class ≡ 0 → ⊥)
@@ -88,7 +88,7 @@ module _ (is_key : List ℕ → Bool) (start : ℕ) (old : List ℕ) where
         same =
             ap (λ s. extension_of is_key s (passed_over (brought_forward text end at) (end + 1) (at + 1)) (drop (at + 1) (brought_forward text end at))) front
             ∙ ap₂ (λ p r. extension_of is_key (take end text ++ x ∷ []) p r) between rest
-            ∙ sym (extended_takes is_key (take end text) (passed_over text end at) text at x class taken within is e mark (taken_as text end at high x class taken so e mark t) holds)
+            ∙ sym (extended_takes is_key (take end text) (passed_over text end at) text at x class taken within is e mark (taken_as is_key (take end text) (passed_over text end at) high x class taken so.highest e mark t) holds)
             ∙ so.same;
       })
 
@@ -104,7 +104,7 @@ module _ (is_key : List ℕ → Bool) (start : ℕ) (old : List ℕ) where
         highest = more ∙ ap₂ max so.highest e ∙ sym (ap highest_class passed ∙ highest_class-more (passed_over text end at) x);
         same =
             ap (λ p. extension_of is_key (take end text) p (drop (at + 1) text)) passed
-            ∙ sym (extended_passes is_key (take end text) (passed_over text end at) text at x class taken within is e mark (taken_as text end at high x class taken so e mark t) fails)
+            ∙ sym (extended_passes is_key (take end text) (passed_over text end at) text at x class taken within is e mark (taken_as is_key (take end text) (passed_over text end at) high x class taken so.highest e mark t) fails)
             ∙ so.same;
       }
 

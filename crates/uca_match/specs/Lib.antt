@@ -1,1 +1,4 @@
 pub mod Running
+pub mod WindowMatch
+pub mod Pulls
+pub mod ToCome

@@ -1,13 +1,19 @@
-ghost use Rattle.std.specs.Prelude.{◌≡◌, ◌<◌, ◌++◌, length, IfOk, OnOk};
+ghost use Rattle.std.specs.Prelude.{◌≡◌, ◌<◌, ◌++◌, ◌∷◌, length, IfOk, OnOk};
 ghost use Rattle.unicode_normalization.specs.Forms.{nfd};
 ghost use Rattle.uca_model.specs.CollationElements.{elements, elements_or_implicit};
+ghost use Rattle.uca_model.specs.Source.{unread};
+ghost use Rattle.uca_model.specs.Window.{Fits};
 ghost use Rattle.uca_window.specs.Passage.{text_of};
+ghost use Rattle.uca_match.specs.Pulls.{Pulls};
+ghost use Rattle.uca_match.specs.ToCome.{new_elements, elements_to_come, window_of, waiting_of};
 
 use crate::matching::match_front;
+use crate::window_match::next_match;
 use std::alloc::{AllocError, Global};
+use std::marker::Model;
 use uca_table::Table;
 use uca_weights::Element;
-use uca_window::{Passage, nfd_of};
+use uca_window::{Passage, Source, Window, nfd_of};
 
 // Appends the elements of a match: those of the key, or else the implicit ones of its first code point
 // (UTS #10, 7.2, step S2.2).
@@ -43,4 +49,97 @@ pub fn elements_of(alloc: Global, t: &Table, p: &Passage) -> Result<Vec<Element>
     let mut elements = Vec::new(alloc);
     push_matches(&mut elements, t, &mut points)?;
     Ok(elements)
+}
+
+// The elements of a match: the first, and those behind it. An implicit pair does not stand in the table.
+#[derive(Drop)]
+struct Given<'t> {
+    first: Element,
+    others: &'t [Element],
+    second: Option<Element>,
+}
+
+// The elements of a match: those of the key, or else the implicit ones of its first code point (UTS #10, 7.2, step
+// S2.2).
+fn given_by<'t>(t: &'t Table, code_points: &[char]) -> Given<'t>
+    requires { 0 < length code_points.now }
+    ensures { elements_or_implicit t.now code_points.now ≡ result.first ∷ waiting_of result.others.now result.second }
+{
+    match t.get(code_points) {
+        Some(elements) => Given {
+            first: elements[0],
+            others: &elements[1..],
+            second: None,
+        },
+        None => {
+            let [first, second] = t.implicit(code_points[0]);
+            Given {
+                first,
+                others: &[],
+                second: Some(second),
+            }
+        }
+    }
+}
+
+/// The collation elements of a text one by one, over a window of the text in NFD (UTS #10, section 7.2, step S2). It
+/// is lent a source at each call that reads, and lent the elements by the table. It takes no memory.
+#[derive(Drop)]
+pub struct Elements<'t> {
+    table: &'t Table,
+    // Of the last match, those that were not given yet.
+    waiting: &'t [Element],
+    second: Option<Element>,
+    window: Window,
+}
+
+impl<'t> Model for Elements<'t> {
+    ghost use Rattle.std.specs.Prelude.{◌≡◌};
+    ghost use Rattle.uca_match.specs.ToCome.{ElementsState, coded_elements, waiting_of};
+    ghost use Rattle.uca_model.specs.Table.{longest};
+
+    ghost Value = { ElementsState };
+
+    ghost coded = { coded_elements };
+
+    ghost view = { λ e. record { table = e.table.now; waiting = waiting_of e.waiting.now e.second; window = e.window } };
+
+    ghost invariant = { λ e. e.window.longest ≡ longest e.table.now };
+}
+
+impl<'t> Elements<'t> {
+    /// The elements by a table, of which none was given yet. It fits each source whose unread characters are a safe
+    /// text, and to come are then the elements of their NFD.
+    pub fn new(t: &'t Table) -> Elements<'t>
+        ensures { result ≡ new_elements t.now }
+    {
+        Elements {
+            table: t,
+            waiting: &[],
+            second: None,
+            window: Window::new(t.longest()),
+        }
+    }
+
+    /// The next element. `None` at the end, and from then on.
+    pub fn next<S: Source>(&mut self, source: &mut S) -> Option<Element>
+        requires { Fits self.old.window (unread (S.state source.old)) }
+        ensures pulls { Pulls elements_to_come window_of self.old (S.state source.old) result self.new (S.state source.new) }
+        ensures table { self.new.table ≡ self.old.table }
+    {
+        if !self.waiting.is_empty() {
+            let first = self.waiting[0];
+            self.waiting = &self.waiting[1..];
+            return Some(first);
+        }
+        if let Some(second) = self.second {
+            self.second = None;
+            return Some(second);
+        }
+        let matched = next_match(self.table, &mut self.window, source)?;
+        let given = given_by(self.table, matched.as_slice());
+        self.waiting = given.others;
+        self.second = given.second;
+        Some(given.first)
+    }
 }

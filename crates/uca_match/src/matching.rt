@@ -1,4 +1,5 @@
-ghost use Rattle.std.specs.Prelude.{◌≡◌, ◌+◌, ◌-◌, ◌<◌, ◌≤◌, ◌&&◌, ◌++◌, ◌∷◌, [], nat_lt, max, length, take, drop, slice_index};
+ghost use Rattle.std.specs.Prelude.{◌≡◌, ◌+◌, ◌-◌, ◌<◌, ◌≤◌, ◌&&◌, ◌++◌, ◌∷◌, [], nat_lt, max, IsTrue, length, take, drop, slice_index};
+ghost use Rattle.uca_weights.specs.declared.limits.TheConstants.{MAX_KEY};
 ghost use Rattle.unicode.specs.CanonicalCombiningClass.{canonical_combining_class};
 ghost use Rattle.uca_model.specs.Table.{is_key, longest};
 ghost use Rattle.uca_model.specs.Match.{start_len, extension_of, took};
@@ -10,11 +11,12 @@ use uca_table::Table;
 use uca_weights::MAX_KEY;
 use unicode_normalization::char::canonical_combining_class;
 
-// The length of the longest initial substring that is a key, 0 where none is (UTS #10, 7.2, step S2.1). No substring
-// is looked up that is longer than every key.
-fn start_len(t: &Table, text: &[char]) -> usize
+/// The length of the longest initial substring that is a key, 0 where none is (UTS #10, 7.2, step S2.1). No substring
+/// is looked up that is longer than every key.
+pub(crate) fn start_len(t: &Table, text: &[char]) -> usize
     ensures value { result ≡ start_len (is_key t.now) text.now }
     ensures within { result ≤ length text.now }
+    ensures few { result ≤ MAX_KEY }
 {
     let mut n = text.len();
     if n > t.longest() {
@@ -31,7 +33,8 @@ fn start_len(t: &Table, text: &[char]) -> usize
 
 // Whether a start is a key with one more code point behind it.
 fn makes_key(t: &Table, start: &[char], mark: char) -> bool
-    ensures { result ≡ is_key t.now (start.now ++ mark ∷ []) }
+    ensures value { result ≡ is_key t.now (start.now ++ mark ∷ []) }
+    ensures few { IsTrue result → length start.now < MAX_KEY }
 {
     if start.len() >= t.longest() {
         return false;
@@ -42,16 +45,17 @@ fn makes_key(t: &Table, start: &[char], mark: char) -> bool
     t.get(key.as_slice()).is_some()
 }
 
-// Whether a start takes a mark, where `high` is the highest combining class of the marks that were passed over
-// (UTS #10, 7.2, steps S2.1.2 and S2.1.3).
-fn is_taken(t: &Table, start: &[char], high: u8, mark: char) -> bool
-    ensures { result ≡ (nat_lt high (canonical_combining_class mark) && is_key t.now (start.now ++ mark ∷ [])) }
+/// Whether a start takes a mark, where `high` is the highest combining class of the marks that were passed over
+/// (UTS #10, 7.2, steps S2.1.2 and S2.1.3).
+pub(crate) fn is_taken(t: &Table, start: &[char], high: u8, mark: char) -> bool
+    ensures value { result ≡ (nat_lt high (canonical_combining_class mark) && is_key t.now (start.now ++ mark ∷ [])) }
+    ensures few { IsTrue result → length start.now < MAX_KEY }
 {
     high < canonical_combining_class(mark) && makes_key(t, start, mark)
 }
 
-// The greater of two numbers.
-fn higher(a: u8, b: u8) -> u8
+/// The greater of two numbers.
+pub(crate) fn higher(a: u8, b: u8) -> u8
     ensures { result ≡ max a b }
 {
     if a < b { b } else { a }

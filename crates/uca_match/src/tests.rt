@@ -1,5 +1,7 @@
 ghost use Rattle.uca_model.specs.Table.{AreRanges};
 
+mod one_by_one;
+
 use crate::elements_of;
 use std::alloc::{AllocError, Global};
 use std::process::Abort;

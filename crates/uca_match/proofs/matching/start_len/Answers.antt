@@ -12,9 +12,10 @@ loop-n-init c =
           let is : n ≡ longest c.args.t.now = w.n-is ∙ w.longest-n.ensures.value in
           record {
             within = omega (arith, is, c.longest.ensures.value, w.if-n-longest.true);
-            longer = start_len-short c.args.t.now c.args.text.now n (omega (arith, is, c.longest.ensures.value, w.if-n-longest.true)) (λ _. is);
+            longer = start_len-short c.args.t.now c.args.text.now n (omega (arith, is, c.longest.ensures.value, w.if-n-longest.true)) (λ _. omega (arith, is));
+            few = omega (arith, is, c.longest.ensures.bounds);
           }
       | else-n-longest w ↦
           let is : n ≡ length c.args.text.now = w.n-is in
-          record { within = omega (arith, is); longer = start_len-short c.args.t.now c.args.text.now n (omega (arith, is)) (λ less. absurd (omega (arith, less, is))) }
+          record { within = omega (arith, is); longer = start_len-short c.args.t.now c.args.text.now n (omega (arith, is)) (λ less. absurd (omega (arith, less, is))); few = omega (arith, is, c.longest.ensures.value, c.longest.ensures.bounds, w.if-n-longest.false) }
     ]

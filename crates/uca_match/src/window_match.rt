@@ -1,0 +1,92 @@
+ghost use Rattle.std.specs.Prelude.{◌≡◌, ◌<◌, ◌≤◌, [], take, length, IfSome, IfNone, OnSome};
+ghost use Rattle.uca_weights.specs.declared.limits.TheConstants.{MAX_KEY};
+ghost use Rattle.uca_model.specs.Source.{unread};
+ghost use Rattle.uca_model.specs.Window.{Fits, ReadsOn, rest_of};
+ghost use Rattle.uca_model.specs.Table.{is_key, longest};
+ghost use Rattle.uca_model.specs.CollationElements.{step};
+ghost use Rattle.uca_match.specs.WindowMatch.{TakesMarks, TakesMatch};
+
+use crate::matching::{higher, is_taken, start_len};
+use arrayvec::ArrayVec;
+use uca_table::Table;
+use uca_weights::MAX_KEY;
+use uca_window::{Source, Window};
+use unicode_normalization::char::canonical_combining_class;
+
+// Takes those nonstarters out of a window that make longer keys with its first `start` points, and puts them behind
+// the key (UTS #10, 7.2, steps S2.1.1 to S2.1.3). The start stands in the window all along.
+fn take_marks(t: &Table, key: &mut ArrayVec<char, MAX_KEY>, window: &mut Window, start: usize)
+    requires some { 0 < start }
+    requires within { start ≤ window.old.closed }
+    ensures { TakesMarks (is_key t.now) start key.old.items window.old key.new.items window.new }
+{
+    let mut at = start;
+    let mut high = 0;
+    while at < window.closed() {
+        let mark = window.points()[at];
+        let class = canonical_combining_class(mark);
+        if class == 0 {
+            return;
+        }
+        if is_taken(t, key.as_slice(), high, mark) {
+            window.remove(at);
+            key.push(mark);
+        } else {
+            high = higher(high, class);
+            at += 1;
+        }
+    }
+}
+
+// Code points as a key.
+fn key_of(points: &[char]) -> ArrayVec<char, MAX_KEY>
+    requires { length points.now ≤ MAX_KEY }
+    ensures { result.items ≡ points.now }
+{
+    let mut key: ArrayVec<char, MAX_KEY> = ArrayVec::new();
+    let _fits = key.try_extend_from_slice(points);
+    key
+}
+
+// Takes the match at the front out of a window that was filled (UTS #10, 7.2, step S2.1). A code point that begins no
+// key is a match by itself.
+fn take_match(t: &Table, window: &mut Window) -> ArrayVec<char, MAX_KEY>
+    requires some { 0 < window.old.closed }
+    requires longest { window.old.longest ≡ longest t.now }
+    ensures { TakesMatch t.now window.old result.items window.new }
+{
+    let closed = window.closed();
+    let points = window.points();
+    let start = start_len(t, &points[..closed]);
+    if start == 0 {
+        let key = key_of(&points[..1]);
+        window.drop_front(1);
+        return key;
+    }
+    let mut key = key_of(&points[..start]);
+    take_marks(t, &mut key, window, start);
+    window.drop_front(start);
+    key
+}
+
+/// The code points of the match at the front of a window's rest, which it takes out of it (UTS #10, 7.2, step S2.1).
+/// `None` at the end of the text. Characters are read before the match and none within it.
+pub(crate) fn next_match<S: Source>(
+    t: &Table,
+    window: &mut Window,
+    source: &mut S,
+) -> Option<ArrayVec<char, MAX_KEY>>
+    requires longest { window.old.longest ≡ longest t.now }
+    requires fits { Fits window.old (unread (S.state source.old)) }
+    ensures reads { ReadsOn window.old (S.state source.old) window.new (S.state source.new) }
+    ensures none { IfNone result ((rest_of window.old (unread (S.state source.old)) ≡ []) × (rest_of window.new (unread (S.state source.new)) ≡ [])) }
+    ensures some { OnSome result (0 < length (rest_of window.old (unread (S.state source.old)))) }
+    ensures matched { IfSome result (λ key. (step (is_key t.now) (rest_of window.old (unread (S.state source.old)))).matched.code_points ≡ key.items) }
+    ensures rest { OnSome result ((step (is_key t.now) (rest_of window.old (unread (S.state source.old)))).rest ≡ rest_of window.new (unread (S.state source.new))) }
+{
+    window.fill(source);
+    if window.closed() == 0 {
+        return None;
+    }
+    Some(take_match(t, window))
+}
