@@ -25,3 +25,4 @@ pub mod CanonicalRanges
 pub mod RangeLemmas
 pub mod SortedLemmas
 pub mod ReadBackLemmas
+pub mod GrowingLemmas

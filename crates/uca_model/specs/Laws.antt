@@ -1,11 +1,14 @@
 -- Laws of the definitions, which public functions with no body have as their contracts.
-use Rattle.std.specs.Prelude.{◌≡◌, ℕ, ◌<◌, ◌≤◌, ◌^◌, List, All, map, flat_map, length, Ok}
+use Rattle.std.specs.Prelude.{◌≡◌, ℕ, ◌<◌, ◌≤◌, ◌^◌, List, ◌++◌, All, map, flat_map, length, Ok}
 use Rattle.std.specs.Char.{IsScalar}
 use Rattle.std.specs.List.{AllByRecursion}
 use Rattle.std.specs.Cmp.Lexicographic.{slice_cmp}
 use Rattle.std.specs.Ordering.{nat_cmp}
 use Rattle.uca_weights.specs.declared.limits.TheConstants.{MAX_INPUT}
 use Rattle.uca_weights.specs.declared.settings.Settings.{Settings}
+use Rattle.uca_weights.specs.declared.settings.Strength.{Strength}
+use Rattle.uca_weights.specs.declared.settings.Variable.{Variable}
+use Rattle.uca_weights.specs.Settings.{levels}
 use Rattle.uca_model.specs.Table.{ElementTable, IsTable}
 use Rattle.uca_model.specs.LevelWeights.{level_list}
 use Rattle.uca_model.specs.SortKey.{weight_bytes, joined, key_order, sort_key}
@@ -35,3 +38,13 @@ KeyOrderIsDecided = (t : ElementTable) (s : Settings) (a b : List ℕ) → IsTab
 -- the canonical text of a table, unless it is too large to be read, says that very table
 abbrev pub CanonicalTextIsReadBack : Type 0
 CanonicalTextIsReadBack = (t : ElementTable) → IsTable t → AreByFirst t.ranges → length (canonical t) ≤ MAX_INPUT → table_of_text ends (canonical t) ≡ Ok t
+
+-- a list begins with another
+pub record BeginsWith (whole front : List ℕ) : Type 0 where
+  pub rest : List ℕ
+  pub parts : whole ≡ front ++ rest
+
+-- S3: the key of a text at a strength is the beginning of its key at each strength of as many levels or more
+abbrev pub KeysGrowByLevels : Type 0
+KeysGrowByLevels = (t : ElementTable) (v : Variable) (low high : Strength) (text : List ℕ) → levels low ≤ levels high
+    → BeginsWith (sort_key t (record { strength = high; weighting = v }) text) (sort_key t (record { strength = low; weighting = v }) text)

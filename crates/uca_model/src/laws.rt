@@ -1,4 +1,4 @@
-ghost use Rattle.uca_model.specs.Laws.{KeysFollowLevels, KeyOrderIsDecided, CanonicalTextIsReadBack};
+ghost use Rattle.uca_model.specs.Laws.{KeysFollowLevels, KeyOrderIsDecided, CanonicalTextIsReadBack, KeysGrowByLevels};
 
 /// Keys of weights are in the byte order in which their level lists are (UTS #10, 7.4).
 pub fn keys_follow_levels()
@@ -9,6 +9,12 @@ pub fn keys_follow_levels()
 /// where none do (UTS #10, 7.4, step S4). So a comparison may go level after level, with no key.
 pub fn key_order_is_decided()
     ensures { KeyOrderIsDecided }
+{}
+
+/// The key of a text at a strength is the beginning of its key at each higher strength (UTS #10, 7.3, step S3). So a
+/// stored key serves for every lower strength, too.
+pub fn keys_grow_by_levels()
+    ensures { KeysGrowByLevels }
 {}
 
 /// The canonical text of a table, unless it is too large to be read, is read back to that very table (UTS #10,
