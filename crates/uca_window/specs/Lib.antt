@@ -1,4 +1,4 @@
 pub mod Passage
 pub mod Scan
-pub mod Reading
+pub mod PassageSource
 pub mod Segment

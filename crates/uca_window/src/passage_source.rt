@@ -18,7 +18,7 @@ impl<'t> Model for PassageSource<'t> {
     ghost use Rattle.std.specs.Prelude.{chars};
     ghost use Rattle.std.specs.Str.Iter.{chars_rest};
     ghost use Rattle.uca_model.specs.Source.{SourceState};
-    ghost use Rattle.uca_window.specs.Reading.{state_at, StandsIn};
+    ghost use Rattle.uca_window.specs.PassageSource.{state_at, StandsIn};
 
     ghost Value = { SourceState };
 

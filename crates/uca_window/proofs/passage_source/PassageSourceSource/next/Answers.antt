@@ -1,7 +1,7 @@
 use Rattle.std.proofs.Common.{chars, subst}
 use Rattle.std.specs.Str.Iter.{chars_rest}
 use Rattle.uca_model.specs.Source.{GivesNext}
-use Rattle.uca_window.specs.Reading.{state_at}
+use Rattle.uca_window.specs.PassageSource.{state_at}
 use Rattle.uca_window.proofs.SourceLemmas.{stands_next, gives_next}
 use Rattle.uca_window.proofs.passage_source.PassageSourceSource.next.Goals as goal
 
