@@ -1,6 +1,7 @@
-ghost use Rattle.std.specs.Prelude.{◌≡◌, ◌<◌, ◌++◌, ◌∷◌, length, IfOk, OnOk};
+ghost use Rattle.std.specs.Prelude.{◌≡◌, ℕ, List, ◌<◌, ◌++◌, ◌∷◌, length, IfOk, OnOk};
 ghost use Rattle.unicode_normalization.specs.Forms.{nfd};
 ghost use Rattle.uca_model.specs.CollationElements.{elements, elements_or_implicit};
+ghost use Rattle.uca_model.specs.SafeText.{IsSafe};
 ghost use Rattle.uca_model.specs.Source.{unread};
 ghost use Rattle.uca_model.specs.Window.{Fits};
 ghost use Rattle.uca_window.specs.Passage.{text_of};
@@ -111,7 +112,9 @@ impl<'t> Elements<'t> {
     /// The elements by a table, of which none was given yet. It fits each source whose unread characters are a safe
     /// text, and to come are then the elements of their NFD.
     pub fn new(t: &'t Table) -> Elements<'t>
-        ensures { result ≡ new_elements t.now }
+        ensures value { result ≡ new_elements t.now }
+        ensures fits { (left : List ℕ) → IsSafe left → Fits result.window left }
+        ensures to_come { (left : List ℕ) → elements_to_come result left ≡ elements t.now (nfd left) }
     {
         Elements {
             table: t,

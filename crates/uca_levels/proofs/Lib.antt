@@ -1,0 +1,2 @@
+pub mod WeighingLemmas
+pub mod ReadsLemmas

@@ -1,0 +1,29 @@
+-- How often a text is read.
+use Rattle.std.specs.Prelude.{◌≡◌, ℕ, ◌+◌, ◌*◌, ◌≤◌, List, length, ◌++◌}
+use Rattle.uca_model.specs.Source.{SourceState, unread}
+use Rattle.uca_model.specs.Window.{WindowState, Fits, credit}
+
+-- the text was read so many times at most, the end counted as a character, and each time begun by one way back
+pub record ReadsTimes (times : ℕ) (old new : SourceState) : Type 0 where
+  pub text : new.text ≡ old.text
+  pub taken : new.taken ≤ old.taken + times * (length old.text + 1)
+  pub backs : new.backs ≤ old.backs + times
+
+-- what was unread was read once at most, the end counted as a character, with no way back
+pub record ReadsRest (old new : SourceState) : Type 0 where
+  pub text : new.text ≡ old.text
+  pub taken : new.taken ≤ old.taken + (length (unread old) + 1)
+  pub backs : new.backs ≡ old.backs
+
+-- such a reading under way, in a window
+pub record IsReading (old : SourceState) (w : WindowState) (now : SourceState) : Type 0 where
+  pub text : now.text ≡ old.text
+  pub fits : Fits w (unread now)
+  pub taken : now.taken + credit w (unread now) ≤ old.taken + (length (unread old) + 1)
+  pub backs : now.backs ≡ old.backs
+
+-- two lists have a front in common, and these are left of them
+pub record InStep (xs ys left right : List ℕ) : Type 0 where
+  pub front : List ℕ
+  pub first : xs ≡ front ++ left
+  pub second : ys ≡ front ++ right

@@ -1,0 +1,46 @@
+-- The weights of a level that are still to come over a source.
+use Rattle.std.specs.Prelude.{ℕ, ◌-◌, false, not, ◌==◌, List, [], ◌∷◌, map, filter, slice_index, refl}
+use Rattle.std.specs.Coded.{Coded, code_by, coded×, coded_ℕ}
+use Rattle.uca_weights.specs.declared.element.Element.{Element}
+use Rattle.uca_weights.specs.declared.settings.Variable.{Variable}
+use Rattle.uca_weights.specs.VariableWeighting.{weights}
+use Rattle.uca_weights.specs.Weigher.{WeigherState, after_element}
+use Rattle.uca_weights.specs.Coded.{coded_weigher}
+use Rattle.uca_model.specs.Table.{ElementTable}
+use Rattle.uca_model.specs.Window.{WindowState}
+use Rattle.uca_match.specs.ToCome.{ElementsState, new_elements, elements_to_come, coded_elements}
+
+-- the elements to come, what weighs them, and the level
+pub record WeightsState : Type 0 where
+  pub elements : ElementsState
+  pub weigher : WeigherState
+  pub level : ℕ
+
+-- nothing was read yet
+abbrev pub new_weights : ElementTable → Variable → ℕ → WeightsState
+new_weights t v level = record { elements = new_elements t; weigher = record { weighting = v; after = false }; level = level }
+
+-- its window
+abbrev pub window_of_weights : WeightsState → WindowState
+window_of_weights w = w.elements.window
+
+-- the four weights of each element that a weigher is handed from now on
+abbrev pub weighted_from : WeigherState → List Element → List (List ℕ)
+weighted_from w [] = []
+weighted_from w (e ∷ es) = weights w.weighting w.after e ∷ weighted_from (record w { after = after_element w.after e }) es
+
+-- the weights of the level to come over unread characters, zeros among them
+abbrev pub all_to_come : WeightsState → List ℕ → List ℕ
+all_to_come w left = map (λ ws. slice_index ws (w.level - 1)) (weighted_from w.weigher (elements_to_come w.elements left))
+
+-- the weights to come over unread characters
+abbrev pub weights_to_come : WeightsState → List ℕ → List ℕ
+weights_to_come w left = filter (λ weight. not (weight == 0)) (all_to_come w left)
+
+-- a window by itself, of which the rest is to come
+abbrev pub itself : WindowState → WindowState
+itself w = w
+
+-- as data, by which a proof tells two of them apart
+abbrev pub coded_weights : Coded WeightsState
+coded_weights = code_by (ElementsState × (WeigherState × ℕ)) (coded× coded_elements (coded× coded_weigher coded_ℕ)) (λ w. (w.elements, (w.weigher, w.level))) (λ p. record { elements = p.0; weigher = p.1.0; level = p.1.1 }) (λ _. refl)

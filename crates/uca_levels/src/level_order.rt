@@ -1,0 +1,95 @@
+ghost use Rattle.std.specs.Prelude.{◌≤◌};
+ghost use Rattle.uca_model.specs.LevelWeights.{level_list};
+ghost use Rattle.uca_model.specs.Reading.{OrdersLevel};
+ghost use Rattle.uca_model.specs.SafeText.{IsSafe};
+ghost use Rattle.uca_model.specs.Source.{unread};
+ghost use Rattle.uca_levels.specs.Reads.{ReadsRest};
+
+use crate::points::next_point;
+use crate::weights::Weights;
+use std::cmp::Ordering;
+use uca_table::Table;
+use uca_weights::Variable;
+use uca_window::{Source, Window};
+
+// The order of what two sources have not given yet at a level of weights.
+fn order_of_weights<S: Source, T: Source>(
+    t: &Table,
+    v: Variable,
+    level: u8,
+    a: &mut S,
+    b: &mut T,
+) -> Ordering
+    requires first { 1 ≤ level }
+    requires last { level ≤ 4 }
+    requires safe_a { IsSafe (unread (S.state a.old)) }
+    requires safe_b { IsSafe (unread (T.state b.old)) }
+    ensures order { OrdersLevel level (level_list t.now v (unread (S.state a.old)) level) (level_list t.now v (unread (T.state b.old)) level) result }
+    ensures reads_a { ReadsRest (S.state a.old) (S.state a.new) }
+    ensures reads_b { ReadsRest (T.state b.old) (T.state b.new) }
+{
+    let mut left = Weights::new(t, v, level);
+    let mut right = Weights::new(t, v, level);
+    loop {
+        let x = left.next(a);
+        let y = right.next(b);
+        match (x, y) {
+            (Some(x), Some(y)) => {
+                if x != y {
+                    return x.cmp(&y);
+                }
+            }
+            (None, None) => return Ordering::Equal,
+            (None, Some(_)) => return Ordering::Less,
+            (Some(_), None) => return Ordering::Greater,
+        }
+    }
+}
+
+// The order of what two sources have not given yet by code points in NFD.
+fn order_of_points<S: Source, T: Source>(t: &Table, v: Variable, a: &mut S, b: &mut T) -> Ordering
+    requires safe_a { IsSafe (unread (S.state a.old)) }
+    requires safe_b { IsSafe (unread (T.state b.old)) }
+    ensures order { OrdersLevel 5 (level_list t.now v (unread (S.state a.old)) 5) (level_list t.now v (unread (T.state b.old)) 5) result }
+    ensures reads_a { ReadsRest (S.state a.old) (S.state a.new) }
+    ensures reads_b { ReadsRest (T.state b.old) (T.state b.new) }
+{
+    let mut left = Window::new(1);
+    let mut right = Window::new(1);
+    loop {
+        let x = next_point(&mut left, a);
+        let y = next_point(&mut right, b);
+        match (x, y) {
+            (Some(x), Some(y)) => {
+                if x != y {
+                    return x.cmp(&y);
+                }
+            }
+            (None, None) => return Ordering::Equal,
+            (None, Some(_)) => return Ordering::Less,
+            (Some(_), None) => return Ordering::Greater,
+        }
+    }
+}
+
+/// The order of what two sources have not given yet at one level. Each is read on, once at most.
+pub(crate) fn order_of_level<S: Source, T: Source>(
+    t: &Table,
+    v: Variable,
+    level: u8,
+    a: &mut S,
+    b: &mut T,
+) -> Ordering
+    requires first { 1 ≤ level }
+    requires last { level ≤ 5 }
+    requires safe_a { IsSafe (unread (S.state a.old)) }
+    requires safe_b { IsSafe (unread (T.state b.old)) }
+    ensures order { OrdersLevel level (level_list t.now v (unread (S.state a.old)) level) (level_list t.now v (unread (T.state b.old)) level) result }
+    ensures reads_a { ReadsRest (S.state a.old) (S.state a.new) }
+    ensures reads_b { ReadsRest (T.state b.old) (T.state b.new) }
+{
+    if level == 5 {
+        return order_of_points(t, v, a, b);
+    }
+    order_of_weights(t, v, level, a, b)
+}

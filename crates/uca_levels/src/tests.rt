@@ -1,0 +1,324 @@
+ghost use Rattle.std.specs.Prelude.{◌≤◌};
+ghost use Rattle.uca_model.specs.SafeText.{IsSafe};
+ghost use Rattle.uca_model.specs.Source.{unread};
+ghost use Rattle.uca_model.specs.Table.{AreRanges};
+
+use crate::{Weights, compare, compare_sources};
+use std::alloc::{AllocError, Global};
+use std::cmp::Ordering;
+use std::process::Abort;
+use uca_match::Elements;
+use uca_model::{Entry, keys};
+use uca_table::{InsertFault, Table, TableBuilder};
+use uca_weights::{Element, Range, Settings, Strength, Variable};
+use uca_window::{Passage, PassageSource, Source, Window};
+
+/// Keys with their one element, whose mark is `*` where the flag is true.
+#[rattlefmt::skip]
+const KEYS: [(&[char], bool, [u16; 3]); 18] = [
+    (&['\u{1}'], false, [0, 0, 0]),
+    (&[' '], true, [0x201, 0x20, 2]),
+    (&['-'], true, [0x202, 0x20, 2]),
+    (&['\u{300}'], false, [0, 0x21, 2]),
+    (&['\u{301}'], false, [0, 0x22, 2]),
+    (&['\u{308}'], false, [0, 0x23, 2]),
+    (&['\u{323}'], false, [0, 0x24, 2]),
+    (&['a'], false, [0x1000, 0x20, 2]),
+    (&['A'], false, [0x1000, 0x20, 8]),
+    (&['b'], false, [0x1001, 0x20, 2]),
+    (&['c'], false, [0x1002, 0x20, 2]),
+    (&['e'], false, [0x1004, 0x20, 2]),
+    (&['h'], false, [0x1005, 0x20, 2]),
+    (&['z'], false, [0x1006, 0x20, 2]),
+    (&['c', 'h'], false, [0x1007, 0x20, 2]),
+    (&['a', '\u{301}'], false, [0x1008, 0x20, 2]),
+    (&['b', '\u{301}'], false, [0x1009, 0x20, 2]),
+    (&['b', '\u{301}', '\u{308}'], false, [0x100A, 0x20, 2]),
+];
+
+const STRENGTHS: [Strength; 5] = [
+    Strength::Primary,
+    Strength::Secondary,
+    Strength::Tertiary,
+    Strength::Quaternary,
+    Strength::Identical,
+];
+
+const OPTIONS: [Variable; 3] = [Variable::NonIgnorable, Variable::Blanked, Variable::Shifted];
+
+fn no_ranges() -> &'static [Range]
+    ensures { AreRanges result.now }
+{
+    &[]
+}
+
+fn element(starred: bool, [l1, l2, l3]: [u16; 3]) -> Element {
+    Element {
+        starred,
+        l1,
+        l2,
+        l3,
+    }
+}
+
+/// Makes the table of the keys, each step once more where memory was refused.
+fn table(rt: &impl Abort, alloc: Global) -> Table {
+    let mut builder = TableBuilder::new(alloc);
+    for (key, starred, weights) in KEYS {
+        let elements = [element(starred, weights)];
+        let inserted = match builder.insert(key, &elements) {
+            Err(InsertFault::OutOfMemory) => builder.insert(key, &elements),
+            answer => answer,
+        };
+        assert_eq!(rt; inserted, Ok(()));
+    }
+    match builder.finish() {
+        Ok(table) => table,
+        Err(fault) => fault.builder.finish().ok().expect(rt, "a table"),
+    }
+}
+
+/// The same entries as the plain programs keep them.
+fn plain_entries(alloc: Global) -> Result<Vec<Entry>, AllocError> {
+    let mut entries = Vec::new(alloc);
+    for (key, starred, weights) in KEYS {
+        let key = key.to_vec(alloc)?;
+        let elements = [element(starred, weights)].to_vec(alloc)?;
+        entries.push(Entry { key, elements })?;
+    }
+    Ok(entries)
+}
+
+/// The characters of a passage, with the calls counted.
+#[derive(Drop)]
+struct Counted<'t> {
+    source: PassageSource<'t>,
+    taken: usize,
+    backs: usize,
+}
+
+impl<'t> Source for Counted<'t> {
+    ghost state = { λ s. s.source };
+
+    fn next(&mut self) -> Option<char> {
+        self.taken = self.taken.saturating_add(1);
+        self.source.next()
+    }
+
+    fn restart(&mut self) {
+        self.backs = self.backs.saturating_add(1);
+        self.source.restart();
+    }
+}
+
+fn source_of<'t>(p: &Passage<'t>) -> Counted<'t>
+    ensures unread { IsSafe (unread result.source) }
+    ensures text { IsSafe result.source.text }
+{
+    Counted {
+        source: PassageSource::new(p),
+        taken: 0,
+        backs: 0,
+    }
+}
+
+fn passage<'t>(rt: &impl Abort, text: &'t str) -> Passage<'t> {
+    Passage::check(text).ok().expect(rt, "a safe text")
+}
+
+fn settings(strength: Strength, weighting: Variable) -> Settings {
+    Settings {
+        strength,
+        weighting,
+    }
+}
+
+#[test]
+fn texts_are_in_the_order_of_their_keys(rt: HostRuntime) {
+    let t = table(&rt, rt.alloc());
+    let cases = [
+        ("a", "A", Strength::Tertiary, Ordering::Less),
+        ("A", "a", Strength::Tertiary, Ordering::Greater),
+        ("a", "A", Strength::Secondary, Ordering::Equal),
+        ("A", "b", Strength::Tertiary, Ordering::Less),
+        ("A", "b", Strength::Secondary, Ordering::Less),
+        ("ch", "cz", Strength::Primary, Ordering::Greater),
+        ("", "", Strength::Identical, Ordering::Equal),
+        ("", "a", Strength::Primary, Ordering::Less),
+        ("", "\u{1}", Strength::Quaternary, Ordering::Equal),
+        ("", "\u{1}", Strength::Identical, Ordering::Less),
+        ("\u{1EA1}", "a\u{323}", Strength::Identical, Ordering::Equal),
+    ];
+    for (a, b, strength, wanted) in cases {
+        let order = compare(
+            &t,
+            settings(strength, Variable::NonIgnorable),
+            &passage(&rt, a),
+            &passage(&rt, b),
+        );
+        assert_eq!(rt; order, wanted, "{a:?} {b:?}");
+    }
+}
+
+#[test]
+fn a_text_is_read_once_for_each_level(rt: HostRuntime) {
+    let t = table(&rt, rt.alloc());
+    // How often a source is asked, and how often it goes back.
+    let cases = [
+        ("a", "a", Ordering::Equal, [10, 5]),
+        ("a", "b", Ordering::Less, [2, 1]),
+        ("a", "A", Ordering::Less, [6, 3]),
+        ("", "", Ordering::Equal, [5, 5]),
+    ];
+    let s = settings(Strength::Identical, Variable::NonIgnorable);
+    for (a, b, wanted, [taken, backs]) in cases {
+        let (p, q) = (passage(&rt, a), passage(&rt, b));
+        let (mut left, mut right) = (source_of(&p), source_of(&q));
+        let order = compare_sources(&t, s, &mut left, &mut right);
+        assert_eq!(rt; order, wanted, "{a:?} {b:?}");
+        assert!(rt; left.taken <= taken && right.taken <= taken, "{a:?} {b:?}");
+        assert!(rt; left.backs <= backs && right.backs <= backs, "{a:?} {b:?}");
+    }
+}
+
+#[test]
+fn sources_may_stand_anywhere(rt: HostRuntime) {
+    let t = table(&rt, rt.alloc());
+    let (p, q) = (passage(&rt, "ab"), passage(&rt, "aB"));
+    let (mut left, mut right) = (source_of(&p), source_of(&q));
+    left.next();
+    left.next();
+    right.next();
+    let s = settings(Strength::Tertiary, Variable::NonIgnorable);
+    // `B` has no key, and a primary weight of its own.
+    assert_eq!(rt; compare_sources(&t, s, &mut left, &mut right), Ordering::Less);
+    assert_eq!(rt; compare_sources(&t, s, &mut right, &mut left), Ordering::Greater);
+}
+
+/// The weights of what a source has not given yet, one by one.
+fn weights_in_turn<S: Source>(
+    alloc: Global,
+    t: &Table,
+    v: Variable,
+    level: u8,
+    source: &mut S,
+) -> Result<Vec<u16>, AllocError>
+    requires first { 1 ≤ level }
+    requires last { level ≤ 4 }
+    requires safe { IsSafe (unread (S.state source.old)) }
+{
+    let mut all = Vec::new(alloc);
+    let mut weights = Weights::new(t, v, level);
+    'each: while let Some(weight) = weights.next(source) {
+        all.push(weight)?;
+    }
+    Ok(all)
+}
+
+#[test]
+fn weights_of_a_level_are_those_that_are_not_zero(rt: HostRuntime) {
+    let t = table(&rt, rt.alloc());
+    let cases: [(&str, Variable, [&[u16]; 4]); 4] = [
+        (
+            "a-b",
+            Variable::Shifted,
+            [&[0x1000, 0x1001], &[0x20, 0x20], &[2, 2], &[0xFFFF, 0x202, 0xFFFF]],
+        ),
+        (
+            "-\u{1}\u{300}",
+            Variable::Shifted,
+            [&[], &[], &[], &[0x202]],
+        ),
+        ("-\u{300}", Variable::Blanked, [&[], &[], &[], &[]]),
+        (
+            "\u{1EA1}\u{301}",
+            Variable::NonIgnorable,
+            [&[0x1008], &[0x20, 0x24], &[2, 2], &[]],
+        ),
+    ];
+    for (text, v, wanted) in cases {
+        let p = passage(&rt, text);
+        for level in 1..5u8 {
+            let weights = match weights_in_turn(rt.alloc(), &t, v, level, &mut source_of(&p)) {
+                Ok(weights) => weights,
+                Err(_) => weights_in_turn(rt.alloc(), &t, v, level, &mut source_of(&p))
+                    .expect(&rt, "weights"),
+            };
+            assert_eq!(rt; weights.as_slice(), wanted[level as usize - 1], "{text:?} {level}");
+        }
+    }
+}
+
+#[test]
+fn no_weight_comes_after_the_end(rt: HostRuntime) {
+    let t = table(&rt, rt.alloc());
+    let p = passage(&rt, "ab");
+    let mut source = source_of(&p);
+    let mut weights = Weights::new(&t, Variable::NonIgnorable, 1);
+    assert_eq!(rt; weights.next(&mut source), Some(0x1000));
+    assert_eq!(rt; weights.next(&mut source), Some(0x1001));
+    assert_eq!(rt; weights.next(&mut source), None);
+    assert_eq!(rt; weights.next(&mut source), None);
+    assert_eq!(rt; (source.taken, source.backs), (3, 0));
+}
+
+#[test]
+fn what_reads_a_text_is_small(rt: HostRuntime) {
+    assert!(rt; size_of::<Window>() <= 1024);
+    assert!(rt; size_of::<Elements>() <= 1024);
+    assert!(rt; size_of::<Weights>() <= 1024);
+}
+
+/// A text of up to nine characters, by a number. Those of near numbers often begin in the same way.
+fn generated(alloc: Global, number: u32) -> Result<String, AllocError> {
+    let characters = [
+        'a', 'b', 'c', 'h', 'A', '-', ' ', '\u{1}', '\u{1EA1}', '\u{C0}', '\u{4E00}', '\u{300}',
+        '\u{301}', '\u{308}', '\u{323}', '-',
+    ];
+    let mut text = String::new(alloc);
+    let mut state = number / 10;
+    for _ in 0..number % 10 {
+        state = state.wrapping_mul(1_664_525).wrapping_add(1_013_904_223);
+        text.push(characters[(state >> 20) as usize % 16])?;
+    }
+    Ok(text)
+}
+
+/// The order of the keys of two texts by the plain program.
+fn plain_order(
+    alloc: Global,
+    entries: &[Entry],
+    s: Settings,
+    a: &str,
+    b: &str,
+) -> Result<Ordering, AllocError> {
+    let left = keys::sort_key(alloc, entries, no_ranges(), s, a)?;
+    let right = keys::sort_key(alloc, entries, no_ranges(), s, b)?;
+    Ok(left.as_slice().cmp(right.as_slice()))
+}
+
+#[test]
+fn agrees_with_the_order_of_plain_keys(rt: HostRuntime) {
+    let t = table(&rt, rt.alloc());
+    let Ok(entries) = plain_entries(rt.alloc()) else {
+        return;
+    };
+    for number in 0..150 {
+        let (Ok(a), Ok(b)) = (
+            generated(rt.alloc(), number),
+            generated(rt.alloc(), number * 7 / 6 + 1),
+        ) else {
+            return;
+        };
+        let (p, q) = (passage(&rt, &a), passage(&rt, &b));
+        for strength in STRENGTHS {
+            for weighting in OPTIONS {
+                let s = settings(strength, weighting);
+                let Ok(wanted) = plain_order(rt.alloc(), &entries, s, &a, &b) else {
+                    return;
+                };
+                assert_eq!(rt; compare(&t, s, &p, &q), wanted, "{a:?} {b:?}");
+            }
+        }
+    }
+}
