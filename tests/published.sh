@@ -75,6 +75,17 @@ is "quaternary keys, shifted: other differences, pairs in another order, differe
 ours primary non-ignorable >"$work/ours"
 is "primary weights of the elements" "same" "$(cmp -s "$work/ours" "$work/elements" && echo same)"
 
+# Comparison of neighbours is the order of their keys, at each setting.
+for variable in non-ignorable blanked shifted; do
+    for strength in primary secondary tertiary quaternary identical; do
+        ours "$strength" "$variable" | awk '
+            NR > 1 { print(last "" < $0 "" ? "less" : last "" > $0 "" ? "greater" : "equal") }
+            { last = $0 }' >"$work/wanted"
+        ./uca compare --table "$published" --strength "$strength" --variable "$variable" <"$work/texts" >"$work/found"
+        is "order of neighbours at $strength, $variable" "same" "$(cmp -s "$work/wanted" "$work/found" && echo same)"
+    done
+done
+
 # A key is the front of the key of each higher strength.
 for variable in non-ignorable blanked shifted; do
     : >"$work/lower"

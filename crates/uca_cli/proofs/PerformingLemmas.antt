@@ -1,5 +1,5 @@
 -- A job is its table, and the work with it.
-use Rattle.std.proofs.Common.{◌≡◌, ℕ, Option, None, Result, Ok, Err, IfOk, IfErr, inl, inr, ap, ◌∙◌}
+use Rattle.std.proofs.Common.{ℕ, Option, Result, Ok, Err, IfOk, IfErr, inr}
 use Rattle.uca_weights.specs.Reader.{ReaderState}
 use Rattle.uca_model.specs.Table.{ElementTable}
 use Rattle.uca_cli.specs.Performing.{Ends, ReadsTable, Works, StopsWork, Performs, Refuses}

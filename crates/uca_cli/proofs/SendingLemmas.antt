@@ -3,7 +3,6 @@ use Rattle.std.proofs.Common.{◌≡◌, ℕ, ◌+◌, ◌<◌, List, [], ◌∷
 use Rattle.uca_weights.specs.WriterState.{WriterState}
 use Rattle.uca_weights.specs.Writer.{WritesFront}
 use Rattle.uca_weights.specs.Outgoing.{handed, Sends, StopsSending}
-use Rattle.uca_weights.specs.declared.element.Element.{Element}
 use Rattle.uca_weights.specs.declared.outgoing.Outgoing.{Outgoing}
 use Rattle.uca_weights.specs.declared.settings.Settings.{Settings}
 use Rattle.uca_weights.specs.declared.writer.WriteFault.{WriteFault}

@@ -7,6 +7,7 @@ use Rattle.uca_weights.specs.Reader.{ReaderState, GivesAll}
 use Rattle.uca_weights.specs.WriterState.{WriterState}
 use Rattle.uca_weights.specs.Writer.{WritesAll, WritesFront}
 use Rattle.uca_model.specs.CanonicalText.{canonical}
+use Rattle.uca_model.specs.Compared.{compare_output}
 use Rattle.uca_model.specs.ElementLines.{elements_output}
 use Rattle.uca_model.specs.Lines.{lines_of, IsTextLine}
 use Rattle.uca_model.specs.Output.{key_output}
@@ -20,7 +21,7 @@ use Rattle.uca_cli.specs.declared.faults.CliFault.TheVariants as fault
 use Rattle.uca_cli.specs.declared.faults.InputFault.{InputFault}
 use Rattle.uca_cli.specs.declared.job.Job.{Job}
 use Rattle.uca_cli.specs.declared.job.Task.{Task}
-use Rattle.uca_cli.specs.declared.job.Task.TheVariants.{Elements, Key, Table}
+use Rattle.uca_cli.specs.declared.job.Task.TheVariants.{Elements, Key, Compare, Table}
 
 -- the settings of a job
 abbrev pub settings_of : Job → Settings
@@ -30,6 +31,7 @@ settings_of job = record { strength = job.strength; weighting = job.weighting }
 abbrev pub task_output : Task → ElementTable → Settings → List ℕ → List ℕ
 task_output Elements t s bytes = elements_output t bytes
 task_output Key t s bytes = key_output t s bytes
+task_output Compare t s bytes = compare_output t s bytes
 task_output Table t s bytes = canonical t
 
 abbrev pub job_output : Job → ElementTable → List ℕ → List ℕ
@@ -69,6 +71,11 @@ pub record ReadsInput (old new : ReaderState) (bytes : List ℕ) : Type 0 where
 -- the bytes of an input whose lines are all safe texts
 pub record ReadsLines (old new : ReaderState) (bytes : List ℕ) : Type 0 where
   pub input : ReadsInput old new bytes
+  pub lines : All IsTextLine (lines_of bytes)
+
+-- bytes that were read and checked
+pub record IsChecked (bytes : List ℕ) : Type 0 where
+  pub small : length bytes ≤ MAX_INPUT
   pub lines : All IsTextLine (lines_of bytes)
 
 -- the reader was left alone

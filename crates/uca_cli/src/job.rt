@@ -31,6 +31,8 @@ pub enum Task {
     Elements,
     /// Writes the sort key of each line (UTS #10, section 7.3).
     Key,
+    /// Writes the order of each two neighbours among the lines (UTS #10, section 7.4).
+    Compare,
     /// Writes the collation element table as text.
     Table,
 }
@@ -98,6 +100,13 @@ fn uca_command<'a>(
         strengths,
         weightings,
     )?;
+    let compare = command(
+        alloc,
+        "compare",
+        "Writes the order of each line of the input against the line before it",
+        strengths,
+        weightings,
+    )?;
     let table = command(
         alloc,
         "table",
@@ -112,6 +121,7 @@ fn uca_command<'a>(
         .subcommand_required(true)
         .subcommand(elements)?
         .subcommand(key)?
+        .subcommand(compare)?
         .subcommand(table)
 }
 
@@ -178,6 +188,7 @@ fn task_named(name: &str) -> Option<Task>
     match name {
         "elements" => Some(Task::Elements),
         "key" => Some(Task::Key),
+        "compare" => Some(Task::Compare),
         "table" => Some(Task::Table),
         _ => None,
     }

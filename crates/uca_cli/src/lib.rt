@@ -9,6 +9,7 @@ mod hex;
 mod input;
 pub mod job;
 mod lines;
+mod neighbours;
 mod output;
 pub mod performing;
 mod small_table;

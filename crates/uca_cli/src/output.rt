@@ -31,7 +31,7 @@ pub enum LineForm {
 }
 
 /// The text of a line that was checked.
-fn text_of_line(line: &[u8]) -> Passage<'_>
+pub fn text_of_line(line: &[u8]) -> Passage<'_>
     requires { IsTextLine line.now }
     ensures { text_of result ≡ chars line.now }
 {

@@ -1,11 +1,14 @@
-ghost use Rattle.std.specs.Prelude.{◌≡◌, false, IfErr, IfOk, IsNone, None, Some, option_map};
+ghost use Rattle.std.specs.Prelude.{◌≡◌, false, IfErr, IfOk, IsNone, MatchResult, None, Some, option_map};
 ghost use Rattle.uca_cli.specs.Lent.{left_behind, lent};
-ghost use Rattle.uca_cli.specs.Performing.{Performs, Refuses, ReadsLines, ReadsTable, RefusesInput, StopsTable, StopsWork, Works};
+ghost use Rattle.uca_cli.specs.Performing.{task_output, IsChecked, Performs, Refuses, ReadsFor, ReadsLines, ReadsTable, RefusesFor, RefusesInput, StopsTable, StopsWork, Works};
+ghost use Rattle.uca_cli.specs.Sending.{StopsOutput};
+ghost use Rattle.uca_weights.specs.Writer.{WritesAll};
 
 use crate::faults::{CliFault, InputFault};
 use crate::input::read_input;
 use crate::job::{Job, Task};
 use crate::lines::check_lines;
+use crate::neighbours::write_orders;
 use crate::output::{LineForm, write_lines};
 use crate::small_table::built_in;
 use std::alloc::Global;
@@ -49,6 +52,45 @@ fn read_lines<I: Reader>(alloc: Global, input: &mut I) -> Result<Vec<u8>, InputF
     }
 }
 
+/// Reads the input of a command and checks it. `table` has none.
+fn read_for<I: Reader>(alloc: Global, command: Task, input: &mut I) -> Result<Vec<u8>, InputFault>
+    ensures ok { IfOk result (λ v. ReadsFor command (I.state input.old) (I.state input.new) v.items) }
+    ensures checked { IfOk result (λ v. IsChecked v.items) }
+    ensures err { IfErr result (RefusesFor command (I.state input.old) (I.state input.new)) }
+{
+    match command {
+        Task::Elements => read_lines(alloc, input),
+        Task::Key => read_lines(alloc, input),
+        Task::Compare => read_lines(alloc, input),
+        Task::Table => Ok(Vec::new(alloc)),
+    }
+}
+
+/// Writes what a command writes with a table for an input, which was checked.
+fn write_for<W: Writer>(
+    alloc: Global,
+    command: Task,
+    t: &Table,
+    s: Settings,
+    bytes: &[u8],
+    output: &mut W,
+) -> Result<(), CliFault>
+    requires { IsChecked bytes.now }
+    ensures { MatchResult result
+        (λ _. WritesAll (W.state output.old) (W.state output.new) (task_output command t.now s bytes.now))
+        (StopsOutput (W.state output.old) (W.state output.new) (task_output command t.now s bytes.now)) }
+{
+    match command {
+        Task::Elements => write_lines(alloc, LineForm::Elements, t, s, bytes, output),
+        Task::Key => write_lines(alloc, LineForm::Key, t, s, bytes, output),
+        Task::Compare => write_orders(t, s, bytes, output),
+        Task::Table => match write_table(output, t) {
+            Ok(_) => Ok(()),
+            Err(fault) => Err(CliFault::Output(fault)),
+        },
+    }
+}
+
 /// Does the work of a job with its table.
 fn work<I: Reader, W: Writer>(
     alloc: Global,
@@ -69,18 +111,8 @@ fn work<I: Reader, W: Writer>(
         strength: job.strength,
         weighting: job.weighting,
     };
-    let form = match job.command {
-        Task::Elements => LineForm::Elements,
-        Task::Key => LineForm::Key,
-        Task::Table => {
-            return match write_table(output, t) {
-                Ok(_) => Ok(0),
-                Err(fault) => Err(CliFault::Output(fault)),
-            };
-        }
-    };
-    match read_lines(alloc, input) {
-        Ok(bytes) => match write_lines(alloc, form, t, settings, &bytes, output) {
+    match read_for(alloc, job.command, input) {
+        Ok(bytes) => match write_for(alloc, job.command, t, settings, &bytes, output) {
             Ok(()) => Ok(0),
             Err(fault) => Err(fault),
         },

@@ -338,6 +338,27 @@ fn each_line_gets_its_elements(rt: HostRuntime) {
 }
 
 #[test]
+fn each_two_neighbours_are_compared(rt: HostRuntime) {
+    let secondary = Settings {
+        strength: Strength::Secondary,
+        weighting: Variable::NonIgnorable,
+    };
+    let cases: [(Settings, &[u8], &[u8]); 6] = [
+        (PLAIN, b"a\r\nA\nb", b"less\nless\n"),
+        (secondary, b"a\r\nA\nb", b"equal\nless\n"),
+        (PLAIN, b"ch\ncz\n\n", b"greater\ngreater\n"),
+        (PLAIN, b"", b""),
+        (PLAIN, b"a", b""),
+        (PLAIN, b"\n\n", b"equal\n"),
+    ];
+    for (settings, input, want) in cases {
+        let done = run_as(rt.alloc(), Task::Compare, settings, input);
+        assert_eq!(rt; done.answer, Ok(0), "{input:?}");
+        assert_eq!(rt; done.output.as_slice(), want, "{input:?}");
+    }
+}
+
+#[test]
 fn settings_are_those_of_the_job(rt: HostRuntime) {
     let shifted = Settings {
         strength: Strength::Quaternary,

@@ -18,6 +18,7 @@ pub mod Output
 pub mod TableText
 pub mod CanonicalText
 pub mod ElementLines
+pub mod Compared
 pub mod Laws
 pub mod Plain
 pub mod PlainText

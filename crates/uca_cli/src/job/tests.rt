@@ -3,9 +3,10 @@ use std::alloc::Global;
 use uca_weights::{Strength, Variable};
 
 /// The commands by their names.
-const COMMANDS: [(&str, Task); 3] = [
+const COMMANDS: [(&str, Task); 4] = [
     ("elements", Task::Elements),
     ("key", Task::Key),
+    ("compare", Task::Compare),
     ("table", Task::Table),
 ];
 

@@ -5,6 +5,7 @@ use super::run_as;
 use crate::{Task, built_in};
 use simdutf8::compat::from_utf8;
 use std::alloc::{AllocError, Global};
+use std::cmp::Ordering;
 use std::process::Abort;
 use uca_model::{Entry, lines, output};
 use uca_table::Table;
@@ -162,4 +163,57 @@ fn agrees_with_the_plain_programs(rt: HostRuntime) {
         }
     }
     assert!(rt; agrees(alloc, &entries, Task::Elements, super::PLAIN));
+}
+
+/// What the command `compare` has to write for an input, by the keys that `key` writes for its lines. Digits and blanks
+/// are in the order of what they spell.
+fn orders_by_keys(alloc: Global, keys: &[u8]) -> Result<Vec<u8>, AllocError> {
+    let mut out = Vec::new(alloc);
+    let mut before: Option<&[u8]> = None;
+    for key in keys.split(|b| *b == b'\n') {
+        if key.is_empty() {
+            // Behind the last LF: no key is empty text at the strengths below.
+            break;
+        }
+        if let Some(last) = before {
+            out.extend_from_slice(match last.cmp(key) {
+                Ordering::Less => b"less\n",
+                Ordering::Equal => b"equal\n",
+                Ordering::Greater => b"greater\n",
+            })?;
+        }
+        before = Some(key);
+    }
+    Ok(out)
+}
+
+/// Texts that collide at each level.
+const NEIGHBOURS: &str =
+    "a\nA\na\u{301}\n\u{E1}\na\u{300}\na\u{1}\na\na-\n-a\na \nb\nch\ncz\nc\nch\n\n\u{1}\n\u{301}\n\
+\u{4E00}\n\u{18D00}\n\u{10FFFF}\na-b\na b\nab\nAB\naB\na\u{323}\u{301}\na\u{301}\u{323}\n\u{1EA1}\u{301}\n";
+
+#[test]
+fn neighbours_are_in_the_order_of_their_keys(rt: HostRuntime) {
+    let alloc = rt.alloc();
+    let strengths = [
+        Strength::Secondary,
+        Strength::Tertiary,
+        Strength::Quaternary,
+        Strength::Identical,
+    ];
+    for strength in strengths {
+        for weighting in [Variable::NonIgnorable, Variable::Blanked, Variable::Shifted] {
+            let settings = Settings {
+                strength,
+                weighting,
+            };
+            let keys = run_as(alloc, Task::Key, settings, NEIGHBOURS.as_bytes());
+            let Ok(want) = orders_by_keys(alloc, &keys.output) else {
+                return;
+            };
+            let done = run_as(alloc, Task::Compare, settings, NEIGHBOURS.as_bytes());
+            assert_eq!(rt; done.answer, Ok(0));
+            assert_eq!(rt; done.output.as_slice(), want.as_slice(), "{settings:?}");
+        }
+    }
 }

@@ -1,4 +1,4 @@
-use Rattle.std.proofs.Common.{◌≡◌, ℕ, ◌+◌, ◌*◌, ◌≤◌, List, [], ◌∷◌, length, flat_map, arith}
+use Rattle.std.proofs.Common.{◌≡◌, ◌+◌, [], ◌∷◌, length, flat_map, arith}
 use Rattle.uca_weights.specs.Outgoing.{handed}
 use Rattle.uca_weights.proofs.OutgoingLemmas.{handed-Sends}
 use Rattle.uca_allkeys.proofs.SendLemmas.{both_sent}

@@ -1,4 +1,4 @@
-use Rattle.std.proofs.Common.{◌≡◌, ℕ, ◌+◌, ◌*◌, ◌≤◌, List, [], ◌∷◌, length, arith}
+use Rattle.std.proofs.Common.{◌≡◌, ◌+◌, [], ◌∷◌, length, arith}
 use Rattle.uca_weights.specs.Outgoing.{handed}
 use Rattle.uca_weights.proofs.OutgoingLemmas.{handed-Sends}
 use Rattle.uca_allkeys.proofs.SendLemmas.{both_sent}

@@ -1,0 +1,84 @@
+ghost use Rattle.std.specs.Prelude.{◌≡◌, ◌^◌, ◌<◌, ◌≤◌, ◌+◌, length, All, OnOk, MatchResult};
+ghost use Rattle.uca_weights.specs.Outgoing.{handed, Sends, StopsSending};
+ghost use Rattle.uca_weights.specs.Writer.{WritesAll};
+ghost use Rattle.uca_weights.specs.declared.limits.TheConstants.{MAX_INPUT};
+ghost use Rattle.uca_model.specs.Compared.{compare_line, compare_output, order_line};
+ghost use Rattle.uca_model.specs.Lines.{lines_of, IsTextLine};
+ghost use Rattle.uca_cli.specs.Sending.{StopsOutput};
+
+use crate::faults::CliFault;
+use crate::lines::first_line;
+use crate::output::text_of_line;
+use std::cmp::Ordering;
+use uca_levels::compare;
+use uca_table::Table;
+use uca_weights::{Outgoing, Settings, WriteFault, Writer};
+
+/// The line that tells an order.
+fn order_line(order: Ordering) -> &'static [u8]
+    ensures text { result.now ≡ order_line order }
+    ensures short { length result.now ≤ 8 }
+{
+    match order {
+        Ordering::Less => b"less\n",
+        Ordering::Equal => b"equal\n",
+        Ordering::Greater => b"greater\n",
+    }
+}
+
+/// Has the order of two lines go out.
+fn send_order<W: Writer>(
+    t: &Table,
+    s: Settings,
+    before: &[u8],
+    line: &[u8],
+    w: &mut W,
+    out: &mut Outgoing,
+) -> Result<(), WriteFault>
+    requires before { IsTextLine before.now }
+    requires line { IsTextLine line.now }
+    requires room { handed out.old < 2 ^ 127 }
+    ensures sends { MatchResult result
+        (λ _. Sends (W.state w.old) out.old (W.state w.new) out.new (compare_line t.now s before.now line.now))
+        (StopsSending (W.state w.old) out.old (W.state w.new) (compare_line t.now s before.now line.now)) }
+    ensures small { OnOk result (handed out.new < handed out.old + 2 ^ 70) }
+{
+    let order = compare(t, s, &text_of_line(before), &text_of_line(line));
+    out.send(w, order_line(order))
+}
+
+/// Writes the order of each two neighbours among the lines of an input, which was checked.
+pub fn write_orders<W: Writer>(
+    t: &Table,
+    s: Settings,
+    bytes: &[u8],
+    w: &mut W,
+) -> Result<(), CliFault>
+    requires small { length bytes.now ≤ MAX_INPUT }
+    requires texts { All IsTextLine (lines_of bytes.now) }
+    ensures { MatchResult result
+        (λ _. WritesAll (W.state w.old) (W.state w.new) (compare_output t.now s bytes.now))
+        (StopsOutput (W.state w.old) (W.state w.new) (compare_output t.now s bytes.now)) }
+{
+    if bytes.is_empty() {
+        return Ok(());
+    }
+    let mut out = Outgoing::new();
+    let (first, others) = first_line(bytes);
+    let mut before = first;
+    let mut left = others;
+    while !left.is_empty() {
+        let (line, rest) = first_line(left);
+        match send_order(t, s, before, line, w, &mut out) {
+            Ok(()) => {
+                before = line;
+                left = rest;
+            }
+            Err(fault) => return Err(CliFault::Output(fault)),
+        }
+    }
+    match out.flush(w) {
+        Ok(()) => Ok(()),
+        Err(fault) => Err(CliFault::Output(fault)),
+    }
+}
