@@ -1,1 +1,3 @@
 pub mod KeyLemmas
+pub mod RoomLemmas
+pub mod SendingLemmas

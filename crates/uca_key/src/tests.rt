@@ -1,5 +1,7 @@
 ghost use Rattle.uca_model.specs.Table.{AreRanges};
 
+mod written;
+
 use crate::key_of;
 use std::alloc::{AllocError, Global};
 use std::process::Abort;

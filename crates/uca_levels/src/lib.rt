@@ -7,7 +7,7 @@
 
 pub mod comparison;
 mod level_order;
-mod points;
+pub mod points;
 pub mod weights;
 
 pub use comparison::{compare, compare_sources};

@@ -7,7 +7,7 @@ ghost use Rattle.uca_levels.specs.ToCome.{itself};
 use uca_window::{Source, Window};
 
 /// The next code point of a text in NFD.
-pub(crate) fn next_point<S: Source>(window: &mut Window, source: &mut S) -> Option<char>
+pub fn next_point<S: Source>(window: &mut Window, source: &mut S) -> Option<char>
     requires { Fits window.old (unread (S.state source.old)) }
     ensures pulls { Pulls rest_of itself window.old (S.state source.old) result window.new (S.state source.new) }
     ensures point { IfSome result (λ c. c < 2 ^ 24) }

@@ -1,0 +1,11 @@
+use Rattle.std.proofs.Common.{subst}
+use Rattle.uca_weights.specs.Writer.{WritesFront}
+use Rattle.uca_model.specs.Source.{SourceState}
+use Rattle.uca_model.specs.SortKey.{sort_key}
+use Rattle.uca_key.proofs.SendingLemmas.{stopped_last}
+use Rattle.uca_key.proofs.streaming.write_key.Goals as goal
+
+pub returns-in-Err-flush : goal.returns-in-Err-flush
+returns-in-Err-flush g c =
+    subst (λ (source : SourceState). WritesFront (g.W.Writer.state c.args.w.now) (g.W.Writer.state c.flush.new.w) (sort_key c.args.t.now c.args.s source.text) c.in-Err-flush.fault) c.new-source.ensures.value
+    (stopped_last _ _ _ c.new-out.result c.send_key.new.out _ _ c.new-out.ensures.waiting c.new-out.ensures.written c.in-Ok.ensures c.in-Err-flush.ensures.all)

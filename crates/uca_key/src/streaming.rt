@@ -1,0 +1,200 @@
+ghost use Rattle.std.specs.Prelude.{◌≡◌, ◌+◌, ◌<◌, ◌≤◌, ◌^◌, [], ◌∷◌, length, MatchResult};
+ghost use Rattle.uca_weights.specs.Outgoing.{handed, Sends, StopsSending};
+ghost use Rattle.uca_weights.specs.Writer.{WritesAll, WritesFront};
+ghost use Rattle.uca_model.specs.LevelWeights.{level_list};
+ghost use Rattle.uca_model.specs.Reading.{bytes_at};
+ghost use Rattle.uca_model.specs.SafeText.{IsSafe};
+ghost use Rattle.uca_model.specs.SortKey.{weight_bytes, code_point_bytes, sort_key};
+ghost use Rattle.uca_model.specs.Source.{unread};
+ghost use Rattle.uca_window.specs.Passage.{text_of};
+
+use uca_levels::Weights;
+use uca_levels::points::next_point;
+use uca_table::Table;
+use uca_weights::{Outgoing, Settings, Variable, WriteFault, Writer};
+use uca_window::{Passage, PassageSource, Source, Window};
+
+/// How far the bytes of a key came, and why they stopped.
+pub type KeyFault = WriteFault;
+
+// Has a weight go out.
+fn send_weight<W: Writer>(w: &mut W, out: &mut Outgoing, weight: u16) -> Result<(), WriteFault>
+    requires { handed out.old + 2 < 2 ^ 128 }
+    ensures { MatchResult result
+        (λ _. Sends (W.state w.old) out.old (W.state w.new) out.new (weight_bytes weight))
+        (λ f. StopsSending (W.state w.old) out.old (W.state w.new) (weight_bytes weight) f) }
+{
+    out.send(w, &weight.to_be_bytes())
+}
+
+// Has a code point go out.
+fn send_point<W: Writer>(w: &mut W, out: &mut Outgoing, point: char) -> Result<(), WriteFault>
+    requires { handed out.old + 3 < 2 ^ 128 }
+    ensures { MatchResult result
+        (λ _. Sends (W.state w.old) out.old (W.state w.new) out.new (code_point_bytes point))
+        (λ f. StopsSending (W.state w.old) out.old (W.state w.new) (code_point_bytes point) f) }
+{
+    out.send(w, &(point as u32).to_be_bytes()[1..])
+}
+
+// Has the separator of levels go out.
+fn send_separator<W: Writer>(w: &mut W, out: &mut Outgoing) -> Result<(), WriteFault>
+    requires { handed out.old + 2 < 2 ^ 128 }
+    ensures { MatchResult result
+        (λ _. Sends (W.state w.old) out.old (W.state w.new) out.new (0 ∷ 0 ∷ []))
+        (λ f. StopsSending (W.state w.old) out.old (W.state w.new) (0 ∷ 0 ∷ []) f) }
+{
+    out.send(w, &[0, 0])
+}
+
+// Has the weights of a level go out, of what a source has not given yet.
+fn send_weights<W: Writer, S: Source>(
+    w: &mut W,
+    out: &mut Outgoing,
+    t: &Table,
+    v: Variable,
+    level: u8,
+    source: &mut S,
+) -> Result<(), WriteFault>
+    requires first { 1 ≤ level }
+    requires last { level ≤ 4 }
+    requires safe { IsSafe (unread (S.state source.old)) }
+    requires room { handed out.old + length (bytes_at level (level_list t.now v (unread (S.state source.old)) level)) < 2 ^ 128 }
+    ensures bytes { MatchResult result
+        (λ _. Sends (W.state w.old) out.old (W.state w.new) out.new (bytes_at level (level_list t.now v (unread (S.state source.old)) level)))
+        (λ f. StopsSending (W.state w.old) out.old (W.state w.new) (bytes_at level (level_list t.now v (unread (S.state source.old)) level)) f) }
+    ensures text { (S.state source.new).text ≡ (S.state source.old).text }
+{
+    let mut weights = Weights::new(t, v, level);
+    'each: while let Some(weight) = weights.next(source) {
+        match send_weight(w, out, weight) {
+            Ok(()) => {}
+            Err(fault) => return Err(fault),
+        }
+    }
+    Ok(())
+}
+
+// Has the code points in NFD go out, of what a source has not given yet.
+fn send_points<W: Writer, S: Source>(
+    w: &mut W,
+    out: &mut Outgoing,
+    t: &Table,
+    v: Variable,
+    source: &mut S,
+) -> Result<(), WriteFault>
+    requires safe { IsSafe (unread (S.state source.old)) }
+    requires room { handed out.old + length (bytes_at 5 (level_list t.now v (unread (S.state source.old)) 5)) < 2 ^ 128 }
+    ensures bytes { MatchResult result
+        (λ _. Sends (W.state w.old) out.old (W.state w.new) out.new (bytes_at 5 (level_list t.now v (unread (S.state source.old)) 5)))
+        (λ f. StopsSending (W.state w.old) out.old (W.state w.new) (bytes_at 5 (level_list t.now v (unread (S.state source.old)) 5)) f) }
+    ensures text { (S.state source.new).text ≡ (S.state source.old).text }
+{
+    let mut window = Window::new(1);
+    'each: while let Some(point) = next_point(&mut window, source) {
+        match send_point(w, out, point) {
+            Ok(()) => {}
+            Err(fault) => return Err(fault),
+        }
+    }
+    Ok(())
+}
+
+// Has one level go out, of what a source has not given yet.
+fn send_level<W: Writer, S: Source>(
+    w: &mut W,
+    out: &mut Outgoing,
+    t: &Table,
+    v: Variable,
+    level: u8,
+    source: &mut S,
+) -> Result<(), WriteFault>
+    requires first { 1 ≤ level }
+    requires last { level ≤ 5 }
+    requires safe { IsSafe (unread (S.state source.old)) }
+    requires room { handed out.old + length (bytes_at level (level_list t.now v (unread (S.state source.old)) level)) < 2 ^ 128 }
+    ensures bytes { MatchResult result
+        (λ _. Sends (W.state w.old) out.old (W.state w.new) out.new (bytes_at level (level_list t.now v (unread (S.state source.old)) level)))
+        (λ f. StopsSending (W.state w.old) out.old (W.state w.new) (bytes_at level (level_list t.now v (unread (S.state source.old)) level)) f) }
+    ensures text { (S.state source.new).text ≡ (S.state source.old).text }
+{
+    if level == 5 {
+        return send_points(w, out, t, v, source);
+    }
+    send_weights(w, out, t, v, level, source)
+}
+
+// Has the sort key of a source's text go out, level after level.
+fn send_key<W: Writer, S: Source>(
+    w: &mut W,
+    out: &mut Outgoing,
+    t: &Table,
+    s: Settings,
+    source: &mut S,
+) -> Result<(), WriteFault>
+    requires safe { IsSafe (S.state source.old).text }
+    requires room { handed out.old + length (sort_key t.now s (S.state source.old).text) < 2 ^ 128 }
+    ensures { MatchResult result
+        (λ _. Sends (W.state w.old) out.old (W.state w.new) out.new (sort_key t.now s (S.state source.old).text))
+        (λ f. StopsSending (W.state w.old) out.old (W.state w.new) (sort_key t.now s (S.state source.old).text) f) }
+{
+    let last = s.levels();
+    let mut level = 1;
+    'each: loop {
+        source.restart();
+        match send_level(w, out, t, s.weighting, level, source) {
+            Ok(()) => {}
+            Err(fault) => return Err(fault),
+        }
+        if level == last {
+            return Ok(());
+        }
+        match send_separator(w, out) {
+            Ok(()) => {}
+            Err(fault) => return Err(fault),
+        }
+        level += 1;
+    }
+}
+
+// Shows that the bytes of a text can be counted.
+fn show_bytes(text: &str)
+    ensures { length text.now < 2 ^ 64 }
+{
+    let _bytes = text.len();
+}
+
+// Shows that the bytes of a key can be counted.
+fn show_room(t: &Table, s: Settings, p: &Passage)
+    ensures { length (sort_key t.now s (text_of p.now)) < 2 ^ 100 }
+{
+    let _longest = t.longest();
+    let text = p.as_str();
+    show_bytes(text);
+}
+
+/// Writes the sort key of a text, and answers its length in bytes (UTS #10, section 7.3). On a fault just the first
+/// `written` bytes of the key went out. The text is read once for each level. It takes no memory, and does not flush
+/// the writer.
+pub fn write_key<W: Writer>(
+    w: &mut W,
+    t: &Table,
+    s: Settings,
+    p: &Passage,
+) -> Result<u128, KeyFault>
+    ensures { MatchResult result
+        (λ n. WritesAll (W.state w.old) (W.state w.new) (sort_key t.now s (text_of p.now)) × (n ≡ length (sort_key t.now s (text_of p.now))))
+        (λ f. WritesFront (W.state w.old) (W.state w.new) (sort_key t.now s (text_of p.now)) f) }
+{
+    show_room(t, s, p);
+    let mut out = Outgoing::new();
+    let mut source = PassageSource::new(p);
+    match send_key(w, &mut out, t, s, &mut source) {
+        Ok(()) => {}
+        Err(fault) => return Err(fault),
+    }
+    match out.flush(w) {
+        Ok(()) => Ok(out.written()),
+        Err(fault) => Err(fault),
+    }
+}
