@@ -191,8 +191,14 @@ fn sources_may_stand_anywhere(rt: HostRuntime) {
     right.next();
     let s = settings(Strength::Tertiary, Variable::NonIgnorable);
     // `B` has no key, and a primary weight of its own.
-    assert_eq!(rt; compare_sources(&t, s, &mut left, &mut right), Ordering::Less);
-    assert_eq!(rt; compare_sources(&t, s, &mut right, &mut left), Ordering::Greater);
+    assert_eq!(rt;
+        compare_sources(&t, s, &mut left, &mut right),
+        Ordering::Less
+    );
+    assert_eq!(rt;
+        compare_sources(&t, s, &mut right, &mut left),
+        Ordering::Greater
+    );
 }
 
 /// The weights of what a source has not given yet, one by one.
@@ -222,7 +228,12 @@ fn weights_of_a_level_are_those_that_are_not_zero(rt: HostRuntime) {
         (
             "a-b",
             Variable::Shifted,
-            [&[0x1000, 0x1001], &[0x20, 0x20], &[2, 2], &[0xFFFF, 0x202, 0xFFFF]],
+            [
+                &[0x1000, 0x1001],
+                &[0x20, 0x20],
+                &[2, 2],
+                &[0xFFFF, 0x202, 0xFFFF],
+            ],
         ),
         (
             "-\u{1}\u{300}",
@@ -241,10 +252,15 @@ fn weights_of_a_level_are_those_that_are_not_zero(rt: HostRuntime) {
         for level in 1..5u8 {
             let weights = match weights_in_turn(rt.alloc(), &t, v, level, &mut source_of(&p)) {
                 Ok(weights) => weights,
-                Err(_) => weights_in_turn(rt.alloc(), &t, v, level, &mut source_of(&p))
-                    .expect(&rt, "weights"),
+                Err(_) => weights_in_turn(rt.alloc(), &t, v, level, &mut source_of(&p)).expect(
+                    &rt, "weights",
+                ),
             };
-            assert_eq!(rt; weights.as_slice(), wanted[level as usize - 1], "{text:?} {level}");
+            assert_eq!(rt;
+                weights.as_slice(),
+                wanted[level as usize - 1],
+                "{text:?} {level}"
+            );
         }
     }
 }
