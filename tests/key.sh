@@ -1,31 +1,10 @@
 #!/usr/bin/env bash
 # The built program from end to end: `uca key` on small inputs, on what it refuses, and on inputs at its limit.
-set -u
-cd "$(dirname "${BASH_SOURCE[0]}")/.." || exit 2
-work=$(mktemp -d) || exit 2
-trap 'rm -rf "$work"' EXIT
-passed=0
-failed=0
-
-# is NAME WANTED GOT
-is() {
-    if [ "$2" = "$3" ]; then
-        passed=$((passed + 1))
-    else
-        failed=$((failed + 1))
-        printf 'tests/key.sh: %s\n  wanted: %s\n  got:    %s\n' "$1" "$2" "$3"
-    fi
-}
-
-# runs WORDS.. <input: leaves out, err and status
-runs() {
-    ./uca "$@" >"$work/out" 2>"$work/err"
-    status=$?
-}
+source "$(dirname "${BASH_SOURCE[0]}")/checks.bash"
 
 marks() { for _ in $(seq "$1"); do printf '\xcc\x81'; done; }
 
-printf '' | ./uca key >/dev/null || { echo "tests/key.sh: the program could not be built"; exit 1; }
+is_built
 
 runs key < <(printf 'a\nab\n')
 is "keys of two lines" "10 00 00 00 00 20 00 00 00 02|10 00 10 01 00 00 00 20 00 20 00 00 00 02 00 02|0" "$(paste -sd'|' "$work/out")|$status"
@@ -76,5 +55,4 @@ runs key <"$work/marks"
 is "64 MiB in one line of letters with thirty marks" "$(((67108864 / 61) * (2 + 2 * 30 + 2 * 30) * 3 + 12))|0" "$(wc -c <"$work/out")|$status"
 echo "tests/key.sh: 64 MiB of letters with thirty marks took $(($(date +%s) - from)) s"
 
-echo "tests/key.sh: $passed passed, $failed failed"
-[ "$failed" -eq 0 ]
+sum_up

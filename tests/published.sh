@@ -1,29 +1,11 @@
 #!/usr/bin/env bash
 # Keys under the table that Debian's perl ships, beside those of perl's Unicode::Collate under the same table, over generated
 # texts; and the laws that keys of all settings have.
-set -u
-cd "$(dirname "${BASH_SOURCE[0]}")/.." || exit 2
-work=$(mktemp -d) || exit 2
-trap 'rm -rf "$work"' EXIT
-passed=0
-failed=0
+source "$(dirname "${BASH_SOURCE[0]}")/checks.bash"
 
-# is NAME WANTED GOT
-is() {
-    if [ "$2" = "$3" ]; then
-        passed=$((passed + 1))
-    else
-        failed=$((failed + 1))
-        printf 'tests/published.sh: %s\n  wanted: %s\n  got:    %s\n' "$1" "$2" "$3"
-    fi
-}
-
-./uca table >/dev/null </dev/null || { echo "tests/published.sh: the program could not be built"; exit 1; }
+is_built
 perl -MUnicode::Collate -e1 2>/dev/null || { echo "tests/published.sh: perl has no Unicode::Collate, so nothing was compared"; exit 0; }
-published=
-for folder in $(perl -e 'print join " ", @INC'); do
-    [ -f "$folder/Unicode/Collate/allkeys.txt" ] && published=$folder/Unicode/Collate/allkeys.txt && break
-done
+published=$(published_table)
 [ -n "$published" ] || { echo "tests/published.sh: no allkeys.txt in perl's folders, so nothing was compared"; exit 0; }
 
 count=30000
@@ -97,5 +79,4 @@ for variable in non-ignorable blanked shifted; do
     done
 done
 
-echo "tests/published.sh: $passed passed, $failed failed"
-[ "$failed" -eq 0 ]
+sum_up

@@ -1,29 +1,9 @@
 #!/usr/bin/env bash
 # The command `uca table`, and the table that Debian's perl ships: read, counted by another way, and written canonically.
-set -u
-cd "$(dirname "${BASH_SOURCE[0]}")/.." || exit 2
-work=$(mktemp -d) || exit 2
-trap 'rm -rf "$work"' EXIT
-passed=0
-failed=0
+source "$(dirname "${BASH_SOURCE[0]}")/checks.bash"
 
-# is NAME WANTED GOT
-is() {
-    if [ "$2" = "$3" ]; then
-        passed=$((passed + 1))
-    else
-        failed=$((failed + 1))
-        printf 'tests/table.sh: %s\n  wanted: %s\n  got:    %s\n' "$1" "$2" "$3"
-    fi
-}
-
-# runs WORDS..: leaves out, err and status
-runs() {
-    ./uca "$@" >"$work/out" 2>"$work/err" </dev/null
-    status=$?
-}
-
-./uca table >"$work/out" </dev/null || { echo "tests/table.sh: the program could not be built"; exit 1; }
+is_built
+runs table
 is "the built-in table" "0061 ; [.1000.0020.0002]" "$(grep '^0061 ;' "$work/out")"
 
 printf '0062;[.1001.0020.0002]# b\r\n\n0061 0301 ; [.100a.0020.0002.0061][*0000.0000.0000]\n@implicitweights 17000 .. 18AFF ; fb00' >"$work/small"
@@ -45,10 +25,7 @@ yes '# 4567' | head -c 67108865 >"$work/large"
 runs table --table "$work/large"
 is "one byte more than 64 MiB" "|uca: table line 9586981: TooLarge|3" "$(cat "$work/out")|$(cat "$work/err")|$status"
 
-published=
-for folder in $(perl -e 'print join " ", @INC' 2>/dev/null); do
-    [ -f "$folder/Unicode/Collate/allkeys.txt" ] && published=$folder/Unicode/Collate/allkeys.txt && break
-done
+published=$(published_table)
 if [ -n "$published" ]; then
     echo "tests/table.sh: with $published"
     runs table --table "$published"
@@ -69,5 +46,4 @@ else
     echo "tests/table.sh: no allkeys.txt in perl's folders, so no published table was read"
 fi
 
-echo "tests/table.sh: $passed passed, $failed failed"
-[ "$failed" -eq 0 ]
+sum_up

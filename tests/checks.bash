@@ -1,0 +1,43 @@
+# What the scripts of this folder share: a folder of their own, checks that are counted, and their sum. Each sources it.
+set -u
+cd "$(dirname "${BASH_SOURCE[0]}")/.." || exit 2
+script=tests/$(basename "$0")
+work=$(mktemp -d) || exit 2
+trap 'rm -rf "$work"' EXIT
+passed=0
+failed=0
+
+# is NAME WANTED GOT
+is() {
+    if [ "$2" = "$3" ]; then
+        passed=$((passed + 1))
+    else
+        failed=$((failed + 1))
+        printf '%s: %s\n  wanted: %s\n  got:    %s\n' "$script" "$1" "$2" "$3"
+    fi
+}
+
+# runs WORDS..: the program; leaves out, err and status
+runs() {
+    ./uca "$@" >"$work/out" 2>"$work/err"
+    status=$?
+}
+
+# is_built: ends the script where the program cannot be built
+is_built() {
+    ./uca table >/dev/null </dev/null || { echo "$script: the program could not be built"; exit 1; }
+}
+
+# published_table: the path of the table that Debian's perl ships, empty where it is not there
+published_table() {
+    local folder
+    for folder in $(perl -e 'print join " ", @INC' 2>/dev/null); do
+        [ -f "$folder/Unicode/Collate/allkeys.txt" ] && echo "$folder/Unicode/Collate/allkeys.txt" && return
+    done
+}
+
+# sum_up: the last line of a script
+sum_up() {
+    echo "$script: $passed passed, $failed failed"
+    [ "$failed" -eq 0 ]
+}
