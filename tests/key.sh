@@ -4,6 +4,9 @@ source "$(dirname "${BASH_SOURCE[0]}")/checks.bash"
 
 marks() { for _ in $(seq "$1"); do printf '\xcc\x81'; done; }
 
+# the bytes of a file as pairs of digits
+in_digits() { od -An -v -tx1 "$1" | tr -d ' \n'; }
+
 is_built
 
 runs key < <(printf 'a\nab\n')
@@ -27,7 +30,26 @@ is "elements" "[.1007.0020.0002]|[.1008.0020.0002][.0000.0024.0002]||[.FB40.0020
 runs key --variable shifted --strength quaternary < <(printf 'a-b')
 is "four levels, shifted" "10 00 10 01 00 00 00 20 00 20 00 00 00 02 00 02 00 00 FF FF 02 02 FF FF|0" "$(cat "$work/out")|$status"
 
-for words in "" "sort" "key --strength third" "key extra" "--help"; do
+runs key --raw < <(printf 'a\n')
+is "the bytes of a key" "10000000002000000002|0" "$(in_digits "$work/out")|$status"
+runs key --raw < <(printf 'ch\r\n')
+is "the bytes of a key, CR before LF" "10070000002000000002|0" "$(in_digits "$work/out")|$status"
+runs key --raw --strength identical < <(printf '\n')
+is "the bytes of the key of an empty line" "0000000000000000|0" "$(in_digits "$work/out")|$status"
+runs key --raw --strength primary < <(printf '\n')
+is "a key without any byte" "0|0" "$(wc -c <"$work/out")|$status"
+for input in '' 'a\nb\n' '\n\n'; do
+    # shellcheck disable=SC2059
+    runs key --raw < <(printf "$input")
+    is "the bytes of the key of no line or several: $input" "0|uca: input: NotOneLine|3" "$(wc -c <"$work/out")|$(cat "$work/err")|$status"
+done
+runs key --raw < <(printf 'a\nb\xff\n')
+is "bytes that are not UTF-8 in several lines" "0|uca: input line 2 byte 1: NotUtf8|3" "$(wc -c <"$work/out")|$(cat "$work/err")|$status"
+./uca key --raw < <(printf 'a\n') >/dev/full 2>"$work/err"
+status=$?
+is "the bytes of a key, and a full disk" "uca: output byte 0: Failed|3" "$(cat "$work/err")|$status"
+
+for words in "" "sort" "key --strength third" "key extra" "table --raw" "key --raw --raw" "--help"; do
     # shellcheck disable=SC2086
     runs $words </dev/null
     is "words that are no job: $words" "0|2" "$(wc -c <"$work/out")|$status"

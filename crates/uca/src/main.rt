@@ -1,8 +1,6 @@
 //! The program `uca`: its words, its streams and its status. What it does is `uca_cli`'s.
 #![tactic(auto)]
 
-ghost use Rattle.std.specs.Prelude.{◌≡◌, false};
-
 use std::alloc::AllocError;
 use std::fs::File;
 use std::io::{ErrorKind, Write};
@@ -74,29 +72,47 @@ fn refuse_job(rt: &HostRuntime, fault: &JobFault) -> u8 {
     }
 }
 
-/// Opens the file of the table, if the job names one, and does the job.
-fn do_job(rt: &HostRuntime, job: &Job) -> u8
-    requires digits { job.now.raw ≡ false }
-{
-    let Some(path) = &job.table else {
-        return perform_on_streams(rt, job, None);
+/// A file that a job names could not be opened, which was told.
+#[derive(Drop)]
+struct NotOpened;
+
+/// Opens the files that the job names, first that of the table and then that of the rules, and does the job.
+fn do_job(rt: &HostRuntime, job: &Job) -> u8 {
+    let Ok(mut table) = reader_of(rt, job.table.as_ref()) else {
+        return NOT_DONE;
+    };
+    let Ok(mut rules) = reader_of(rt, job.rules.as_ref()) else {
+        return NOT_DONE;
+    };
+    perform_on_streams(rt, job, table.as_mut(), rules.as_mut())
+}
+
+/// The reader of the file of this path, if there is one.
+fn reader_of(
+    rt: &HostRuntime,
+    path: Option<&String>,
+) -> Result<Option<Reading<File>>, NotOpened> {
+    let Some(path) = path else {
+        return Ok(None);
     };
     match fs::open(rt, path) {
-        Ok(file) => perform_on_streams(rt, job, Some(&mut Reading::new(file))),
+        Ok(file) => Ok(Some(Reading::new(file))),
         Err(_) => {
             let _ = eprintln!(rt; "uca: cannot open {path}");
-            NOT_DONE
+            Err(NotOpened)
         }
     }
 }
 
-/// Does a job on the standard streams, with the reader of the table if there is one.
-fn perform_on_streams(rt: &HostRuntime, job: &Job, table: Option<&mut Reading<File>>) -> u8
-    requires digits { job.now.raw ≡ false }
-{
+/// Does a job on the standard streams, with the readers of the table and of the rules if there are any.
+fn perform_on_streams(
+    rt: &HostRuntime,
+    job: &Job,
+    table: Option<&mut Reading<File>>,
+    rules: Option<&mut Reading<File>>,
+) -> u8 {
     let mut input = Reading::new(rt.stdin());
     let mut output = Writing::new(rt.stdout());
-    let rules = None::<&mut Reading<File>>;
     match perform(rt.alloc(), job, table, rules, &mut input, &mut output) {
         Ok(status) => flushed(rt, status),
         Err(fault) => {

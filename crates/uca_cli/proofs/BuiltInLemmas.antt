@@ -4,8 +4,7 @@ use Rattle.std.specs.FinMap.{FinMap, empty, put, entries, entries-from_sorted, e
 use Rattle.std.specs.Cmp.Lexicographic.{nat_list_cmp_total}
 use Rattle.uca_weights.specs.declared.element.Element.{Element}
 use Rattle.uca_weights.specs.declared.range.Range.{Range}
-use Rattle.uca_model.specs.Table.{ElementTable, key_cmp}
-use Rattle.uca_table.specs.Builder.{with_entry}
+use Rattle.uca_model.specs.Table.{ElementTable, key_cmp, with_entry}
 use Rattle.uca_cli.specs.BuiltIn.{plain, with_point, with_contractions, with_ranges, built_in_entries, built_in_table, tangut, tangut_supplement}
 use Rattle.uca_cli.specs.declared.small_table.TheConstants.{ENTRIES}
 

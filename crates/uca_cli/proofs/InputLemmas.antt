@@ -3,7 +3,6 @@ use Rattle.std.proofs.Common.{◌≡◌, ℕ, ◌-◌, ◌<◌, ◌≤◌, List,
 use Rattle.std.proofs.lemmas.List.{length-take}
 use Rattle.std.proofs.KnownBytes.{Consumes-trans}
 use Rattle.std.specs.Io.KnownBytes.{Consumes}
-use Rattle.uca_weights.specs.declared.limits.TheConstants.{MAX_INPUT}
 use Rattle.uca_weights.specs.Reader.{ReaderState, Gives}
 use Rattle.uca_cli.specs.declared.faults.InputCause.{InputCause}
 use Rattle.uca_cli.specs.declared.faults.InputFault.{InputFault}
@@ -23,5 +22,5 @@ StopsReading-by old new fault cause is stops =
     subst (StopsReading old new) (sym is) made
 
 -- the bytes so far and n more are too many
-pub too_many : (bytes buf : List ℕ) (n : ℕ) → length bytes ≤ MAX_INPUT → n ≤ length buf → MAX_INPUT - length bytes < n → MAX_INPUT < length (bytes ++ take n buf)
-too_many bytes buf n within fits more = omega (arith, length-append bytes (take n buf), length-take n buf)
+pub too_many : (limit : ℕ) (bytes buf : List ℕ) (n : ℕ) → length bytes ≤ limit → n ≤ length buf → limit - length bytes < n → limit < length (bytes ++ take n buf)
+too_many limit bytes buf n within fits more = omega (arith, length-append bytes (take n buf), length-take n buf)

@@ -1,12 +1,13 @@
 -- The first byte of a kind, and the first line with a fault.
-use Rattle.std.proofs.Common.{◌≡◌, ◌≢◌, ℕ, ◌+◌, ◌<◌, List, [], ◌∷◌, ◌++◌, length, All, slice_index, sym, ap, ◌∙◌, arith, eq-eqb}
+use Rattle.std.proofs.Common.{◌≡◌, ◌≢◌, ℕ, ◌+◌, ◌<◌, ◌==◌, Bool, true, false, List, [], ◌∷◌, ◌++◌, length, map, All, slice_index, sym, ap, ◌∙◌, arith, eq-eqb}
+use Rattle.std.specs.Prelude.{if◌then◌else◌}
 use Rattle.std.proofs.Common.{append_assoc, append-nil, length-append, subst}
 use Rattle.std.proofs.lemmas.List.Elements.{All-push}
 use Rattle.memchr.specs.Find.{Nowhere, Passes, is_byte}
-use Rattle.uca_model.specs.Lines.{IsTextLine, LineFault, HasFault, IsFirstFault, lines_of, not_utf8, long_run}
+use Rattle.uca_model.specs.Lines.{IsTextLine, LineFault, HasFault, IsFirstFault, line_feed, lines_of, onto, split_lines, without_return, not_utf8, long_run}
 use Rattle.uca_cli.specs.declared.faults.InputCause.{InputCause}
-use Rattle.uca_cli.specs.declared.faults.InputCause.TheVariants.{NotUtf8, LongRun, TooLarge, Read, OutOfMemory}
-use Rattle.uca_cli.specs.Input.{HasFaultAt, IsFirstFaultAt}
+use Rattle.uca_cli.specs.declared.faults.InputCause.TheVariants.{NotUtf8, LongRun, TooLarge, Read, OutOfMemory, NotOneLine}
+use Rattle.uca_cli.specs.Input.{HasFaultAt, IsFirstFaultAt, IsOneLine}
 
 -- where no byte is this one
 pub no_byte : (a : ℕ) (bytes : List ℕ) (j : ℕ) → Nowhere (Passes (is_byte a) bytes) 0 j → (k : ℕ) → k < j → slice_index bytes k ≢ a
@@ -46,8 +47,25 @@ IsFirstFaultAt-next LongRun lines left rest line n at h first faulty = first_fau
 IsFirstFaultAt-next TooLarge lines left rest line n at h first faulty = absurd faulty
 IsFirstFaultAt-next Read lines left rest line n at h first faulty = absurd faulty
 IsFirstFaultAt-next OutOfMemory lines left rest line n at h first faulty = absurd faulty
+IsFirstFaultAt-next NotOneLine lines left rest line n at h first faulty = absurd faulty
 
 -- no line is left
 pub HasFineFront-end : (bytes left : List ℕ) (n : ℕ) → HasFineFront (lines_of bytes) (lines_of left) n → length left ≡ 0 → All IsTextLine (lines_of bytes)
 HasFineFront-end bytes [] n h none = subst (All IsTextLine) (sym (h.parts ∙ append-nil h.front)) h.fine
 HasFineFront-end bytes (b ∷ left) n h none = absurd (omega arith)
+
+-- bytes have a line
+some_lines : (bytes : List ℕ) → 0 < length bytes → 0 < length (lines_of bytes)
+some_lines [] some = absurd (omega arith)
+some_lines (b ∷ bytes) some = go (b == line_feed) (split_lines bytes)
+  where
+    go : (ends : Bool) (lines : List (List ℕ)) → 0 < length (map without_return (if ends then [] ∷ lines else onto b lines))
+    go true lines = omega arith
+    go false [] = omega arith
+    go false (line ∷ lines) = omega arith
+
+-- bytes behind the first line are another one
+pub other_lines : (bytes line rest : List ℕ) → lines_of bytes ≡ line ∷ lines_of rest → 0 < length rest → ¬ IsOneLine bytes
+other_lines bytes line rest parts more one =
+    let all : length (lines_of bytes) ≡ length (line ∷ lines_of rest) = ap length parts in
+    omega (arith, all, one, some_lines rest more)

@@ -3,8 +3,8 @@ use Rattle.std.specs.Prelude.{ℕ, true, false, List, [], ◌∷◌}
 use Rattle.std.specs.FinMap.{from_sorted}
 use Rattle.uca_weights.specs.declared.element.Element.{Element}
 use Rattle.uca_weights.specs.declared.range.Range.{Range}
-use Rattle.uca_model.specs.Table.{ElementTable, key_cmp}
-use Rattle.uca_table.specs.Builder.{with_entry, with_range}
+use Rattle.uca_model.specs.Table.{ElementTable, key_cmp, with_entry}
+use Rattle.uca_table.specs.Builder.{with_range}
 
 -- an element with the mark `.`
 abbrev pub plain : ℕ → ℕ → ℕ → Element

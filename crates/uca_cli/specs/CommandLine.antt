@@ -1,10 +1,12 @@
 -- The command line of the program: which job the words after the program's name ask for, by clap's own definition of
 -- what a command takes and finds.
-use Rattle.std.specs.Prelude.{◌≡◌, ◌≢◌, ⊤, true, false, List, [], ◌∷◌, Option, Some, None, IsSomeAnd, codes, if◌then◌else◌, map, option_and_then, option_map, string_bytes, unwrap_or}
+use Rattle.std.specs.Prelude.{◌≡◌, ◌≢◌, ⊤, Bool, true, false, List, [], ◌∷◌, Option, Some, None, IsSomeAnd, codes, if◌then◌else◌, map, option_and_then, option_map, string_bytes, unwrap_or}
+use Rattle.std.specs.Option.{option_map_or}
 use Rattle.std.specs.Borrow.{Bor}
 use Rattle.std.specs.Str.{bytes_eq}
 use Rattle.clap.specs.Words.{App, Row, Rule, Text, fault_of, first_of, new_app, new_rule, subcommand_of, with_rule, with_subcommand}
 use Rattle.clap.specs.Simple.{on_top}
+use Rattle.clap.specs.declared.builder.action.ArgAction.TheVariants.{SetTrue}
 use Rattle.clap.specs.declared.builder.value_parser.ValueParser.TheVariants.{Names}
 use Rattle.uca_weights.specs.declared.settings.Strength.{Strength}
 use Rattle.uca_weights.specs.declared.settings.Strength.TheVariants.{Primary, Secondary, Tertiary, Quaternary, Identical}
@@ -56,6 +58,10 @@ option_of name = record (new_rule name) { long = Some name; value_names = 1 }
 abbrev pub table_option : Rule
 table_option = option_of (codes "table")
 
+-- `--rules FILE`
+abbrev pub rules_option : Rule
+rules_option = option_of (codes "rules")
+
 -- `--strength S`
 abbrev pub strength_option : Bor (List (Bor Text)) → Rule
 strength_option names =
@@ -69,8 +75,16 @@ variable_option names =
 -- a command: each takes all options
 abbrev pub command_with : Choices → Text → App
 command_with choices name =
-    with_rule (with_rule (with_rule (new_app name) table_option) (strength_option choices.strengths))
-    (variable_option choices.weightings)
+    with_rule (with_rule (with_rule (with_rule (new_app name) table_option) rules_option)
+    (strength_option choices.strengths)) (variable_option choices.weightings)
+
+-- the flag `--raw`
+abbrev pub raw_flag : Rule
+raw_flag = record (new_rule (codes "raw")) { long = Some (codes "raw"); action = Some SetTrue }
+
+-- `key`, which has a flag besides
+abbrev pub key_command : Choices → App
+key_command choices = with_rule (command_with choices (codes "key")) raw_flag
 
 -- the program without its commands: its own name is not among the words, and they have to name a command
 abbrev pub bare_program : App
@@ -81,7 +95,7 @@ bare_program =
 abbrev pub uca_with : Choices → App
 uca_with choices =
     with_subcommand (with_subcommand (with_subcommand (with_subcommand bare_program (command_with choices (codes "elements")).top)
-    (command_with choices (codes "key")).top) (command_with choices (codes "compare")).top) (command_with choices (codes "table")).top
+    (key_command choices).top) (command_with choices (codes "compare")).top) (command_with choices (codes "table")).top
 
 -- the task of the command of this name
 abbrev pub task_named : Text → Option Task
@@ -101,14 +115,18 @@ strength_in rows = unwrap_or (option_and_then strength_named (first_of (codes "s
 abbrev pub weighting_in : List Row → Variable
 weighting_in rows = unwrap_or (option_and_then weighting_named (first_of (codes "variable") rows)) NonIgnorable
 
+-- whether the flag was given: clap finds the value `true` where it was, `false` where it was not, and none where a command lacks it
+abbrev pub raw_in : List Row → Bool
+raw_in rows = option_map_or (λ value. bytes_eq value (codes "true")) (first_of (codes "raw") rows) false
+
 -- the job of a command's name and of what was found for its options; what no option gives has its default
 pub record IsJobFrom (job : Job) (found : Text × List Row) : Type 0 where
   pub command : task_named found.0 ≡ Some job.command
   pub strength : job.strength ≡ strength_in found.1
   pub weighting : job.weighting ≡ weighting_in found.1
   pub table : option_map string_bytes job.table ≡ first_of (codes "table") found.1
-  pub raw : job.raw ≡ false
-  pub rules : job.rules ≡ None
+  pub raw : job.raw ≡ raw_in found.1
+  pub rules : option_map string_bytes job.rules ≡ first_of (codes "rules") found.1
 
 -- clap takes the words: they have no mistake, and ask for no help
 abbrev pub IsTaken : Choices → List Text → Type 0

@@ -2,16 +2,24 @@
 use Rattle.std.specs.Prelude.{◌≡◌, ℕ, ◌<◌, ◌≤◌, List, length}
 use Rattle.uca_weights.specs.declared.limits.TheConstants.{MAX_INPUT}
 use Rattle.uca_weights.specs.Reader.{ReaderState, Gives, GivesAndFails}
-use Rattle.uca_model.specs.Lines.{not_utf8, long_run, HasFault, IsFirstFault}
+use Rattle.uca_model.specs.Lines.{lines_of, not_utf8, long_run, HasFault, IsFirstFault}
 use Rattle.uca_cli.specs.declared.faults.InputCause.{InputCause}
 use Rattle.uca_cli.specs.declared.faults.InputCause.TheVariants.{NotUtf8, LongRun, TooLarge, Read, OutOfMemory}
 use Rattle.uca_cli.specs.declared.faults.InputFault.{InputFault}
+use Rattle.uca_cli.specs.declared.input.Stop.{Stop}
+use Rattle.uca_cli.specs.declared.input.Stop.TheVariants as stop
 
 -- reading did not come to the end: there was a byte too much, or the reader failed before there was one, or memory was wanted
+abbrev pub StopsAt : ℕ → Stop → ReaderState → ReaderState → Type 0
+StopsAt limit stop.TooLarge old new = (bytes : List ℕ) × (Gives old new bytes × (limit < length bytes))
+StopsAt limit stop.Read old new = (bytes : List ℕ) × (GivesAndFails old new bytes × (length bytes ≤ limit))
+StopsAt limit stop.OutOfMemory old new = (bytes : List ℕ) × Gives old new bytes
+
+-- the same of an input of lines
 abbrev pub StopsBy : InputCause → ReaderState → ReaderState → Type 0
-StopsBy TooLarge old new = (bytes : List ℕ) × (Gives old new bytes × (MAX_INPUT < length bytes))
-StopsBy Read old new = (bytes : List ℕ) × (GivesAndFails old new bytes × (length bytes ≤ MAX_INPUT))
-StopsBy OutOfMemory old new = (bytes : List ℕ) × Gives old new bytes
+StopsBy TooLarge old new = StopsAt MAX_INPUT stop.TooLarge old new
+StopsBy Read old new = StopsAt MAX_INPUT stop.Read old new
+StopsBy OutOfMemory old new = StopsAt MAX_INPUT stop.OutOfMemory old new
 StopsBy _ old new = ⊥
 
 -- no line is at fault
@@ -35,3 +43,7 @@ IsFirstFaultAt _ lines line at = ⊥
 -- the fault is that of the first line that has one
 abbrev pub HasInputFault : List (List ℕ) → InputFault → Type 0
 HasInputFault lines fault = IsFirstFaultAt fault.cause lines fault.line fault.at
+
+-- an input is a single line
+abbrev pub IsOneLine : List ℕ → Type 0
+IsOneLine bytes = length (lines_of bytes) ≡ 1

@@ -2,5 +2,6 @@ pub mod Input
 pub mod BuiltIn
 pub mod CommandLine
 pub mod Lent
+pub mod RuleFile
 pub mod Performing
 pub mod Sending

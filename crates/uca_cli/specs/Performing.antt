@@ -1,5 +1,5 @@
 -- What doing a job comes to: what was read, what went out, and what stopped it.
-use Rattle.std.specs.Prelude.{◌≡◌, ℕ, ◌<◌, ◌≤◌, ◌⊎◌, List, [], ◌++◌, length, All, Option, Some, None}
+use Rattle.std.specs.Prelude.{◌≡◌, ⊤, ℕ, ◌<◌, ◌≤◌, ◌⊎◌, Bool, true, false, List, [], ◌∷◌, ◌++◌, length, All, Option, Some, None, chars}
 use Rattle.uca_weights.specs.declared.limits.TheConstants.{MAX_INPUT}
 use Rattle.uca_weights.specs.declared.settings.Settings.{Settings}
 use Rattle.uca_weights.specs.declared.writer.WriteFault.{WriteFault}
@@ -11,13 +11,16 @@ use Rattle.uca_model.specs.Compared.{compare_output}
 use Rattle.uca_model.specs.ElementLines.{elements_output}
 use Rattle.uca_model.specs.Lines.{lines_of, IsTextLine}
 use Rattle.uca_model.specs.Output.{key_output}
+use Rattle.uca_model.specs.SortKey.{sort_key}
 use Rattle.uca_model.specs.Table.{ElementTable}
 use Rattle.uca_allkeys.specs.Reading.{GivesTable, IsRefused}
 use Rattle.uca_allkeys.specs.declared.faults.ReadFault.{ReadFault}
 use Rattle.uca_cli.specs.BuiltIn.{built_in_table}
-use Rattle.uca_cli.specs.Input.{StopsReading, HasInputFault}
+use Rattle.uca_cli.specs.Input.{StopsReading, HasInputFault, IsOneLine}
+use Rattle.uca_cli.specs.RuleFile.{Tailors, RefusesTailoring}
 use Rattle.uca_cli.specs.declared.faults.CliFault.{CliFault}
 use Rattle.uca_cli.specs.declared.faults.CliFault.TheVariants as fault
+use Rattle.uca_cli.specs.declared.faults.InputCause.TheVariants.{NotOneLine}
 use Rattle.uca_cli.specs.declared.faults.InputFault.{InputFault}
 use Rattle.uca_cli.specs.declared.job.Job.{Job}
 use Rattle.uca_cli.specs.declared.job.Task.{Task}
@@ -27,15 +30,21 @@ use Rattle.uca_cli.specs.declared.job.Task.TheVariants.{Elements, Key, Compare, 
 abbrev pub settings_of : Job → Settings
 settings_of job = record { strength = job.strength; weighting = job.weighting }
 
--- what a command writes with a table for an input
-abbrev pub task_output : Task → ElementTable → Settings → List ℕ → List ℕ
-task_output Elements t s bytes = elements_output t bytes
-task_output Key t s bytes = key_output t s bytes
-task_output Compare t s bytes = compare_output t s bytes
-task_output Table t s bytes = canonical t
+-- `key --raw`: the sort key of the one line
+abbrev pub raw_key_output : ElementTable → Settings → List (List ℕ) → List ℕ
+raw_key_output t s (line ∷ []) = sort_key t s (chars line)
+raw_key_output t s _ = []
+
+-- what a command writes with a table for an input; the flag `--raw` is one of `key`
+abbrev pub task_output : Task → Bool → ElementTable → Settings → List ℕ → List ℕ
+task_output Elements raw t s bytes = elements_output t bytes
+task_output Key false t s bytes = key_output t s bytes
+task_output Key true t s bytes = raw_key_output t s (lines_of bytes)
+task_output Compare raw t s bytes = compare_output t s bytes
+task_output Table raw t s bytes = canonical t
 
 abbrev pub job_output : Job → ElementTable → List ℕ → List ℕ
-job_output job t bytes = task_output job.command t (settings_of job) bytes
+job_output job t bytes = task_output job.command job.raw t (settings_of job) bytes
 
 -- what is known of the reader of the input, and of the writer
 pub record Ends : Type 0 where
@@ -73,20 +82,36 @@ pub record ReadsLines (old new : ReaderState) (bytes : List ℕ) : Type 0 where
   pub input : ReadsInput old new bytes
   pub lines : All IsTextLine (lines_of bytes)
 
--- bytes that were read and checked
-pub record IsChecked (bytes : List ℕ) : Type 0 where
-  pub small : length bytes ≤ MAX_INPUT
-  pub lines : All IsTextLine (lines_of bytes)
+-- the same of an input that is a single line
+pub record ReadsOneLine (old new : ReaderState) (bytes : List ℕ) : Type 0 where
+  pub text : ReadsLines old new bytes
+  pub one : IsOneLine bytes
 
 -- the reader was left alone
 pub record ReadsNothing (old new : ReaderState) (bytes : List ℕ) : Type 0 where
   pub none : bytes ≡ []
   pub same : new ≡ old
 
--- a command reads the lines that it writes of; `table` has no input
-abbrev pub ReadsFor : Task → ReaderState → ReaderState → List ℕ → Type 0
-ReadsFor Table old new bytes = ReadsNothing old new bytes
-ReadsFor _ old new bytes = ReadsLines old new bytes
+-- a command reads the lines that it writes of, and `key --raw` its one line; `table` has no input
+abbrev pub ReadsFor : Task → Bool → ReaderState → ReaderState → List ℕ → Type 0
+ReadsFor Elements raw old new bytes = ReadsLines old new bytes
+ReadsFor Key false old new bytes = ReadsLines old new bytes
+ReadsFor Key true old new bytes = ReadsOneLine old new bytes
+ReadsFor Compare raw old new bytes = ReadsLines old new bytes
+ReadsFor Table raw old new bytes = ReadsNothing old new bytes
+
+-- bytes whose lines were checked
+pub record IsChecked (bytes : List ℕ) : Type 0 where
+  pub small : length bytes ≤ MAX_INPUT
+  pub lines : All IsTextLine (lines_of bytes)
+
+-- bytes that were read for a command and checked
+abbrev pub IsCheckedFor : Task → Bool → List ℕ → Type 0
+IsCheckedFor Key true bytes = IsChecked bytes × IsOneLine bytes
+IsCheckedFor Key false bytes = IsChecked bytes
+IsCheckedFor Elements raw bytes = IsChecked bytes
+IsCheckedFor Compare raw bytes = IsChecked bytes
+IsCheckedFor Table raw bytes = ⊤
 
 -- the whole input was read, and the fault is that of its first line that has one
 pub record HasFaultyLine (old new : ReaderState) (f : InputFault) : Type 0 where
@@ -98,17 +123,31 @@ pub record HasFaultyLine (old new : ReaderState) (f : InputFault) : Type 0 where
 abbrev pub RefusesInput : ReaderState → ReaderState → InputFault → Type 0
 RefusesInput old new f = StopsReading old new f ⊎ HasFaultyLine old new f
 
+-- the whole input was read, and all of its lines are texts, but it is not a single line
+pub record HasOtherLines (old new : ReaderState) (f : InputFault) : Type 0 where
+  pub bytes : List ℕ
+  pub text : ReadsLines old new bytes
+  pub other : ¬ IsOneLine bytes
+  pub fault : f ≡ record { line = 0; at = 0; cause = NotOneLine }
+
+-- where one line is wanted, the input is refused, or is not a single line
+abbrev pub RefusesOneLine : ReaderState → ReaderState → InputFault → Type 0
+RefusesOneLine old new f = RefusesInput old new f ⊎ HasOtherLines old new f
+
 -- a command refuses its input; `table` has none
-abbrev pub RefusesFor : Task → ReaderState → ReaderState → InputFault → Type 0
-RefusesFor Table old new f = ⊥
-RefusesFor _ old new f = RefusesInput old new f
+abbrev pub RefusesFor : Task → Bool → ReaderState → ReaderState → InputFault → Type 0
+RefusesFor Elements raw old new f = RefusesInput old new f
+RefusesFor Key false old new f = RefusesInput old new f
+RefusesFor Key true old new f = RefusesOneLine old new f
+RefusesFor Compare raw old new f = RefusesInput old new f
+RefusesFor Table raw old new f = ⊥
 
 -- ---- the work with a table
 
 -- the input was read, and all of the output went out
 pub record Works (job : Job) (t : ElementTable) (old new : Ends) : Type 0 where
   pub bytes : List ℕ
-  pub reads : ReadsFor job.command old.input new.input bytes
+  pub reads : ReadsFor job.command job.raw old.input new.input bytes
   pub writes : WritesAll old.output new.output (job_output job t bytes)
 
 -- some of the first bytes went out, but not all, and no call failed or took nothing
@@ -121,47 +160,64 @@ pub record WritesSome (old new : WriterState) (bytes : List ℕ) : Type 0 where
 
 -- the input was refused, and nothing was written
 pub record StopsReadingFor (job : Job) (old new : Ends) (f : InputFault) : Type 0 where
-  pub input : RefusesFor job.command old.input new.input f
+  pub input : RefusesFor job.command job.raw old.input new.input f
   pub output : new.output ≡ old.output
 
 -- the input was read, and the writer stopped the output
 pub record StopsWriting (job : Job) (t : ElementTable) (old new : Ends) (f : WriteFault) : Type 0 where
   pub bytes : List ℕ
-  pub reads : ReadsFor job.command old.input new.input bytes
+  pub reads : ReadsFor job.command job.raw old.input new.input bytes
   pub writes : WritesFront old.output new.output (job_output job t bytes) f
 
 -- the input was read, and memory was wanted while the output was written
 pub record WantsMemory (job : Job) (t : ElementTable) (old new : Ends) : Type 0 where
   pub bytes : List ℕ
-  pub reads : ReadsFor job.command old.input new.input bytes
+  pub reads : ReadsFor job.command job.raw old.input new.input bytes
   pub writes : WritesSome old.output new.output (job_output job t bytes)
 
 -- why the work was not done: the input is read whole and checked, and only then something is written
 abbrev pub StopsWork : Job → ElementTable → Ends → Ends → CliFault → Type 0
-StopsWork job t old new (fault.Table f) = ⊥
 StopsWork job t old new (fault.Input f) = StopsReadingFor job old new f
 StopsWork job t old new (fault.Output f) = StopsWriting job t old new f
 StopsWork job t old new fault.OutOfMemory = WantsMemory job t old new
+StopsWork job t old new _ = ⊥
 
--- ---- the job, which begins with its table
+-- ---- the job, which begins with its table and the rules for it
 
--- the table was read, and the work was done with it
-pub record Performs (job : Job) (lent left : Option ReaderState) (old new : Ends) : Type 0 where
+-- what is known of the readers of the table and of the rules, where there are any
+pub record Sources : Type 0 where
+  pub table : Option ReaderState
+  pub rules : Option ReaderState
+
+-- the table was read, the rules tailored it, and the work was done with the tailored table
+pub record Performs (job : Job) (lent left : Sources) (old new : Ends) : Type 0 where
   pub t : ElementTable
-  pub table : ReadsTable lent left t
-  pub works : Works job t old new
+  pub table : ReadsTable lent.table left.table t
+  pub serving : ElementTable
+  pub rules : Tailors lent.rules left.rules t serving
+  pub works : Works job serving old new
 
 -- there was no table, and nothing else was done
-pub record HasNoTable (lent left : Option ReaderState) (old new : Ends) (f : CliFault) : Type 0 where
-  pub table : StopsTable lent left f
+pub record HasNoTable (lent left : Sources) (old new : Ends) (f : CliFault) : Type 0 where
+  pub table : StopsTable lent.table left.table f
+  pub rules : left.rules ≡ lent.rules
   pub same : new ≡ old
 
--- the table was read, and the work with it was not done
-pub record StopsBehindTable (job : Job) (lent left : Option ReaderState) (old new : Ends) (f : CliFault) : Type 0 where
+-- the table was read, the rules did not serve, and nothing else was done
+pub record HasNoRules (lent left : Sources) (old new : Ends) (f : CliFault) : Type 0 where
   pub t : ElementTable
-  pub table : ReadsTable lent left t
-  pub work : StopsWork job t old new f
+  pub table : ReadsTable lent.table left.table t
+  pub rules : RefusesTailoring lent.rules left.rules t f
+  pub same : new ≡ old
+
+-- the table was read and tailored, and the work with it was not done
+pub record StopsBehindTable (job : Job) (lent left : Sources) (old new : Ends) (f : CliFault) : Type 0 where
+  pub t : ElementTable
+  pub table : ReadsTable lent.table left.table t
+  pub serving : ElementTable
+  pub rules : Tailors lent.rules left.rules t serving
+  pub work : StopsWork job serving old new f
 
 -- why a job was not done
-abbrev pub Refuses : Job → Option ReaderState → Option ReaderState → Ends → Ends → CliFault → Type 0
-Refuses job lent left old new f = HasNoTable lent left old new f ⊎ StopsBehindTable job lent left old new f
+abbrev pub Refuses : Job → Sources → Sources → Ends → Ends → CliFault → Type 0
+Refuses job lent left old new f = HasNoTable lent left old new f ⊎ (HasNoRules lent left old new f ⊎ StopsBehindTable job lent left old new f)

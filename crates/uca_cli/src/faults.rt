@@ -1,6 +1,7 @@
 use std::fmt;
 use thiserror::Error;
 use uca_allkeys::{ReadCause, ReadFault};
+use uca_tailor::{RuleCause, RuleFault, TailorCause, TailorFault};
 use uca_weights::WriteFault;
 
 /// Why an input of lines was refused.
@@ -21,6 +22,9 @@ pub enum InputCause {
     /// Memory for the input was refused.
     #[error("OutOfMemory")]
     OutOfMemory,
+    /// There are no lines or several, where one is wanted.
+    #[error("NotOneLine")]
+    NotOneLine,
 }
 
 /// Where and why an input of lines was refused.
@@ -33,13 +37,35 @@ pub struct InputFault {
     pub cause: InputCause,
 }
 
+/// Why the bytes of a file of rules are no text.
+#[derive(Clone, Copy, Debug, PartialEq, Eq, Error)]
+pub enum RulesTextCause {
+    /// They are not UTF-8.
+    #[error("NotUtf8")]
+    NotUtf8,
+    /// They are more than `MAX_RULES`.
+    #[error("TooLarge")]
+    TooLarge,
+    /// The reader failed.
+    #[error("Read")]
+    Read,
+}
+
 /// Why a command was not done.
 #[derive(Clone, Copy, Debug, PartialEq, Eq)]
 pub enum CliFault {
     Table(ReadFault),
+    /// The bytes of the rules are no text.
+    RulesText {
+        /// How many bytes at the beginning are UTF-8; `MAX_RULES` where there are more; 0 where the reader failed.
+        at: usize,
+        cause: RulesTextCause,
+    },
+    Rules(RuleFault),
+    Tailor(TailorFault),
     Input(InputFault),
     Output(WriteFault),
-    /// Memory was refused, but not to the table's text or to the input.
+    /// Memory was refused, but not to the table's text, to the rules that were read, or to the input.
     OutOfMemory,
 }
 
@@ -50,11 +76,22 @@ impl fmt::Display for CliFault {
                 ReadCause::OutOfMemory => write!(f, "uca: {cause}"),
                 _ => write!(f, "uca: table line {line}: {cause}"),
             },
+            CliFault::RulesText { at, cause } => write!(f, "uca: rules byte {at}: {cause}"),
+            CliFault::Rules(RuleFault { at, cause }) => match cause {
+                RuleCause::OutOfMemory => write!(f, "uca: {cause}"),
+                _ => write!(f, "uca: rules byte {at}: {cause}"),
+            },
+            CliFault::Tailor(TailorFault { relation, cause }) => match cause {
+                TailorCause::OutOfMemory => write!(f, "uca: {cause}"),
+                _ => write!(f, "uca: rules relation {relation}: {cause}"),
+            },
             CliFault::Input(InputFault { line, at, cause }) => match cause {
                 InputCause::NotUtf8 | InputCause::LongRun => {
                     write!(f, "uca: input line {line} byte {at}: {cause}")
                 }
-                InputCause::TooLarge | InputCause::Read => write!(f, "uca: input: {cause}"),
+                InputCause::TooLarge | InputCause::Read | InputCause::NotOneLine => {
+                    write!(f, "uca: input: {cause}")
+                }
                 InputCause::OutOfMemory => write!(f, "uca: {cause}"),
             },
             CliFault::Output(WriteFault { written, cause }) => {

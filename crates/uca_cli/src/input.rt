@@ -1,6 +1,6 @@
 ghost use Rattle.std.specs.Prelude.{◌≡◌, ◌≤◌, length, MatchResult};
 ghost use Rattle.uca_weights.specs.Reader.{GivesAll};
-ghost use Rattle.uca_cli.specs.Input.{StopsReading};
+ghost use Rattle.uca_cli.specs.Input.{StopsAt, StopsReading};
 
 use crate::faults::{InputCause, InputFault};
 use std::alloc::Global;
@@ -10,7 +10,7 @@ use uca_weights::{MAX_INPUT, Reader};
 const CHUNK: usize = 65_536;
 
 /// A fault that no line has.
-fn refused(cause: InputCause) -> InputFault
+pub fn refused(cause: InputCause) -> InputFault
     ensures { result ≡ record { line = 0; at = 0; cause = cause } }
 {
     InputFault {
@@ -20,26 +20,51 @@ fn refused(cause: InputCause) -> InputFault
     }
 }
 
-/// Reads an input to its end.
+/// Why bytes were not read to their end.
+#[derive(Clone, Copy)]
+pub enum Stop {
+    /// There are too many.
+    TooLarge,
+    /// The reader failed.
+    Read,
+    /// Memory for them was refused.
+    OutOfMemory,
+}
+
+/// Reads bytes to their end, which are at most `limit`.
+pub fn read_whole<R: Reader>(alloc: Global, reader: &mut R, limit: usize) -> Result<Vec<u8>, Stop>
+    ensures { MatchResult result
+        (λ v. GivesAll (R.state reader.old) (R.state reader.new) v.items × (length v.items ≤ limit))
+        (λ stop. StopsAt limit stop (R.state reader.old) (R.state reader.new)) }
+{
+    let mut bytes = Vec::new(alloc);
+    let mut chunk = [0; CHUNK];
+    loop {
+        match reader.pull(&mut chunk) {
+            Ok(0) => return Ok(bytes),
+            Ok(n) => {
+                if n > limit - bytes.len() {
+                    return Err(Stop::TooLarge);
+                }
+                if bytes.extend_from_slice(&chunk[..n]).is_err() {
+                    return Err(Stop::OutOfMemory);
+                }
+            }
+            Err(_) => return Err(Stop::Read),
+        }
+    }
+}
+
+/// Reads an input of lines to its end.
 pub fn read_input<I: Reader>(alloc: Global, input: &mut I) -> Result<Vec<u8>, InputFault>
     ensures { MatchResult result
         (λ v. GivesAll (I.state input.old) (I.state input.new) v.items × (length v.items ≤ MAX_INPUT))
         (λ f. StopsReading (I.state input.old) (I.state input.new) f) }
 {
-    let mut bytes = Vec::new(alloc);
-    let mut chunk = [0; CHUNK];
-    loop {
-        match input.pull(&mut chunk) {
-            Ok(0) => return Ok(bytes),
-            Ok(n) => {
-                if n > MAX_INPUT - bytes.len() {
-                    return Err(refused(InputCause::TooLarge));
-                }
-                if bytes.extend_from_slice(&chunk[..n]).is_err() {
-                    return Err(refused(InputCause::OutOfMemory));
-                }
-            }
-            Err(_) => return Err(refused(InputCause::Read)),
-        }
+    match read_whole(alloc, input, MAX_INPUT) {
+        Ok(bytes) => Ok(bytes),
+        Err(Stop::TooLarge) => Err(refused(InputCause::TooLarge)),
+        Err(Stop::Read) => Err(refused(InputCause::Read)),
+        Err(Stop::OutOfMemory) => Err(refused(InputCause::OutOfMemory)),
     }
 }

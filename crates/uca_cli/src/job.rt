@@ -3,11 +3,11 @@ ghost use Rattle.std.specs.Prelude.{◌≡◌, ◌≢◌, IfErr, IfOk, IsSome, I
 ghost use Rattle.clap.specs.declared.builder.command.Command.TheViews.{out-Command};
 ghost use Rattle.clap.specs.Words.{app_of, first_of, found_of, kind_of, rows_of, rule_of, subcommand_rows_of};
 ghost use Rattle.uca_cli.specs.CommandLine.{IsJobFrom, IsJobOf, IsRefused, IsUsage};
-ghost use Rattle.uca_cli.specs.CommandLine.{command_with, strength_option, table_option, uca_with, variable_option};
+ghost use Rattle.uca_cli.specs.CommandLine.{command_with, key_command, raw_flag, raw_in, rules_option, strength_option, table_option, uca_with, variable_option};
 ghost use Rattle.uca_cli.specs.CommandLine.{strength_in, strength_named, task_named, weighting_in, weighting_named};
 
 use clap::error::ErrorKind;
-use clap::{Arg, ArgMatches, Command};
+use clap::{Arg, ArgAction, ArgMatches, Command};
 use std::alloc::{AllocError, Global};
 use thiserror::Error;
 use uca_weights::{Strength, Variable};
@@ -43,11 +43,11 @@ pub struct Job {
     pub command: Task,
     pub strength: Strength,
     pub weighting: Variable,
-    /// Whether a key is written as its bytes, and not as digits.
+    /// Whether the key of the input's one line is written as its bytes. Only [`Task::Key`] looks at it.
     pub raw: bool,
     /// The path of the table's file. Where there is none, the built-in table serves.
     pub table: Option<String>,
-    /// The path of the file of rules.
+    /// The path of the file of rules. Where there is none, the table serves as it is.
     pub rules: Option<String>,
 }
 
@@ -93,13 +93,7 @@ fn uca_command<'a>(
         strengths,
         weightings,
     )?;
-    let key = command(
-        alloc,
-        "key",
-        "Writes the sort key of each line of the input",
-        strengths,
-        weightings,
-    )?;
+    let key = key_command(alloc, strengths, weightings)?;
     let compare = command(
         alloc,
         "compare",
@@ -140,8 +134,40 @@ fn command<'a>(
     Command::new(alloc, name)
         .about(about)
         .arg(table_option(alloc))?
+        .arg(rules_option(alloc))?
         .arg(strength_option(alloc, strengths))?
         .arg(variable_option(alloc, weightings))
+}
+
+// The command `key`, which has a flag besides.
+fn key_command<'a>(
+    alloc: Global,
+    strengths: &'a [&'a str],
+    weightings: &'a [&'a str],
+) -> Result<Command<'a>, AllocError>
+    ensures app { IfOk result (λ c. app_of c
+        ≡ key_command (record { strengths = strengths.entry; weightings = weightings.entry })) }
+    ensures local { IfOk result (λ c. (out-Command c).has_globals ≡ false) }
+{
+    let plain = command(
+        alloc,
+        "key",
+        "Writes the sort key of each line of the input",
+        strengths,
+        weightings,
+    )?;
+    plain.arg(raw_flag(alloc))
+}
+
+// The flag `--raw`.
+fn raw_flag<'a>(alloc: Global) -> Arg<'a>
+    ensures rule { rule_of result ≡ raw_flag }
+    ensures local { result.global ≡ false }
+{
+    Arg::new(alloc, "raw")
+        .long("raw")
+        .help("Writes the bytes of the key of the one line, and not digits")
+        .action(ArgAction::SetTrue)
 }
 
 // The option `--table FILE`.
@@ -153,6 +179,17 @@ fn table_option<'a>(alloc: Global) -> Arg<'a>
         .long("table")
         .value_name("FILE")
         .help("The table's file, in place of the built-in table")
+}
+
+// The option `--rules FILE`.
+fn rules_option<'a>(alloc: Global) -> Arg<'a>
+    ensures rule { rule_of result ≡ rules_option }
+    ensures local { result.global ≡ false }
+{
+    Arg::new(alloc, "rules")
+        .long("rules")
+        .value_name("FILE")
+        .help("The file of rules that tailor the table")
 }
 
 // The option `--strength S`.
@@ -235,9 +272,9 @@ fn job_from(alloc: Global, matches: &ArgMatches<'_>) -> Result<Job, AllocError>
         command,
         strength: strength_in(options),
         weighting: weighting_in(options),
-        raw: false,
+        raw: raw_in(options),
         table: path_of(alloc, options, "table")?,
-        rules: None,
+        rules: path_of(alloc, options, "rules")?,
     })
 }
 
@@ -257,6 +294,16 @@ fn weighting_in(options: &ArgMatches<'_>) -> Variable
     value_of(options, "variable")
         .and_then(weighting_named)
         .unwrap_or(Variable::NonIgnorable)
+}
+
+// Whether the flag was given. `clap` gives it the value `true` where it was.
+fn raw_in(options: &ArgMatches<'_>) -> bool
+    ensures { result ≡ raw_in (rows_of (found_of options.now)) }
+{
+    match value_of(options, "raw") {
+        Some(value) => value == "true",
+        None => false,
+    }
 }
 
 // The path that an option names.

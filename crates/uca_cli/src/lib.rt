@@ -13,10 +13,11 @@ mod neighbours;
 mod output;
 pub mod performing;
 mod small_table;
+mod tailoring;
 #[cfg(test)]
 mod tests;
 
-pub use faults::{CliFault, InputCause, InputFault};
+pub use faults::{CliFault, InputCause, InputFault, RulesTextCause};
 pub use job::{Job, JobFault, Task, job_of};
 pub use performing::{perform, status_of};
 pub use small_table::built_in;

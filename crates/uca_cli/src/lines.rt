@@ -1,6 +1,6 @@
-ghost use Rattle.std.specs.Prelude.{◌≡◌, ◌≢◌, ◌∷◌, ℕ, ◌+◌, ◌<◌, ◌≤◌, length, drop, slice_index, All, MatchResult};
+ghost use Rattle.std.specs.Prelude.{◌≡◌, ◌≢◌, ◌∷◌, ℕ, ◌+◌, ◌<◌, ◌≤◌, length, drop, slice_index, All, IsFalse, IsTrue, MatchResult};
 ghost use Rattle.uca_model.specs.Lines.{line_feed, lines_of, without_return, IsTextLine};
-ghost use Rattle.uca_cli.specs.Input.{HasInputFault, HasFaultAt};
+ghost use Rattle.uca_cli.specs.Input.{HasInputFault, HasFaultAt, IsOneLine};
 
 use crate::faults::{InputCause, InputFault};
 use memchr::memchr;
@@ -53,6 +53,18 @@ pub fn first_line(bytes: &[u8]) -> (&[u8], &[u8])
 {
     let end = line_end(bytes);
     (without_return(&bytes[..end]), behind(bytes, end))
+}
+
+/// Whether an input is one line.
+pub fn is_one_line(bytes: &[u8]) -> bool
+    ensures one { IsTrue result → IsOneLine bytes.now }
+    ensures other { IsFalse result → ¬ IsOneLine bytes.now }
+{
+    if bytes.is_empty() {
+        return false;
+    }
+    let (_, others) = first_line(bytes);
+    others.is_empty()
 }
 
 /// What is wrong with a line, and at which of its bytes.

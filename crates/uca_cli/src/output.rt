@@ -7,6 +7,8 @@ ghost use Rattle.uca_model.specs.ElementLines.{elements_text};
 ghost use Rattle.uca_model.specs.Lines.{lines_of, IsTextLine};
 ghost use Rattle.uca_model.specs.Output.{hex_line};
 ghost use Rattle.uca_window.specs.Passage.{text_of};
+ghost use Rattle.uca_cli.specs.Input.{IsOneLine};
+ghost use Rattle.uca_cli.specs.Performing.{raw_key_output};
 ghost use Rattle.uca_cli.specs.Sending.{line_text, lines_text, StopsLine, StopsOutput};
 
 use crate::faults::CliFault;
@@ -15,7 +17,7 @@ use crate::lines::first_line;
 use simdutf8::compat::from_utf8;
 use std::alloc::Global;
 use uca_allkeys::element_text;
-use uca_key::key_of;
+use uca_key::{key_of, write_key};
 use uca_match::elements_of;
 use uca_table::Table;
 use uca_weights::{Element, Outgoing, Settings, WriteFault, Writer};
@@ -155,6 +157,26 @@ pub fn write_lines<W: Writer>(
     }
     match out.flush(w) {
         Ok(()) => Ok(()),
+        Err(fault) => Err(CliFault::Output(fault)),
+    }
+}
+
+/// Writes the sort key of the one line of an input, which was checked. It takes no memory.
+pub fn write_raw_key<W: Writer>(
+    t: &Table,
+    s: Settings,
+    bytes: &[u8],
+    w: &mut W,
+) -> Result<(), CliFault>
+    requires one { IsOneLine bytes.now }
+    requires texts { All IsTextLine (lines_of bytes.now) }
+    ensures { MatchResult result
+        (λ _. WritesAll (W.state w.old) (W.state w.new) (raw_key_output t.now s (lines_of bytes.now)))
+        (StopsOutput (W.state w.old) (W.state w.new) (raw_key_output t.now s (lines_of bytes.now))) }
+{
+    let (line, _) = first_line(bytes);
+    match write_key(w, t, s, &text_of_line(line)) {
+        Ok(_) => Ok(()),
         Err(fault) => Err(CliFault::Output(fault)),
     }
 }

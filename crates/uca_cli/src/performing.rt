@@ -1,16 +1,17 @@
-ghost use Rattle.std.specs.Prelude.{◌≡◌, false, IfErr, IfOk, IsNone, MatchResult, None, Some, option_map};
+ghost use Rattle.std.specs.Prelude.{◌≡◌, IfErr, IfOk, MatchResult, None, Some, option_map};
 ghost use Rattle.uca_cli.specs.Lent.{left_behind, lent};
-ghost use Rattle.uca_cli.specs.Performing.{task_output, IsChecked, Performs, Refuses, ReadsFor, ReadsLines, ReadsTable, RefusesFor, RefusesInput, StopsTable, StopsWork, Works};
+ghost use Rattle.uca_cli.specs.Performing.{task_output, IsCheckedFor, Performs, Refuses, ReadsFor, ReadsLines, ReadsOneLine, ReadsTable, RefusesFor, RefusesInput, RefusesOneLine, StopsTable, StopsWork, Works};
 ghost use Rattle.uca_cli.specs.Sending.{StopsOutput};
 ghost use Rattle.uca_weights.specs.Writer.{WritesAll};
 
-use crate::faults::{CliFault, InputFault};
-use crate::input::read_input;
+use crate::faults::{CliFault, InputCause, InputFault};
+use crate::input::{read_input, refused};
 use crate::job::{Job, Task};
-use crate::lines::check_lines;
+use crate::lines::{check_lines, is_one_line};
 use crate::neighbours::write_orders;
-use crate::output::{LineForm, write_lines};
+use crate::output::{LineForm, write_lines, write_raw_key};
 use crate::small_table::built_in;
+use crate::tailoring::tailored_in;
 use std::alloc::Global;
 use uca_allkeys::{read_table, write_table};
 use uca_table::Table;
@@ -52,15 +53,43 @@ fn read_lines<I: Reader>(alloc: Global, input: &mut I) -> Result<Vec<u8>, InputF
     }
 }
 
+/// Reads an input to its end, looks at each line, and then whether it is a single one.
+fn read_one_line<I: Reader>(alloc: Global, input: &mut I) -> Result<Vec<u8>, InputFault>
+    ensures ok { IfOk result (λ v. ReadsOneLine (I.state input.old) (I.state input.new) v.items) }
+    ensures err { IfErr result (RefusesOneLine (I.state input.old) (I.state input.new)) }
+{
+    match read_lines(alloc, input) {
+        Ok(bytes) => {
+            if is_one_line(&bytes) {
+                Ok(bytes)
+            } else {
+                Err(refused(InputCause::NotOneLine))
+            }
+        }
+        Err(fault) => Err(fault),
+    }
+}
+
 /// Reads the input of a command and checks it. `table` has none.
-fn read_for<I: Reader>(alloc: Global, command: Task, input: &mut I) -> Result<Vec<u8>, InputFault>
-    ensures ok { IfOk result (λ v. ReadsFor command (I.state input.old) (I.state input.new) v.items) }
-    ensures checked { IfOk result (λ v. IsChecked v.items) }
-    ensures err { IfErr result (RefusesFor command (I.state input.old) (I.state input.new)) }
+fn read_for<I: Reader>(
+    alloc: Global,
+    command: Task,
+    raw: bool,
+    input: &mut I,
+) -> Result<Vec<u8>, InputFault>
+    ensures ok { IfOk result (λ v. ReadsFor command raw (I.state input.old) (I.state input.new) v.items) }
+    ensures checked { IfOk result (λ v. IsCheckedFor command raw v.items) }
+    ensures err { IfErr result (RefusesFor command raw (I.state input.old) (I.state input.new)) }
 {
     match command {
         Task::Elements => read_lines(alloc, input),
-        Task::Key => read_lines(alloc, input),
+        Task::Key => {
+            if raw {
+                read_one_line(alloc, input)
+            } else {
+                read_lines(alloc, input)
+            }
+        }
         Task::Compare => read_lines(alloc, input),
         Task::Table => Ok(Vec::new(alloc)),
     }
@@ -70,19 +99,26 @@ fn read_for<I: Reader>(alloc: Global, command: Task, input: &mut I) -> Result<Ve
 fn write_for<W: Writer>(
     alloc: Global,
     command: Task,
+    raw: bool,
     t: &Table,
     s: Settings,
     bytes: &[u8],
     output: &mut W,
 ) -> Result<(), CliFault>
-    requires { IsChecked bytes.now }
+    requires { IsCheckedFor command raw bytes.now }
     ensures { MatchResult result
-        (λ _. WritesAll (W.state output.old) (W.state output.new) (task_output command t.now s bytes.now))
-        (StopsOutput (W.state output.old) (W.state output.new) (task_output command t.now s bytes.now)) }
+        (λ _. WritesAll (W.state output.old) (W.state output.new) (task_output command raw t.now s bytes.now))
+        (StopsOutput (W.state output.old) (W.state output.new) (task_output command raw t.now s bytes.now)) }
 {
     match command {
         Task::Elements => write_lines(alloc, LineForm::Elements, t, s, bytes, output),
-        Task::Key => write_lines(alloc, LineForm::Key, t, s, bytes, output),
+        Task::Key => {
+            if raw {
+                write_raw_key(t, s, bytes, output)
+            } else {
+                write_lines(alloc, LineForm::Key, t, s, bytes, output)
+            }
+        }
         Task::Compare => write_orders(t, s, bytes, output),
         Task::Table => match write_table(output, t) {
             Ok(_) => Ok(()),
@@ -111,8 +147,8 @@ fn work<I: Reader, W: Writer>(
         strength: job.strength,
         weighting: job.weighting,
     };
-    match read_for(alloc, job.command, input) {
-        Ok(bytes) => match write_for(alloc, job.command, t, settings, &bytes, output) {
+    match read_for(alloc, job.command, job.raw, input) {
+        Ok(bytes) => match write_for(alloc, job.command, job.raw, t, settings, &bytes, output) {
             Ok(()) => Ok(0),
             Err(fault) => Err(fault),
         },
@@ -120,40 +156,91 @@ fn work<I: Reader, W: Writer>(
     }
 }
 
-/// Does a job with the table in a reader.
-fn perform_with<T: Reader, I: Reader, W: Writer>(
+/// Does a job with the table in a reader, and with rules in another.
+fn perform_tailored<T: Reader, U: Reader, I: Reader, W: Writer>(
     alloc: Global,
     job: &Job,
-    reader: &mut T,
+    table: &mut T,
+    rules: &mut U,
     input: &mut I,
     output: &mut W,
 ) -> Result<u8, CliFault>
-    ensures done { IfOk result (λ _. Performs job.now (Some (T.state reader.old)) (Some (T.state reader.new))
+    ensures done { IfOk result (λ _. Performs job.now (record { table = Some (T.state table.old); rules = Some (U.state rules.old) }) (record { table = Some (T.state table.new); rules = Some (U.state rules.new) })
         (record { input = I.state input.old; output = W.state output.old })
         (record { input = I.state input.new; output = W.state output.new })) }
     ensures status { IfOk result (λ status. status ≡ 0) }
-    ensures fault { IfErr result (Refuses job.now (Some (T.state reader.old)) (Some (T.state reader.new))
+    ensures fault { IfErr result (Refuses job.now (record { table = Some (T.state table.old); rules = Some (U.state rules.old) }) (record { table = Some (T.state table.new); rules = Some (U.state rules.new) })
         (record { input = I.state input.old; output = W.state output.old })
         (record { input = I.state input.new; output = W.state output.new })) }
 {
-    match table_in(alloc, reader) {
+    match table_in(alloc, table) {
+        Ok(t) => match tailored_in(alloc, t, rules) {
+            Ok(tailored) => work(alloc, job, &tailored, input, output),
+            Err(fault) => Err(fault),
+        },
+        Err(fault) => Err(fault),
+    }
+}
+
+/// Does a job with the table in a reader, as it is.
+fn perform_with<T: Reader, I: Reader, W: Writer>(
+    alloc: Global,
+    job: &Job,
+    table: &mut T,
+    input: &mut I,
+    output: &mut W,
+) -> Result<u8, CliFault>
+    ensures done { IfOk result (λ _. Performs job.now (record { table = Some (T.state table.old); rules = None }) (record { table = Some (T.state table.new); rules = None })
+        (record { input = I.state input.old; output = W.state output.old })
+        (record { input = I.state input.new; output = W.state output.new })) }
+    ensures status { IfOk result (λ status. status ≡ 0) }
+    ensures fault { IfErr result (Refuses job.now (record { table = Some (T.state table.old); rules = None }) (record { table = Some (T.state table.new); rules = None })
+        (record { input = I.state input.old; output = W.state output.old })
+        (record { input = I.state input.new; output = W.state output.new })) }
+{
+    match table_in(alloc, table) {
         Ok(t) => work(alloc, job, &t, input, output),
         Err(fault) => Err(fault),
     }
 }
 
-/// Does a job with the built-in table.
+/// Does a job with the built-in table, and with rules in a reader.
+fn perform_own_tailored<U: Reader, I: Reader, W: Writer>(
+    alloc: Global,
+    job: &Job,
+    rules: &mut U,
+    input: &mut I,
+    output: &mut W,
+) -> Result<u8, CliFault>
+    ensures done { IfOk result (λ _. Performs job.now (record { table = None; rules = Some (U.state rules.old) }) (record { table = None; rules = Some (U.state rules.new) })
+        (record { input = I.state input.old; output = W.state output.old })
+        (record { input = I.state input.new; output = W.state output.new })) }
+    ensures status { IfOk result (λ status. status ≡ 0) }
+    ensures fault { IfErr result (Refuses job.now (record { table = None; rules = Some (U.state rules.old) }) (record { table = None; rules = Some (U.state rules.new) })
+        (record { input = I.state input.old; output = W.state output.old })
+        (record { input = I.state input.new; output = W.state output.new })) }
+{
+    match own_table(alloc) {
+        Ok(t) => match tailored_in(alloc, t, rules) {
+            Ok(tailored) => work(alloc, job, &tailored, input, output),
+            Err(fault) => Err(fault),
+        },
+        Err(fault) => Err(fault),
+    }
+}
+
+/// Does a job with the built-in table, as it is.
 fn perform_alone<I: Reader, W: Writer>(
     alloc: Global,
     job: &Job,
     input: &mut I,
     output: &mut W,
 ) -> Result<u8, CliFault>
-    ensures done { IfOk result (λ _. Performs job.now None None
+    ensures done { IfOk result (λ _. Performs job.now (record { table = None; rules = None }) (record { table = None; rules = None })
         (record { input = I.state input.old; output = W.state output.old })
         (record { input = I.state input.new; output = W.state output.new })) }
     ensures status { IfOk result (λ status. status ≡ 0) }
-    ensures fault { IfErr result (Refuses job.now None None
+    ensures fault { IfErr result (Refuses job.now (record { table = None; rules = None }) (record { table = None; rules = None })
         (record { input = I.state input.old; output = W.state output.old })
         (record { input = I.state input.new; output = W.state output.new })) }
 {
@@ -163,12 +250,13 @@ fn perform_alone<I: Reader, W: Writer>(
     }
 }
 
-/// Does a job: reads the table, then the input, which it checks whole, and only then writes the output. It answers the
-/// status of the program.
+/// Does a job: reads the table, then the rules, by which it tailors the table, then the input, which it checks whole, and
+/// only then writes the output. It answers the status of the program.
 ///
-/// Where there is no reader of a table, the built-in table serves. At a fault of the table or of the input nothing was
-/// written. On a fault of the output, or where memory is wanted while it is written, its front went out; `written` counts
-/// over the whole run. It does not flush the writer.
+/// Where there is no reader of a table, the built-in table serves, and where there is none of rules, the table as it is. At
+/// a fault of the table nothing else was read, at one of the rules nothing of the input, and at each of these and at one of
+/// the input nothing was written. On a fault of the output, or where memory is wanted while it is written, its front went
+/// out; `written` counts over the whole run. It does not flush the writer.
 pub fn perform<T: Reader, U: Reader, I: Reader, W: Writer>(
     alloc: Global,
     job: &Job,
@@ -177,21 +265,29 @@ pub fn perform<T: Reader, U: Reader, I: Reader, W: Writer>(
     input: &mut I,
     output: &mut W,
 ) -> Result<u8, CliFault>
-    requires digits { job.now.raw ≡ false }
-    requires untailored { IsNone rules }
     ensures done { IfOk result (λ _. Performs job.now
-        (option_map T.state (lent table.entry)) (option_map T.state (left_behind table.exit))
+        (record { table = option_map T.state (lent table.entry); rules = option_map U.state (lent rules.entry) })
+        (record { table = option_map T.state (left_behind table.exit); rules = option_map U.state (left_behind rules.exit) })
         (record { input = I.state input.old; output = W.state output.old })
         (record { input = I.state input.new; output = W.state output.new })) }
     ensures status { IfOk result (λ status. status ≡ 0) }
     ensures fault { IfErr result (Refuses job.now
-        (option_map T.state (lent table.entry)) (option_map T.state (left_behind table.exit))
+        (record { table = option_map T.state (lent table.entry); rules = option_map U.state (lent rules.entry) })
+        (record { table = option_map T.state (left_behind table.exit); rules = option_map U.state (left_behind rules.exit) })
         (record { input = I.state input.old; output = W.state output.old })
         (record { input = I.state input.new; output = W.state output.new })) }
 {
     match table {
-        Some(reader) => perform_with(alloc, job, reader, input, output),
-        None => perform_alone(alloc, job, input, output),
+        Some(table) => {
+            if let Some(rules) = rules {
+                return perform_tailored(alloc, job, table, rules, input, output);
+            }
+            perform_with(alloc, job, table, input, output)
+        }
+        None => match rules {
+            Some(rules) => perform_own_tailored(alloc, job, rules, input, output),
+            None => perform_alone(alloc, job, input, output),
+        },
     }
 }
 

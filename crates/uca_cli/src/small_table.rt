@@ -1,5 +1,5 @@
 ghost use Rattle.std.specs.Prelude.{◌≡◌, ◌∷◌, [], fold, IfOk, OnOk};
-ghost use Rattle.uca_table.specs.Builder.{with_entry};
+ghost use Rattle.uca_model.specs.Table.{with_entry};
 ghost use Rattle.uca_cli.specs.BuiltIn.{built_in_table, plain, with_contractions, with_point, with_ranges};
 
 use std::alloc::{AllocError, Global};

@@ -1,10 +1,12 @@
 mod agreement;
 mod ends;
+mod raw;
+mod rules;
 mod tables;
 
 use crate::input::read_input;
 use crate::{CliFault, InputCause, InputFault, Job, Task, perform, status_of};
-use ends::{Expecting, Pieces, Zeros};
+use ends::{Expecting, Pieces, Repeating};
 use simdutf8::compat::from_utf8;
 use std::alloc::{AllocError, Global};
 use std::test::Fail;
@@ -48,8 +50,8 @@ fn perform_as<I: Reader, W: Writer>(
         table: None,
         rules: None,
     };
-    let table: Option<&mut Zeros> = None;
-    let rules: Option<&mut Zeros> = None;
+    let table: Option<&mut Repeating> = None;
+    let rules: Option<&mut Repeating> = None;
     perform(alloc, &job, table, rules, input, output)
 }
 
@@ -208,18 +210,18 @@ fn a_line_that_is_no_text_has_no_run(rt: HostRuntime) {
 #[test]
 fn an_input_past_the_limit_is_refused(rt: HostRuntime) {
     let alloc = rt.alloc();
-    let fault = fault_of(alloc, Zeros::new(MAX_INPUT + 1, false));
+    let fault = fault_of(alloc, Repeating::new(0, MAX_INPUT + 1, false));
     assert_eq!(rt; fault, Some(input_refused(0, 0, InputCause::TooLarge)));
     // The byte too many comes before the failure, or the failure before it.
-    let fault = fault_of(alloc, Zeros::new(MAX_INPUT + 1, true));
+    let fault = fault_of(alloc, Repeating::new(0, MAX_INPUT + 1, true));
     assert_eq!(rt; fault, Some(input_refused(0, 0, InputCause::TooLarge)));
-    let fault = fault_of(alloc, Zeros::new(MAX_INPUT, true));
+    let fault = fault_of(alloc, Repeating::new(0, MAX_INPUT, true));
     assert_eq!(rt; fault, Some(input_refused(0, 0, InputCause::Read)));
 }
 
 #[test]
 fn an_input_at_the_limit_is_read(rt: HostRuntime) {
-    let mut input = Zeros::new(MAX_INPUT, false);
+    let mut input = Repeating::new(0, MAX_INPUT, false);
     let count = match read_input(rt.alloc(), &mut input) {
         Ok(bytes) => bytes.len(),
         Err(InputFault { cause, .. }) => {
@@ -413,6 +415,10 @@ fn faults_have_their_texts_and_status_three(rt: HostRuntime) {
             "uca: input: TooLarge",
         ),
         (input_refused(0, 0, InputCause::Read), "uca: input: Read"),
+        (
+            input_refused(0, 0, InputCause::NotOneLine),
+            "uca: input: NotOneLine",
+        ),
         (
             input_refused(0, 0, InputCause::OutOfMemory),
             "uca: OutOfMemory",

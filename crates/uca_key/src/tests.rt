@@ -1,5 +1,6 @@
 ghost use Rattle.uca_model.specs.Table.{AreRanges};
 
+mod all_pairs;
 mod written;
 
 use crate::key_of;

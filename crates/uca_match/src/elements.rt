@@ -16,11 +16,12 @@ use uca_table::Table;
 use uca_weights::Element;
 use uca_window::{Passage, Source, Window, nfd_of};
 
-// Appends the elements of a match: those of the key, or else the implicit ones of its first code point
+// Appends the elements of a match, one or more: those of the key, or else the implicit ones of its first code point
 // (UTS #10, 7.2, step S2.2).
 fn push_elements(out: &mut Vec<Element>, t: &Table, matched: &[char]) -> Result<(), AllocError>
     requires { 0 < length matched.now }
-    ensures { OnOk result (out.new.items ≡ out.old.items ++ elements_or_implicit t.now matched.now) }
+    ensures elements { OnOk result (out.new.items ≡ out.old.items ++ elements_or_implicit t.now matched.now) }
+    ensures some { OnOk result (length out.old.items < length out.new.items) }
 {
     match t.get(matched) {
         Some(elements) => out.extend_from_slice(elements),
@@ -31,7 +32,8 @@ fn push_elements(out: &mut Vec<Element>, t: &Table, matched: &[char]) -> Result<
 // Appends the elements of a text in NFD, match after match (UTS #10, 7.2, step S2). Each match is put in order
 // within the text, and nothing behind its marks is moved.
 fn push_matches(out: &mut Vec<Element>, t: &Table, text: &mut [char]) -> Result<(), AllocError>
-    ensures { OnOk result (out.new.items ≡ out.old.items ++ elements t.now text.old) }
+    ensures elements { OnOk result (out.new.items ≡ out.old.items ++ elements t.now text.old) }
+    ensures some { OnOk result (0 < length text.old → length out.old.items < length out.new.items) }
 {
     let mut at = 0;
     'matches: while at < text.len() {
@@ -49,6 +51,22 @@ pub fn elements_of(alloc: Global, t: &Table, p: &Passage) -> Result<Vec<Element>
     let mut points = nfd_of(alloc, p)?;
     let mut elements = Vec::new(alloc);
     push_matches(&mut elements, t, &mut points)?;
+    Ok(elements)
+}
+
+/// The collation elements of a text in NFD, of which there are some where it has a code point (UTS #10, section 7.2,
+/// step S2).
+pub fn elements_of_points(
+    alloc: Global,
+    t: &Table,
+    points: &[char],
+) -> Result<Vec<Element>, AllocError>
+    ensures value { IfOk result (λ v. v.items ≡ elements t.now points.now) }
+    ensures some { IfOk result (λ v. 0 < length points.now → 0 < length v.items) }
+{
+    let mut text = points.to_vec(alloc)?;
+    let mut elements = Vec::new(alloc);
+    push_matches(&mut elements, t, &mut text)?;
     Ok(elements)
 }
 

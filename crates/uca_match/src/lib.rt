@@ -8,7 +8,7 @@ pub mod elements;
 mod matching;
 mod window_match;
 
-pub use elements::{Elements, elements_of};
+pub use elements::{Elements, elements_of, elements_of_points};
 
 #[cfg(test)]
 mod tests;

@@ -26,3 +26,10 @@ pub mod RangeLemmas
 pub mod SortedLemmas
 pub mod ReadBackLemmas
 pub mod GrowingLemmas
+pub mod ShiftLemmas
+pub mod EntryLemmas
+pub mod PlaceLemmas
+pub mod RelationLemmas
+pub mod PieceLemmas
+pub mod SegmentLemmas
+pub mod RuleTextLemmas

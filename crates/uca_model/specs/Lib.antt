@@ -19,6 +19,14 @@ pub mod TableText
 pub mod CanonicalText
 pub mod ElementLines
 pub mod Compared
+pub mod Rules
+pub mod Shift
+pub mod Tailoring
+pub mod RuleText
+pub mod WellFormed
 pub mod Laws
 pub mod Plain
 pub mod PlainText
+pub mod PlainRules
+pub mod PlainRuleText
+pub mod PlainTailoring

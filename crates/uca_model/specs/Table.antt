@@ -5,7 +5,7 @@ use Rattle.std.specs.List.{AllByRecursion}
 use Rattle.std.specs.declared.cmp.Ordering.{Ordering}
 use Rattle.std.specs.Ordering.{nat_cmp}
 use Rattle.std.specs.Cmp.Lexicographic.{slice_cmp}
-use Rattle.std.specs.FinMap.{FinMap, get, contains_key, keys, entries}
+use Rattle.std.specs.FinMap.{FinMap, get, contains_key, keys, entries, insert}
 use Rattle.uca_weights.specs.declared.element.Element.{Element}
 use Rattle.uca_weights.specs.declared.limits.TheConstants.{MAX_KEY, MAX_ELEMENTS}
 use Rattle.uca_weights.specs.declared.range.Range.{Range}
@@ -30,6 +30,10 @@ is_key t key = contains_key t.entries key
 -- the length of the longest key, 1 where there is none
 abbrev pub longest : ElementTable → ℕ
 longest t = fold (λ n key. max n (length key)) 1 (keys t.entries)
+
+-- the table in which a key has these elements, whatever it had
+abbrev pub with_entry : ElementTable → List ℕ → List Element → ElementTable
+with_entry t key elements = record { entries = insert t.entries key elements; ranges = t.ranges }
 
 -- each weight has sixteen bits
 pub record IsElement (e : Element) : Type 0 where

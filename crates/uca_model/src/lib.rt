@@ -14,8 +14,11 @@ pub mod lines;
 pub mod matching;
 pub mod output;
 pub mod ranges;
+pub mod rule_text;
+pub mod rules;
 pub mod safety;
 pub mod table_text;
+pub mod tailoring;
 #[cfg(test)]
 mod tests;
 pub mod weighting;

@@ -31,7 +31,7 @@ fn ends_safely(alloc: Global, text: &[char], last: char) -> Result<bool, AllocEr
 }
 
 /// The NFD of characters.
-fn nfd_of(alloc: Global, text: &[char]) -> Result<Vec<char>, AllocError>
+pub(crate) fn nfd_of(alloc: Global, text: &[char]) -> Result<Vec<char>, AllocError>
     ensures { IfOk result (λ v. v.items ≡ nfd text.now) }
 {
     let mut out = Vec::new(alloc);
@@ -40,7 +40,7 @@ fn nfd_of(alloc: Global, text: &[char]) -> Result<Vec<char>, AllocError>
 }
 
 /// The length of the longest run of nonstarters.
-fn longest_run(text: &[char]) -> usize
+pub(crate) fn longest_run(text: &[char]) -> usize
     ensures { result ≡ longest_run text.now }
 {
     let mut longest = 0;

@@ -21,13 +21,13 @@ const RANGES: [Range; 2] = [
     },
 ];
 
-fn ranges() -> &'static [Range]
+pub(crate) fn ranges() -> &'static [Range]
     ensures { AreRanges result.now }
 {
     &RANGES
 }
 
-fn plain(l1: u16, l2: u16, l3: u16) -> Element {
+pub(crate) fn plain(l1: u16, l2: u16, l3: u16) -> Element {
     Element {
         starred: false,
         l1,
@@ -59,7 +59,12 @@ const DOT_BELOW: Element = Element {
     l3: 2,
 };
 
-fn add(alloc: Global, table: &mut Vec<Entry>, key: &[char], e: Element) -> Result<(), AllocError> {
+pub(crate) fn add(
+    alloc: Global,
+    table: &mut Vec<Entry>,
+    key: &[char],
+    e: Element,
+) -> Result<(), AllocError> {
     let mut elements = Vec::new(alloc);
     elements.push(e)?;
     let key = key.to_vec(alloc)?;
@@ -100,7 +105,7 @@ fn add_contractions(alloc: Global, table: &mut Vec<Entry>) -> Result<(), AllocEr
 }
 
 /// A small table with marks, variable elements and contractions.
-fn small_table(alloc: Global) -> Result<Vec<Entry>, AllocError> {
+pub(crate) fn small_table(alloc: Global) -> Result<Vec<Entry>, AllocError> {
     let mut table = Vec::new(alloc);
     add_marks(alloc, &mut table)?;
     add_letters(alloc, &mut table)?;

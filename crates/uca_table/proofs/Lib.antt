@@ -5,3 +5,6 @@ pub mod RangeLemmas
 pub mod ExtentLemmas
 pub mod RangeMapLemmas
 pub mod RangeSearchLemmas
+pub mod PutLemmas
+pub mod ShiftLemmas
+pub mod BoundsLemmas

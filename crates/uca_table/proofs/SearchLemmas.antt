@@ -20,17 +20,17 @@ less Equal h = absurd h
 less Greater h = absurd h
 
 -- the first of two tests
-left : (a b : Bool) → T (a && b) → T a
+pub left : (a b : Bool) → T (a && b) → T a
 left true b h = tt
 left false b h = h
 
 -- the second of two tests
-right : (a b : Bool) → T (a && b) → T b
+pub right : (a b : Bool) → T (a && b) → T b
 right true b h = h
 right false b h = absurd h
 
 -- keys below all later ones are below the one at a place
-below_at : (k : List ℕ) (es : List Entry) (i : ℕ) (d : Entry) → T (below_all key_cmp k (map pair_of es)) → i < length es → key_cmp k (get_or es i d).key.items ≡ Less
+pub below_at : (k : List ℕ) (es : List Entry) (i : ℕ) (d : Entry) → T (below_all key_cmp k (map pair_of es)) → i < length es → key_cmp k (get_or es i d).key.items ≡ Less
 below_at k [] i d h within = absurd (omega arith)
 below_at k (e ∷ es) zero d h within = less _ (left _ _ h)
 below_at k (e ∷ es) (suc i) d h within = below_at k es i d (right _ _ h) (omega arith)

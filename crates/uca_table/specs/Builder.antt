@@ -1,6 +1,5 @@
 -- What a builder does to a table, and what it refuses.
 use Rattle.std.specs.Prelude.{ℕ, ◌==◌, nat_lt, List, length, Option, Some, None, if◌then◌else◌}
-use Rattle.std.specs.FinMap.{insert}
 use Rattle.uca_weights.specs.declared.element.Element.{Element}
 use Rattle.uca_weights.specs.declared.limits.TheConstants.{MAX_KEY, MAX_ELEMENTS}
 use Rattle.uca_weights.specs.declared.range.Range.{Range}
@@ -10,10 +9,6 @@ use Rattle.uca_table.specs.declared.fault.InsertFault.TheVariants.{EmptyKey, Key
 use Rattle.uca_table.specs.declared.fault.RangeFault.{RangeFault}
 use Rattle.uca_table.specs.declared.fault.RangeFault.TheVariants as range
 use Rattle.uca_model.specs.Ranges.{is_bad_range, put_range}
-
--- the table with one more entry
-abbrev pub with_entry : ElementTable → List ℕ → List Element → ElementTable
-with_entry t key elements = record { entries = insert t.entries key elements; ranges = t.ranges }
 
 -- the first fault of a key and its elements, where there is one
 abbrev pub insert_fault : ElementTable → List ℕ → List Element → Option InsertFault

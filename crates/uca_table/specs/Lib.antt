@@ -1,4 +1,6 @@
 pub mod Stored
+pub mod Place
 pub mod Coded
 pub mod Builder
 pub mod Extents
+pub mod Bounds

@@ -37,8 +37,8 @@ impl Model for TableBuilder {
 }
 
 impl TableBuilder {
-    ghost use Rattle.uca_model.specs.Table.{ElementTable};
-    ghost use Rattle.uca_table.specs.Builder.{with_entry, insert_fault, told, with_range, range_fault, told_of_range};
+    ghost use Rattle.uca_model.specs.Table.{ElementTable, with_entry};
+    ghost use Rattle.uca_table.specs.Builder.{insert_fault, told, with_range, range_fault, told_of_range};
 
     /// A builder without entries and ranges.
     pub fn new(alloc: Global) -> TableBuilder
@@ -112,7 +112,7 @@ impl TableBuilder {
 }
 
 /// Shows that each code point of a slice of characters is a scalar value.
-fn read_key(key: &[char])
+pub(crate) fn read_key(key: &[char])
     ensures { All IsScalar key.now }
 {
     for c in key {
@@ -121,7 +121,7 @@ fn read_key(key: &[char])
 }
 
 /// Shows that each weight of the elements has sixteen bits.
-fn read_elements(elements: &[Element])
+pub(crate) fn read_elements(elements: &[Element])
     ensures { All IsElement elements.now }
 {
     for element in elements {

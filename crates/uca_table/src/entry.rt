@@ -1,9 +1,14 @@
-ghost use Rattle.std.specs.Prelude.{◌≡◌, ◌≤◌, T, map, length, option_copied, vec_capacity};
+ghost use Rattle.std.specs.Prelude.{◌≡◌, ◌≤◌, T, false, map, length, option_copied, vec_capacity, IfOk, OnOk, OnErr, MatchResult};
 ghost use Rattle.std.specs.BTreeMap.{btree_map_len};
-ghost use Rattle.std.specs.FinMap.{find, is_sorted};
+ghost use Rattle.std.specs.FinMap.{find, put, is_sorted};
+ghost use Rattle.std.specs.List.{insert, list_any};
+ghost use Rattle.uca_model.specs.Shift.{is_stuck, shifted_entry};
 ghost use Rattle.uca_model.specs.Table.{key_cmp};
+ghost use Rattle.uca_table.specs.Place.{IsAt, BelongsAt};
 ghost use Rattle.uca_table.specs.Stored.{pair_of, pair_in, longest_of};
 
+use crate::shift::{any_stuck, shift_elements};
+use std::alloc::{AllocError, Global};
 use std::cmp::Ordering;
 use std::collections::BTreeMap;
 use uca_weights::Element;
@@ -24,23 +29,108 @@ impl Entry {
     }
 }
 
-/// The elements of a key, among entries that rise by their keys.
-pub(crate) fn elements_of<'a>(entries: &'a [Entry], key: &[char]) -> Option<&'a [Element]>
+/// Where a key stands among entries that rise by their keys, or else where it would have to be inserted.
+fn place_of(entries: &[Entry], key: &[char]) -> Result<usize, usize>
     requires { T (is_sorted key_cmp (map pair_of entries.now)) }
-    ensures { option_copied result ≡ find key_cmp key.now (map pair_of entries.now) }
+    ensures { MatchResult result (IsAt key.now entries.now) (BelongsAt key.now entries.now) }
 {
     let mut low = 0;
     let mut high = entries.len();
     while low < high {
         let middle = low + (high - low) / 2;
-        let entry = &entries[middle];
-        match entry.compare_key(key) {
+        match entries[middle].compare_key(key) {
             Ordering::Less => low = middle + 1,
             Ordering::Greater => high = middle,
-            Ordering::Equal => return Some(entry.elements.as_slice()),
+            Ordering::Equal => return Ok(middle),
         }
     }
-    None
+    Err(low)
+}
+
+/// The elements of a key, among entries that rise by their keys.
+pub(crate) fn elements_of<'a>(entries: &'a [Entry], key: &[char]) -> Option<&'a [Element]>
+    requires { T (is_sorted key_cmp (map pair_of entries.now)) }
+    ensures { option_copied result ≡ find key_cmp key.now (map pair_of entries.now) }
+{
+    match place_of(entries, key) {
+        Ok(at) => Some(entries[at].elements.as_slice()),
+        Err(_) => None,
+    }
+}
+
+/// Puts copies of a key and its elements in their place among entries that rise by their keys. An entry that has the
+/// key gets the elements in place of its own.
+pub(crate) fn put(
+    alloc: Global,
+    entries: &mut Vec<Entry>,
+    key: &[char],
+    elements: &[Element],
+) -> Result<(), AllocError>
+    requires { T (is_sorted key_cmp (map pair_of entries.old.items)) }
+    ensures ok { OnOk result (map pair_of entries.new.items ≡ put key_cmp key.now elements.now (map pair_of entries.old.items)) }
+    ensures err { OnErr result (map pair_of entries.new.items ≡ map pair_of entries.old.items) }
+{
+    let elements = elements.to_vec(alloc)?;
+    match place_of(entries, key) {
+        Ok(at) => {
+            entries[at].elements = elements;
+            Ok(())
+        }
+        Err(at) => insert(alloc, entries, at, key, elements),
+    }
+}
+
+/// Inserts an entry, with a copy of the key.
+fn insert(
+    alloc: Global,
+    entries: &mut Vec<Entry>,
+    at: usize,
+    key: &[char],
+    elements: Vec<Element>,
+) -> Result<(), AllocError>
+    requires { at ≤ length entries.old.items }
+    ensures ok { OnOk result (map pair_of entries.new.items ≡ insert (map pair_of entries.old.items) at (key.now, elements.items)) }
+    ensures err { OnErr result (map pair_of entries.new.items ≡ map pair_of entries.old.items) }
+{
+    let key = key.to_vec(alloc)?;
+    entries.insert(at, Entry { key, elements })?;
+    Ok(())
+}
+
+/// Whether some element of some entry has a weight at a level that would move above `w`, and can't.
+pub(crate) fn has_stuck(level: u8, w: u16, entries: &[Entry]) -> bool
+    requires first { 1 ≤ level }
+    requires last { level ≤ 3 }
+    ensures { result ≡ list_any (λ e. list_any (is_stuck level w) e.elements.items) entries.now }
+{
+    entries
+        .iter()
+        .any(|e| any_stuck(level, w, e.elements.as_slice()))
+}
+
+/// Moves the weights of a level that stand above `w` up by one, in each entry.
+pub(crate) fn shift_entries(level: u8, w: u16, entries: &mut [Entry])
+    requires first { 1 ≤ level }
+    requires last { level ≤ 3 }
+    requires room { list_any (λ e. list_any (is_stuck level w) e.elements.items) entries.old ≡ false }
+    ensures { map pair_of entries.new ≡ map (shifted_entry level w) (map pair_of entries.old) }
+{
+    for entry in entries.iter_mut() {
+        shift_elements(level, w, &mut entry.elements);
+    }
+}
+
+/// Copies of entries.
+pub(crate) fn copies(alloc: Global, entries: &[Entry]) -> Result<Vec<Entry>, AllocError>
+    ensures { IfOk result (λ v. map pair_of v.items ≡ map pair_of entries.now) }
+{
+    let mut copies = Vec::with_capacity(alloc, entries.len())?;
+    for entry in entries {
+        let key = entry.key.as_slice().to_vec(alloc)?;
+        let elements = entry.elements.as_slice().to_vec(alloc)?;
+        copies.push(Entry { key, elements })?;
+    }
+    Ok(copies)
 }
 
 /// Moves the entries of a map into a vector that has room for them, and tells the length of the longest key.

@@ -13,12 +13,15 @@ pub mod fault;
 mod implicit_weights;
 mod range_map;
 mod ranges;
+pub mod shift;
 pub mod table;
 #[cfg(test)]
 mod tests;
+pub mod well_formed;
 
 pub use builder::TableBuilder;
 pub use entries::Entries;
 pub use fault::{FinishFault, InsertFault, RangeFault};
 pub use table::Table;
 pub use uca_weights::{Element, Range};
+pub use well_formed::{WellFormed, lint};

@@ -1,10 +1,11 @@
-ghost use Rattle.std.specs.Prelude.{◌≡◌, true, false, nat_lt};
+ghost use Rattle.std.specs.Prelude.{◌≡◌, true, false, nat_lt, IfOk};
 ghost use Rattle.std.specs.List.Sorted.{IsPartitionPoint};
 ghost use Rattle.uca_model.specs.Table.{AreRanges};
 ghost use Rattle.uca_model.specs.ImplicitWeights.{lowest_first, range_of};
 ghost use Rattle.uca_model.specs.Ranges.{AreByFirst};
 
 use crate::extent::{Extent, widened};
+use std::alloc::{AllocError, Global};
 use std::collections::BTreeMap;
 use std::marker::Model;
 use uca_weights::Range;
@@ -41,6 +42,15 @@ impl Ranges {
         ensures { result.now ≡ self.now }
     {
         self.by_first.as_slice()
+    }
+
+    /// The same ranges once more.
+    pub(crate) fn try_clone(&self, alloc: Global) -> Result<Ranges, AllocError>
+        ensures { IfOk result (λ r. r ≡ self.now) }
+    {
+        let by_first = self.by_first.as_slice().to_vec(alloc)?;
+        let extents = self.extents.clone()?;
+        Ok(Ranges { by_first, extents })
     }
 
     /// The range in which a code point lies.

@@ -47,7 +47,7 @@ const ELEMENT: Element = Element {
     l3: 2,
 };
 
-fn element(starred: bool, [l1, l2, l3]: [u16; 3]) -> Element {
+pub(crate) fn element(starred: bool, [l1, l2, l3]: [u16; 3]) -> Element {
     Element {
         starred,
         l1,
@@ -57,7 +57,7 @@ fn element(starred: bool, [l1, l2, l3]: [u16; 3]) -> Element {
 }
 
 /// Inserts an entry, once more where memory was refused.
-fn insert(
+pub(crate) fn insert(
     builder: &mut TableBuilder,
     key: &[char],
     elements: &[Element],
@@ -79,7 +79,7 @@ fn add_implicit(builder: &mut TableBuilder, range: Range) -> Result<(), RangeFau
 }
 
 /// Makes the table, once more where memory was refused.
-fn finish(builder: TableBuilder) -> Option<Table> {
+pub(crate) fn finish(builder: TableBuilder) -> Option<Table> {
     match builder.finish() {
         Ok(table) => Some(table),
         Err(fault) => fault.builder.finish().ok(),
@@ -98,7 +98,7 @@ fn small_builder(rt: &impl Abort, alloc: Global) -> TableBuilder {
     builder
 }
 
-fn small_table(rt: &impl Abort, alloc: Global) -> Table {
+pub(crate) fn small_table(rt: &impl Abort, alloc: Global) -> Table {
     finish(small_builder(rt, alloc)).expect(rt, "a table")
 }
 

@@ -45,6 +45,16 @@ fn is_job_with(alloc: Global, words: &[&str], command: Task, path: &str) -> bool
     job_again(alloc, words) == Ok(job)
 }
 
+// The words ask for the command with the rules in the file of this name, and with no other option.
+fn is_tailored_job(alloc: Global, words: &[&str], command: Task, path: &str) -> bool {
+    let Ok(path) = String::from_str(alloc, path) else {
+        return true;
+    };
+    let mut job = plain_job(command);
+    job.rules = Some(path);
+    job_again(alloc, words) == Ok(job)
+}
+
 // The words are refused with a text for the user, and not for want of memory.
 fn is_refused(alloc: Global, words: &[&str]) -> bool {
     match job_again(alloc, words) {
@@ -139,6 +149,21 @@ fn each_command_has_the_path_of_its_table(rt: HostRuntime) {
 }
 
 #[test]
+fn each_command_has_the_path_of_its_rules(rt: HostRuntime) {
+    let alloc = rt.alloc();
+    for (name, command) in COMMANDS {
+        assert!(rt;
+            is_tailored_job(alloc, &[name, "--rules", "a b.txt"], command, "a b.txt"),
+            "{name}"
+        );
+        assert!(rt;
+            is_tailored_job(alloc, &[name, "--rules=F"], command, "F"),
+            "{name}"
+        );
+    }
+}
+
+#[test]
 fn options_come_in_any_order(rt: HostRuntime) {
     let alloc = rt.alloc();
     let lists: [&[&str]; 3] = [
@@ -155,13 +180,15 @@ fn options_come_in_any_order(rt: HostRuntime) {
 #[test]
 fn a_job_has_all_options_at_once(rt: HostRuntime) {
     let alloc = rt.alloc();
-    let Ok(path) = String::from_str(alloc, "F") else {
+    let (Ok(table), Ok(rules)) = (String::from_str(alloc, "F"), String::from_str(alloc, "G")) else {
         return;
     };
     let mut job = job_at(Task::Elements, Strength::Primary, Variable::Blanked);
-    job.table = Some(path);
+    job.table = Some(table);
+    job.rules = Some(rules);
     let words = [
         "elements",
+        "--rules=G",
         "--variable=blanked",
         "--table=F",
         "--strength=primary",
@@ -240,7 +267,7 @@ fn other_values_are_refused(rt: HostRuntime) {
 fn other_words_after_a_command_are_refused(rt: HostRuntime) {
     let alloc = rt.alloc();
     for (name, _) in COMMANDS {
-        let lists: [&[&str]; 16] = [
+        let lists: [&[&str]; 18] = [
             &[name, "extra"],
             &[name, "key"],
             &[name, "--", "extra"],
@@ -255,13 +282,46 @@ fn other_words_after_a_command_are_refused(rt: HostRuntime) {
             &[name, "--stren", "primary"],
             &[name, "--tab", "F"],
             &[name, "-s", "primary"],
-            &[name, "--rules", "F"],
-            &[name, "--raw"],
+            &[name, "--rules"],
+            &[name, "--rules", "F", "--rules", "F"],
+            &[name, "--rule", "F"],
+            &[name, "--raw=true"],
         ];
         for words in lists {
             assert!(rt; is_refused(alloc, words), "{words:?}");
         }
     }
+}
+
+#[test]
+fn the_key_may_be_asked_for_as_its_bytes(rt: HostRuntime) {
+    let alloc = rt.alloc();
+    let lists: [&[&str]; 2] = [
+        &["key", "--raw", "--strength", "primary"],
+        &["key", "--strength=primary", "--raw"],
+    ];
+    for words in lists {
+        let mut job = job_at(Task::Key, Strength::Primary, Variable::NonIgnorable);
+        job.raw = true;
+        assert!(rt; job_again(alloc, words) == Ok(job), "{words:?}");
+    }
+    let lists: [&[&str]; 7] = [
+        &["key", "--raw", "--raw"],
+        &["key", "--raw", "true"],
+        &["key", "--raw="],
+        &["--raw", "key"],
+        &["elements", "--raw"],
+        &["compare", "--raw"],
+        &["table", "--raw"],
+    ];
+    for words in lists {
+        assert!(rt; is_refused(alloc, words), "{words:?}");
+    }
+}
+
+#[test]
+fn a_value_may_be_spelled_like_a_flag(rt: HostRuntime) {
+    assert!(rt; is_job_with(rt.alloc(), &["key", "--table=--raw"], Task::Key, "--raw"));
 }
 
 // Two calls with the same words answer the same, but for want of memory. This is a test where each growth is

@@ -42,17 +42,19 @@ impl Reader for Pieces<'_> {
     }
 }
 
-/// Gives so many zeros, and then is at its end or fails.
+/// Gives a byte so many times, and then is at its end or fails.
 #[derive(Clone, Copy)]
-pub struct Zeros {
+pub struct Repeating {
+    byte: u8,
     left: usize,
     fails: bool,
     failed: u128,
 }
 
-impl Zeros {
-    pub fn new(count: usize, fails: bool) -> Zeros {
-        Zeros {
+impl Repeating {
+    pub fn new(byte: u8, count: usize, fails: bool) -> Repeating {
+        Repeating {
+            byte,
             left: count,
             fails,
             failed: 0,
@@ -60,7 +62,7 @@ impl Zeros {
     }
 }
 
-impl Reader for Zeros {
+impl Reader for Repeating {
     ghost state = { λ s. record { coming = None; failures = s.failed } };
 
     fn pull(&mut self, buf: &mut [u8]) -> Result<usize, Refused> {
@@ -69,7 +71,7 @@ impl Reader for Zeros {
             return Err(Refused);
         }
         let n = self.left.min(buf.len());
-        buf[..n].fill(0);
+        buf[..n].fill(self.byte);
         self.left -= n;
         Ok(n)
     }

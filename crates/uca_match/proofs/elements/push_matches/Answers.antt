@@ -15,10 +15,12 @@ matches-preserved c =
     record {
       size = size ∙ c.matches.invariant.size;
       within = omega (arith, size, mid, c.match_front-n.ensures.within, c.matches.invariant.within);
+      kept = omega (arith, c.in_ok-push_elements.ensures.some, c.matches.invariant.kept);
+      some = λ _. omega (arith, c.in_ok-push_elements.ensures.some, c.matches.invariant.kept);
       same =
-          ap (λ es. es ++ elements c.args.t.now (drop (at + n) (put_mid at (length c.matches.text - at) c.matches.text c.match_front-n.new.text))) c.in_ok-push_elements.ensures
+          ap (λ es. es ++ elements c.args.t.now (drop (at + n) (put_mid at (length c.matches.text - at) c.matches.text c.match_front-n.new.text))) c.in_ok-push_elements.ensures.elements
           ∙ elements-further c.args.t.now c.matches.text c.match_front-n.new.text at n c.matches.out.items (c.args.out.now.items ++ elements c.args.t.now c.args.text.now) c.matches-test.true c.matches.invariant.same c.match_front-n.ensures.matched c.match_front-n.ensures.rest;
     }
 
-pub returns : goal.returns
-returns c = elements-done c.args.t.now c.matches.text c.matches.at c.matches.out.items (c.args.out.now.items ++ elements c.args.t.now c.args.text.now) c.matches-test.false c.matches.invariant.same
+pub returns-clause-elements : goal.returns-clause-elements
+returns-clause-elements c = elements-done c.args.t.now c.matches.text c.matches.at c.matches.out.items (c.args.out.now.items ++ elements c.args.t.now c.args.text.now) c.matches-test.false c.matches.invariant.same

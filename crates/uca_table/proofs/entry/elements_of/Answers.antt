@@ -1,39 +1,11 @@
-use Rattle.std.proofs.Common.{◌≡◌, ◌+◌, ◌-◌, ◌/◌, ap, sym, ◌∙◌, Some, arith}
-use Rattle.std.specs.declared.cmp.Ordering.TheVariants.{Less, Equal, Greater}
-use Rattle.uca_model.specs.Table.{key_cmp}
-use Rattle.uca_table.specs.declared.entry.Entry.{Entry}
-use Rattle.uca_table.proofs.SearchLemmas.{found_at, found_nowhere, lower_before, higher_behind}
+use Rattle.std.proofs.Common.{ap, sym, ◌∙◌, Some}
+use Rattle.uca_table.proofs.SearchLemmas.{found_at, found_nowhere}
 use Rattle.uca_table.proofs.entry.elements_of.Goals as goal
 
-pub loop-low-preserved-in-Less : goal.loop-low-preserved-in-Less
-loop-low-preserved-in-Less c =
-    let es = c.args.entries.now in let q = c.args.key.now in let e = c.index-entries-middle.result in
-    let here : key_cmp e.key.items q ≡ Less = sym c.compare_key.ensures ∙ c.in-Less.is in
-    let lower = ap (λ (f : Entry). key_cmp f.key.items q) (sym c.index-entries-middle.is) ∙ here in
-    record {
-      within = c.loop-low.invariant.within;
-      lower = λ k d before. lower_before es k (c.loop-low.low + (c.loop-low.high - c.loop-low.low) / 2) q d e c.requires (omega arith) lower before;
-      higher = c.loop-low.invariant.higher;
-    }
+pub returns-in-Ok : goal.returns-in-Ok
+returns-in-Ok c =
+    let e = c.index-entries-at.result in
+    ap Some c.as_slice.ensures.value ∙ sym (found_at c.args.entries.now c.in-Ok.at c.args.key.now e c.requires c.in-Ok.ensures.within (c.in-Ok.ensures.here e))
 
-pub loop-low-preserved : goal.loop-low-preserved
-loop-low-preserved c =
-    let es = c.args.entries.now in let q = c.args.key.now in let e = c.index-entries-middle.result in
-    let here : key_cmp e.key.items q ≡ Greater = sym c.compare_key.ensures ∙ c.in-Greater.is in
-    let higher = ap (λ (f : Entry). key_cmp f.key.items q) (sym c.index-entries-middle.is) ∙ here in
-    record {
-      within = omega arith;
-      lower = c.loop-low.invariant.lower;
-      higher = λ k d behind within. higher_behind es (c.loop-low.low + (c.loop-low.high - c.loop-low.low) / 2) k q e d c.requires higher behind within;
-    }
-
-pub returns-in-Equal : goal.returns-in-Equal
-returns-in-Equal c =
-    let es = c.args.entries.now in let q = c.args.key.now in let e = c.index-entries-middle.result in
-    let here : key_cmp e.key.items q ≡ Equal = sym c.compare_key.ensures ∙ c.in-Equal.is in
-    let same = ap (λ (f : Entry). key_cmp f.key.items q) (sym c.index-entries-middle.is) ∙ here in
-    ap Some c.as_slice.ensures.value ∙ ap (λ (f : Entry). Some f.elements.items) c.index-entries-middle.is ∙ sym (found_at es (c.loop-low.low + (c.loop-low.high - c.loop-low.low) / 2) q e c.requires (omega arith) same)
-
-pub returns : goal.returns
-returns c =
-    sym (found_nowhere c.args.entries.now c.loop-low.low c.args.key.now (λ k d start before. c.loop-low.invariant.lower k d before, λ k d behind within. c.loop-low.invariant.higher k d (omega arith) within))
+pub returns-in-Err : goal.returns-in-Err
+returns-in-Err c = sym (found_nowhere c.args.entries.now c.in-Err.field-0 c.args.key.now c.in-Err.ensures.parted)

@@ -1,6 +1,6 @@
 use Rattle.std.proofs.Common.{◌≡◌, true, false, map, subst, sym, ap, ◌∙◌, rules}
-use Rattle.uca_model.specs.Table.{is_key, IsEntry}
-use Rattle.uca_table.specs.Builder.{with_entry, insert_fault}
+use Rattle.uca_model.specs.Table.{is_key, IsEntry, with_entry}
+use Rattle.uca_table.specs.Builder.{insert_fault}
 use Rattle.uca_table.specs.Stored.{AreStored, pair_in, table_of}
 use Rattle.uca_table.proofs.EntryLemmas.{found_in, is_key_stored, table_put, AreStored-put}
 use Rattle.uca_table.proofs.BuilderLemmas.{fault_within, faultless, on_ok, either_way}

@@ -1,0 +1,64 @@
+ghost use Rattle.std.specs.Prelude.{IfErr, IfOk};
+ghost use Rattle.uca_cli.specs.RuleFile.{ReadsRuleBytes, ReadsRules, RefusesRules, StopsTailoring, TailorsBy};
+
+use crate::faults::{CliFault, RulesTextCause};
+use crate::input::{Stop, read_whole};
+use simdutf8::compat::from_utf8;
+use std::alloc::Global;
+use uca_table::Table;
+use uca_tailor::{Rules, parse, tailor};
+use uca_weights::{MAX_RULES, Reader};
+
+/// Reads the bytes of rules to their end.
+fn read_rules<U: Reader>(alloc: Global, reader: &mut U) -> Result<Vec<u8>, CliFault>
+    ensures ok { IfOk result (λ v. ReadsRuleBytes (U.state reader.old) (U.state reader.new) v.items) }
+    ensures err { IfErr result (RefusesRules (U.state reader.old) (U.state reader.new)) }
+{
+    match read_whole(alloc, reader, MAX_RULES) {
+        Ok(bytes) => Ok(bytes),
+        Err(Stop::TooLarge) => Err(CliFault::RulesText {
+            at: MAX_RULES,
+            cause: RulesTextCause::TooLarge,
+        }),
+        Err(Stop::Read) => Err(CliFault::RulesText {
+            at: 0,
+            cause: RulesTextCause::Read,
+        }),
+        Err(Stop::OutOfMemory) => Err(CliFault::OutOfMemory),
+    }
+}
+
+/// The rules that the text in a reader says. The text is read whole before anything else is looked at.
+fn rules_in<U: Reader>(alloc: Global, reader: &mut U) -> Result<Rules, CliFault>
+    ensures ok { IfOk result (λ r. ReadsRules (U.state reader.old) (U.state reader.new) r) }
+    ensures err { IfErr result (RefusesRules (U.state reader.old) (U.state reader.new)) }
+{
+    let bytes = match read_rules(alloc, reader) {
+        Ok(bytes) => bytes,
+        Err(fault) => return Err(fault),
+    };
+    match from_utf8(&bytes) {
+        Ok(text) => match parse(alloc, text) {
+            Ok(rules) => Ok(rules),
+            Err(fault) => Err(CliFault::Rules(fault)),
+        },
+        Err(error) => Err(CliFault::RulesText {
+            at: error.valid_up_to(),
+            cause: RulesTextCause::NotUtf8,
+        }),
+    }
+}
+
+/// The table tailored by the rules in a reader.
+pub fn tailored_in<U: Reader>(alloc: Global, t: Table, reader: &mut U) -> Result<Table, CliFault>
+    ensures ok { IfOk result (TailorsBy (U.state reader.old) (U.state reader.new) t) }
+    ensures err { IfErr result (StopsTailoring (U.state reader.old) (U.state reader.new) t) }
+{
+    match rules_in(alloc, reader) {
+        Ok(rules) => match tailor(alloc, &t, &rules) {
+            Ok(tailored) => Ok(tailored),
+            Err(fault) => Err(CliFault::Tailor(fault)),
+        },
+        Err(fault) => Err(fault),
+    }
+}

@@ -1,0 +1,84 @@
+-- What a new entry in its place does to entries whose keys rise, and to the longest key.
+use Rattle.std.proofs.Common.{◌≡◌, ℕ, suc, zero, ◌≤◌, ◌<◌, max, T, List, [], ◌∷◌, ◌++◌, length, take, drop, fold, map, get_or, slice_set, refl, sym, ap, ◌∙◌, arith}
+use Rattle.std.proofs.lemmas.List.{map-append, take-map, drop-map}
+use Rattle.std.specs.declared.cmp.Ordering.{Ordering}
+use Rattle.std.specs.declared.cmp.Ordering.TheVariants.{Less, Equal, Greater}
+use Rattle.std.specs.List.{insert}
+use Rattle.std.specs.Ordering.{ordering_reverse}
+use Rattle.std.specs.Cmp.Lexicographic.{nat_list_cmp_total}
+use Rattle.std.specs.FinMap.{put, is_sorted, nat_cmp-IsAntisymmetric, slice_cmp-IsAntisymmetric}
+use Rattle.std.specs.FinMap.Entries.{by_order}
+use Rattle.uca_weights.specs.declared.element.Element.{Element}
+use Rattle.uca_model.specs.Table.{key_cmp}
+use Rattle.uca_table.specs.declared.entry.Entry.{Entry}
+use Rattle.uca_table.specs.Place.{BelongsAt}
+use Rattle.uca_table.specs.Stored.{pair_of, longest_of}
+use Rattle.uca_table.proofs.SearchLemmas.{below_at, left, right}
+
+-- the other way round
+turned : (x q : List ℕ) (o : Ordering) → key_cmp x q ≡ o → key_cmp q x ≡ ordering_reverse o
+turned x q o e = nat_list_cmp_total.antisymm q x ∙ ap ordering_reverse e
+
+-- a key that an entry has already gets new elements there
+pub put_at : (es : List Entry) (i : ℕ) (q : List ℕ) (d new : Entry) → T (is_sorted key_cmp (map pair_of es)) → i < length es → key_cmp (get_or es i d).key.items q ≡ Equal → new.key.items ≡ (get_or es i d).key.items
+    → map pair_of (slice_set es i new) ≡ put key_cmp q new.elements.items (map pair_of es)
+put_at [] i q d new sorted within here same = absurd (omega arith)
+put_at (e ∷ es) zero q d new sorted within here same =
+    ap (λ k. (k, new.elements.items) ∷ map pair_of es) same
+    ∙ sym (ap (λ o. by_order o ((q, new.elements.items) ∷ pair_of e ∷ map pair_of es) ((e.key.items, new.elements.items) ∷ map pair_of es) (pair_of e ∷ put key_cmp q new.elements.items (map pair_of es))) (turned e.key.items q Equal here))
+put_at (e ∷ es) (suc i) q d new sorted within here same =
+    let x = (get_or es i d).key.items in
+    let above : key_cmp x e.key.items ≡ Greater = turned e.key.items x Less (below_at e.key.items es i d (left _ _ sorted) (omega arith)) in
+    let other : key_cmp q e.key.items ≡ Greater = sym (nat_list_cmp_total.congr x q e.key.items here) ∙ above in
+    ap (λ xs. pair_of e ∷ xs) (put_at es i q d new (right _ _ sorted) (omega arith) here same)
+    ∙ sym (ap (λ o. by_order o ((q, new.elements.items) ∷ pair_of e ∷ map pair_of es) ((e.key.items, new.elements.items) ∷ map pair_of es) (pair_of e ∷ put key_cmp q new.elements.items (map pair_of es))) other)
+
+-- a key that none has is inserted between those that are lower and those that are higher
+put_between : (es : List Entry) (i : ℕ) (q : List ℕ) (v : List Element) → i ≤ length es → ((k : ℕ) (d : Entry) → k < i → key_cmp (get_or es k d).key.items q ≡ Less) → ((k : ℕ) (d : Entry) → i ≤ k → k < length es → key_cmp (get_or es k d).key.items q ≡ Greater)
+    → put key_cmp q v (map pair_of es) ≡ insert (map pair_of es) i (q, v)
+put_between [] zero q v within lower higher = refl
+put_between [] (suc i) q v within lower higher = absurd (omega arith)
+put_between (e ∷ es) zero q v within lower higher =
+    ap (λ o. by_order o ((q, v) ∷ pair_of e ∷ map pair_of es) ((e.key.items, v) ∷ map pair_of es) (pair_of e ∷ put key_cmp q v (map pair_of es))) (turned e.key.items q Greater (higher 0 e (omega arith) (omega arith)))
+put_between (e ∷ es) (suc i) q v within lower higher =
+    ap (λ o. by_order o ((q, v) ∷ pair_of e ∷ map pair_of es) ((e.key.items, v) ∷ map pair_of es) (pair_of e ∷ put key_cmp q v (map pair_of es))) (turned e.key.items q Less (lower 0 e (omega arith)))
+    ∙ ap (λ xs. pair_of e ∷ xs) (put_between es i q v (omega arith) (λ k d before. lower (suc k) d (omega arith)) (λ k d behind inside. higher (suc k) d (omega arith) (omega arith)))
+
+pub put_before : (es : List Entry) (i : ℕ) (q : List ℕ) (v : List Element) → BelongsAt q es i → put key_cmp q v (map pair_of es) ≡ insert (map pair_of es) i (q, v)
+put_before es i q v here = put_between es i q v here.within (λ k d before. here.parted.0 k d (omega (arith, here.within)) before) (λ k d behind inside. here.parted.1 k d behind inside)
+
+-- an inserted entry without where it lies in memory
+pub pairs-insert : (es : List Entry) (i : ℕ) (new : Entry) (q : List ℕ) → new.key.items ≡ q → map pair_of (insert es i new) ≡ insert (map pair_of es) i (q, new.elements.items)
+pairs-insert es i new q same =
+    map-append pair_of (take i es) (new ∷ drop i es)
+    ∙ ap (λ xs. xs ++ pair_of new ∷ map pair_of (drop i es)) (sym (take-map pair_of i es))
+    ∙ ap (λ xs. take i (map pair_of es) ++ pair_of new ∷ xs) (sym (drop-map pair_of i es))
+    ∙ ap (λ k. take i (map pair_of es) ++ (k, new.elements.items) ∷ drop i (map pair_of es)) same
+
+-- a greatest length is none below the one that it began with
+fold-some : (n : ℕ) (es : List (List ℕ × List Element)) → n ≤ fold (λ m e. max m (length e.0)) n es
+fold-some n [] = omega arith
+fold-some n (e ∷ es) = let h : max n (length e.0) ≤ fold (λ m f. max m (length f.0)) (max n (length e.0)) es = fold-some (max n (length e.0)) es in omega arith
+
+-- nor is the greater of it and another
+fold-max : (n m : ℕ) (es : List (List ℕ × List Element)) → fold (λ l e. max l (length e.0)) (max n m) es ≡ max (fold (λ l e. max l (length e.0)) n es) m
+fold-max n m [] = refl
+fold-max n m (e ∷ es) = let swapped : max (max n m) (length e.0) ≡ max (max n (length e.0)) m = omega arith in ap (λ l. fold (λ l f. max l (length f.0)) l es) swapped ∙ fold-max (max n (length e.0)) m es
+
+put_step : (n : ℕ) (k : List ℕ) (v : List Element) (e : List ℕ × List Element) (es : List (List ℕ × List Element)) (o : Ordering) → key_cmp k e.0 ≡ o
+    → fold (λ m f. max m (length f.0)) (max n (length e.0)) (put key_cmp k v es) ≡ max (fold (λ m f. max m (length f.0)) (max n (length e.0)) es) (length k)
+    → fold (λ m f. max m (length f.0)) n (by_order o ((k, v) ∷ e ∷ es) ((e.0, v) ∷ es) (e ∷ put key_cmp k v es)) ≡ max (fold (λ m f. max m (length f.0)) (max n (length e.0)) es) (length k)
+put_step n k v e es Less is more = fold-max n (length k) (e ∷ es)
+put_step n k v e es Equal is more =
+    let same : length k ≡ length e.0 = ap length (slice_cmp-IsAntisymmetric nat_cmp-IsAntisymmetric k e.0 is) in
+    let some : max n (length e.0) ≤ fold (λ m f. max m (length f.0)) (max n (length e.0)) es = fold-some (max n (length e.0)) es in
+    omega arith
+put_step n k v e es Greater is more = more
+
+fold-put : (n : ℕ) (k : List ℕ) (v : List Element) (es : List (List ℕ × List Element)) → fold (λ m e. max m (length e.0)) n (put key_cmp k v es) ≡ max (fold (λ m e. max m (length e.0)) n es) (length k)
+fold-put n k v [] = refl
+fold-put n k v (e ∷ es) = put_step n k v e es (key_cmp k e.0) refl (fold-put (max n (length e.0)) k v es)
+
+-- the longest key with one more
+pub longest-put : (k : List ℕ) (v : List Element) (es : List (List ℕ × List Element)) → longest_of (put key_cmp k v es) ≡ max (longest_of es) (length k)
+longest-put k v es = fold-put 1 k v es

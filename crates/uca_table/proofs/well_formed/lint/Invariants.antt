@@ -1,0 +1,10 @@
+use Rattle.std.proofs.Common.{◌≡◌, ◌+◌, ◌≤◌, ◌++◌, [], ◌∷◌, length, map, drop, flat_map, fold, cond}
+use Rattle.uca_model.specs.WellFormed.{all_elements, is_broken, broken}
+use Rattle.uca_table.specs.Bounds.{condition_of, bounded, unbounded}
+use Rattle.uca_table.proofs.well_formed.lint.Given as goal
+
+abbrev pub invariant-loop-condition : goal.invariant-loop-condition
+invariant-loop-condition l = record {
+  same : map condition_of l.broken.items ++ flat_map (λ c. cond (is_broken l.t (condition_of c)) (condition_of c ∷ []) []) (drop l.condition-index l.initial.condition-items) ≡ broken l.t;
+  room : length l.broken.items ≤ l.condition-index;
+}

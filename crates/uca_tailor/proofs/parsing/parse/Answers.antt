@@ -1,0 +1,28 @@
+use Rattle.std.proofs.Common.{◌≡◌, ◌+◌, ◌∷◌, ◌++◌, [], length, chars, sym, ap, subst, ◌∙◌, arith}
+use Rattle.std.proofs.lemmas.Bool.{cond-true}
+use Rattle.uca_tailor.proofs.ParsingLemmas.{InRules, rules_more, rules_end, rules_refused, leading_refused, before_reset, reset_from, pushed}
+use Rattle.uca_tailor.specs.Strings.{left_of, BeginsWith}
+use Rattle.uca_tailor.specs.Scan.{scan_of}
+use Rattle.uca_model.specs.RuleText.{leading_faults}
+use Rattle.std.proofs.Common.{flat_map}
+use Rattle.uca_tailor.proofs.parsing.parse.Goals as goal
+
+pub returns-in-Err : goal.returns-in-Err
+returns-in-Err c = leading_refused c.in-Err.fault (chars c.args.text.now) (subst (λ s. BeginsWith c.in-Err.fault (flat_map leading_faults (left_of s).leading)) c.new-scanner.ensures c.in-Err.ensures)
+
+pub returns-then-not-is_reset : goal.returns-then-not-is_reset
+returns-then-not-is_reset c = before_reset c.fault_at.result (chars c.args.text.now) c.loop-next.chains.items c.loop-next.count c.loop-next.next c.in-Some.found c.loop-next.scanner c.loop-next.invariant c.in-Some.is (sym c.is_reset.ensures ∙ c.if-not-is_reset.true) c.fault_at.ensures.cause c.fault_at.ensures.at
+
+pub returns-in-Err-read_chain : goal.returns-in-Err-read_chain
+returns-in-Err-read_chain c = rules_refused c.in-Err-read_chain.fault (chars c.args.text.now) c.loop-next.chains.items c.loop-next.count c.loop-next.next c.in-Some.found c.loop-next.scanner c.loop-next.invariant c.in-Some.is (reset_from c.in-Some.found.operator (sym c.is_reset.ensures ∙ c.if-not-is_reset.false)) c.in-Err-read_chain.ensures
+
+pub returns : goal.returns
+returns c = rules_end (chars c.args.text.now) c.loop-next.chains.items c.loop-next.count c.loop-next.next c.loop-next.scanner c.loop-next.invariant c.in_default.is
+
+pub loop-next-preserved : goal.loop-next-preserved
+loop-next-preserved c =
+    let items : c.push.new.self.items ≡ c.loop-next.chains.items ++ c.in-Ok-read_chain.read.0 ∷ [] = c.push.ensures.items ∙ cond-true _ _ _ (pushed c.push.result c.is_err.result c.is_err.ensures.value c.if-is_err.false) in
+    let count : c.loop-next.count + c.len-count.result ≡ c.loop-next.count + length c.in-Ok-read_chain.read.0.relations.items = (let k = c.in-Ok-read_chain.read.0.relations.ok.0 in omega (arith, k, c.len-count.ensures)) in
+    subst (λ n. InRules (chars c.args.text.now) c.push.new.self.items n c.in-Ok-read_chain.read.1 c.read_chain.new.scanner) (sym count)
+    (subst (λ cs. InRules (chars c.args.text.now) cs (c.loop-next.count + length c.in-Ok-read_chain.read.0.relations.items) c.in-Ok-read_chain.read.1 c.read_chain.new.scanner) (sym items)
+    (rules_more (chars c.args.text.now) c.loop-next.chains.items c.loop-next.count c.loop-next.next c.in-Ok-read_chain.read.1 c.in-Some.found c.loop-next.scanner c.read_chain.new.scanner c.in-Ok-read_chain.read.0 c.loop-next.invariant c.in-Some.is (reset_from c.in-Some.found.operator (sym c.is_reset.ensures ∙ c.if-not-is_reset.false)) c.in-Ok-read_chain.ensures))

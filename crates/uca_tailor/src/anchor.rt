@@ -1,0 +1,126 @@
+ghost use Rattle.std.specs.Prelude.{◌≡◌, ◌≤◌, ◌<◌, ◌∷◌, ◌++◌, [], false, None, Some, length, map, IfOk, IfNone, IfSome, MatchOption};
+ghost use Rattle.std.specs.List.{list_any};
+ghost use Rattle.uca_weights.specs.Element.{weight};
+ghost use Rattle.uca_model.specs.Shift.{shifted, is_stuck};
+ghost use Rattle.uca_model.specs.Tailoring.{anchor_of, least, is_high, is_full, fault_at, raised};
+ghost use Rattle.uca_tailor.specs.Steps.{anchor_as, IsToldAs};
+
+use crate::faults::TailorCause;
+use std::alloc::{AllocError, Global};
+use uca_table::shift::{any_stuck, shift_elements, top};
+use uca_table::{Element, Table};
+
+/// Elements up to the last that has a weight at a level.
+#[derive(Clone, Copy)]
+pub(crate) struct Anchor<'e> {
+    pub(crate) before: &'e [Element],
+    pub(crate) last: Element,
+}
+
+/// Elements without those at their end that have no weight at a level, 1 to 3.
+pub(crate) fn anchor_of(level: u8, elements: &[Element]) -> Option<Anchor<'_>>
+    requires first { 1 ≤ level }
+    requires last { level ≤ 3 }
+    ensures { MatchOption result (anchor_of level elements.now ≡ None) (λ a. anchor_of level elements.now ≡ Some (anchor_as a.before.now a.last)) }
+{
+    let mut n = elements.len();
+    while n > 0 {
+        let last = elements[n - 1];
+        if last.weight(level) != 0 {
+            return Some(Anchor {
+                before: &elements[..n - 1],
+                last,
+            });
+        }
+        n -= 1;
+    }
+    None
+}
+
+/// The least weight at a level behind which an item may stand, so that implicit weights never move.
+fn least(level: u8) -> u16
+    ensures { result ≡ least level }
+{
+    match level {
+        2 => 0x20,
+        3 => 2,
+        _ => 0,
+    }
+}
+
+/// Whether some element has a primary weight as high as the implicit ones.
+fn any_high(elements: &[Element]) -> bool
+    ensures { result ≡ list_any is_high elements.now }
+{
+    elements.iter().any(|e| e.l1 >= 0x8000)
+}
+
+/// Whether there is no room above a weight, in a table and in the elements of an anchor.
+fn is_full(level: u8, w: u16, t: &Table, elements: &[Element]) -> bool
+    requires first { 1 ≤ level }
+    requires last { level ≤ 3 }
+    ensures { result ≡ is_full level w t.now elements.now }
+{
+    w == top(level) || any_stuck(level, w, elements) || t.has_stuck(level, w)
+}
+
+/// Why no item can stand behind elements whose last weight at a level is `w`.
+pub(crate) fn fault_at(level: u8, w: u16, t: &Table, elements: &[Element]) -> Option<TailorCause>
+    requires first { 1 ≤ level }
+    requires last { level ≤ 3 }
+    ensures none { IfNone result (fault_at level w t.now elements.now ≡ None) }
+    ensures some { IfSome result (IsToldAs (fault_at level w t.now elements.now)) }
+{
+    if w < least(level) {
+        return Some(TailorCause::SmallWeight);
+    }
+    if any_high(elements) {
+        return Some(TailorCause::HighReset);
+    }
+    if is_full(level, w, t, elements) {
+        return Some(TailorCause::Full(level));
+    }
+    None
+}
+
+/// The element next to one at a level.
+fn raised(level: u8, e: Element) -> Element
+    requires first { 1 ≤ level }
+    requires last { level ≤ 3 }
+    requires room { weight level e < 65535 }
+    ensures { result ≡ raised level e }
+{
+    let mut next = e;
+    match level {
+        1 => {
+            next.l1 = e.l1 + 1;
+            next.l2 = 0x20;
+            next.l3 = 2;
+        }
+        2 => {
+            next.l2 = e.l2 + 1;
+            next.l3 = 2;
+        }
+        _ => next.l3 = e.l3 + 1,
+    }
+    next
+}
+
+/// The elements of an item that stands at a level directly behind an element and those before it.
+pub(crate) fn base_behind(
+    alloc: Global,
+    level: u8,
+    before: &[Element],
+    last: Element,
+) -> Result<Vec<Element>, AllocError>
+    requires first { 1 ≤ level }
+    requires last { level ≤ 3 }
+    requires next { weight level last < 65535 }
+    requires room { list_any (is_stuck level (weight level last)) before.now ≡ false }
+    ensures { IfOk result (λ v. v.items ≡ map (shifted level (weight level last)) before.now ++ raised level last ∷ []) }
+{
+    let mut base = before.to_vec(alloc)?;
+    shift_elements(level, last.weight(level), &mut base);
+    base.push(raised(level, last))?;
+    Ok(base)
+}
