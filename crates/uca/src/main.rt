@@ -88,10 +88,7 @@ fn do_job(rt: &HostRuntime, job: &Job) -> u8 {
 }
 
 /// The reader of the file of this path, if there is one.
-fn reader_of(
-    rt: &HostRuntime,
-    path: Option<&String>,
-) -> Result<Option<Reading<File>>, NotOpened> {
+fn reader_of(rt: &HostRuntime, path: Option<&String>) -> Result<Option<Reading<File>>, NotOpened> {
     let Some(path) = path else {
         return Ok(None);
     };
