@@ -24,6 +24,8 @@ pub mod Shift
 pub mod Tailoring
 pub mod RuleText
 pub mod WellFormed
+pub mod Ordered
+pub mod TestFile
 pub mod Laws
 pub mod Plain
 pub mod PlainText

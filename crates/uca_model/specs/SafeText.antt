@@ -1,5 +1,6 @@
 -- Texts with short runs of nonstarters (compare UAX #15, section 13, Stream-Safe Text Format, which counts in compatibility decompositions).
-use Rattle.std.specs.Prelude.{◌≡◌, ℕ, ◌+◌, ◌<◌, ◌≤◌, suc, max, List, [], ◌∷◌, length, take, All, encode_utf8_all, if◌then◌else◌}
+use Rattle.std.specs.Prelude.{◌≡◌, ℕ, ◌+◌, ◌<◌, ◌≤◌, Bool, ◌&&◌, nat_le, suc, max, List, [], ◌∷◌, length, take, All, encode_utf8_all, if◌then◌else◌}
+use Rattle.std.specs.List.{list_all}
 use Rattle.uca_weights.specs.declared.limits.TheConstants.{MAX_RUN, MAX_DECOMPOSITION}
 use Rattle.unicode_normalization.specs.Forms.{nfd}
 use Rattle.unicode_normalization.specs.Order.{is_nonstarter}
@@ -25,3 +26,7 @@ pub record IsLongRunAt (text : List ℕ) (at : ℕ) : Type 0 where
   pub offset : at ≡ length (encode_utf8_all (take place text))
   pub before : IsSafe (take place text)
   pub through : ¬ (IsSafe (take (suc place) text))
+
+-- whether a text is safe
+abbrev pub is_safe : List ℕ → Bool
+is_safe text = nat_le (longest_run (nfd text)) MAX_RUN && list_all (λ c. nat_le (length (nfd (c ∷ []))) MAX_DECOMPOSITION) text

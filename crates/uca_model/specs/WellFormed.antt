@@ -1,11 +1,12 @@
 -- Well-formed collation element tables (UTS #10, 5, Well-Formedness of Collation Element Tables). What `lint` looks at are the
 -- elements of the entries, not the implicit ones.
-use Rattle.std.specs.Prelude.{ℕ, ◌-◌, Bool, not, ◌==◌, ◌||◌, ◌&&◌, nat_lt, nat_le, List, [], ◌∷◌, ◌++◌, length, take, drop, flat_map, slice_index, if◌then◌else◌}
+use Rattle.std.specs.Prelude.{ℕ, ◌-◌, Bool, not, ◌==◌, ◌||◌, ◌&&◌, nat_lt, nat_le, List, [], ◌∷◌, ◌++◌, length, take, drop, flat_map, slice_index, codes, if◌then◌else◌}
 use Rattle.std.specs.List.{list_any}
 use Rattle.std.specs.FinMap.{entries}
 use Rattle.unicode_normalization.specs.Order.{is_nonstarter}
 use Rattle.uca_weights.specs.declared.element.Element.{Element}
 use Rattle.uca_weights.specs.Element.{has_primary, is_variable}
+use Rattle.uca_model.specs.Lines.{line_feed}
 use Rattle.uca_model.specs.Table.{ElementTable, is_key}
 
 -- a condition of well-formedness
@@ -55,3 +56,15 @@ is_broken t wf5 = list_any (λ e. lacks_its_front t e.0) (entries t.entries)
 -- the conditions that a table breaks, in their order
 abbrev pub broken : ElementTable → List Condition
 broken t = flat_map (λ c. if is_broken t c then c ∷ [] else []) (wf1 ∷ wf2 ∷ wf3 ∷ wf4 ∷ wf5 ∷ [])
+
+-- the name of a condition
+abbrev pub condition_name : Condition → List ℕ
+condition_name wf1 = codes "WF1"
+condition_name wf2 = codes "WF2"
+condition_name wf3 = codes "WF3"
+condition_name wf4 = codes "WF4"
+condition_name wf5 = codes "WF5"
+
+-- `lint`: each condition that a table breaks, as a line
+abbrev pub lint_output : ElementTable → List ℕ
+lint_output t = flat_map (λ c. condition_name c ++ line_feed ∷ []) (broken t)

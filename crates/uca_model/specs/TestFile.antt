@@ -1,0 +1,156 @@
+-- Test files in the manner of the Unicode Consortium's CollationTest files: what a table makes of their lines, each of which
+-- should not be below the one before it.
+use Rattle.std.specs.Prelude.{ℕ, ◌+◌, ◌-◌, Bool, true, false, not, ◌&&◌, ◌||◌, ◌==◌, nat_le, nat_lt, List, [], ◌∷◌, ◌++◌, length, take, filter, Option, Some, None, option_and_then, option_map, Result, Ok, Err, codes, if◌then◌else◌}
+use Rattle.std.specs.Fmt.{decimal}
+use Rattle.std.specs.List.{before_first, list_all, slice_split}
+use Rattle.std.specs.Option.{ok_or}
+use Rattle.std.specs.Ordering.{is_gt}
+use lib.Utf8.{scalar}
+use Rattle.uca_weights.specs.declared.limits.TheConstants.{MAX_INPUT, MAX_LINE}
+use Rattle.uca_weights.specs.declared.settings.Settings.{Settings}
+use Rattle.uca_model.specs.Lines.{line_feed, without_return}
+use Rattle.uca_model.specs.SafeText.{is_safe}
+use Rattle.uca_model.specs.SortKey.{key_order, sort_key}
+use Rattle.uca_model.specs.Table.{ElementTable}
+use Rattle.uca_model.specs.TableText.{◌>>=◌, is_four_to_six, is_line_feed, number, number_sign, semicolon, skip_blanks, words}
+
+-- why a test file is refused
+pub data TestCause : Type 0 where
+  line_too_long : TestCause
+  bad_line : TestCause
+  too_large : TestCause
+  read : TestCause
+
+-- the line at fault, counted from 1, and why
+pub record TestFault : Type 0 where
+  pub line : ℕ
+  pub cause : TestCause
+
+-- what follows the bytes of a file: their end, or a fault of reading
+pub data TestEnd : Type 0 where
+  ends : TestEnd
+  stops : TestCause → TestEnd
+
+-- a test line: which of all lines of the file it is, counted from 1, and its code points, surrogates among them
+pub record TestLine : Type 0 where
+  pub number : ℕ
+  pub points : List ℕ
+
+-- Lines
+
+-- a code point as it is, also a surrogate
+abbrev pub only_point : ℕ → Option ℕ
+only_point c = if nat_le c 0x10FFFF then Some c else None
+
+-- the code point that four to six hexadecimal digits say
+unfoldable pub test_point : List ℕ → Option ℕ
+test_point digits = if is_four_to_six (length digits) then option_and_then only_point (number digits) else None
+
+-- the code points that some words say, each of which has to be one
+abbrev pub points_after : List ℕ → List (List ℕ) → Option (List ℕ)
+points_after points [] = Some points
+points_after points (word ∷ more) = option_and_then (λ c. points_after (points ++ c ∷ []) more) (test_point word)
+
+-- there has to be a code point
+abbrev pub some_points : List ℕ → Option (List ℕ)
+some_points points = if length points == 0 then None else Some points
+
+abbrev pub ends_points : ℕ → Bool
+ends_points b = b == semicolon || b == number_sign
+
+-- the code points of a test line stand before its first `;` or `#`; what follows is not looked at
+unfoldable pub points_of : List ℕ → Result (List ℕ) TestCause
+points_of line = ok_or (option_and_then some_points (points_after [] (words (before_first ends_points line)))) bad_line
+
+-- a line whose first byte but for blanks is `#`, or that has none, is no test line
+abbrev pub is_test : List ℕ → Bool
+is_test [] = false
+is_test (b ∷ bytes) = not (b == number_sign)
+
+-- the test line that the line of this number is, if it is one
+unfoldable pub tests_of_line : ℕ → List ℕ → Result (List TestLine) TestCause
+tests_of_line n line =
+    if is_test (skip_blanks (without_return line)) then (do
+      points ← points_of (without_return line)
+      Ok (record { number = n; points = points } ∷ []))
+    else Ok []
+
+-- the bytes behind the last LF: they are a line if the file ends there, and there are any
+abbrev pub tests_of_last : TestEnd → ℕ → List ℕ → Result (List TestLine) TestCause
+tests_of_last (stops cause) n line = Err cause
+tests_of_last ends n [] = Ok []
+tests_of_last ends n (b ∷ bytes) = tests_of_line n (b ∷ bytes)
+
+-- a line with at most so many bytes, a CR among them
+abbrev pub unless_long : {A : Type 0} → List ℕ → Result A TestCause → Result A TestCause
+unless_long line r = if nat_lt MAX_LINE (length line) then Err line_too_long else r
+
+abbrev pub at_line : {A : Type 0} → ℕ → Result A TestCause → Result A TestFault
+at_line n (Ok a) = Ok a
+at_line n (Err cause) = Err (record { line = n; cause = cause })
+
+-- some test lines and those of the lines from a number on, of which the last one has no LF; the first fault decides
+abbrev pub tests_after : TestEnd → ℕ → List TestLine → List (List ℕ) → Result (List TestLine) TestFault
+tests_after end n tests [] = Ok tests
+tests_after end n tests (last ∷ []) = do
+  more ← at_line n (unless_long last (tests_of_last end n last))
+  Ok (tests ++ more)
+tests_after end n tests (line ∷ next ∷ others) = do
+  more ← at_line n (unless_long line (tests_of_line n line))
+  tests_after end (n + 1) (tests ++ more) (next ∷ others)
+
+-- what follows the first MAX_INPUT bytes of a file: the byte behind them is one too many
+abbrev pub end_within : TestEnd → List ℕ → TestEnd
+end_within end bytes = if nat_lt MAX_INPUT (length bytes) then stops too_large else end
+
+-- all test lines of a file, or its first fault in the order of its bytes
+unfoldable pub test_lines : TestEnd → List ℕ → Result (List TestLine) TestFault
+test_lines end bytes = tests_after (end_within end bytes) 1 [] (slice_split is_line_feed (take MAX_INPUT bytes))
+
+-- Report
+
+-- a test line is compared if it is a safe text; one with a surrogate is none
+abbrev pub is_compared : TestLine → Bool
+is_compared test = list_all scalar test.points && is_safe test.points
+
+-- the number of the first of some test lines that is below the one before it
+abbrev pub first_below : ElementTable → Settings → TestLine → List TestLine → Option ℕ
+first_below t s before [] = None
+first_below t s before (test ∷ more) =
+    if is_gt (key_order (sort_key t s before.points) (sort_key t s test.points)) then Some test.number else first_below t s test more
+
+abbrev pub first_failure : ElementTable → Settings → List TestLine → Option ℕ
+first_failure t s [] = None
+first_failure t s (first ∷ more) = first_below t s first more
+
+-- how many test lines there are, how many of them were not compared, and the number of the first line that fails
+pub record Report : Type 0 where
+  pub lines : ℕ
+  pub skipped : ℕ
+  pub first_failure : Option ℕ
+
+abbrev pub report : ElementTable → Settings → List TestLine → Report
+report t s tests = record {
+  lines = length tests;
+  skipped = length tests - length (filter is_compared tests);
+  first_failure = first_failure t s (filter is_compared tests);
+}
+
+abbrev pub reported : ElementTable → Settings → Result (List TestLine) TestFault → Result Report TestFault
+reported t s (Ok tests) = Ok (report t s tests)
+reported t s (Err fault) = Err fault
+
+-- what a table makes of a file, or the file's first fault
+abbrev pub report_of : ElementTable → Settings → TestEnd → List ℕ → Result Report TestFault
+report_of t s end bytes = reported t s (test_lines end bytes)
+
+-- `check`
+
+abbrev pub failure_text : Option ℕ → List ℕ
+failure_text None = codes "none"
+failure_text (Some n) = decimal n
+
+-- the three numbers, each as a line
+abbrev pub report_text : Report → List ℕ
+report_text r =
+    codes "lines " ++ decimal r.lines ++ line_feed ∷ codes "skipped " ++ decimal r.skipped ++ line_feed ∷ codes "first failure " ++ failure_text r.first_failure ++ line_feed ∷ []
