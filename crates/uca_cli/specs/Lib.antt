@@ -5,3 +5,4 @@ pub mod Lent
 pub mod RuleFile
 pub mod Performing
 pub mod Sending
+pub mod Ordering

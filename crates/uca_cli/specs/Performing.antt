@@ -1,5 +1,5 @@
 -- What doing a job comes to: what was read, what went out, and what stopped it.
-use Rattle.std.specs.Prelude.{◌≡◌, ⊤, ℕ, ◌<◌, ◌≤◌, ◌⊎◌, Bool, true, false, List, [], ◌∷◌, ◌++◌, length, All, Option, Some, None, chars}
+use Rattle.std.specs.Prelude.{◌≡◌, ⊤, ℕ, ◌<◌, ◌≤◌, ◌⊎◌, ◌==◌, if◌then◌else◌, Bool, true, false, List, [], ◌∷◌, ◌++◌, length, All, Option, Some, None, chars}
 use Rattle.uca_weights.specs.declared.limits.TheConstants.{MAX_INPUT}
 use Rattle.uca_weights.specs.declared.settings.Settings.{Settings}
 use Rattle.uca_weights.specs.declared.writer.WriteFault.{WriteFault}
@@ -10,9 +10,11 @@ use Rattle.uca_model.specs.CanonicalText.{canonical}
 use Rattle.uca_model.specs.Compared.{compare_output}
 use Rattle.uca_model.specs.ElementLines.{elements_output}
 use Rattle.uca_model.specs.Lines.{lines_of, IsTextLine}
+use Rattle.uca_model.specs.Ordered.{IsOrderOutput}
 use Rattle.uca_model.specs.Output.{key_output}
 use Rattle.uca_model.specs.SortKey.{sort_key}
 use Rattle.uca_model.specs.Table.{ElementTable}
+use Rattle.uca_model.specs.WellFormed.{broken, lint_output}
 use Rattle.uca_allkeys.specs.Reading.{GivesTable, IsRefused}
 use Rattle.uca_allkeys.specs.declared.faults.ReadFault.{ReadFault}
 use Rattle.uca_cli.specs.BuiltIn.{built_in_table}
@@ -24,7 +26,7 @@ use Rattle.uca_cli.specs.declared.faults.InputCause.TheVariants.{NotOneLine}
 use Rattle.uca_cli.specs.declared.faults.InputFault.{InputFault}
 use Rattle.uca_cli.specs.declared.job.Job.{Job}
 use Rattle.uca_cli.specs.declared.job.Task.{Task}
-use Rattle.uca_cli.specs.declared.job.Task.TheVariants.{Elements, Key, Compare, Table}
+use Rattle.uca_cli.specs.declared.job.Task.TheVariants.{Elements, Key, Compare, Order, Lint, Table}
 
 -- the settings of a job
 abbrev pub settings_of : Job → Settings
@@ -36,15 +38,23 @@ raw_key_output t s (line ∷ []) = sort_key t s (chars line)
 raw_key_output t s _ = []
 
 -- what a command writes with a table for an input; the flag `--raw` is one of `key`
-abbrev pub task_output : Task → Bool → ElementTable → Settings → List ℕ → List ℕ
-task_output Elements raw t s bytes = elements_output t bytes
-task_output Key false t s bytes = key_output t s bytes
-task_output Key true t s bytes = raw_key_output t s (lines_of bytes)
-task_output Compare raw t s bytes = compare_output t s bytes
-task_output Table raw t s bytes = canonical t
+abbrev pub IsOutput : Task → Bool → ElementTable → Settings → List ℕ → List ℕ → Type 0
+IsOutput Elements raw t s bytes output = output ≡ elements_output t bytes
+IsOutput Key false t s bytes output = output ≡ key_output t s bytes
+IsOutput Key true t s bytes output = output ≡ raw_key_output t s (lines_of bytes)
+IsOutput Compare raw t s bytes output = output ≡ compare_output t s bytes
+IsOutput Order raw t s bytes output = IsOrderOutput t s bytes output
+IsOutput Lint raw t s bytes output = output ≡ lint_output t
+IsOutput Table raw t s bytes output = output ≡ canonical t
 
-abbrev pub job_output : Job → ElementTable → List ℕ → List ℕ
-job_output job t bytes = task_output job.command job.raw t (settings_of job) bytes
+-- the status of a command that was done: 1 where `lint` found something
+abbrev pub task_status : Task → ElementTable → ℕ
+task_status Lint t = if length (broken t) == 0 then 0 else 1
+task_status Elements t = 0
+task_status Key t = 0
+task_status Compare t = 0
+task_status Order t = 0
+task_status Table t = 0
 
 -- what is known of the reader of the input, and of the writer
 pub record Ends : Type 0 where
@@ -92,12 +102,14 @@ pub record ReadsNothing (old new : ReaderState) (bytes : List ℕ) : Type 0 wher
   pub none : bytes ≡ []
   pub same : new ≡ old
 
--- a command reads the lines that it writes of, and `key --raw` its one line; `table` has no input
+-- a command reads the lines that it writes of, and `key --raw` its one line; `lint` and `table` have no input
 abbrev pub ReadsFor : Task → Bool → ReaderState → ReaderState → List ℕ → Type 0
 ReadsFor Elements raw old new bytes = ReadsLines old new bytes
 ReadsFor Key false old new bytes = ReadsLines old new bytes
 ReadsFor Key true old new bytes = ReadsOneLine old new bytes
 ReadsFor Compare raw old new bytes = ReadsLines old new bytes
+ReadsFor Order raw old new bytes = ReadsLines old new bytes
+ReadsFor Lint raw old new bytes = ReadsNothing old new bytes
 ReadsFor Table raw old new bytes = ReadsNothing old new bytes
 
 -- bytes whose lines were checked
@@ -111,6 +123,8 @@ IsCheckedFor Key true bytes = IsChecked bytes × IsOneLine bytes
 IsCheckedFor Key false bytes = IsChecked bytes
 IsCheckedFor Elements raw bytes = IsChecked bytes
 IsCheckedFor Compare raw bytes = IsChecked bytes
+IsCheckedFor Order raw bytes = IsChecked bytes
+IsCheckedFor Lint raw bytes = ⊤
 IsCheckedFor Table raw bytes = ⊤
 
 -- the whole input was read, and the fault is that of its first line that has one
@@ -134,21 +148,30 @@ pub record HasOtherLines (old new : ReaderState) (f : InputFault) : Type 0 where
 abbrev pub RefusesOneLine : ReaderState → ReaderState → InputFault → Type 0
 RefusesOneLine old new f = RefusesInput old new f ⊎ HasOtherLines old new f
 
--- a command refuses its input; `table` has none
+-- a command refuses its input; `lint` and `table` have none
 abbrev pub RefusesFor : Task → Bool → ReaderState → ReaderState → InputFault → Type 0
 RefusesFor Elements raw old new f = RefusesInput old new f
 RefusesFor Key false old new f = RefusesInput old new f
 RefusesFor Key true old new f = RefusesOneLine old new f
 RefusesFor Compare raw old new f = RefusesInput old new f
+RefusesFor Order raw old new f = RefusesInput old new f
+RefusesFor Lint raw old new f = ⊥
 RefusesFor Table raw old new f = ⊥
 
--- ---- the work with a table
+-- ---- the output
 
--- the input was read, and all of the output went out
-pub record Works (job : Job) (t : ElementTable) (old new : Ends) : Type 0 where
-  pub bytes : List ℕ
-  pub reads : ReadsFor job.command job.raw old.input new.input bytes
-  pub writes : WritesAll old.output new.output (job_output job t bytes)
+-- all that a command writes went out
+pub record WritesFor (command : Task) (raw : Bool) (t : ElementTable) (s : Settings) (bytes : List ℕ) (old new : WriterState) (status : ℕ) : Type 0 where
+  pub output : List ℕ
+  pub made : IsOutput command raw t s bytes output
+  pub writes : WritesAll old new output
+  pub answers : status ≡ task_status command t
+
+-- the writer stopped it
+pub record StopsFor (command : Task) (raw : Bool) (t : ElementTable) (s : Settings) (bytes : List ℕ) (old new : WriterState) (f : WriteFault) : Type 0 where
+  pub output : List ℕ
+  pub made : IsOutput command raw t s bytes output
+  pub writes : WritesFront old new output f
 
 -- some of the first bytes went out, but not all, and no call failed or took nothing
 pub record WritesSome (old new : WriterState) (bytes : List ℕ) : Type 0 where
@@ -157,6 +180,35 @@ pub record WritesSome (old new : WriterState) (bytes : List ℕ) : Type 0 where
   pub left : List ℕ
   pub parts : bytes ≡ went ++ left
   pub more : 0 < length left
+
+-- memory was wanted while a command wrote
+pub record WantsFor (command : Task) (raw : Bool) (t : ElementTable) (s : Settings) (bytes : List ℕ) (old new : WriterState) : Type 0 where
+  pub output : List ℕ
+  pub made : IsOutput command raw t s bytes output
+  pub writes : WritesSome old new output
+
+-- memory was wanted; `order` takes all of it before it writes
+abbrev pub WantsMemoryFor : Task → Bool → ElementTable → Settings → List ℕ → WriterState → WriterState → Type 0
+WantsMemoryFor Order raw t s bytes old new = new ≡ old
+WantsMemoryFor Elements raw t s bytes old new = WantsFor Elements raw t s bytes old new
+WantsMemoryFor Key raw t s bytes old new = WantsFor Key raw t s bytes old new
+WantsMemoryFor Compare raw t s bytes old new = WantsFor Compare raw t s bytes old new
+WantsMemoryFor Lint raw t s bytes old new = WantsFor Lint raw t s bytes old new
+WantsMemoryFor Table raw t s bytes old new = WantsFor Table raw t s bytes old new
+
+-- what stopped the output of a command
+abbrev pub StopsOutputFor : Task → Bool → ElementTable → Settings → List ℕ → WriterState → WriterState → CliFault → Type 0
+StopsOutputFor command raw t s bytes old new (fault.Output f) = StopsFor command raw t s bytes old new f
+StopsOutputFor command raw t s bytes old new fault.OutOfMemory = WantsMemoryFor command raw t s bytes old new
+StopsOutputFor command raw t s bytes old new _ = ⊥
+
+-- ---- the work with a table
+
+-- the input was read, and all of the output went out
+pub record Works (job : Job) (t : ElementTable) (old new : Ends) (status : ℕ) : Type 0 where
+  pub bytes : List ℕ
+  pub reads : ReadsFor job.command job.raw old.input new.input bytes
+  pub writes : WritesFor job.command job.raw t (settings_of job) bytes old.output new.output status
 
 -- the input was refused, and nothing was written
 pub record StopsReadingFor (job : Job) (old new : Ends) (f : InputFault) : Type 0 where
@@ -167,13 +219,13 @@ pub record StopsReadingFor (job : Job) (old new : Ends) (f : InputFault) : Type 
 pub record StopsWriting (job : Job) (t : ElementTable) (old new : Ends) (f : WriteFault) : Type 0 where
   pub bytes : List ℕ
   pub reads : ReadsFor job.command job.raw old.input new.input bytes
-  pub writes : WritesFront old.output new.output (job_output job t bytes) f
+  pub writes : StopsFor job.command job.raw t (settings_of job) bytes old.output new.output f
 
--- the input was read, and memory was wanted while the output was written
+-- the input was read, and memory was wanted for the output
 pub record WantsMemory (job : Job) (t : ElementTable) (old new : Ends) : Type 0 where
   pub bytes : List ℕ
   pub reads : ReadsFor job.command job.raw old.input new.input bytes
-  pub writes : WritesSome old.output new.output (job_output job t bytes)
+  pub writes : WantsMemoryFor job.command job.raw t (settings_of job) bytes old.output new.output
 
 -- why the work was not done: the input is read whole and checked, and only then something is written
 abbrev pub StopsWork : Job → ElementTable → Ends → Ends → CliFault → Type 0
@@ -190,12 +242,12 @@ pub record Sources : Type 0 where
   pub rules : Option ReaderState
 
 -- the table was read, the rules tailored it, and the work was done with the tailored table
-pub record Performs (job : Job) (lent left : Sources) (old new : Ends) : Type 0 where
+pub record Performs (job : Job) (lent left : Sources) (old new : Ends) (status : ℕ) : Type 0 where
   pub t : ElementTable
   pub table : ReadsTable lent.table left.table t
   pub serving : ElementTable
   pub rules : Tailors lent.rules left.rules t serving
-  pub works : Works job serving old new
+  pub works : Works job serving old new status
 
 -- there was no table, and nothing else was done
 pub record HasNoTable (lent left : Sources) (old new : Ends) (f : CliFault) : Type 0 where

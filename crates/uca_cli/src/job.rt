@@ -33,6 +33,10 @@ pub enum Task {
     Key,
     /// Writes the order of each two neighbours among the lines (UTS #10, section 7.4).
     Compare,
+    /// Writes the lines in the order of their sort keys.
+    Order,
+    /// Writes which conditions of well-formedness the table breaks (UTS #10, section 5).
+    Lint,
     /// Writes the collation element table as text.
     Table,
 }
@@ -101,6 +105,20 @@ fn uca_command<'a>(
         strengths,
         weightings,
     )?;
+    let order = command(
+        alloc,
+        "order",
+        "Writes the lines of the input in the order of their sort keys",
+        strengths,
+        weightings,
+    )?;
+    let lint = command(
+        alloc,
+        "lint",
+        "Writes which conditions of well-formedness the table breaks",
+        strengths,
+        weightings,
+    )?;
     let table = command(
         alloc,
         "table",
@@ -116,6 +134,8 @@ fn uca_command<'a>(
         .subcommand(elements)?
         .subcommand(key)?
         .subcommand(compare)?
+        .subcommand(order)?
+        .subcommand(lint)?
         .subcommand(table)
 }
 
@@ -226,6 +246,8 @@ fn task_named(name: &str) -> Option<Task>
         "elements" => Some(Task::Elements),
         "key" => Some(Task::Key),
         "compare" => Some(Task::Compare),
+        "order" => Some(Task::Order),
+        "lint" => Some(Task::Lint),
         "table" => Some(Task::Table),
         _ => None,
     }

@@ -5,11 +5,13 @@
 #![tactic(auto)]
 
 pub mod faults;
+mod findings;
 mod hex;
 mod input;
 pub mod job;
 mod lines;
 mod neighbours;
+pub mod ordering;
 mod output;
 pub mod performing;
 mod small_table;
@@ -19,5 +21,6 @@ mod tests;
 
 pub use faults::{CliFault, InputCause, InputFault, RulesTextCause};
 pub use job::{Job, JobFault, Task, job_of};
+pub use ordering::order;
 pub use performing::{perform, status_of};
 pub use small_table::built_in;

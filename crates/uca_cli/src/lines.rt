@@ -1,10 +1,14 @@
-ghost use Rattle.std.specs.Prelude.{◌≡◌, ◌≢◌, ◌∷◌, ℕ, ◌+◌, ◌<◌, ◌≤◌, length, drop, slice_index, All, IsFalse, IsTrue, MatchResult};
+ghost use Rattle.std.specs.Prelude.{◌≡◌, ◌≢◌, ◌∷◌, ℕ, ◌+◌, ◌<◌, ◌≤◌, length, drop, slice_index, All, IfErr, IfOk, IsFalse, IsTrue, MatchResult};
 ghost use Rattle.uca_model.specs.Lines.{line_feed, lines_of, without_return, IsTextLine};
 ghost use Rattle.uca_cli.specs.Input.{HasInputFault, HasFaultAt, IsOneLine};
+ghost use Rattle.uca_cli.specs.Performing.{ReadsLines, RefusesInput};
 
 use crate::faults::{InputCause, InputFault};
+use crate::input::read_input;
 use memchr::memchr;
 use simdutf8::compat::from_utf8;
+use std::alloc::Global;
+use uca_weights::Reader;
 use uca_window::Passage;
 
 /// Where the first line ends: at its LF, or at the end of the input.
@@ -101,4 +105,18 @@ pub fn check_lines(bytes: &[u8]) -> Result<(), InputFault>
         }
     }
     Ok(())
+}
+
+/// Reads an input of lines to its end, and looks at each line.
+pub fn read_lines<I: Reader>(alloc: Global, input: &mut I) -> Result<Vec<u8>, InputFault>
+    ensures ok { IfOk result (λ v. ReadsLines (I.state input.old) (I.state input.new) v.items) }
+    ensures err { IfErr result (RefusesInput (I.state input.old) (I.state input.new)) }
+{
+    match read_input(alloc, input) {
+        Ok(bytes) => match check_lines(&bytes) {
+            Ok(()) => Ok(bytes),
+            Err(fault) => Err(fault),
+        },
+        Err(fault) => Err(fault),
+    }
 }

@@ -1,14 +1,14 @@
 ghost use Rattle.std.specs.Prelude.{◌≡◌, IfErr, IfOk, MatchResult, None, Some, option_map};
 ghost use Rattle.uca_cli.specs.Lent.{left_behind, lent};
-ghost use Rattle.uca_cli.specs.Performing.{task_output, IsCheckedFor, Performs, Refuses, ReadsFor, ReadsLines, ReadsOneLine, ReadsTable, RefusesFor, RefusesInput, RefusesOneLine, StopsTable, StopsWork, Works};
-ghost use Rattle.uca_cli.specs.Sending.{StopsOutput};
-ghost use Rattle.uca_weights.specs.Writer.{WritesAll};
+ghost use Rattle.uca_cli.specs.Performing.{IsCheckedFor, Performs, Refuses, ReadsFor, ReadsOneLine, ReadsTable, RefusesFor, RefusesOneLine, StopsOutputFor, StopsTable, StopsWork, Works, WritesFor};
 
 use crate::faults::{CliFault, InputCause, InputFault};
-use crate::input::{read_input, refused};
+use crate::findings::write_findings;
+use crate::input::refused;
 use crate::job::{Job, Task};
-use crate::lines::{check_lines, is_one_line};
+use crate::lines::{is_one_line, read_lines};
 use crate::neighbours::write_orders;
+use crate::ordering::write_in_order;
 use crate::output::{LineForm, write_lines, write_raw_key};
 use crate::small_table::built_in;
 use crate::tailoring::tailored_in;
@@ -39,20 +39,6 @@ fn own_table(alloc: Global) -> Result<Table, CliFault>
     }
 }
 
-/// Reads an input of lines to its end, and looks at each line.
-fn read_lines<I: Reader>(alloc: Global, input: &mut I) -> Result<Vec<u8>, InputFault>
-    ensures ok { IfOk result (λ v. ReadsLines (I.state input.old) (I.state input.new) v.items) }
-    ensures err { IfErr result (RefusesInput (I.state input.old) (I.state input.new)) }
-{
-    match read_input(alloc, input) {
-        Ok(bytes) => match check_lines(&bytes) {
-            Ok(()) => Ok(bytes),
-            Err(fault) => Err(fault),
-        },
-        Err(fault) => Err(fault),
-    }
-}
-
 /// Reads an input to its end, looks at each line, and then whether it is a single one.
 fn read_one_line<I: Reader>(alloc: Global, input: &mut I) -> Result<Vec<u8>, InputFault>
     ensures ok { IfOk result (λ v. ReadsOneLine (I.state input.old) (I.state input.new) v.items) }
@@ -70,7 +56,7 @@ fn read_one_line<I: Reader>(alloc: Global, input: &mut I) -> Result<Vec<u8>, Inp
     }
 }
 
-/// Reads the input of a command and checks it. `table` has none.
+/// Reads the input of a command and checks it. `lint` and `table` have none.
 fn read_for<I: Reader>(
     alloc: Global,
     command: Task,
@@ -91,11 +77,23 @@ fn read_for<I: Reader>(
             }
         }
         Task::Compare => read_lines(alloc, input),
+        Task::Order => read_lines(alloc, input),
+        Task::Lint => Ok(Vec::new(alloc)),
         Task::Table => Ok(Vec::new(alloc)),
     }
 }
 
-/// Writes what a command writes with a table for an input, which was checked.
+/// The status of what was done.
+fn done(written: Result<(), CliFault>) -> Result<u8, CliFault>
+    ensures { result ≡ result_map (λ _. 0) written }
+{
+    match written {
+        Ok(()) => Ok(0),
+        Err(fault) => Err(fault),
+    }
+}
+
+/// Writes what a command writes with a table for an input, which was checked, and answers its status.
 fn write_for<W: Writer>(
     alloc: Global,
     command: Task,
@@ -104,24 +102,29 @@ fn write_for<W: Writer>(
     s: Settings,
     bytes: &[u8],
     output: &mut W,
-) -> Result<(), CliFault>
+) -> Result<u8, CliFault>
     requires { IsCheckedFor command raw bytes.now }
     ensures { MatchResult result
-        (λ _. WritesAll (W.state output.old) (W.state output.new) (task_output command raw t.now s bytes.now))
-        (StopsOutput (W.state output.old) (W.state output.new) (task_output command raw t.now s bytes.now)) }
+        (WritesFor command raw t.now s bytes.now (W.state output.old) (W.state output.new))
+        (StopsOutputFor command raw t.now s bytes.now (W.state output.old) (W.state output.new)) }
 {
     match command {
-        Task::Elements => write_lines(alloc, LineForm::Elements, t, s, bytes, output),
+        Task::Elements => done(write_lines(alloc, LineForm::Elements, t, s, bytes, output)),
         Task::Key => {
             if raw {
-                write_raw_key(t, s, bytes, output)
+                done(write_raw_key(t, s, bytes, output))
             } else {
-                write_lines(alloc, LineForm::Key, t, s, bytes, output)
+                done(write_lines(alloc, LineForm::Key, t, s, bytes, output))
             }
         }
-        Task::Compare => write_orders(t, s, bytes, output),
+        Task::Compare => done(write_orders(t, s, bytes, output)),
+        Task::Order => match write_in_order(alloc, t, s, bytes, output) {
+            Ok(_) => Ok(0),
+            Err(fault) => Err(fault),
+        },
+        Task::Lint => write_findings(t, output),
         Task::Table => match write_table(output, t) {
-            Ok(_) => Ok(()),
+            Ok(_) => Ok(0),
             Err(fault) => Err(CliFault::Output(fault)),
         },
     }
@@ -135,10 +138,9 @@ fn work<I: Reader, W: Writer>(
     input: &mut I,
     output: &mut W,
 ) -> Result<u8, CliFault>
-    ensures done { IfOk result (λ _. Works job.now t.now
+    ensures done { IfOk result (Works job.now t.now
         (record { input = I.state input.old; output = W.state output.old })
         (record { input = I.state input.new; output = W.state output.new })) }
-    ensures status { IfOk result (λ status. status ≡ 0) }
     ensures fault { IfErr result (StopsWork job.now t.now
         (record { input = I.state input.old; output = W.state output.old })
         (record { input = I.state input.new; output = W.state output.new })) }
@@ -148,10 +150,7 @@ fn work<I: Reader, W: Writer>(
         weighting: job.weighting,
     };
     match read_for(alloc, job.command, job.raw, input) {
-        Ok(bytes) => match write_for(alloc, job.command, job.raw, t, settings, &bytes, output) {
-            Ok(()) => Ok(0),
-            Err(fault) => Err(fault),
-        },
+        Ok(bytes) => write_for(alloc, job.command, job.raw, t, settings, &bytes, output),
         Err(fault) => Err(CliFault::Input(fault)),
     }
 }
@@ -165,10 +164,9 @@ fn perform_tailored<T: Reader, U: Reader, I: Reader, W: Writer>(
     input: &mut I,
     output: &mut W,
 ) -> Result<u8, CliFault>
-    ensures done { IfOk result (λ _. Performs job.now (record { table = Some (T.state table.old); rules = Some (U.state rules.old) }) (record { table = Some (T.state table.new); rules = Some (U.state rules.new) })
+    ensures done { IfOk result (Performs job.now (record { table = Some (T.state table.old); rules = Some (U.state rules.old) }) (record { table = Some (T.state table.new); rules = Some (U.state rules.new) })
         (record { input = I.state input.old; output = W.state output.old })
         (record { input = I.state input.new; output = W.state output.new })) }
-    ensures status { IfOk result (λ status. status ≡ 0) }
     ensures fault { IfErr result (Refuses job.now (record { table = Some (T.state table.old); rules = Some (U.state rules.old) }) (record { table = Some (T.state table.new); rules = Some (U.state rules.new) })
         (record { input = I.state input.old; output = W.state output.old })
         (record { input = I.state input.new; output = W.state output.new })) }
@@ -190,10 +188,9 @@ fn perform_with<T: Reader, I: Reader, W: Writer>(
     input: &mut I,
     output: &mut W,
 ) -> Result<u8, CliFault>
-    ensures done { IfOk result (λ _. Performs job.now (record { table = Some (T.state table.old); rules = None }) (record { table = Some (T.state table.new); rules = None })
+    ensures done { IfOk result (Performs job.now (record { table = Some (T.state table.old); rules = None }) (record { table = Some (T.state table.new); rules = None })
         (record { input = I.state input.old; output = W.state output.old })
         (record { input = I.state input.new; output = W.state output.new })) }
-    ensures status { IfOk result (λ status. status ≡ 0) }
     ensures fault { IfErr result (Refuses job.now (record { table = Some (T.state table.old); rules = None }) (record { table = Some (T.state table.new); rules = None })
         (record { input = I.state input.old; output = W.state output.old })
         (record { input = I.state input.new; output = W.state output.new })) }
@@ -212,10 +209,9 @@ fn perform_own_tailored<U: Reader, I: Reader, W: Writer>(
     input: &mut I,
     output: &mut W,
 ) -> Result<u8, CliFault>
-    ensures done { IfOk result (λ _. Performs job.now (record { table = None; rules = Some (U.state rules.old) }) (record { table = None; rules = Some (U.state rules.new) })
+    ensures done { IfOk result (Performs job.now (record { table = None; rules = Some (U.state rules.old) }) (record { table = None; rules = Some (U.state rules.new) })
         (record { input = I.state input.old; output = W.state output.old })
         (record { input = I.state input.new; output = W.state output.new })) }
-    ensures status { IfOk result (λ status. status ≡ 0) }
     ensures fault { IfErr result (Refuses job.now (record { table = None; rules = Some (U.state rules.old) }) (record { table = None; rules = Some (U.state rules.new) })
         (record { input = I.state input.old; output = W.state output.old })
         (record { input = I.state input.new; output = W.state output.new })) }
@@ -236,10 +232,9 @@ fn perform_alone<I: Reader, W: Writer>(
     input: &mut I,
     output: &mut W,
 ) -> Result<u8, CliFault>
-    ensures done { IfOk result (λ _. Performs job.now (record { table = None; rules = None }) (record { table = None; rules = None })
+    ensures done { IfOk result (Performs job.now (record { table = None; rules = None }) (record { table = None; rules = None })
         (record { input = I.state input.old; output = W.state output.old })
         (record { input = I.state input.new; output = W.state output.new })) }
-    ensures status { IfOk result (λ status. status ≡ 0) }
     ensures fault { IfErr result (Refuses job.now (record { table = None; rules = None }) (record { table = None; rules = None })
         (record { input = I.state input.old; output = W.state output.old })
         (record { input = I.state input.new; output = W.state output.new })) }
@@ -251,7 +246,7 @@ fn perform_alone<I: Reader, W: Writer>(
 }
 
 /// Does a job: reads the table, then the rules, by which it tailors the table, then the input, which it checks whole, and
-/// only then writes the output. It answers the status of the program.
+/// only then writes the output. It answers the status of the program: 1 where `lint` found something, and else 0.
 ///
 /// Where there is no reader of a table, the built-in table serves, and where there is none of rules, the table as it is. At
 /// a fault of the table nothing else was read, at one of the rules nothing of the input, and at each of these and at one of
@@ -265,12 +260,11 @@ pub fn perform<T: Reader, U: Reader, I: Reader, W: Writer>(
     input: &mut I,
     output: &mut W,
 ) -> Result<u8, CliFault>
-    ensures done { IfOk result (λ _. Performs job.now
+    ensures done { IfOk result (Performs job.now
         (record { table = option_map T.state (lent table.entry); rules = option_map U.state (lent rules.entry) })
         (record { table = option_map T.state (left_behind table.exit); rules = option_map U.state (left_behind rules.exit) })
         (record { input = I.state input.old; output = W.state output.old })
         (record { input = I.state input.new; output = W.state output.new })) }
-    ensures status { IfOk result (λ status. status ≡ 0) }
     ensures fault { IfErr result (Refuses job.now
         (record { table = option_map T.state (lent table.entry); rules = option_map U.state (lent rules.entry) })
         (record { table = option_map T.state (left_behind table.exit); rules = option_map U.state (left_behind rules.exit) })

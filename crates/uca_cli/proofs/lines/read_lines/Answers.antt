@@ -1,6 +1,6 @@
 use Rattle.std.proofs.Common.{List, ℕ, All, subst}
 use Rattle.uca_model.specs.Lines.{lines_of, IsTextLine}
-use Rattle.uca_cli.proofs.performing.read_lines.Goals as goal
+use Rattle.uca_cli.proofs.lines.read_lines.Goals as goal
 
 pub returns-in-Ok-check_lines-clause-ok : goal.returns-in-Ok-check_lines-clause-ok
 returns-in-Ok-check_lines-clause-ok g c = record {
