@@ -6,3 +6,4 @@ pub mod RuleFile
 pub mod Performing
 pub mod Sending
 pub mod Ordering
+pub mod Conforming

@@ -4,6 +4,7 @@
 //! a [`uca_weights::Reader`], checks it whole, and only then writes to a [`uca_weights::Writer`].
 #![tactic(auto)]
 
+pub mod conforming;
 pub mod faults;
 mod findings;
 mod hex;
@@ -19,6 +20,7 @@ mod tailoring;
 #[cfg(test)]
 mod tests;
 
+pub use conforming::{ConformCause, ConformFault, Conformance, conform};
 pub use faults::{CliFault, InputCause, InputFault, RulesTextCause};
 pub use job::{Job, JobFault, Task, job_of};
 pub use ordering::order;
