@@ -9,8 +9,8 @@ use Rattle.uca_cli.specs.declared.job.Job.{Job}
 
 -- the work was done with the table that serves
 pub performs : (job : Job) (lent_table left_table lent_rules left_rules : Option ReaderState) (t serving : ElementTable) (old new : Ends) (result : Result ℕ CliFault)
-    → ReadsTable lent_table left_table t → Tailors lent_rules left_rules t serving → IfOk result (λ _. Works job serving old new)
-    → IfOk result (λ _. Performs job (record { table = lent_table; rules = lent_rules }) (record { table = left_table; rules = left_rules }) old new)
+    → ReadsTable lent_table left_table t → Tailors lent_rules left_rules t serving → IfOk result (Works job serving old new)
+    → IfOk result (Performs job (record { table = lent_table; rules = lent_rules }) (record { table = left_table; rules = left_rules }) old new)
 performs job lent_table left_table lent_rules left_rules t serving old new (Ok status) table rules works = record { t = t; table = table; serving = serving; rules = rules; works = works }
 performs job lent_table left_table lent_rules left_rules t serving old new (Err f) table rules works = tt
 

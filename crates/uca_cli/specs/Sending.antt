@@ -1,14 +1,15 @@
 -- What goes out line by line, and what stops it.
-use Rattle.std.specs.Prelude.{◌≡◌, ℕ, List, flat_map}
+use Rattle.std.specs.Prelude.{◌≡◌, ℕ, List, [], ◌∷◌, ◌++◌, flat_map}
 use Rattle.uca_weights.specs.WriterState.{WriterState}
 use Rattle.uca_weights.specs.Writer.{WritesFront}
 use Rattle.uca_weights.specs.Outgoing.{StopsSending}
 use Rattle.uca_weights.specs.declared.outgoing.Outgoing.{Outgoing}
 use Rattle.uca_weights.specs.declared.settings.Settings.{Settings}
 use Rattle.uca_model.specs.ElementLines.{elements_line}
-use Rattle.uca_model.specs.Lines.{lines_of}
+use Rattle.uca_model.specs.Lines.{line_feed, lines_of}
 use Rattle.uca_model.specs.Output.{key_line}
 use Rattle.uca_model.specs.Table.{ElementTable}
+use Rattle.uca_model.specs.WellFormed.{Condition, condition_name}
 use Rattle.uca_cli.specs.Performing.{WritesSome}
 use Rattle.uca_cli.specs.declared.faults.CliFault.{CliFault}
 use Rattle.uca_cli.specs.declared.faults.CliFault.TheVariants.{Output, OutOfMemory}
@@ -23,6 +24,10 @@ line_text Key t s line = key_line t s line
 -- what goes out for all lines
 abbrev pub lines_text : LineForm → ElementTable → Settings → List ℕ → List ℕ
 lines_text form t s bytes = flat_map (line_text form t s) (lines_of bytes)
+
+-- the line of a condition that a table breaks
+abbrev pub finding_line : Condition → List ℕ
+finding_line c = condition_name c ++ line_feed ∷ []
 
 -- the writer stopped a line, or memory was wanted before anything of it was handed over
 abbrev pub StopsLine : WriterState → Outgoing → WriterState → Outgoing → List ℕ → CliFault → Type 0

@@ -1,10 +1,10 @@
-ghost use Rattle.std.specs.Prelude.{◌≡◌, ◌++◌, ◌∷◌, [], ◌≤◌, length, IfOk, MatchResult};
+ghost use Rattle.std.specs.Prelude.{◌≡◌, ◌+◌, ◌*◌, ◌^◌, ◌<◌, ◌≤◌, length, flat_map, map, IfOk, MatchResult, OnOk};
+ghost use Rattle.uca_weights.specs.Outgoing.{handed, Sends, StopsSending};
 ghost use Rattle.uca_weights.specs.Writer.{WritesAll};
-ghost use Rattle.uca_model.specs.Lines.{line_feed};
-ghost use Rattle.uca_model.specs.WellFormed.{condition_name, lint_output};
+ghost use Rattle.uca_model.specs.WellFormed.{lint_output};
 ghost use Rattle.uca_table.specs.Bounds.{condition_of};
 ghost use Rattle.uca_cli.specs.Performing.{task_status};
-ghost use Rattle.uca_cli.specs.Sending.{StopsOutput};
+ghost use Rattle.uca_cli.specs.Sending.{finding_line, StopsOutput};
 ghost use Rattle.uca_cli.specs.declared.job.Task.TheVariants.{Lint};
 
 use crate::faults::CliFault;
@@ -13,8 +13,8 @@ use uca_weights::{Outgoing, WriteFault, Writer};
 
 /// The line of a condition that a table breaks.
 fn finding(condition: WellFormed) -> &'static [u8]
-    ensures text { result.now ≡ condition_name (condition_of condition) ++ line_feed ∷ [] }
-    ensures short { length result.now ≤ 4 }
+    ensures text { result.now ≡ finding_line (condition_of condition) }
+    ensures short { length result.now ≡ 4 }
 {
     match condition {
         WellFormed::WF1 => b"WF1\n",
@@ -25,6 +25,24 @@ fn finding(condition: WellFormed) -> &'static [u8]
     }
 }
 
+/// Has the lines of some conditions go out.
+fn send_findings<W: Writer>(
+    w: &mut W,
+    out: &mut Outgoing,
+    broken: &[WellFormed],
+) -> Result<(), WriteFault>
+    requires { handed out.old + 4 * length broken.now < 2 ^ 128 }
+    ensures sends { MatchResult result
+        (λ _. Sends (W.state w.old) out.old (W.state w.new) out.new (flat_map finding_line (map condition_of broken.now)))
+        (λ f. StopsSending (W.state w.old) out.old (W.state w.new) (flat_map finding_line (map condition_of broken.now)) f) }
+    ensures small { OnOk result (handed out.new ≤ handed out.old + 4 * length broken.now) }
+{
+    for condition in broken {
+        out.send(w, finding(*condition))?;
+    }
+    Ok(())
+}
+
 /// Writes which conditions a table breaks, each as a line, and answers 1 where there are any.
 pub fn write_findings<W: Writer>(t: &Table, w: &mut W) -> Result<u8, CliFault>
     ensures writes { MatchResult result
@@ -32,15 +50,14 @@ pub fn write_findings<W: Writer>(t: &Table, w: &mut W) -> Result<u8, CliFault>
         (StopsOutput (W.state w.old) (W.state w.new) (lint_output t.now)) }
     ensures status { IfOk result (λ status. status ≡ task_status Lint t.now) }
 {
-    let broken = lint(t);
+    let found = lint(t);
+    let broken = found.as_slice();
     let mut out = Outgoing::new();
-    for condition in &broken {
-        if let Err(fault) = out.send(w, finding(*condition)) {
-            return Err(CliFault::Output(fault));
-        }
-    }
-    match out.flush(w) {
-        Ok(()) => Ok(u8::from(!broken.is_empty())),
+    match send_findings(w, &mut out, broken) {
+        Ok(()) => match out.flush(w) {
+            Ok(()) => Ok(u8::from(!broken.is_empty())),
+            Err(fault) => Err(CliFault::Output(fault)),
+        },
         Err(fault) => Err(CliFault::Output(fault)),
     }
 }

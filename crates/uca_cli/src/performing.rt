@@ -1,4 +1,4 @@
-ghost use Rattle.std.specs.Prelude.{◌≡◌, IfErr, IfOk, MatchResult, None, Some, option_map};
+ghost use Rattle.std.specs.Prelude.{◌≡◌, Err, IfErr, IfOk, MatchResult, None, Ok, Some, option_map};
 ghost use Rattle.uca_cli.specs.Lent.{left_behind, lent};
 ghost use Rattle.uca_cli.specs.Performing.{IsCheckedFor, Performs, Refuses, ReadsFor, ReadsOneLine, ReadsTable, RefusesFor, RefusesOneLine, StopsOutputFor, StopsTable, StopsWork, Works, WritesFor};
 
@@ -85,7 +85,7 @@ fn read_for<I: Reader>(
 
 /// The status of what was done.
 fn done(written: Result<(), CliFault>) -> Result<u8, CliFault>
-    ensures { result ≡ result_map (λ _. 0) written }
+    ensures { MatchResult written (λ _. result ≡ Ok 0) (λ f. result ≡ Err f) }
 {
     match written {
         Ok(()) => Ok(0),

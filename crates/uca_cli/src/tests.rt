@@ -1,5 +1,6 @@
 mod agreement;
 mod ends;
+mod findings;
 mod raw;
 mod rules;
 mod tables;
@@ -357,6 +358,35 @@ fn each_two_neighbours_are_compared(rt: HostRuntime) {
         let done = run_as(rt.alloc(), Task::Compare, settings, input);
         assert_eq!(rt; done.answer, Ok(0), "{input:?}");
         assert_eq!(rt; done.output.as_slice(), want, "{input:?}");
+    }
+}
+
+#[test]
+fn lines_go_out_in_the_order_of_their_keys(rt: HostRuntime) {
+    let primary = Settings {
+        strength: Strength::Primary,
+        weighting: Variable::NonIgnorable,
+    };
+    let cases: [(Settings, &[u8], &[u8]); 6] = [
+        (PLAIN, b"b\r\nA\na", b"a\nA\nb\n"),
+        // Lines of equal keys stay as they stood.
+        (primary, b"b\r\nA\na\nA", b"A\na\nA\nb\n"),
+        (PLAIN, b"ch\ncz\n\n", b"\ncz\nch\n"),
+        (PLAIN, b"", b""),
+        (PLAIN, b"a", b"a\n"),
+        (PLAIN, b"\n\n", b"\n\n"),
+    ];
+    for (settings, input, want) in cases {
+        let mut reader = Reading::new(input);
+        let mut writer = Expecting::new(want, want.len() + 1, WriteCause::Failed);
+        let answer = perform_as(rt.alloc(), Task::Order, settings, &mut reader, &mut writer);
+        if wants_memory(&answer) {
+            // All memory is taken before the first byte is written.
+            assert_eq!(rt; writer.left(), Some(want.len()), "{input:?}");
+            continue;
+        }
+        assert_eq!(rt; answer, Ok(0), "{input:?}");
+        assert_eq!(rt; writer.left(), Some(0), "{input:?}");
     }
 }
 

@@ -3,10 +3,12 @@ use std::alloc::Global;
 use uca_weights::{Strength, Variable};
 
 /// The commands by their names.
-const COMMANDS: [(&str, Task); 4] = [
+const COMMANDS: [(&str, Task); 6] = [
     ("elements", Task::Elements),
     ("key", Task::Key),
     ("compare", Task::Compare),
+    ("order", Task::Order),
+    ("lint", Task::Lint),
     ("table", Task::Table),
 ];
 
@@ -207,8 +209,8 @@ fn words_without_a_command_are_refused(rt: HostRuntime) {
     let lists: [&[&str]; 12] = [
         &[],
         &[""],
-        &["order", "--strength", "third"],
-        &["order", "--strength", "primary"],
+        &["sort", "--strength", "third"],
+        &["sort", "--strength", "primary"],
         &["uca", "key"],
         &["Key"],
         &["ke"],
@@ -226,13 +228,15 @@ fn words_without_a_command_are_refused(rt: HostRuntime) {
 #[test]
 fn requests_for_help_are_refused(rt: HostRuntime) {
     let alloc = rt.alloc();
-    let lists: [&[&str]; 7] = [
+    let lists: [&[&str]; 9] = [
         &["--help"],
         &["-h"],
         &["help"],
         &["help", "key"],
         &["key", "-h"],
         &["elements", "--help"],
+        &["order", "-h"],
+        &["lint", "--help"],
         &["table", "--strength", "primary", "--help"],
     ];
     for words in lists {
@@ -305,13 +309,15 @@ fn the_key_may_be_asked_for_as_its_bytes(rt: HostRuntime) {
         job.raw = true;
         assert!(rt; job_again(alloc, words) == Ok(job), "{words:?}");
     }
-    let lists: [&[&str]; 7] = [
+    let lists: [&[&str]; 9] = [
         &["key", "--raw", "--raw"],
         &["key", "--raw", "true"],
         &["key", "--raw="],
         &["--raw", "key"],
         &["elements", "--raw"],
         &["compare", "--raw"],
+        &["order", "--raw"],
+        &["lint", "--raw"],
         &["table", "--raw"],
     ];
     for words in lists {
@@ -336,6 +342,8 @@ fn is_one_answer(alloc: Global, words: &[&str]) -> bool {
 fn a_refused_growth_changes_no_answer(rt: HostRuntime) {
     let alloc = rt.alloc();
     assert!(rt; is_one_answer(alloc, &["key"]));
+    assert!(rt; is_one_answer(alloc, &["order", "--strength", "primary"]));
+    assert!(rt; is_one_answer(alloc, &["lint", "--rules=F"]));
     assert!(rt; is_one_answer(alloc, &["table", "--table", "F"]));
     assert!(rt;
         is_one_answer(

@@ -135,6 +135,15 @@ fn rules_tailor_the_table_of_each_command(rt: HostRuntime) {
 }
 
 #[test]
+fn findings_are_those_of_the_tailored_table(rt: HostRuntime) {
+    let alloc = rt.alloc();
+    // What `lint` leaves unread is no text.
+    assert!(rt; comes_to(alloc, Task::Lint, "&a<c", b"\xFF", Ok(0), b""));
+    let rules = "&a<z\u{301}\u{308}";
+    assert!(rt; comes_to(alloc, Task::Lint, rules, b"\xFF", Ok(1), b"WF5\n"));
+}
+
+#[test]
 fn rules_tailor_the_table_in_a_reader(rt: HostRuntime) {
     let alloc = rt.alloc();
     let text = b"0061 ; [.1000.0020.0002]\n";
