@@ -16,7 +16,7 @@ use Rattle.uca_cli.specs.declared.job.Job.{Job}
 use Rattle.uca_cli.specs.declared.job.JobFault.{JobFault}
 use Rattle.uca_cli.specs.declared.job.JobFault.TheVariants.{Usage, OutOfMemory}
 use Rattle.uca_cli.specs.declared.job.Task.{Task}
-use Rattle.uca_cli.specs.declared.job.Task.TheVariants.{Elements, Key, Compare, Order, Lint, Table}
+use Rattle.uca_cli.specs.declared.job.Task.TheVariants.{Elements, Key, Compare, Order, Check, Lint, Table}
 
 -- ---- the names that the options take
 
@@ -94,9 +94,9 @@ bare_program =
 -- the program
 abbrev pub uca_with : Choices → App
 uca_with choices =
-    with_subcommand (with_subcommand (with_subcommand (with_subcommand (with_subcommand (with_subcommand bare_program (command_with choices (codes "elements")).top)
+    with_subcommand (with_subcommand (with_subcommand (with_subcommand (with_subcommand (with_subcommand (with_subcommand bare_program (command_with choices (codes "elements")).top)
     (key_command choices).top) (command_with choices (codes "compare")).top) (command_with choices (codes "order")).top)
-    (command_with choices (codes "lint")).top) (command_with choices (codes "table")).top
+    (command_with choices (codes "check")).top) (command_with choices (codes "lint")).top) (command_with choices (codes "table")).top
 
 -- the task of the command of this name
 abbrev pub task_named : Text → Option Task
@@ -105,8 +105,9 @@ task_named name =
     else (if bytes_eq name (codes "key") then Some Key
     else (if bytes_eq name (codes "compare") then Some Compare
     else (if bytes_eq name (codes "order") then Some Order
+    else (if bytes_eq name (codes "check") then Some Check
     else (if bytes_eq name (codes "lint") then Some Lint
-    else (if bytes_eq name (codes "table") then Some Table else None)))))
+    else (if bytes_eq name (codes "table") then Some Table else None))))))
 
 -- ---- the job that the words ask for
 

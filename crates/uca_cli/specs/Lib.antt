@@ -6,4 +6,5 @@ pub mod RuleFile
 pub mod Performing
 pub mod Sending
 pub mod Ordering
+pub mod Checking
 pub mod Conforming

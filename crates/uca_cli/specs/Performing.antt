@@ -1,5 +1,6 @@
 -- What doing a job comes to: what was read, what went out, and what stopped it.
-use Rattle.std.specs.Prelude.{◌≡◌, ⊤, ℕ, ◌<◌, ◌≤◌, ◌⊎◌, ◌==◌, if◌then◌else◌, Bool, true, false, List, [], ◌∷◌, ◌++◌, length, All, Option, Some, None, chars}
+use Rattle.std.specs.Prelude.{◌≡◌, ⊤, ℕ, ◌<◌, ◌≤◌, ◌⊎◌, ◌==◌, if◌then◌else◌, Bool, true, false, List, [], ◌∷◌, ◌++◌, length, All, Option, Some, None, Ok, chars}
+use Rattle.std.specs.Option.{is_some}
 use Rattle.uca_weights.specs.declared.limits.TheConstants.{MAX_INPUT}
 use Rattle.uca_weights.specs.declared.settings.Settings.{Settings}
 use Rattle.uca_weights.specs.declared.writer.WriteFault.{WriteFault}
@@ -14,19 +15,22 @@ use Rattle.uca_model.specs.Ordered.{IsOrderOutput}
 use Rattle.uca_model.specs.Output.{key_output}
 use Rattle.uca_model.specs.SortKey.{sort_key}
 use Rattle.uca_model.specs.Table.{ElementTable}
+use Rattle.uca_model.specs.TestFile.{Report, ends, report_of, report_text}
 use Rattle.uca_model.specs.WellFormed.{broken, lint_output}
 use Rattle.uca_allkeys.specs.Reading.{GivesTable, IsRefused}
 use Rattle.uca_allkeys.specs.declared.faults.ReadFault.{ReadFault}
 use Rattle.uca_cli.specs.BuiltIn.{built_in_table}
+use Rattle.uca_cli.specs.Conforming.{RefusesFile}
 use Rattle.uca_cli.specs.Input.{StopsReading, HasInputFault, IsOneLine}
 use Rattle.uca_cli.specs.RuleFile.{Tailors, RefusesTailoring}
+use Rattle.uca_cli.specs.declared.conforming.ConformFault.{ConformFault}
 use Rattle.uca_cli.specs.declared.faults.CliFault.{CliFault}
 use Rattle.uca_cli.specs.declared.faults.CliFault.TheVariants as fault
 use Rattle.uca_cli.specs.declared.faults.InputCause.TheVariants.{NotOneLine}
 use Rattle.uca_cli.specs.declared.faults.InputFault.{InputFault}
 use Rattle.uca_cli.specs.declared.job.Job.{Job}
 use Rattle.uca_cli.specs.declared.job.Task.{Task}
-use Rattle.uca_cli.specs.declared.job.Task.TheVariants.{Elements, Key, Compare, Order, Lint, Table}
+use Rattle.uca_cli.specs.declared.job.Task.TheVariants.{Elements, Key, Compare, Order, Check, Lint, Table}
 
 -- the settings of a job
 abbrev pub settings_of : Job → Settings
@@ -37,6 +41,22 @@ abbrev pub raw_key_output : ElementTable → Settings → List (List ℕ) → Li
 raw_key_output t s (line ∷ []) = sort_key t s (chars line)
 raw_key_output t s _ = []
 
+-- `check`: the report of the test file
+pub record IsCheckOutput (t : ElementTable) (s : Settings) (bytes output : List ℕ) : Type 0 where
+  pub report : Report
+  pub says : report_of t s ends bytes ≡ Ok report
+  pub text : output ≡ report_text report
+
+-- and 1 where some line fails
+pub record IsCheckStatus (t : ElementTable) (s : Settings) (bytes : List ℕ) (status : ℕ) : Type 0 where
+  pub report : Report
+  pub says : report_of t s ends bytes ≡ Ok report
+  pub tells : status ≡ (if is_some report.first_failure then 1 else 0)
+
+-- `lint`: 1 where some condition is broken
+abbrev pub lint_status : ElementTable → ℕ
+lint_status t = if length (broken t) == 0 then 0 else 1
+
 -- what a command writes with a table for an input; the flag `--raw` is one of `key`
 abbrev pub IsOutput : Task → Bool → ElementTable → Settings → List ℕ → List ℕ → Type 0
 IsOutput Elements raw t s bytes output = output ≡ elements_output t bytes
@@ -44,17 +64,19 @@ IsOutput Key false t s bytes output = output ≡ key_output t s bytes
 IsOutput Key true t s bytes output = output ≡ raw_key_output t s (lines_of bytes)
 IsOutput Compare raw t s bytes output = output ≡ compare_output t s bytes
 IsOutput Order raw t s bytes output = IsOrderOutput t s bytes output
+IsOutput Check raw t s bytes output = IsCheckOutput t s bytes output
 IsOutput Lint raw t s bytes output = output ≡ lint_output t
 IsOutput Table raw t s bytes output = output ≡ canonical t
 
--- the status of a command that was done: 1 where `lint` found something
-abbrev pub task_status : Task → ElementTable → ℕ
-task_status Lint t = if length (broken t) == 0 then 0 else 1
-task_status Elements t = 0
-task_status Key t = 0
-task_status Compare t = 0
-task_status Order t = 0
-task_status Table t = 0
+-- the status of a command that was done: 1 where `check` failed or `lint` found something
+abbrev pub IsStatus : Task → ElementTable → Settings → List ℕ → ℕ → Type 0
+IsStatus Check t s bytes status = IsCheckStatus t s bytes status
+IsStatus Lint t s bytes status = status ≡ lint_status t
+IsStatus Elements t s bytes status = status ≡ 0
+IsStatus Key t s bytes status = status ≡ 0
+IsStatus Compare t s bytes status = status ≡ 0
+IsStatus Order t s bytes status = status ≡ 0
+IsStatus Table t s bytes status = status ≡ 0
 
 -- what is known of the reader of the input, and of the writer
 pub record Ends : Type 0 where
@@ -102,13 +124,14 @@ pub record ReadsNothing (old new : ReaderState) (bytes : List ℕ) : Type 0 wher
   pub none : bytes ≡ []
   pub same : new ≡ old
 
--- a command reads the lines that it writes of, and `key --raw` its one line; `lint` and `table` have no input
+-- a command reads the lines that it writes of, `key --raw` its one line, and `check` a test file; `lint` and `table` have no input
 abbrev pub ReadsFor : Task → Bool → ReaderState → ReaderState → List ℕ → Type 0
 ReadsFor Elements raw old new bytes = ReadsLines old new bytes
 ReadsFor Key false old new bytes = ReadsLines old new bytes
 ReadsFor Key true old new bytes = ReadsOneLine old new bytes
 ReadsFor Compare raw old new bytes = ReadsLines old new bytes
 ReadsFor Order raw old new bytes = ReadsLines old new bytes
+ReadsFor Check raw old new bytes = GivesAll old new bytes
 ReadsFor Lint raw old new bytes = ReadsNothing old new bytes
 ReadsFor Table raw old new bytes = ReadsNothing old new bytes
 
@@ -124,6 +147,7 @@ IsCheckedFor Key false bytes = IsChecked bytes
 IsCheckedFor Elements raw bytes = IsChecked bytes
 IsCheckedFor Compare raw bytes = IsChecked bytes
 IsCheckedFor Order raw bytes = IsChecked bytes
+IsCheckedFor Check raw bytes = ⊤
 IsCheckedFor Lint raw bytes = ⊤
 IsCheckedFor Table raw bytes = ⊤
 
@@ -148,13 +172,14 @@ pub record HasOtherLines (old new : ReaderState) (f : InputFault) : Type 0 where
 abbrev pub RefusesOneLine : ReaderState → ReaderState → InputFault → Type 0
 RefusesOneLine old new f = RefusesInput old new f ⊎ HasOtherLines old new f
 
--- a command refuses its input; `lint` and `table` have none
+-- a command refuses its input of lines; `check`, `lint` and `table` have none
 abbrev pub RefusesFor : Task → Bool → ReaderState → ReaderState → InputFault → Type 0
 RefusesFor Elements raw old new f = RefusesInput old new f
 RefusesFor Key false old new f = RefusesInput old new f
 RefusesFor Key true old new f = RefusesOneLine old new f
 RefusesFor Compare raw old new f = RefusesInput old new f
 RefusesFor Order raw old new f = RefusesInput old new f
+RefusesFor Check raw old new f = ⊥
 RefusesFor Lint raw old new f = ⊥
 RefusesFor Table raw old new f = ⊥
 
@@ -165,7 +190,7 @@ pub record WritesFor (command : Task) (raw : Bool) (t : ElementTable) (s : Setti
   pub output : List ℕ
   pub made : IsOutput command raw t s bytes output
   pub writes : WritesAll old new output
-  pub answers : status ≡ task_status command t
+  pub answers : IsStatus command t s bytes status
 
 -- the writer stopped it
 pub record StopsFor (command : Task) (raw : Bool) (t : ElementTable) (s : Settings) (bytes : List ℕ) (old new : WriterState) (f : WriteFault) : Type 0 where
@@ -187,12 +212,13 @@ pub record WantsFor (command : Task) (raw : Bool) (t : ElementTable) (s : Settin
   pub made : IsOutput command raw t s bytes output
   pub writes : WritesSome old new output
 
--- memory was wanted; `order` takes all of it before it writes
+-- memory was wanted; `order` takes all of it before it writes, and `check` takes none
 abbrev pub WantsMemoryFor : Task → Bool → ElementTable → Settings → List ℕ → WriterState → WriterState → Type 0
 WantsMemoryFor Order raw t s bytes old new = new ≡ old
 WantsMemoryFor Elements raw t s bytes old new = WantsFor Elements raw t s bytes old new
 WantsMemoryFor Key raw t s bytes old new = WantsFor Key raw t s bytes old new
 WantsMemoryFor Compare raw t s bytes old new = WantsFor Compare raw t s bytes old new
+WantsMemoryFor Check raw t s bytes old new = ⊥
 WantsMemoryFor Lint raw t s bytes old new = WantsFor Lint raw t s bytes old new
 WantsMemoryFor Table raw t s bytes old new = WantsFor Table raw t s bytes old new
 
@@ -227,9 +253,16 @@ pub record WantsMemory (job : Job) (t : ElementTable) (old new : Ends) : Type 0 
   pub reads : ReadsFor job.command job.raw old.input new.input bytes
   pub writes : WantsMemoryFor job.command job.raw t (settings_of job) bytes old.output new.output
 
+-- the test file was refused, and nothing was written
+pub record StopsConforming (job : Job) (t : ElementTable) (old new : Ends) (f : ConformFault) : Type 0 where
+  pub command : job.command ≡ Check
+  pub input : RefusesFile t (settings_of job) old.input new.input f
+  pub output : new.output ≡ old.output
+
 -- why the work was not done: the input is read whole and checked, and only then something is written
 abbrev pub StopsWork : Job → ElementTable → Ends → Ends → CliFault → Type 0
 StopsWork job t old new (fault.Input f) = StopsReadingFor job old new f
+StopsWork job t old new (fault.Conform f) = StopsConforming job t old new f
 StopsWork job t old new (fault.Output f) = StopsWriting job t old new f
 StopsWork job t old new fault.OutOfMemory = WantsMemory job t old new
 StopsWork job t old new _ = ⊥

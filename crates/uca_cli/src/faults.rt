@@ -1,3 +1,4 @@
+use crate::conforming::ConformFault;
 use std::fmt;
 use thiserror::Error;
 use uca_allkeys::{ReadCause, ReadFault};
@@ -64,6 +65,7 @@ pub enum CliFault {
     Rules(RuleFault),
     Tailor(TailorFault),
     Input(InputFault),
+    Conform(ConformFault),
     Output(WriteFault),
     /// Memory was refused, but not to the table's text, to the rules that were read, or to the input.
     OutOfMemory,
@@ -94,6 +96,9 @@ impl fmt::Display for CliFault {
                 }
                 InputCause::OutOfMemory => write!(f, "uca: {cause}"),
             },
+            CliFault::Conform(ConformFault { line, cause }) => {
+                write!(f, "uca: input line {line}: {cause}")
+            }
             CliFault::Output(WriteFault { written, cause }) => {
                 write!(f, "uca: output byte {written}: {cause}")
             }

@@ -3,9 +3,8 @@ ghost use Rattle.uca_weights.specs.Outgoing.{handed, Sends, StopsSending};
 ghost use Rattle.uca_weights.specs.Writer.{WritesAll};
 ghost use Rattle.uca_model.specs.WellFormed.{lint_output};
 ghost use Rattle.uca_table.specs.Bounds.{condition_of};
-ghost use Rattle.uca_cli.specs.Performing.{task_status};
+ghost use Rattle.uca_cli.specs.Performing.{lint_status};
 ghost use Rattle.uca_cli.specs.Sending.{finding_line, StopsOutput};
-ghost use Rattle.uca_cli.specs.declared.job.Task.TheVariants.{Lint};
 
 use crate::faults::CliFault;
 use uca_table::{Table, WellFormed, lint};
@@ -48,7 +47,7 @@ pub fn write_findings<W: Writer>(t: &Table, w: &mut W) -> Result<u8, CliFault>
     ensures writes { MatchResult result
         (λ _. WritesAll (W.state w.old) (W.state w.new) (lint_output t.now))
         (StopsOutput (W.state w.old) (W.state w.new) (lint_output t.now)) }
-    ensures status { IfOk result (λ status. status ≡ task_status Lint t.now) }
+    ensures status { IfOk result (λ status. status ≡ lint_status t.now) }
 {
     let found = lint(t);
     let broken = found.as_slice();

@@ -35,6 +35,8 @@ pub enum Task {
     Compare,
     /// Writes the lines in the order of their sort keys.
     Order,
+    /// Writes what the table makes of a test file in the manner of the Unicode Consortium's CollationTest files.
+    Check,
     /// Writes which conditions of well-formedness the table breaks (UTS #10, section 5).
     Lint,
     /// Writes the collation element table as text.
@@ -112,6 +114,13 @@ fn uca_command<'a>(
         strengths,
         weightings,
     )?;
+    let check = command(
+        alloc,
+        "check",
+        "Writes how many lines a CollationTest file has and which one fails first",
+        strengths,
+        weightings,
+    )?;
     let lint = command(
         alloc,
         "lint",
@@ -135,6 +144,7 @@ fn uca_command<'a>(
         .subcommand(key)?
         .subcommand(compare)?
         .subcommand(order)?
+        .subcommand(check)?
         .subcommand(lint)?
         .subcommand(table)
 }
@@ -247,6 +257,7 @@ fn task_named(name: &str) -> Option<Task>
         "key" => Some(Task::Key),
         "compare" => Some(Task::Compare),
         "order" => Some(Task::Order),
+        "check" => Some(Task::Check),
         "lint" => Some(Task::Lint),
         "table" => Some(Task::Table),
         _ => None,

@@ -4,6 +4,7 @@
 //! a [`uca_weights::Reader`], checks it whole, and only then writes to a [`uca_weights::Writer`].
 #![tactic(auto)]
 
+mod checking;
 pub mod conforming;
 pub mod faults;
 mod findings;

@@ -1,7 +1,9 @@
-ghost use Rattle.std.specs.Prelude.{◌≡◌, Err, IfErr, IfOk, MatchResult, None, Ok, Some, option_map};
+ghost use Rattle.std.specs.Prelude.{◌≡◌, ◌≢◌, Err, IfErr, IfOk, MatchResult, None, Ok, Some, option_map};
 ghost use Rattle.uca_cli.specs.Lent.{left_behind, lent};
 ghost use Rattle.uca_cli.specs.Performing.{IsCheckedFor, Performs, Refuses, ReadsFor, ReadsOneLine, ReadsTable, RefusesFor, RefusesOneLine, StopsOutputFor, StopsTable, StopsWork, Works, WritesFor};
+ghost use Rattle.uca_cli.specs.declared.job.Task.TheVariants.{Check};
 
+use crate::checking::check;
 use crate::faults::{CliFault, InputCause, InputFault};
 use crate::findings::write_findings;
 use crate::input::refused;
@@ -56,13 +58,14 @@ fn read_one_line<I: Reader>(alloc: Global, input: &mut I) -> Result<Vec<u8>, Inp
     }
 }
 
-/// Reads the input of a command and checks it. `lint` and `table` have none.
+/// Reads the input of a command other than `check`, and looks at its lines. `lint` and `table` have none.
 fn read_for<I: Reader>(
     alloc: Global,
     command: Task,
     raw: bool,
     input: &mut I,
 ) -> Result<Vec<u8>, InputFault>
+    requires { command ≢ Check }
     ensures ok { IfOk result (λ v. ReadsFor command raw (I.state input.old) (I.state input.new) v.items) }
     ensures checked { IfOk result (λ v. IsCheckedFor command raw v.items) }
     ensures err { IfErr result (RefusesFor command raw (I.state input.old) (I.state input.new)) }
@@ -78,6 +81,7 @@ fn read_for<I: Reader>(
         }
         Task::Compare => read_lines(alloc, input),
         Task::Order => read_lines(alloc, input),
+        Task::Check => unreachable!(),
         Task::Lint => Ok(Vec::new(alloc)),
         Task::Table => Ok(Vec::new(alloc)),
     }
@@ -93,7 +97,8 @@ fn done(written: Result<(), CliFault>) -> Result<u8, CliFault>
     }
 }
 
-/// Writes what a command writes with a table for an input, which was checked, and answers its status.
+/// Writes what a command other than `check` writes with a table for an input, whose lines were checked, and answers its
+/// status.
 fn write_for<W: Writer>(
     alloc: Global,
     command: Task,
@@ -103,7 +108,8 @@ fn write_for<W: Writer>(
     bytes: &[u8],
     output: &mut W,
 ) -> Result<u8, CliFault>
-    requires { IsCheckedFor command raw bytes.now }
+    requires checked { IsCheckedFor command raw bytes.now }
+    requires lines { command ≢ Check }
     ensures { MatchResult result
         (WritesFor command raw t.now s bytes.now (W.state output.old) (W.state output.new))
         (StopsOutputFor command raw t.now s bytes.now (W.state output.old) (W.state output.new)) }
@@ -122,6 +128,7 @@ fn write_for<W: Writer>(
             Ok(_) => Ok(0),
             Err(fault) => Err(fault),
         },
+        Task::Check => unreachable!(),
         Task::Lint => write_findings(t, output),
         Task::Table => match write_table(output, t) {
             Ok(_) => Ok(0),
@@ -149,6 +156,9 @@ fn work<I: Reader, W: Writer>(
         strength: job.strength,
         weighting: job.weighting,
     };
+    if job.command == Task::Check {
+        return check(t, settings, input, output);
+    }
     match read_for(alloc, job.command, job.raw, input) {
         Ok(bytes) => write_for(alloc, job.command, job.raw, t, settings, &bytes, output),
         Err(fault) => Err(CliFault::Input(fault)),
@@ -246,7 +256,8 @@ fn perform_alone<I: Reader, W: Writer>(
 }
 
 /// Does a job: reads the table, then the rules, by which it tailors the table, then the input, which it checks whole, and
-/// only then writes the output. It answers the status of the program: 1 where `lint` found something, and else 0.
+/// only then writes the output. It answers the status of the program: 1 where `check` failed or `lint`
+/// found something, and else 0.
 ///
 /// Where there is no reader of a table, the built-in table serves, and where there is none of rules, the table as it is. At
 /// a fault of the table nothing else was read, at one of the rules nothing of the input, and at each of these and at one of
