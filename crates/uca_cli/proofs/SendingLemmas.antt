@@ -16,7 +16,7 @@ use Rattle.uca_model.specs.SortKey.{sort_key}
 use Rattle.uca_cli.specs.Performing.{WritesSome}
 use Rattle.uca_cli.specs.Sending.{line_text, lines_text, StopsLine, StopsOutput}
 use Rattle.uca_cli.specs.declared.faults.CliFault.{CliFault}
-use Rattle.uca_cli.specs.declared.faults.CliFault.TheVariants.{Table, RulesText, Rules, Tailor, Input, Output, OutOfMemory}
+use Rattle.uca_cli.specs.declared.faults.CliFault.TheVariants.{Table, RulesText, Rules, Tailor, Input, Conform, Output, OutOfMemory}
 use Rattle.uca_cli.specs.declared.output.LineForm.{LineForm}
 use Rattle.uca_cli.specs.declared.output.LineForm.TheVariants.{Elements, Key}
 use Rattle.unicode_normalization.specs.Forms.{nfd}
@@ -71,3 +71,4 @@ StopsOutput-line (Input f) form t s s0 s1 s2 o0 o1 o2 sent line rest whole empty
 StopsOutput-line (RulesText at cause) form t s s0 s1 s2 o0 o1 o2 sent line rest whole empty none sends stops is = absurd stops
 StopsOutput-line (Rules f) form t s s0 s1 s2 o0 o1 o2 sent line rest whole empty none sends stops is = absurd stops
 StopsOutput-line (Tailor f) form t s s0 s1 s2 o0 o1 o2 sent line rest whole empty none sends stops is = absurd stops
+StopsOutput-line (Conform f) form t s s0 s1 s2 o0 o1 o2 sent line rest whole empty none sends stops is = absurd stops

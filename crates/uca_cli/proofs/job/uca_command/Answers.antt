@@ -14,5 +14,6 @@ returns c =
     let key = c.in_ok-subcommand-2.ensures.shape c.in_ok-key.ensures.local ∙ ap₂ with_subcommand elements (ap top_of c.in_ok-key.ensures.app) in
     let compare = c.in_ok-subcommand-3.ensures.shape c.in_ok-compare.ensures.local ∙ ap₂ with_subcommand key (ap top_of c.in_ok-compare.ensures.app) in
     let order = c.in_ok-subcommand-4.ensures.shape c.in_ok-order.ensures.local ∙ ap₂ with_subcommand compare (ap top_of c.in_ok-order.ensures.app) in
-    let lint = c.in_ok-subcommand-5.ensures.shape c.in_ok-lint.ensures.local ∙ ap₂ with_subcommand order (ap top_of c.in_ok-lint.ensures.app) in
-    IfOk-weaker c.subcommand-6.result _ _ (λ _ added. added.shape c.in_ok-table.ensures.local ∙ ap₂ with_subcommand lint (ap top_of c.in_ok-table.ensures.app)) c.subcommand-6.ensures
+    let check = c.in_ok-subcommand-5.ensures.shape c.in_ok-check.ensures.local ∙ ap₂ with_subcommand order (ap top_of c.in_ok-check.ensures.app) in
+    let lint = c.in_ok-subcommand-6.ensures.shape c.in_ok-lint.ensures.local ∙ ap₂ with_subcommand check (ap top_of c.in_ok-lint.ensures.app) in
+    IfOk-weaker c.subcommand-7.result _ _ (λ _ added. added.shape c.in_ok-table.ensures.local ∙ ap₂ with_subcommand lint (ap top_of c.in_ok-table.ensures.app)) c.subcommand-7.ensures
