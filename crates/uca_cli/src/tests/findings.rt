@@ -72,11 +72,7 @@ fn each_broken_condition_is_a_line_and_the_status_is_one(rt: HostRuntime) {
         (b"0061 ; [.1000.0020.0002]\n", 0, b""),
         (BROKEN, 1, FINDINGS),
         // A primary weight of 8000 and up needs no other weights.
-        (
-            b"0061 ; [.8000.0020.0002][.1000.0000.0000]\n",
-            1,
-            b"WF1\n",
-        ),
+        (b"0061 ; [.8000.0020.0002][.1000.0000.0000]\n", 1, b"WF1\n"),
         (b"0061 ; [.FB40.0020.0002][.8000.0000.0000]\n", 0, b""),
         (
             b"0061 ; [.1000.0020.0002]\n0300 ; [.0000.0020.0002]\n",
