@@ -1,5 +1,6 @@
 mod agreement;
 mod ends;
+mod ordering;
 mod raw;
 mod rules;
 mod tables;
