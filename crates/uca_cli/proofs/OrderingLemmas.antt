@@ -1,8 +1,8 @@
 -- Lines beside their keys: what a sort by the keys does to the lines.
-use Rattle.std.proofs.Common.{◌≡◌, ℕ, zero, suc, ◌+◌, ◌<◌, ◌≤◌, ◌==◌, Bool, true, false, cond, not, ◌&&◌, List, [], ◌∷◌, ◌++◌, length, get_or, take, drop, map, flat_map, sum, filter, All, IsPermutation, IsSortedByKey, is_lt, refl, sym, ap, subst, ◌∙◌, arith, length-append}
+use Rattle.std.proofs.Common.{◌≡◌, ℕ, suc, ◌+◌, ◌≤◌, ◌==◌, Bool, true, false, cond, not, ◌&&◌, List, [], ◌∷◌, ◌++◌, length, get_or, take, drop, map, flat_map, sum, filter, All, IsPermutation, IsSortedByKey, is_lt, refl, sym, ap, subst, ◌∙◌, arith, length-append}
 use Rattle.std.specs.Prelude.{if◌then◌else◌}
-use Rattle.std.specs.List.Sorted.{ties, IsStableByKey}
-use Rattle.std.proofs.lemmas.List.{get_or-map, length-map, take-append-le, drop-append-le}
+use Rattle.std.specs.List.Sorted.{IsStableByKey}
+use Rattle.std.proofs.lemmas.List.{get_or-map, length-map}
 use Rattle.std.proofs.lemmas.List.Elements.{All-nil, All-cons, All-head, All-tail}
 use Rattle.std.proofs.lemmas.List.Sorted.{All-permutation, IsPermutation-map}
 use Rattle.std.proofs.lemmas.List.Sums.{sum_by-cons}

@@ -1,4 +1,4 @@
-use Rattle.std.proofs.Common.{rules, is_lt}
+use Rattle.std.proofs.Common.{rules}
 use Rattle.std.proofs.lemmas.List.Sorted.{answers_always}
 use Rattle.std.proofs.lemmas.Result.{on_ok_weaker}
 use Rattle.uca_cli.proofs.ordering.sort_lines.Goals as goal

@@ -1,4 +1,4 @@
-use Rattle.std.proofs.Common.{◌≡◌, ◌≤◌, ℕ, List, [], length, map, sum, IsPermutation, IsSortedByKey, sym, ap, subst, refl, ◌∙◌, arith}
+use Rattle.std.proofs.Common.{◌≡◌, ℕ, List, [], length, map, IsPermutation, IsSortedByKey, sym, ap, refl, ◌∙◌, arith}
 use Rattle.std.specs.List.Sorted.{IsStableByKey}
 use Rattle.std.proofs.lemmas.List.{length-map}
 use Rattle.std.proofs.lemmas.List.Sorted.{length_permutation}
