@@ -50,7 +50,7 @@ returns-in-Ok-write_keyed g c =
     record {
       output = text_of_lines (map (λ l. l.line.now) ys);
       made = made c.args.t.now c.args.s c.args.bytes.now c.in-Ok.keys.bytes.items c.in-Ok.keys.lengths.items c.in-Ok-keyed_lines.lines.items ys
-      c.in-Ok.ensures c.in-Ok-keyed_lines.ensures.keys c.in-Ok-keyed_lines.ensures.lines c.sort_lines.ensures.same c.in-Ok-sort_lines.ensures.sorted c.sort_lines.ensures.stable;
+          c.in-Ok.ensures c.in-Ok-keyed_lines.ensures.keys c.in-Ok-keyed_lines.ensures.lines c.sort_lines.ensures.same c.in-Ok-sort_lines.ensures.sorted c.sort_lines.ensures.stable;
       writes = rw (sym c.deref.ensures.value) c.in-Ok-write_keyed.ensures;
       counted = omega (arith, many, c.sort_lines.new.lines.ok.0, c.len.ensures);
     }
@@ -61,6 +61,6 @@ returns g c =
     record {
       output = text_of_lines (map (λ l. l.line.now) ys);
       made = made c.args.t.now c.args.s c.args.bytes.now c.in-Ok.keys.bytes.items c.in-Ok.keys.lengths.items c.in-Ok-keyed_lines.lines.items ys
-      c.in-Ok.ensures c.in-Ok-keyed_lines.ensures.keys c.in-Ok-keyed_lines.ensures.lines c.sort_lines.ensures.same c.in-Ok-sort_lines.ensures.sorted c.sort_lines.ensures.stable;
+          c.in-Ok.ensures c.in-Ok-keyed_lines.ensures.keys c.in-Ok-keyed_lines.ensures.lines c.sort_lines.ensures.same c.in-Ok-sort_lines.ensures.sorted c.sort_lines.ensures.stable;
       writes = rw (sym c.deref.ensures.value) c.in-Err.ensures;
     }
