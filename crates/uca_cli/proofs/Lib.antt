@@ -5,3 +5,4 @@ pub mod HelpLemmas
 pub mod CommandLineLemmas
 pub mod PerformingLemmas
 pub mod SendingLemmas
+pub mod OrderingLemmas

@@ -1,5 +1,5 @@
 -- The lines of an input in the order of their keys: what went out of them, and what stopped it.
-use Rattle.std.specs.Prelude.{◌≡◌, ◌≤◌, ℕ, List, [], ◌∷◌, length, map, flat_map, take, drop}
+use Rattle.std.specs.Prelude.{◌≡◌, ℕ, List, [], ◌∷◌, length, map, flat_map, take, drop}
 use Rattle.uca_weights.specs.declared.settings.Settings.{Settings}
 use Rattle.uca_weights.specs.declared.writer.WriteFault.{WriteFault}
 use Rattle.uca_weights.specs.WriterState.{WriterState}
@@ -10,6 +10,18 @@ use Rattle.uca_model.specs.Table.{ElementTable}
 use Rattle.uca_cli.specs.Performing.{Ends, ReadsLines, RefusesInput}
 use Rattle.uca_cli.specs.declared.faults.CliFault.{CliFault}
 use Rattle.uca_cli.specs.declared.faults.CliFault.TheVariants as fault
+
+-- ---- of the keys of its lines
+
+-- the keys of some lines, one behind the other, and how long each is
+pub record AreKeys (t : ElementTable) (s : Settings) (lines : List (List ℕ)) (bytes lengths : List ℕ) : Type 0 where
+  pub all : bytes ≡ flat_map (line_key t s) lines
+  pub long : lengths ≡ map (λ line. length (line_key t s line)) lines
+
+-- pieces of some bytes, one behind the other, of these lengths
+abbrev pub cut_up : List ℕ → List ℕ → List (List ℕ)
+cut_up [] bytes = []
+cut_up (n ∷ ns) bytes = take n bytes ∷ cut_up ns (drop n bytes)
 
 -- ---- of an input that was read
 

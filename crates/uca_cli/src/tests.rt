@@ -1,6 +1,7 @@
 mod agreement;
 mod ends;
 mod findings;
+mod ordering;
 mod raw;
 mod rules;
 mod tables;
