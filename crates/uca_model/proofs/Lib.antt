@@ -3,6 +3,7 @@ pub mod KeyLemmas
 pub mod ImplicitLemmas
 pub mod RewritingLemmas
 pub mod OrderLemmas
+pub mod OrderedLemmas
 pub mod KeysLemmas
 pub mod LinesLemmas
 pub mod OutputLemmas

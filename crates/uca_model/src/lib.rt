@@ -12,6 +12,7 @@ pub mod keys;
 pub mod laws;
 pub mod lines;
 pub mod matching;
+pub mod ordered;
 pub mod output;
 pub mod ranges;
 pub mod rule_text;

@@ -4,6 +4,7 @@ use crate::collation::{elements, nfd};
 use crate::entry::Entry;
 use crate::implicit_weights::implicit;
 use crate::keys::sort_key;
+use crate::ordered::lines_in_order;
 use std::alloc::{AllocError, Global};
 use std::test::Fail;
 use uca_weights::{Element, Range, Settings, Strength, Variable};
@@ -342,5 +343,22 @@ fn marks_alone_count_at_the_second_level(rt: HostRuntime) -> Result<(), Fail> {
     assert!(rt; key.as_slice() > empty.as_slice());
     let key = key_of(rt.alloc(), PRIMARY, text.as_str())?;
     assert_eq!(rt; key.len(), 0);
+    Ok(())
+}
+
+#[test]
+fn lines_stand_by_their_keys_and_then_as_they_stood(rt: HostRuntime) -> Result<(), Fail> {
+    let table = small_table(rt.alloc())?;
+    let words = ["b", "A", "a", "ch", "cz"];
+    let alike = ["a", "", "a\u{1}", "\u{1}", "a"];
+    for (settings, lines, wanted) in [
+        (TERTIARY, words, ["a", "A", "b", "cz", "ch"]),
+        (PRIMARY, words, ["A", "a", "b", "cz", "ch"]),
+        (TERTIARY, alike, ["", "\u{1}", "a", "a\u{1}", "a"]),
+        (IDENTICAL, alike, ["", "\u{1}", "a", "a", "a\u{1}"]),
+    ] {
+        let ordered = lines_in_order(rt.alloc(), &table, ranges(), settings, &lines)?;
+        assert_eq!(rt; ordered.as_slice(), wanted.as_slice(), "{settings:?}");
+    }
     Ok(())
 }
