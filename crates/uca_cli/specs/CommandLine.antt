@@ -91,12 +91,17 @@ abbrev pub bare_program : App
 bare_program =
     on_top (λ s. record s { no_binary_name = true; subcommand_required = true }) (new_app (codes "uca"))
 
+-- the program with its commands that read lines
+abbrev pub with_line_commands : Choices → App
+with_line_commands choices =
+    with_subcommand (with_subcommand (with_subcommand (with_subcommand bare_program (command_with choices (codes "elements")).top)
+    (key_command choices).top) (command_with choices (codes "compare")).top) (command_with choices (codes "order")).top
+
 -- the program
 abbrev pub uca_with : Choices → App
 uca_with choices =
-    with_subcommand (with_subcommand (with_subcommand (with_subcommand (with_subcommand (with_subcommand (with_subcommand bare_program (command_with choices (codes "elements")).top)
-    (key_command choices).top) (command_with choices (codes "compare")).top) (command_with choices (codes "order")).top)
-    (command_with choices (codes "check")).top) (command_with choices (codes "lint")).top) (command_with choices (codes "table")).top
+    with_subcommand (with_subcommand (with_subcommand (with_line_commands choices) (command_with choices (codes "check")).top)
+    (command_with choices (codes "lint")).top) (command_with choices (codes "table")).top
 
 -- the task of the command of this name
 abbrev pub task_named : Text → Option Task

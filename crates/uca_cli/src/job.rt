@@ -3,7 +3,7 @@ ghost use Rattle.std.specs.Prelude.{◌≡◌, ◌≢◌, IfErr, IfOk, IsSome, I
 ghost use Rattle.clap.specs.declared.builder.command.Command.TheViews.{out-Command};
 ghost use Rattle.clap.specs.Words.{app_of, first_of, found_of, kind_of, rows_of, rule_of, subcommand_rows_of};
 ghost use Rattle.uca_cli.specs.CommandLine.{IsJobFrom, IsJobOf, IsRefused, IsUsage};
-ghost use Rattle.uca_cli.specs.CommandLine.{command_with, key_command, raw_flag, raw_in, rules_option, strength_option, table_option, uca_with, variable_option};
+ghost use Rattle.uca_cli.specs.CommandLine.{command_with, key_command, raw_flag, raw_in, rules_option, strength_option, table_option, uca_with, variable_option, with_line_commands};
 ghost use Rattle.uca_cli.specs.CommandLine.{strength_in, strength_named, task_named, weighting_in, weighting_named};
 
 use clap::error::ErrorKind;
@@ -83,7 +83,7 @@ pub fn job_of(alloc: Global, words: &[&str]) -> Result<Job, JobFault>
     }
 }
 
-// The program with its commands. The words come without its name, so usage lines are given it.
+// The program with its commands.
 fn uca_command<'a>(
     alloc: Global,
     strengths: &'a [&'a str],
@@ -91,6 +91,42 @@ fn uca_command<'a>(
 ) -> Result<Command<'a>, AllocError>
     ensures { IfOk result (λ c. app_of c
         ≡ uca_with (record { strengths = strengths.entry; weightings = weightings.entry })) }
+{
+    let check = command(
+        alloc,
+        "check",
+        "Writes how many lines a CollationTest file has and which one fails first",
+        strengths,
+        weightings,
+    )?;
+    let lint = command(
+        alloc,
+        "lint",
+        "Writes which conditions of well-formedness the table breaks",
+        strengths,
+        weightings,
+    )?;
+    let table = command(
+        alloc,
+        "table",
+        "Writes the collation element table as text",
+        strengths,
+        weightings,
+    )?;
+    line_commands(alloc, strengths, weightings)?
+        .subcommand(check)?
+        .subcommand(lint)?
+        .subcommand(table)
+}
+
+// The program with its commands that read lines. The words come without its name, so usage lines are given it.
+fn line_commands<'a>(
+    alloc: Global,
+    strengths: &'a [&'a str],
+    weightings: &'a [&'a str],
+) -> Result<Command<'a>, AllocError>
+    ensures { IfOk result (λ c. app_of c
+        ≡ with_line_commands (record { strengths = strengths.entry; weightings = weightings.entry })) }
 {
     let elements = command(
         alloc,
@@ -114,27 +150,6 @@ fn uca_command<'a>(
         strengths,
         weightings,
     )?;
-    let check = command(
-        alloc,
-        "check",
-        "Writes how many lines a CollationTest file has and which one fails first",
-        strengths,
-        weightings,
-    )?;
-    let lint = command(
-        alloc,
-        "lint",
-        "Writes which conditions of well-formedness the table breaks",
-        strengths,
-        weightings,
-    )?;
-    let table = command(
-        alloc,
-        "table",
-        "Writes the collation element table as text",
-        strengths,
-        weightings,
-    )?;
     Command::new(alloc, "uca")
         .about("Sorts and compares text by the Unicode Collation Algorithm")
         .bin_name("uca")?
@@ -143,10 +158,7 @@ fn uca_command<'a>(
         .subcommand(elements)?
         .subcommand(key)?
         .subcommand(compare)?
-        .subcommand(order)?
-        .subcommand(check)?
-        .subcommand(lint)?
-        .subcommand(table)
+        .subcommand(order)
 }
 
 // A command. Each takes all options, also those without meaning for it.
