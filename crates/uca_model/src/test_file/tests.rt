@@ -1,0 +1,1 @@
+use crate::test_file::{Cause, Report, TestEnd, TestFault, report_of};
