@@ -1,5 +1,5 @@
 -- What a test file says, line after line, and which of its test lines are compared.
-use Rattle.std.proofs.Common.{◌≡◌, ℕ, ◌+◌, ◌-◌, ◌<◌, ◌≤◌, Bool, true, false, not, ◌&&◌, List, [], ◌∷◌, ◌++◌, length, map, filter, take, get_or, encode_utf8, encode_utf8_all, chars, refl, sym, ap, ap₂, subst, ◌∙◌, arith, append-nil}
+use Rattle.std.proofs.Common.{◌≡◌, ℕ, ◌+◌, ◌-◌, ◌<◌, ◌≤◌, Bool, true, false, not, ◌&&◌, List, [], ◌∷◌, ◌++◌, length, filter, take, get_or, encode_utf8, encode_utf8_all, chars, refl, sym, ap, ap₂, ◌∙◌, arith, append-nil}
 use Rattle.std.proofs.lemmas.List.{take_more}
 use Rattle.std.proofs.lemmas.List.Filters.{length-filter_both}
 use Rattle.std.proofs.lemmas.Str.{chars-encodes, encodes-append}
@@ -12,7 +12,7 @@ use lib.Utf8.{scalar, scalars}
 use Rattle.uca_weights.specs.declared.limits.TheConstants.{MAX_INPUT}
 use Rattle.uca_model.specs.SafeText.{is_safe, IsSafe, IsLongRunAt}
 use Rattle.uca_model.specs.TableText.{◌>>=◌, is_line_feed}
-use Rattle.uca_model.specs.TestFile.{TestCause, TestEnd, TestFault, TestLine, at_line, end_within, test_lines, tests_after, tests_of_line, unless_long}
+use Rattle.uca_model.specs.TestFile.{TestCause, TestEnd, TestLine, at_line, end_within, test_lines, tests_after, tests_of_line, unless_long}
 use Rattle.uca_model.specs.PlainTestFile.{with_more}
 use Rattle.uca_model.proofs.PartLemmas.{parts_from, parts-more, parts-behind}
 use Rattle.uca_model.proofs.SafeLemmas.{is_safe-true, is_safe-false, unsafe_at}

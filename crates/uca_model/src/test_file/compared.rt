@@ -79,9 +79,9 @@ fn is_below(
     requires { AreRanges ranges.now }
     ensures { IfOk result (λ b. b ≡ is_gt (key_order (sort_key (table_of entries.now ranges.now) settings (chars (string_bytes before.now.text))) (sort_key (table_of entries.now ranges.now) settings (chars (string_bytes test.now.text))))) }
 {
-    let above = sort_key(alloc, entries, ranges, settings, &before.text)?;
-    let below = sort_key(alloc, entries, ranges, settings, &test.text)?;
-    Ok(above.as_slice().cmp(below.as_slice()) == Ordering::Greater)
+    let key_before = sort_key(alloc, entries, ranges, settings, &before.text)?;
+    let key = sort_key(alloc, entries, ranges, settings, &test.text)?;
+    Ok(key_before.as_slice().cmp(key.as_slice()) == Ordering::Greater)
 }
 
 /// The number of the first test line whose key is below that of the one before it.

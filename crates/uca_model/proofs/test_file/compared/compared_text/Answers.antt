@@ -1,4 +1,4 @@
-use Rattle.std.proofs.Common.{◌≡◌, List, ℕ, true, chars, string_bytes, ap, sym, ◌∙◌, subst}
+use Rattle.std.proofs.Common.{◌≡◌, List, ℕ, true, chars, string_bytes, ap, sym, ◌∙◌}
 use Rattle.std.specs.List.{list_all}
 use lib.Utf8.{scalar}
 use Rattle.uca_model.specs.SafeText.{IsSafe, IsLongRunAt}
