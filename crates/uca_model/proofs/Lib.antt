@@ -17,6 +17,7 @@ pub mod CanonicalLemmas
 pub mod NumberLemmas
 pub mod PartLemmas
 pub mod TextLemmas
+pub mod TestFileLemmas
 pub mod StepLemmas
 pub mod CutLemmas
 pub mod CanonicalLines

@@ -29,6 +29,7 @@ pub mod TestFile
 pub mod Laws
 pub mod Plain
 pub mod PlainText
+pub mod PlainTestFile
 pub mod PlainRules
 pub mod PlainRuleText
 pub mod PlainTailoring

@@ -20,6 +20,7 @@ pub mod rules;
 pub mod safety;
 pub mod table_text;
 pub mod tailoring;
+pub mod test_file;
 #[cfg(test)]
 mod tests;
 pub mod weighting;

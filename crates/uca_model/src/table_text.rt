@@ -2,11 +2,11 @@ ghost use Rattle.std.specs.Prelude.{◌≡◌, take, IfOk};
 ghost use Rattle.uca_model.specs.TableText.{end_within, read_text, table_of_text};
 ghost use Rattle.uca_model.specs.PlainText.{Reads, state_of, table_in, end_of};
 
-mod bytes;
+pub(crate) mod bytes;
 mod directive;
-mod entry;
+pub(crate) mod entry;
 pub mod faults;
-mod lines;
+pub(crate) mod lines;
 pub mod plain_table;
 mod state;
 mod statement;
@@ -32,7 +32,7 @@ fn end_within(end: TextEnd, bytes: &[u8]) -> TextEnd
 }
 
 /// The bytes of a text up to a limit.
-fn first_bytes(bytes: &[u8], limit: usize) -> &[u8]
+pub(crate) fn first_bytes(bytes: &[u8], limit: usize) -> &[u8]
     ensures { result.now ≡ take limit bytes.now }
 {
     if bytes.len() > limit {

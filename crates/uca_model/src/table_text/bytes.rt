@@ -10,7 +10,7 @@ pub(super) fn is_blank(byte: u8) -> bool
 }
 
 /// The bytes without the blanks in front.
-pub(super) fn skip_blanks(bytes: &[u8]) -> &[u8]
+pub(crate) fn skip_blanks(bytes: &[u8]) -> &[u8]
     ensures { result.now ≡ skip_blanks bytes.now }
 {
     let mut rest = bytes;
@@ -82,7 +82,7 @@ pub(super) fn behind(byte: u8, text: &[u8]) -> Option<&[u8]>
 }
 
 /// The number that at most six hexadecimal digits say, of either case.
-pub(super) fn number(digits: &[u8]) -> Option<u32>
+pub(crate) fn number(digits: &[u8]) -> Option<u32>
     requires { length digits.now ≤ 6 }
     ensures value { result ≡ number digits.now }
     ensures small { IfSome result (λ n. n < 16 ^ length digits.now) }

@@ -13,7 +13,7 @@ use std::alloc::{AllocError, Global};
 use uca_weights::{Element, MAX_ELEMENTS, MAX_KEY};
 
 /// The longest runs without blanks.
-fn words(alloc: Global, text: &[u8]) -> Result<Vec<&[u8]>, AllocError>
+pub(crate) fn words(alloc: Global, text: &[u8]) -> Result<Vec<&[u8]>, AllocError>
     ensures { IfOk result (λ v. map (λ word. word.now) v.items ≡ words text.now) }
 {
     text.split(|b| is_blank(*b))

@@ -99,7 +99,7 @@ pub(super) fn add_lines(
 }
 
 /// The lines of a text: its parts between the LFs.
-pub(super) fn lines_of(alloc: Global, bytes: &[u8]) -> Result<Vec<&[u8]>, AllocError>
+pub(crate) fn lines_of(alloc: Global, bytes: &[u8]) -> Result<Vec<&[u8]>, AllocError>
     ensures { IfOk result (λ v. map (λ line. line.now) v.items ≡ slice_split is_line_feed bytes.now) }
 {
     bytes.split(|b| *b == b'\n').collect(alloc)
