@@ -7,3 +7,5 @@ pub mod Performing
 pub mod Sending
 pub mod Ordering
 pub mod Conforming
+pub mod Comparing
+pub mod TestReading
