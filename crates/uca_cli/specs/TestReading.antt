@@ -16,7 +16,7 @@ use Rattle.uca_cli.specs.declared.conforming.ConformCause.TheVariants.{LineTooLo
 use Rattle.uca_cli.specs.declared.conforming.ConformFault.{ConformFault}
 use Rattle.uca_cli.specs.declared.conforming.comparison.Comparison.{Comparison}
 use Rattle.uca_cli.specs.declared.conforming.progress.Progress.{Progress}
-use Rattle.uca_cli.specs.declared.conforming.test_line.TestText.{TestText}
+use Rattle.uca_cli.specs.declared.conforming.test_text.TestText.{TestText}
 
 -- Faults
 

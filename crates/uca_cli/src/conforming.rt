@@ -5,6 +5,7 @@ ghost use Rattle.uca_cli.specs.Conforming.{GivesReport, RefusesFile};
 mod comparison;
 mod progress;
 mod test_line;
+mod test_text;
 
 use progress::{finish, start, take_piece, too_large};
 use thiserror::Error;

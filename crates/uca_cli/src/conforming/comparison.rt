@@ -3,7 +3,8 @@ ghost use Rattle.uca_weights.specs.declared.limits.TheConstants.{MAX_LINE};
 ghost use Rattle.uca_cli.specs.Comparing.{is_below, none_compared, with_line, with_skipped, with_text};
 ghost use Rattle.uca_cli.specs.TestReading.{state_of, IsCounted, IsOfFile, Leads};
 
-use super::test_line::{TestText, is_test, text_of_test};
+use super::test_line::{is_test, text_of_test};
+use super::test_text::TestText;
 use super::{ConformCause, Conformance};
 use uca_allkeys::bytes::without_return;
 use uca_levels::compare;
@@ -20,7 +21,7 @@ pub(crate) struct Comparison {
 
 /// Before the first line.
 pub(crate) fn nothing_compared() -> Comparison
-    ensures { state_of result ≡ none_compared }
+    ensures state { state_of result ≡ none_compared }
     ensures lines { result.report.lines ≡ 0 }
     ensures skipped { result.report.skipped ≡ 0 }
 {
