@@ -5,3 +5,8 @@ pub mod HelpLemmas
 pub mod CommandLineLemmas
 pub mod PerformingLemmas
 pub mod SendingLemmas
+pub mod ComparingLemmas
+pub mod TestLineLemmas
+pub mod TestBytesLemmas
+pub mod TestProgressLemmas
+pub mod TestReadingLemmas

@@ -1,5 +1,4 @@
 ghost use Rattle.std.specs.Prelude.{◌≡◌, ◌≤◌, ◌+◌, ◌++◌, false, true, length, chars, encode_utf8, MatchOption};
-ghost use Rattle.std.specs.Bool.{OnTrue};
 ghost use lib.Utf8.{scalar};
 ghost use Rattle.uca_weights.specs.declared.limits.TheConstants.{MAX_LINE};
 ghost use Rattle.uca_model.specs.SafeText.{is_safe, IsSafe};
@@ -44,7 +43,7 @@ pub(crate) fn checked(text: ArrayString<MAX_LINE>) -> Option<TestText>
 pub(crate) fn push_point(text: &mut ArrayString<MAX_LINE>, point: u32) -> bool
     requires { length text.old.bytes + 4 ≤ MAX_LINE }
     ensures is_scalar { result ≡ scalar point }
-    ensures adds { OnTrue result (text.new.bytes ≡ text.old.bytes ++ encode_utf8 point) }
+    ensures adds { result ≡ true → text.new.bytes ≡ text.old.bytes ++ encode_utf8 point }
     ensures room { length text.new.bytes ≤ length text.old.bytes + 4 }
 {
     match char::from_u32(point) {
