@@ -120,12 +120,12 @@ collected t s (Ok tests) = Ok (with_tests t s none_compared tests)
 collected t s (Err fault) = Err fault
 
 -- a line and what follows it
-collects_line : (t : ElementTable) (s : Settings) (n : ℕ) (tests : List TestLine) (long : Bool) (r : Result (List TestLine) TestCause) (next : List TestLine → Result (List TestLine) TestFault) (then : Compared → Result Compared TestFault)
-    → ((all : List TestLine) → collected t s (next all) ≡ then (with_tests t s none_compared all))
-    → collected t s (at_line n (if long then Err line_too_long else r) >>= (λ more. next (tests ++ more))) ≡ (at_line n (if long then Err line_too_long else with_more t s (with_tests t s none_compared tests) r) >>= then)
-collects_line t s n tests true r next then later = refl
-collects_line t s n tests false (Err cause) next then later = refl
-collects_line t s n tests false (Ok more) next then later = later (tests ++ more) ∙ ap then (with_tests-append t s none_compared tests more)
+collects_line : (t : ElementTable) (s : Settings) (n : ℕ) (tests : List TestLine) (long : Bool) (r : Result (List TestLine) TestCause) (next : List TestLine → Result (List TestLine) TestFault) (go : Compared → Result Compared TestFault)
+    → ((all : List TestLine) → collected t s (next all) ≡ go (with_tests t s none_compared all))
+    → collected t s (at_line n (if long then Err line_too_long else r) >>= (λ more. next (tests ++ more))) ≡ (at_line n (if long then Err line_too_long else with_more t s (with_tests t s none_compared tests) r) >>= go)
+collects_line t s n tests true r next go later = refl
+collects_line t s n tests false (Err cause) next go later = refl
+collects_line t s n tests false (Ok more) next go later = later (tests ++ more) ∙ ap go (with_tests-append t s none_compared tests more)
 
 ends_so : (r : Result Compared TestFault) → (r >>= (λ sum. Ok sum)) ≡ r
 ends_so (Ok sum) = refl

@@ -11,9 +11,12 @@ use Rattle.std.specs.Str.{chars}
 use Rattle.unicode_normalization.specs.Forms.{nfd}
 use Rattle.uca_weights.specs.declared.limits.TheConstants.{MAX_DECOMPOSITION, MAX_RUN}
 use Rattle.uca_model.specs.SafeText.{is_safe, longest_run, IsSafe}
-use Rattle.uca_model.specs.TableText.{words}
-use Rattle.uca_model.specs.TestFile.{TestCause, bad_line, points_after, some_points, test_point}
-use Rattle.uca_cli.specs.Comparing.{can_compare}
+use Rattle.uca_weights.specs.declared.settings.Settings.{Settings}
+use Rattle.uca_model.specs.Lines.{carriage_return, without_return}
+use Rattle.uca_model.specs.Table.{ElementTable}
+use Rattle.uca_model.specs.TableText.{◌>>=◌, skip_blanks, words}
+use Rattle.uca_model.specs.TestFile.{TestCause, TestLine, bad_line, is_test, points_after, points_of, some_points, test_point, tests_of_line}
+use Rattle.uca_cli.specs.Comparing.{Compared, can_compare, with_line, with_more, with_skipped, with_text}
 use Rattle.uca_cli.specs.TestReading.{HasPoints, SaysPoints}
 use Rattle.uca_cli.specs.declared.conforming.test_text.TestText.{TestText}
 use lib.Utf8.{scalar, scalars}
@@ -135,3 +138,43 @@ points-checked bytes rest text is_some is_text found has none some all safe = re
     by : (o : Option TestText) → MatchOption o (is_safe (chars text) ≡ false) (λ x. (is_safe (chars text) ≡ true) × (x.text.bytes ≡ text)) → MatchOption o (can_compare has.points ≡ false) (λ x. (can_compare has.points ≡ true) × (chars x.text.bytes ≡ has.points))
     by None unsafe = compares false unsafe
     by (Some x) safe = (compares true safe.0, ap chars safe.1 ∙ chars_are)
+
+-- Lines
+
+pub length-without_return : (line : List ℕ) → length (without_return line) ≤ length line
+length-without_return [] = omega arith
+length-without_return (b ∷ []) =
+    elim (cases_Bool (b == carriage_return)) [
+      | inl e ↦ let none : length (without_return (b ∷ [])) ≡ 0 = ap (length {A = ℕ}) (cond-true _ [] (b ∷ []) e) in omega (arith, none)
+      | inr e ↦ let one : length (without_return (b ∷ [])) ≡ 1 = ap (length {A = ℕ}) (cond-false _ [] (b ∷ []) e) in omega (arith, one)
+    ]
+length-without_return (b ∷ c ∷ line) = let later : length (without_return (c ∷ line)) ≤ length (c ∷ line) = length-without_return (c ∷ line) in omega (arith, later)
+
+-- a line that is no test line
+pub line-other : (t : ElementTable) (s : Settings) (n : ℕ) (sum : Compared) (line text : List ℕ) → text ≡ without_return line → false ≡ is_test (skip_blanks text) → with_line t s n sum line ≡ Ok sum
+unfolding tests_of_line
+line-other t s n sum line text is other = ap (with_more t s sum) (cond-false _ _ _ (ap (λ (xs : List ℕ). is_test (skip_blanks xs)) (sym is) ∙ sym other))
+
+abbrev one_test : ℕ → List ℕ → List TestLine
+one_test n points = record { number = n; points = points } ∷ []
+
+line-test : (t : ElementTable) (s : Settings) (n : ℕ) (sum : Compared) (line text : List ℕ) (r : Result (List ℕ) TestCause) → text ≡ without_return line → true ≡ is_test (skip_blanks text) → points_of text ≡ r
+    → with_line t s n sum line ≡ with_more t s sum (r >>= (λ points. Ok (one_test n points)))
+unfolding tests_of_line
+line-test t s n sum line text r is test says =
+    ap (with_more t s sum) (cond-true _ _ _ (ap (λ (xs : List ℕ). is_test (skip_blanks xs)) (sym is) ∙ sym test)
+    ∙ ap (λ (x : Result (List ℕ) TestCause). x >>= (λ points. Ok (one_test n points))) (ap points_of (sym is) ∙ says))
+
+-- a test line that is at fault
+pub line-fault : (t : ElementTable) (s : Settings) (n : ℕ) (sum : Compared) (line text : List ℕ) (cause : TestCause) → text ≡ without_return line → true ≡ is_test (skip_blanks text) → points_of text ≡ Err cause → with_line t s n sum line ≡ Err cause
+line-fault t s n sum line text cause is test says = line-test t s n sum line text (Err cause) is test says
+
+-- a test line that is not compared
+pub line-skipped : (t : ElementTable) (s : Settings) (n : ℕ) (sum : Compared) (line text : List ℕ) → text ≡ without_return line → true ≡ is_test (skip_blanks text) → SaysPoints (points_of text) None → with_line t s n sum line ≡ Ok (with_skipped sum)
+line-skipped t s n sum line text is test has = line-test t s n sum line text (Ok has.points) is test has.known ∙ ap Ok (cond-false _ _ _ has.compared)
+
+-- a test line that is compared
+pub line-compared : (t : ElementTable) (s : Settings) (n : ℕ) (sum : Compared) (line text : List ℕ) (x : TestText) → text ≡ without_return line → true ≡ is_test (skip_blanks text) → SaysPoints (points_of text) (Some x)
+    → with_line t s n sum line ≡ Ok (with_text t s n sum (chars x.text.bytes))
+line-compared t s n sum line text x is test has =
+    line-test t s n sum line text (Ok has.points) is test has.known ∙ ap Ok (cond-true _ _ _ has.compared.0) ∙ ap (λ (points : List ℕ). Ok (with_text t s n sum points)) (sym has.compared.1)

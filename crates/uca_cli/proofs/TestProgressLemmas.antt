@@ -1,7 +1,7 @@
 -- How the reading of a test file goes on, and how it stops.
 use Rattle.std.proofs.Common.{◌≡◌, ℕ, ◌+◌, ◌<◌, ◌≤◌, List, [], ◌∷◌, ◌++◌, length, sym, ap, ap₂, ◌∙◌, arith, append_assoc, length-append}
 use Rattle.std.proofs.lemmas.List.{append-nil}
-use Rattle.std.specs.Prelude.{Ok, Err}
+use Rattle.std.specs.Prelude.{MatchResult, Result, Ok, Err}
 use Rattle.uca_weights.specs.declared.limits.TheConstants.{MAX_LINE}
 use Rattle.uca_weights.specs.declared.settings.Settings.{Settings}
 use Rattle.uca_model.specs.Lines.{line_feed}
@@ -48,3 +48,9 @@ GoesOn-step t s a b d front rest first others goes is step = record {
 
 pub StopsAt-front : (t : ElementTable) (s : Settings) (a b : Progress) (front rest first others : List ℕ) (fault : ConformFault) → GoesOn t s a front b rest → rest ≡ first ++ others → StopsAt t s b first fault → StopsAt t s a front fault
 StopsAt-front t s a b front rest first others fault goes is stop = λ end more. moved t s end a b front rest first others goes is more ∙ stop end (others ++ more)
+
+-- the last step
+pub goes_through : {A : Type 0} (t : ElementTable) (s : Settings) (a b d : Progress) (front rest : List ℕ) (result : Result A ConformFault) → GoesOn t s a front b rest → MatchResult result (λ _. GoesOn t s b rest d []) (StopsAt t s b rest)
+    → MatchResult result (λ _. GoesOn t s a front d []) (StopsAt t s a front)
+goes_through t s a b d front rest (Ok done) goes step = GoesOn-step t s a b d front rest rest [] goes (sym (append-nil rest)) step
+goes_through t s a b d front rest (Err fault) goes stop = StopsAt-front t s a b front rest rest [] fault goes (sym (append-nil rest)) stop

@@ -1,7 +1,11 @@
-use Rattle.std.proofs.Common.{◌≡◌, [], ◌++◌, ◌<◌, ◌≤◌, length, length-take, take, arith, rules, sym, ap, ap₂, ◌∙◌}
+use Rattle.std.proofs.Common.{◌≡◌, [], ◌++◌, ◌<◌, ◌≤◌, length, length-take, take, arith, rules, sym, refl, ap, ap₂, ◌∙◌, ℕ, List}
+use Rattle.std.proofs.KnownBytes.{Consumes-nil}
 use Rattle.std.specs.Io.KnownBytes.{IsAtEnd}
 use Rattle.uca_weights.specs.Reader.{ReaderState, Gives}
+use Rattle.uca_allkeys.proofs.ProgressLemmas.{open_nil}
 use Rattle.uca_allkeys.proofs.ReadingLemmas.{Gives-none, Gives-fails}
+use Rattle.uca_cli.specs.Comparing.{Compared, with_bytes}
+use Rattle.uca_cli.specs.TestReading.{state_of}
 use Rattle.uca_cli.proofs.TestReadingLemmas.{HasRead-chunk, at_end, at_failure, in_piece, in_large_chunk}
 use Rattle.uca_cli.proofs.conforming.conform.Goals as goal
 
@@ -45,3 +49,16 @@ returns-in-Err g c =
     let new : ReaderState = g.R.Reader.state c.pull.new.self in
     let has = c.loop-progress.invariant in
     at_failure c.args.t.now c.args.s old mid new c.loop-progress.left c.loop-progress.progress has (Gives-fails old mid new has.bytes has.gives c.in-Err.ensures.bytes c.in-Err.ensures.failures)
+
+pub loop-progress-init : goal.loop-progress-init
+loop-progress-init g c = record {
+  bytes = [];
+  gives = record { given = Consumes-nil _; failures = refl };
+  room = refl;
+  same = λ end more. ap₂ (λ (sum : Compared) (bytes : List ℕ). with_bytes c.args.t.now c.args.s end 1 sum bytes) (sym c.start-progress.ensures.comparison) (ap (λ (xs : List ℕ). xs ++ more) (sym c.start-progress.ensures.held))
+      ∙ ap (λ (n : ℕ). with_bytes c.args.t.now c.args.s end n (state_of c.start-progress.result.comparison) (c.start-progress.result.held.items ++ more)) (sym c.start-progress.ensures.number);
+  held = open_nil _ c.start-progress.ensures.held;
+  short = omega (arith, ap (length {A = ℕ}) c.start-progress.ensures.held);
+  count = omega (arith, c.start-progress.ensures.number, ap (length {A = ℕ}) c.start-progress.ensures.held);
+  counted = c.start-progress.ensures.counted;
+}
