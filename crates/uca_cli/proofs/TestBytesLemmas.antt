@@ -11,7 +11,7 @@ use Rattle.uca_weights.specs.declared.settings.Settings.{Settings}
 use Rattle.uca_model.specs.Lines.{line_feed}
 use Rattle.uca_model.specs.Table.{ElementTable}
 use Rattle.uca_model.specs.TableText.{◌>>=◌, is_line_feed}
-use Rattle.uca_model.specs.TestFile.{Report, TestCause, TestEnd, TestFault, at_line, end_within, line_too_long, report_of, stops, too_large, unless_long}
+use Rattle.uca_model.specs.TestFile.{TestCause, TestEnd, TestFault, at_line, end_within, line_too_long, report_of, stops, too_large, unless_long}
 use Rattle.uca_model.proofs.StepLemmas.{some_parts}
 use Rattle.uca_allkeys.specs.Progress.{IsOpen}
 use Rattle.uca_allkeys.proofs.TextLemmas.{FirstPart, first_part, take-room}

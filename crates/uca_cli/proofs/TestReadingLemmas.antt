@@ -5,12 +5,12 @@ use Rattle.std.specs.Io.KnownBytes.{Consumes}
 use Rattle.std.specs.Prelude.{Result, Ok, Err, MatchResult, IfErr}
 use Rattle.uca_weights.specs.declared.limits.TheConstants.{MAX_INPUT}
 use Rattle.uca_weights.specs.declared.settings.Settings.{Settings}
-use Rattle.uca_weights.specs.Reader.{ReaderState, Gives, GivesAll, GivesAndFails}
+use Rattle.uca_weights.specs.Reader.{ReaderState, GivesAll, GivesAndFails}
 use Rattle.uca_model.specs.Table.{ElementTable}
-use Rattle.uca_model.specs.TestFile.{Report, TestEnd, ends, read, report_of, stops, too_large}
+use Rattle.uca_model.specs.TestFile.{ends, read, report_of, stops, too_large}
 use Rattle.uca_allkeys.proofs.ReadingLemmas.{Gives-more, cut_chunk}
 use Rattle.uca_cli.specs.Comparing.{none_compared, report_part, with_bytes}
-use Rattle.uca_cli.specs.Conforming.{report_in, refused_at, FailsFirst, GivesReport, IsFaulty, RefusedBy, RefusesFile}
+use Rattle.uca_cli.specs.Conforming.{report_in, FailsFirst, GivesReport, IsFaulty, RefusedBy, RefusesFile}
 use Rattle.uca_cli.specs.TestReading.{fault_at, state_of, to_come, told, GoesOn, HasRead, IsOfFile, StopsAt}
 use Rattle.uca_cli.specs.declared.conforming.ConformCause.{ConformCause}
 use Rattle.uca_cli.specs.declared.conforming.ConformCause.TheVariants.{LineTooLong, BadLine, TooLarge, Read}

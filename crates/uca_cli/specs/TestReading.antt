@@ -1,5 +1,5 @@
 -- How far the reading of a test file has come, and how it stops.
-use Rattle.std.specs.Prelude.{◌≡◌, ℕ, ◌+◌, ◌<◌, ◌≤◌, Bool, true, false, not, ◌&&◌, ◌==◌, List, [], ◌++◌, length, chars, encode_utf8_all, Option, Some, option_map, Result, Ok, Err, MatchOption, MatchResult}
+use Rattle.std.specs.Prelude.{◌≡◌, ℕ, ◌+◌, ◌<◌, ◌≤◌, Bool, true, false, not, ◌==◌, List, [], ◌++◌, length, chars, encode_utf8_all, Option, option_map, Result, Ok, Err, MatchOption, MatchResult}
 use Rattle.std.specs.List.{list_all}
 use lib.Utf8.{scalar}
 use Rattle.uca_weights.specs.declared.limits.TheConstants.{MAX_INPUT, MAX_LINE}

@@ -1,4 +1,4 @@
-use Rattle.std.proofs.Common.{◌≡◌, [], ◌++◌, ◌<◌, ◌≤◌, length, length-take, take, arith, rules, sym, refl, ap, ap₂, ◌∙◌, ℕ, List}
+use Rattle.std.proofs.Common.{[], ◌++◌, ◌<◌, ◌≤◌, length, length-take, take, arith, rules, sym, refl, ap, ap₂, ◌∙◌, ℕ, List}
 use Rattle.std.proofs.KnownBytes.{Consumes-nil}
 use Rattle.std.specs.Io.KnownBytes.{IsAtEnd}
 use Rattle.uca_weights.specs.Reader.{ReaderState, Gives}

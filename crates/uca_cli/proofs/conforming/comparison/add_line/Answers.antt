@@ -1,4 +1,4 @@
-use Rattle.std.proofs.Common.{◌≡◌, ◌≤◌, ℕ, List, Option, length, ap, arith, subst, sym, ◌∙◌}
+use Rattle.std.proofs.Common.{ℕ, List, Option, length, ap, arith, subst, sym, ◌∙◌}
 use Rattle.std.specs.Prelude.{Ok}
 use Rattle.uca_model.specs.TestFile.{points_of}
 use Rattle.uca_cli.specs.TestReading.{state_of, told, SaysPoints}

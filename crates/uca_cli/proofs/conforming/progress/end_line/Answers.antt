@@ -1,4 +1,4 @@
-use Rattle.std.proofs.Common.{◌≡◌, ◌+◌, ◌∷◌, [], ◌++◌, ℕ, List, arith, length-append, ap, length, sym, ◌∙◌}
+use Rattle.std.proofs.Common.{◌∷◌, [], ℕ, arith, length-append, ap, length, sym, ◌∙◌}
 use Rattle.uca_model.specs.Lines.{line_feed}
 use Rattle.uca_allkeys.proofs.ProgressLemmas.{open_nil}
 use Rattle.uca_cli.specs.TestReading.{fault_at, state_of, told}

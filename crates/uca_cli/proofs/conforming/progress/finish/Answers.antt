@@ -1,4 +1,4 @@
-use Rattle.std.proofs.Common.{◌≡◌, ℕ, [], ap, ◌∙◌, sym}
+use Rattle.std.proofs.Common.{ℕ, ap, ◌∙◌, sym}
 use Rattle.uca_model.specs.TestFile.{ends, at_line}
 use Rattle.uca_cli.specs.Comparing.{report_part}
 use Rattle.uca_cli.specs.TestReading.{fault_at, state_of, told}

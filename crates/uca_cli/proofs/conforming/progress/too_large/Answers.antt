@@ -1,4 +1,4 @@
-use Rattle.std.proofs.Common.{◌≡◌, ◌++◌, [], ℕ, List, ap, ◌∙◌, sym}
+use Rattle.std.proofs.Common.{[], ap, ◌∙◌, sym}
 use Rattle.std.proofs.lemmas.List.{append-nil}
 use Rattle.uca_model.specs.TestFile.{TestEnd, stops, too_large}
 use Rattle.uca_cli.specs.TestReading.{state_of, to_come}

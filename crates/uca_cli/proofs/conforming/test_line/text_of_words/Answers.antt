@@ -1,4 +1,4 @@
-use Rattle.std.proofs.Common.{◌≡◌, ◌&&◌, Bool, true, ap, subst}
+use Rattle.std.proofs.Common.{◌&&◌, Bool, true, ap, subst}
 use Rattle.uca_cli.specs.TestReading.{HasPoints}
 use Rattle.uca_cli.proofs.TestLineLemmas.{points-push, points-checked}
 use Rattle.uca_cli.proofs.conforming.test_line.text_of_words.Goals as goal
