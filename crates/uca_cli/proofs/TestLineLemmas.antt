@@ -131,10 +131,13 @@ points-checked bytes rest text is_some is_text found has none some all safe = re
   where
     scalars_are : list_all scalar has.points ≡ true
     scalars_are = sym has.scalars ∙ all
+
     chars_are : chars text ≡ has.points
     chars_are = ap chars (has.encoded all) ∙ chars_of_points has.points scalars_are
+
     compares : (b : Bool) → is_safe (chars text) ≡ b → can_compare has.points ≡ b
     compares b is = ap₂ (λ (x y : Bool). x && y) scalars_are (ap is_safe (sym chars_are) ∙ is)
+
     by : (o : Option TestText) → MatchOption o (is_safe (chars text) ≡ false) (λ x. (is_safe (chars text) ≡ true) × (x.text.bytes ≡ text)) → MatchOption o (can_compare has.points ≡ false) (λ x. (can_compare has.points ≡ true) × (chars x.text.bytes ≡ has.points))
     by None unsafe = compares false unsafe
     by (Some x) safe = (compares true safe.0, ap chars safe.1 ∙ chars_are)

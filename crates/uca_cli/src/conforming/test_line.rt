@@ -56,11 +56,7 @@ fn text_of_words(bytes: &[u8]) -> Result<Option<TestText>, ConformCause>
     if !is_some {
         return Err(ConformCause::BadLine);
     }
-    if is_text {
-        Ok(checked(text))
-    } else {
-        Ok(None)
-    }
+    if is_text { Ok(checked(text)) } else { Ok(None) }
 }
 
 /// How many bytes stand before the first `;` or `#`.

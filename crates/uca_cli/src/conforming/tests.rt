@@ -186,7 +186,10 @@ fn a_line_has_a_limit(rt: HostRuntime) {
     let mut long = repeated(b"10000 ", 4092, 4096, false);
     assert_eq!(rt; conform(&t, PLAIN, &mut long), report(1, 0, None));
     long = repeated(b"0061 ", 4097, 1000, false);
-    assert_eq!(rt; conform(&t, PLAIN, &mut long), fault(1, ConformCause::LineTooLong));
+    assert_eq!(rt;
+        conform(&t, PLAIN, &mut long),
+        fault(1, ConformCause::LineTooLong)
+    );
 }
 
 #[test]
