@@ -137,7 +137,8 @@ HasRead-chunk old mid new left n a b buf has given failures fits within goes =
 take_front : (left n : ℕ) (buf : List ℕ) → left ≤ n → take left (take n buf) ≡ take left buf
 take_front left n buf low = take-take left n buf low
 
-cut_chunk : (left n : ℕ) (buf : List ℕ) → left ≤ n → take n buf ≡ take left buf ++ drop left (take n buf)
+-- the front of a chunk, in which some bytes are left
+pub cut_chunk : (left n : ℕ) (buf : List ℕ) → left ≤ n → take n buf ≡ take left buf ++ drop left (take n buf)
 cut_chunk left n buf low = sym (take-append-drop left (take n buf)) ∙ ap (λ (xs : List ℕ). xs ++ drop left (take n buf)) (take_front left n buf low)
 
 -- the front of a chunk has a byte too much

@@ -28,17 +28,17 @@ pub add_bytes-fault : (end : TextEnd) (n : ℕ) (s : TextState) (cause : Cause) 
 add_bytes-fault end n s cause line rest clear is = add_bytes-line end n s line rest clear ∙ ap (λ (r : Result TextState Cause). at_line n r >>= (λ t. add_bytes end (n + 1) t rest)) is
 
 -- the first part of a text, which is at least so long
-record FirstPart (text : List ℕ) (n : ℕ) : Type 0 where
-  part : List ℕ
-  parts : List (List ℕ)
-  is : slice_split is_line_feed text ≡ part ∷ parts
-  long : n ≤ length part
+pub record FirstPart (text : List ℕ) (n : ℕ) : Type 0 where
+  pub part : List ℕ
+  pub parts : List (List ℕ)
+  pub is : slice_split is_line_feed text ≡ part ∷ parts
+  pub long : n ≤ length part
 
 some_part : (text : List ℕ) (split : List (List ℕ)) → slice_split is_line_feed text ≡ split → 0 < length split → FirstPart text 0
 some_part text [] is some = absurd (omega arith)
 some_part text (part ∷ parts) is some = record { part = part; parts = parts; is = is; long = omega arith }
 
-first_part : (line more : List ℕ) → All (λ b. is_line_feed b ≡ false) line → FirstPart (line ++ more) (length line)
+pub first_part : (line more : List ℕ) → All (λ b. is_line_feed b ≡ false) line → FirstPart (line ++ more) (length line)
 first_part [] more clear = some_part more (slice_split is_line_feed more) refl (some_parts is_line_feed more)
 first_part (b ∷ line) more clear =
     let later : FirstPart (line ++ more) (length line) = first_part line more (λ k d low. clear (suc k) d (omega arith)) in
@@ -68,7 +68,8 @@ unfolding add_bytes
 add_bytes-last end n s line clear short =
     ap (add_lines end n s) (slice_split_none is_line_feed line clear.line) ∙ ap (at_line n) (cond-false _ (Err line_too_long) (add_last end s line) (le-ltb MAX_LINE (length line) short))
 
-take-room : (bytes more : List ℕ) (n room : ℕ) → length bytes + room ≡ n → take n (bytes ++ more) ≡ bytes ++ take room more
+-- the front of a text that has room behind some bytes
+pub take-room : (bytes more : List ℕ) (n room : ℕ) → length bytes + room ≡ n → take n (bytes ++ more) ≡ bytes ++ take room more
 take-room bytes more n room is = subst (λ (m : ℕ). take m (bytes ++ more) ≡ bytes ++ take room more) is (take-append-add bytes more room)
 
 -- the front of a text is at fault, whatever stands behind

@@ -1,9 +1,9 @@
 ghost use Rattle.std.specs.Prelude.{◌≡◌, ◌≤◌, length, IfOk, Ok};
 ghost use Rattle.std.specs.List.{position_or_len};
-ghost use Rattle.uca_model.specs.TableText.{ends_point, is_blank, range_end, range_base, two_stops, range_of_text, directive, some_text, skip_blanks, version};
+ghost use Rattle.uca_model.specs.TableText.{ends_point, range_end, range_base, two_stops, range_of_text, directive, some_text, skip_blanks, version};
 ghost use Rattle.uca_allkeys.specs.Statements.{Tells, with_rest, said_by, IsSomeEntry};
 
-use crate::bytes::{behind, code_point, four_digits, from_place, is_blank, skip_blanks};
+use crate::bytes::{behind, code_point, four_digits, from_place, is_blank, skip_blanks, word_len};
 use crate::faults::LineFault;
 use crate::statement::Statement;
 use uca_weights::Range;
@@ -107,23 +107,6 @@ fn version_directive(rest: &[u8]) -> Result<Statement, LineFault>
     } else {
         Ok(Statement::Version)
     }
-}
-
-/// How many bytes stand before the first blank.
-pub(crate) fn word_len(text: &[u8]) -> usize
-    ensures value { result ≡ position_or_len is_blank text.now }
-    ensures within { result ≤ length text.now }
-{
-    let mut len = 0;
-    let mut rest = text;
-    while let Some((first, others)) = rest.split_first() {
-        if is_blank(*first) {
-            return len;
-        }
-        len += 1;
-        rest = others;
-    }
-    len
 }
 
 /// A directive, which begins with `@`.

@@ -3,24 +3,13 @@ ghost use Rattle.std.specs.List.{slice_split, after_first};
 ghost use Rattle.uca_model.specs.TableText.{words, key_after, entry_key, is_semicolon, is_right_bracket, mark, weight_first, next_weight, element_ends, element, elements_after, is_old_weight, entry_of_text};
 ghost use Rattle.uca_allkeys.specs.Statements.{Tells, with_rest, said_by, IsSomeEntry, AddsPart};
 
-use crate::bytes::{behind, code_point, four_digits, from_place, number, place_of, skip_blanks};
-use crate::directive::word_len;
+use crate::bytes::{
+    behind, code_point, four_digits, from_place, next_word, number, place_of, skip_blanks,
+};
 use crate::faults::LineFault;
 use crate::statement::{Entry, Statement};
 use arrayvec::ArrayVec;
 use uca_weights::{Element, MAX_ELEMENTS, MAX_KEY};
-
-/// The first word of a text, up to a blank, and what stands behind it.
-fn next_word(text: &[u8]) -> Option<(&[u8], &[u8])>
-    ensures { MatchOption result (words text.now ≡ []) (λ p. (words text.now ≡ p.0.now ∷ words p.1.now) × (length p.1.now < length text.now)) }
-{
-    let rest = skip_blanks(text);
-    if rest.is_empty() {
-        return None;
-    }
-    let end = word_len(rest);
-    Some((&rest[..end], from_place(rest, end)))
-}
 
 /// The code points that the words of a text say.
 fn key_of(text: &[u8]) -> Result<ArrayVec<char, MAX_KEY>, LineFault>

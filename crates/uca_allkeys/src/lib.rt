@@ -2,7 +2,7 @@
 //! reads it, and [`write_table`] writes a table in the one canonical form.
 #![tactic(auto)]
 
-mod bytes;
+pub mod bytes;
 pub mod canonical;
 mod directive;
 mod entry;

@@ -1,12 +1,11 @@
-ghost use Rattle.std.specs.Prelude.{◌≡◌, ◌<◌, ◌≤◌, ◌+◌, ◌^◌, ◌++◌, ◌∷◌, [], length, false, IfErr, MatchOption, MatchResult, Ok, Err};
-ghost use Rattle.std.specs.Bool.{OnTrue};
+ghost use Rattle.std.specs.Prelude.{◌≡◌, ◌<◌, ◌≤◌, ◌+◌, ◌^◌, ◌++◌, ◌∷◌, [], length, IfErr, MatchOption, MatchResult, Ok, Err};
 ghost use Rattle.uca_weights.specs.declared.limits.TheConstants.{MAX_LINE};
 ghost use Rattle.uca_model.specs.Lines.{line_feed};
 ghost use Rattle.uca_model.specs.TableText.{add_line, add_last, unless_long, no_lines, table_part, ends, stops, too_large};
 ghost use Rattle.uca_allkeys.specs.Faults.{told, IsOfText};
 ghost use Rattle.uca_allkeys.specs.Progress.{state_of, Leads, fault_at, refusal, to_come, IsOpen, GoesOn, StopsAt};
 
-use crate::bytes::{from_place, place_of};
+use crate::bytes::{extend_held, next_line};
 use crate::faults::{ReadCause, ReadFault};
 use crate::lines::{Lines, add_line};
 use arrayvec::ArrayVec;
@@ -52,15 +51,6 @@ fn fault_of(number: u64, cause: ReadCause) -> ReadFault
             cause,
         },
     }
-}
-
-/// Holds more bytes of a line, and answers whether the line is still short enough.
-fn extend_held(held: &mut ArrayVec<u8, MAX_LINE>, part: &[u8]) -> bool
-    ensures fits { OnTrue result (held.new.items ≡ held.old.items ++ part.now) }
-    ensures short { OnTrue result (length held.new.items ≤ MAX_LINE) }
-    ensures full { result ≡ false → MAX_LINE < length (held.old.items ++ part.now) }
-{
-    held.try_extend_from_slice(part).is_ok()
 }
 
 /// Adds the line that the held bytes and `part` make.
@@ -111,18 +101,6 @@ fn hold(progress: &mut Progress, part: &[u8]) -> Result<(), ReadFault>
             line: progress.number,
             cause: ReadCause::LineTooLong,
         })
-    }
-}
-
-/// What stands before the first LF, and what stands behind it.
-fn next_line(text: &[u8]) -> Option<(&[u8], &[u8])>
-    ensures { MatchOption result (IsOpen text.now) (λ p. (text.now ≡ p.0.now ++ line_feed ∷ p.1.now) × (IsOpen p.0.now × (length p.1.now < length text.now))) }
-{
-    let end = place_of(b'\n', text);
-    if end < text.len() {
-        Some((&text[..end], from_place(text, end + 1)))
-    } else {
-        None
     }
 }
 

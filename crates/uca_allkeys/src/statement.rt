@@ -1,9 +1,8 @@
 ghost use Rattle.std.specs.Prelude.{◌≡◌, IfOk};
-ghost use Rattle.uca_model.specs.Lines.{without_return};
 ghost use Rattle.uca_model.specs.TableText.{said, statement};
 ghost use Rattle.uca_allkeys.specs.Statements.{Tells, said_by, IsSomeEntry};
 
-use crate::bytes::{place_of, skip_blanks, trim_end};
+use crate::bytes::{place_of, skip_blanks, trim_end, without_return};
 use crate::directive::directive;
 use crate::entry::entry_of_text;
 use crate::faults::LineFault;
@@ -24,21 +23,6 @@ pub(crate) enum Statement {
     Version,
     Range(Range),
     Entry(Entry),
-}
-
-/// The line without one CR at its end.
-fn without_return(line: &[u8]) -> &[u8]
-    ensures { result.now ≡ without_return line.now }
-{
-    if line.is_empty() {
-        return line;
-    }
-    let end = line.len() - 1;
-    if line[end] == b'\r' {
-        &line[..end]
-    } else {
-        line
-    }
 }
 
 /// What stands before the first `#`, without blanks at its ends.

@@ -6,3 +6,8 @@ pub mod CommandLineLemmas
 pub mod PerformingLemmas
 pub mod SendingLemmas
 pub mod OrderingLemmas
+pub mod ComparingLemmas
+pub mod TestLineLemmas
+pub mod TestBytesLemmas
+pub mod TestProgressLemmas
+pub mod TestReadingLemmas

@@ -8,3 +8,5 @@ pub mod Sending
 pub mod Ordering
 pub mod Checking
 pub mod Conforming
+pub mod Comparing
+pub mod TestReading

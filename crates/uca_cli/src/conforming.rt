@@ -2,9 +2,18 @@
 ghost use Rattle.std.specs.Prelude.{MatchResult};
 ghost use Rattle.uca_cli.specs.Conforming.{GivesReport, RefusesFile};
 
+mod comparison;
+mod progress;
+mod test_line;
+mod test_text;
+
+use progress::{finish, start, take_piece, too_large};
 use thiserror::Error;
 use uca_table::Table;
-use uca_weights::{Reader, Settings};
+use uca_weights::{MAX_INPUT, Reader, Settings};
+
+/// How many bytes a reader is asked for at once.
+const CHUNK: usize = 4096;
 
 /// What a table makes of a test file.
 #[derive(Clone, Copy, Debug, PartialEq, Eq)]
@@ -49,8 +58,30 @@ pub fn conform<R: Reader>(t: &Table, s: Settings, r: &mut R) -> Result<Conforman
         (GivesReport t.now s (R.state r.old) (R.state r.new))
         (RefusesFile t.now s (R.state r.old) (R.state r.new)) }
 {
-    Err(ConformFault {
-        line: 0,
-        cause: ConformCause::Read,
-    })
+    let mut progress = start();
+    let mut left = MAX_INPUT;
+    let mut chunk = [0; CHUNK];
+    loop {
+        match r.pull(&mut chunk) {
+            Ok(0) => return finish(&mut progress, t, s),
+            Ok(n) => {
+                if n > left {
+                    return Err(too_large(&mut progress, t, s, &chunk[..left]));
+                }
+                match take_piece(&mut progress, t, s, &chunk[..n]) {
+                    Ok(()) => left -= n,
+                    Err(fault) => return Err(fault),
+                }
+            }
+            Err(_) => {
+                return Err(ConformFault {
+                    line: progress.number,
+                    cause: ConformCause::Read,
+                });
+            }
+        }
+    }
 }
+
+#[cfg(test)]
+mod tests;

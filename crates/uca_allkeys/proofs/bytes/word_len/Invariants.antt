@@ -1,7 +1,7 @@
 use Rattle.std.proofs.Common.{◌≡◌, ◌+◌, length}
 use Rattle.std.specs.List.{position_or_len}
 use Rattle.uca_model.specs.TableText.{is_blank}
-use Rattle.uca_allkeys.proofs.directive.word_len.Given as goal
+use Rattle.uca_allkeys.proofs.bytes.word_len.Given as goal
 
 abbrev pub invariant-loop-first : goal.invariant-loop-first
 invariant-loop-first l = record {

@@ -3,7 +3,7 @@ use Rattle.std.proofs.lemmas.List.{take_all}
 use Rattle.uca_model.specs.Lines.{line_feed}
 use Rattle.uca_allkeys.specs.Progress.{IsOpen}
 use Rattle.uca_allkeys.proofs.SplitLemmas.{first_feed, open_front}
-use Rattle.uca_allkeys.proofs.reading.next_line.Goals as goal
+use Rattle.uca_allkeys.proofs.bytes.next_line.Goals as goal
 
 pub returns-then-end-text : goal.returns-then-end-text
 returns-then-end-text c =

@@ -1,7 +1,7 @@
 use Rattle.std.proofs.Common.{◌<◌, length, sym, arith}
 use Rattle.std.proofs.lemmas.Bool.Decides.{nat_tests}
 use Rattle.uca_model.proofs.LinesLemmas.{without_return-strips, without_return-keeps}
-use Rattle.uca_allkeys.proofs.statement.without_return.Goals as goal
+use Rattle.uca_allkeys.proofs.bytes.without_return.Goals as goal
 
 pub returns-then-line-end-eq13 : goal.returns-then-line-end-eq13
 returns-then-line-end-eq13 c =

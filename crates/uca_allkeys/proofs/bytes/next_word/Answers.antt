@@ -1,9 +1,10 @@
 use Rattle.std.proofs.Common.{◌≡◌, ◌<◌, ◌≤◌, ◌∷◌, length, take, arith, sym, subst, ap, ◌∙◌, List, ℕ}
+use Rattle.std.proofs.lemmas.List.{length-take}
 use Rattle.std.proofs.lemmas.Bool.Decides.{nat_tests}
 use Rattle.std.specs.List.{position_or_len}
 use Rattle.uca_model.specs.TableText.{words, is_blank}
 use Rattle.uca_allkeys.proofs.SplitLemmas.{words-skip, words-first, skip-first, length-skip, nil_from_empty}
-use Rattle.uca_allkeys.proofs.entry.next_word.Goals as goal
+use Rattle.uca_allkeys.proofs.bytes.next_word.Goals as goal
 
 pub returns-then-is_empty : goal.returns-then-is_empty
 returns-then-is_empty c =
@@ -22,4 +23,4 @@ returns c =
     let front : 0 < position_or_len is_blank rest = subst (λ (xs : List ℕ). 0 < position_or_len is_blank xs) (sym c.skip_blanks-rest.ensures) (skip-first text (subst (λ (xs : List ℕ). 0 < length xs) c.skip_blanks-rest.ensures some)) in
     let long : 0 < end = omega (arith, c.word_len-end.ensures.value) in
     let same : words text ≡ words rest = sym (words-skip text) ∙ ap words (sym c.skip_blanks-rest.ensures) in
-    (same ∙ words-first rest end c.word_len-end.ensures.value c.word_len-end.ensures.within long ∙ ap (λ (xs : List ℕ). take end rest ∷ words xs) (sym c.from_place.ensures.value), omega (arith, c.from_place.ensures.len))
+    (same ∙ words-first rest end c.word_len-end.ensures.value c.word_len-end.ensures.within long ∙ ap (λ (xs : List ℕ). take end rest ∷ words xs) (sym c.from_place.ensures.value), (omega (arith, c.from_place.ensures.len), omega (arith, c.from_place.ensures.len, length-take end rest)))
