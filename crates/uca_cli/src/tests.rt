@@ -1,9 +1,11 @@
 mod agreement;
+mod checking;
 mod ends;
 mod findings;
 mod ordering;
 mod raw;
 mod rules;
+mod sorted;
 mod tables;
 
 use crate::input::read_input;

@@ -3,11 +3,12 @@ use std::alloc::Global;
 use uca_weights::{Strength, Variable};
 
 /// The commands by their names.
-const COMMANDS: [(&str, Task); 6] = [
+const COMMANDS: [(&str, Task); 7] = [
     ("elements", Task::Elements),
     ("key", Task::Key),
     ("compare", Task::Compare),
     ("order", Task::Order),
+    ("check", Task::Check),
     ("lint", Task::Lint),
     ("table", Task::Table),
 ];
@@ -209,7 +210,7 @@ fn words_without_a_command_are_refused(rt: HostRuntime) {
     let lists: [&[&str]; 12] = [
         &[],
         &[""],
-        &["sort", "--strength", "third"],
+        &["sort"],
         &["sort", "--strength", "primary"],
         &["uca", "key"],
         &["Key"],
@@ -228,7 +229,7 @@ fn words_without_a_command_are_refused(rt: HostRuntime) {
 #[test]
 fn requests_for_help_are_refused(rt: HostRuntime) {
     let alloc = rt.alloc();
-    let lists: [&[&str]; 9] = [
+    let lists: [&[&str]; 10] = [
         &["--help"],
         &["-h"],
         &["help"],
@@ -236,6 +237,7 @@ fn requests_for_help_are_refused(rt: HostRuntime) {
         &["key", "-h"],
         &["elements", "--help"],
         &["order", "-h"],
+        &["check", "-h"],
         &["lint", "--help"],
         &["table", "--strength", "primary", "--help"],
     ];
@@ -309,7 +311,7 @@ fn the_key_may_be_asked_for_as_its_bytes(rt: HostRuntime) {
         job.raw = true;
         assert!(rt; job_again(alloc, words) == Ok(job), "{words:?}");
     }
-    let lists: [&[&str]; 9] = [
+    let lists: [&[&str]; 10] = [
         &["key", "--raw", "--raw"],
         &["key", "--raw", "true"],
         &["key", "--raw="],
@@ -317,6 +319,7 @@ fn the_key_may_be_asked_for_as_its_bytes(rt: HostRuntime) {
         &["elements", "--raw"],
         &["compare", "--raw"],
         &["order", "--raw"],
+        &["check", "--raw"],
         &["lint", "--raw"],
         &["table", "--raw"],
     ];

@@ -70,7 +70,7 @@ fn the_built_in_table_has_eighteen_keys_and_two_ranges(rt: HostRuntime) {
 }
 
 /// The built-in table as the plain programs keep it.
-fn plain_entries(alloc: Global) -> Result<Vec<Entry>, AllocError> {
+pub(super) fn plain_entries(alloc: Global) -> Result<Vec<Entry>, AllocError> {
     let mut entries = Vec::new(alloc);
     for (key, starred, weights) in BUILT_IN {
         let key = key.to_vec(alloc)?;
@@ -81,7 +81,7 @@ fn plain_entries(alloc: Global) -> Result<Vec<Entry>, AllocError> {
 }
 
 /// No range, for the plain programs. The texts of the test have no code point of the built-in ranges.
-fn no_ranges() -> &'static [Range]
+pub(super) fn no_ranges() -> &'static [Range]
     ensures { AreRanges result.now }
 {
     &[]

@@ -1,0 +1,79 @@
+#!/usr/bin/env bash
+# The Unicode Consortium's CollationTest files of version 13, which Debian's source package haskell-unicode-collation has, under
+# the table that Debian's perl ships: `uca check` on each, and every line that fails, by name.
+source "$(dirname "${BASH_SOURCE[0]}")/checks.bash"
+
+is_built
+
+# checks TEXT WORDS..: the program over a test file; printf %b writes its escapes
+checks() {
+    printf '%b' "$1" >"$work/input"
+    shift
+    runs check "$@" <"$work/input"
+}
+
+checks '0062\nD800\n0061;x\n'
+is "a failing line behind a surrogate" "lines 3|skipped 1|first failure 3|1" "$(paste -sd'|' "$work/out")|$status"
+checks '0061\n# x\n\n0062'
+is "comments, an empty line, no LF at the end" "lines 2|skipped 0|first failure none|0" "$(paste -sd'|' "$work/out")|$status"
+checks '0061\n0041\n0061\n' --strength secondary
+is "lines of equal keys" "lines 3|skipped 0|first failure none|0" "$(paste -sd'|' "$work/out")|$status"
+checks '0061\n;x\n'
+is "a line without a code point" "|uca: input line 2: BadLine|3" "$(cat "$work/out")|$(cat "$work/err")|$status"
+checks '00G1\n'
+is "a word that is no code point" "|uca: input line 1: BadLine|3" "$(cat "$work/out")|$(cat "$work/err")|$status"
+checks "0061\n$(printf '#%.0s' $(seq 4097))"
+is "a line of 4,097 bytes" "|uca: input line 2: LineTooLong|3" "$(cat "$work/out")|$(cat "$work/err")|$status"
+yes '' | ./uca check >"$work/out" 2>"$work/err"
+is "lines without end" "|uca: input line 67108865: TooLarge" "$(cat "$work/out")|$(cat "$work/err")"
+
+published=$(published_table)
+[ -n "$published" ] || { echo "$script: no allkeys.txt in perl's folders, so no test file was tried"; sum_up; exit; }
+
+# fetched: brings the source package, and leaves its folder of test files in $files
+fetched() {
+    command -v apt-get >/dev/null || return 1
+    mkdir -p "$work/apt/lists/partial" "$work/apt/cache/archives/partial" "$work/source"
+    echo "deb-src http://deb.debian.org/debian $(sed -n 's/^VERSION_CODENAME=//p' /etc/os-release) main" >"$work/apt/sources.list"
+    local apt=(apt-get -q -o Dir::Etc::SourceList="$work/apt/sources.list" -o Dir::Etc::SourceParts=/dev/null
+        -o Dir::State::Lists="$work/apt/lists" -o Dir::Cache="$work/apt/cache" -o APT::Sandbox::User=root)
+    timeout 120 "${apt[@]}" update >"$work/apt/log" 2>&1 || return 1
+    (cd "$work/source" && timeout 120 "${apt[@]}" source --download-only haskell-unicode-collation >>"$work/apt/log" 2>&1) || return 1
+    tar -xzf "$work"/source/*.orig.tar.gz -C "$work/source" || return 1
+    files=$(dirname "$(find "$work/source" -name CollationTest_NON_IGNORABLE_SHORT.txt | head -n 1)")
+    [ -f "$files/CollationTest_SHIFTED_SHORT.txt" ]
+}
+fetched || { echo "$script: Debian's source package haskell-unicode-collation could not be had, so no published test file was tried"; sum_up; exit; }
+is "the package's table is that of perl" "same" "$(cmp -s "$(find "$work/source" -name allkeys.txt | head -n 1)" "$published" && echo same)"
+
+# all_failing FILE WORDS..: each line that is below the one before it, without those that failed before; $report has the first report
+all_failing() {
+    local file=$1 number
+    shift
+    cp "$file" "$work/left"
+    : >"$work/failing"
+    runs check --table "$published" "$@" <"$work/left"
+    report=$(paste -sd'|' "$work/out")
+    while [ "$status" -eq 1 ]; do
+        number=$(sed -n 's/^first failure //p' "$work/out")
+        sed -n "${number}s/[;#].*//p" "$work/left" >>"$work/failing"
+        sed -i "${number}s/^/# /" "$work/left"
+        runs check --table "$published" "$@" <"$work/left"
+    done
+}
+
+# tried FILE WORDS..: the report of a file, by a count of its lines by another way, and its failing lines
+tried() {
+    local file=$files/$1 lines skipped
+    lines=$(grep -cE '^[0-9A-F]{4}' "$file")
+    skipped=$(grep -cE '^[^;#]*\bD[89A-F][0-9A-F]{2}\b' "$file")
+    shift
+    all_failing "$file" "$@"
+    is "$(basename "$file"): lines and skipped" "lines $lines|skipped $skipped" "${report%|*}"
+    echo "$script: $(basename "$file"): ${report//|/, }; failing lines: $(wc -l <"$work/failing")"
+    sed 's/^/    /' "$work/failing"
+}
+
+tried CollationTest_NON_IGNORABLE_SHORT.txt
+tried CollationTest_SHIFTED_SHORT.txt --variable shifted --strength quaternary
+sum_up
