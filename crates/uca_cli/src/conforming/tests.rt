@@ -1,4 +1,4 @@
-ghost use Rattle.std.specs.Prelude.{None};
+ghost use Rattle.std.specs.Prelude.{◌≤◌, None};
 
 use crate::{ConformCause, ConformFault, Conformance, built_in, conform};
 use std::alloc::{AllocError, Global};
@@ -27,10 +27,12 @@ impl Reader for Lines<'_> {
             return Err(Refused);
         }
         for byte in &mut buf[..most] {
-            *byte = self.bytes[self.at];
-            self.at += 1;
-            if self.at == self.bytes.len() {
+            if self.at >= self.bytes.len() {
                 self.at = 0;
+            }
+            if self.at < self.bytes.len() {
+                *byte = self.bytes[self.at];
+                self.at += 1;
             }
         }
         self.left -= most;
@@ -102,7 +104,9 @@ fn with_long_line(
     t: &Table,
     width: usize,
     wanted: Result<Conformance, ConformFault>,
-) {
+)
+    requires { width ≤ 4098 }
+{
     let mut text = [b'#'; 5 + 4098 + 5];
     text[..5].copy_from_slice(b"0061\n");
     text[5 + width] = b'\n';
