@@ -26,6 +26,7 @@ impl Reader for Lines<'_> {
             self.failed = self.failed.saturating_add(1);
             return Err(Refused);
         }
+        self.left -= most;
         for byte in &mut buf[..most] {
             if self.at >= self.bytes.len() {
                 self.at = 0;
@@ -35,7 +36,6 @@ impl Reader for Lines<'_> {
                 self.at += 1;
             }
         }
-        self.left -= most;
         Ok(most)
     }
 }
