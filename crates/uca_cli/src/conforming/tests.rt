@@ -26,16 +26,19 @@ impl Reader for Lines<'_> {
             self.failed = self.failed.saturating_add(1);
             return Err(Refused);
         }
-        self.left -= most;
+        let bytes = self.bytes;
+        let mut at = self.at;
         for byte in &mut buf[..most] {
-            if self.at >= self.bytes.len() {
-                self.at = 0;
+            if at >= bytes.len() {
+                at = 0;
             }
-            if self.at < self.bytes.len() {
-                *byte = self.bytes[self.at];
-                self.at += 1;
+            if at < bytes.len() {
+                *byte = bytes[at];
+                at += 1;
             }
         }
+        self.at = at;
+        self.left -= most;
         Ok(most)
     }
 }
