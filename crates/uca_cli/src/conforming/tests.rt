@@ -1,4 +1,4 @@
-ghost use Rattle.std.specs.Prelude.{None};
+ghost use Rattle.std.specs.Prelude.{◌≤◌, None};
 
 use crate::{ConformCause, ConformFault, Conformance, built_in, conform};
 use std::alloc::{AllocError, Global};
@@ -26,13 +26,18 @@ impl Reader for Lines<'_> {
             self.failed = self.failed.saturating_add(1);
             return Err(Refused);
         }
+        let bytes = self.bytes;
+        let mut at = self.at;
         for byte in &mut buf[..most] {
-            *byte = self.bytes[self.at];
-            self.at += 1;
-            if self.at == self.bytes.len() {
-                self.at = 0;
+            if at >= bytes.len() {
+                at = 0;
+            }
+            if at < bytes.len() {
+                *byte = bytes[at];
+                at += 1;
             }
         }
+        self.at = at;
         self.left -= most;
         Ok(most)
     }
@@ -102,7 +107,9 @@ fn with_long_line(
     t: &Table,
     width: usize,
     wanted: Result<Conformance, ConformFault>,
-) {
+)
+    requires { width ≤ 4098 }
+{
     let mut text = [b'#'; 5 + 4098 + 5];
     text[..5].copy_from_slice(b"0061\n");
     text[5 + width] = b'\n';
