@@ -80,7 +80,7 @@ fn faults_of_a_test_file_have_their_texts(rt: HostRuntime) {
     for (cause, want) in texts {
         let fault = CliFault::Conform(ConformFault { line: 7, cause });
         if let Ok(text) = format!(in rt.alloc(); "{fault}") {
-            assert_eq!(rt; text, want);
+            assert_eq!(rt; text.as_str(), want);
         }
     }
 }
