@@ -56,7 +56,7 @@ all_failing() {
     report=$(paste -sd'|' "$work/out")
     while [ "$status" -eq 1 ]; do
         number=$(sed -n 's/^first failure //p' "$work/out")
-        sed -n "${number}s/[;#].*//p" "$work/left" >>"$work/failing"
+        sed -n "${number}{s/[;#].*//;p}" "$work/left" >>"$work/failing"
         sed -i "${number}s/^/# /" "$work/left"
         runs check --table "$published" "$@" <"$work/left"
     done
@@ -70,8 +70,9 @@ tried() {
     shift
     all_failing "$file" "$@"
     is "$(basename "$file"): lines and skipped" "lines $lines|skipped $skipped" "${report%|*}"
-    echo "$script: $(basename "$file"): ${report//|/, }; failing lines: $(wc -l <"$work/failing")"
-    sed 's/^/    /' "$work/failing"
+    # These three stand for ranges that were not assigned in version 13; version 14 made them unified ideographs, and so they are here.
+    is "$(basename "$file"): failing lines of other code points" "" "$(grep -vE '^(9FFD|2A6DE|2B735) ' "$work/failing")"
+    echo "$script: $(basename "$file"): ${report//|/, }; failing lines: $(wc -l <"$work/failing"), all of 9FFD, 2A6DE and 2B735"
 }
 
 tried CollationTest_NON_IGNORABLE_SHORT.txt
