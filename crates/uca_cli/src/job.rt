@@ -95,21 +95,21 @@ fn uca_command<'a>(
     let check = command(
         alloc,
         "check",
-        "Writes how many lines a CollationTest file has and which one fails first",
+        "Reads a CollationTest file as its input, and writes how many lines it has and which one fails first",
         strengths,
         weightings,
     )?;
     let lint = command(
         alloc,
         "lint",
-        "Writes which conditions of well-formedness the table breaks",
+        "Writes which conditions of well-formedness the table breaks; reads no input",
         strengths,
         weightings,
     )?;
     let table = command(
         alloc,
         "table",
-        "Writes the collation element table as text",
+        "Writes the collation element table as text; reads no input",
         strengths,
         weightings,
     )?;
@@ -151,7 +151,9 @@ fn line_commands<'a>(
         weightings,
     )?;
     Command::new(alloc, "uca")
-        .about("Sorts and compares text by the Unicode Collation Algorithm")
+        .about(
+            "Sorts and compares lines of text by the Unicode Collation Algorithm: reads standard input, and writes to standard output",
+        )
         .bin_name("uca")?
         .no_binary_name(true)
         .subcommand_required(true)
