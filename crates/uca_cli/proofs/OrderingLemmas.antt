@@ -1,5 +1,6 @@
 -- Lines beside their keys: what a sort by the keys does to the lines.
 use Rattle.std.proofs.Common.{◌≡◌, ℕ, suc, ◌+◌, ◌≤◌, ◌==◌, Bool, true, false, cond, not, ◌&&◌, List, [], ◌∷◌, ◌++◌, length, get_or, take, drop, map, flat_map, sum, filter, All, IsPermutation, IsSortedByKey, is_lt, refl, sym, ap, subst, ◌∙◌, arith, length-append}
+use Rattle.std.proofs.Math.Seq.{drop-append_seam, take-append_seam}
 use Rattle.std.specs.Prelude.{if◌then◌else◌}
 use Rattle.std.specs.List.Sorted.{IsStableByKey}
 use Rattle.std.proofs.lemmas.List.{get_or-map, length-map}
@@ -15,21 +16,13 @@ use Rattle.uca_cli.specs.Ordering.{cut_up, AreKeys}
 
 -- ---- the keys in one place
 
-take-first : (xs ys : List ℕ) → take (length xs) (xs ++ ys) ≡ xs
-take-first [] ys = refl
-take-first (x ∷ xs) ys = ap (λ l. x ∷ l) (take-first xs ys)
-
-drop-first : (xs ys : List ℕ) → drop (length xs) (xs ++ ys) ≡ ys
-drop-first [] ys = refl
-drop-first (x ∷ xs) ys = drop-first xs ys
-
 module _ (f : List ℕ → List ℕ) where
   -- pieces that stand one behind the other come back
   cut_up-flat_map : (ls : List (List ℕ)) → cut_up (map (λ l. length (f l)) ls) (flat_map f ls) ≡ map f ls
   cut_up-flat_map [] = refl
   cut_up-flat_map (l ∷ ls) =
-      ap (λ front. front ∷ cut_up (map (λ m. length (f m)) ls) (drop (length (f l)) (f l ++ flat_map f ls))) (take-first (f l) (flat_map f ls))
-      ∙ ap (λ rest. f l ∷ cut_up (map (λ m. length (f m)) ls) rest) (drop-first (f l) (flat_map f ls))
+      ap (λ front. front ∷ cut_up (map (λ m. length (f m)) ls) (drop (length (f l)) (f l ++ flat_map f ls))) (take-append_seam (f l) (flat_map f ls))
+      ∙ ap (λ rest. f l ∷ cut_up (map (λ m. length (f m)) ls) rest) (drop-append_seam (f l) (flat_map f ls))
       ∙ ap (λ pieces. f l ∷ pieces) (cut_up-flat_map ls)
 
   -- the pieces are as long together as what they make up

@@ -212,15 +212,16 @@ pub record WantsFor (command : Task) (raw : Bool) (t : ElementTable) (s : Settin
   pub made : IsOutput command raw t s bytes output
   pub writes : WritesSome old new output
 
--- memory was wanted; `order` takes all of it before it writes, and `check` takes none
+-- memory was wanted; `order` takes all of it before it writes, and `key --raw`, `compare`, `check`, `lint` and `table` take none
 abbrev pub WantsMemoryFor : Task → Bool → ElementTable → Settings → List ℕ → WriterState → WriterState → Type 0
 WantsMemoryFor Order raw t s bytes old new = new ≡ old
 WantsMemoryFor Elements raw t s bytes old new = WantsFor Elements raw t s bytes old new
-WantsMemoryFor Key raw t s bytes old new = WantsFor Key raw t s bytes old new
-WantsMemoryFor Compare raw t s bytes old new = WantsFor Compare raw t s bytes old new
+WantsMemoryFor Key false t s bytes old new = WantsFor Key false t s bytes old new
+WantsMemoryFor Key true t s bytes old new = ⊥
+WantsMemoryFor Compare raw t s bytes old new = ⊥
 WantsMemoryFor Check raw t s bytes old new = ⊥
-WantsMemoryFor Lint raw t s bytes old new = WantsFor Lint raw t s bytes old new
-WantsMemoryFor Table raw t s bytes old new = WantsFor Table raw t s bytes old new
+WantsMemoryFor Lint raw t s bytes old new = ⊥
+WantsMemoryFor Table raw t s bytes old new = ⊥
 
 -- what stopped the output of a command
 abbrev pub StopsOutputFor : Task → Bool → ElementTable → Settings → List ℕ → WriterState → WriterState → CliFault → Type 0

@@ -1,12 +1,11 @@
 ghost use Rattle.std.specs.Prelude.{◌≡◌, ◌+◌, ◌*◌, ◌^◌, ◌<◌, ◌≤◌, length, flat_map, map, IfOk, MatchResult, OnOk};
 ghost use Rattle.uca_weights.specs.Outgoing.{handed, Sends, StopsSending};
-ghost use Rattle.uca_weights.specs.Writer.{WritesAll};
+ghost use Rattle.uca_weights.specs.Writer.{WritesAll, WritesFront};
 ghost use Rattle.uca_model.specs.WellFormed.{lint_output};
 ghost use Rattle.uca_table.specs.Bounds.{condition_of};
 ghost use Rattle.uca_cli.specs.Performing.{lint_status};
-ghost use Rattle.uca_cli.specs.Sending.{finding_line, StopsOutput};
+ghost use Rattle.uca_cli.specs.Sending.{finding_line};
 
-use crate::faults::CliFault;
 use uca_table::{Table, WellFormed, lint};
 use uca_weights::{Outgoing, WriteFault, Writer};
 
@@ -43,10 +42,10 @@ fn send_findings<W: Writer>(
 }
 
 /// Writes which conditions a table breaks, each as a line, and answers 1 where there are any.
-pub fn write_findings<W: Writer>(t: &Table, w: &mut W) -> Result<u8, CliFault>
+pub fn write_findings<W: Writer>(t: &Table, w: &mut W) -> Result<u8, WriteFault>
     ensures writes { MatchResult result
         (λ _. WritesAll (W.state w.old) (W.state w.new) (lint_output t.now))
-        (StopsOutput (W.state w.old) (W.state w.new) (lint_output t.now)) }
+        (WritesFront (W.state w.old) (W.state w.new) (lint_output t.now)) }
     ensures status { IfOk result (λ status. status ≡ lint_status t.now) }
 {
     let found = lint(t);
@@ -55,8 +54,8 @@ pub fn write_findings<W: Writer>(t: &Table, w: &mut W) -> Result<u8, CliFault>
     match send_findings(w, &mut out, broken) {
         Ok(()) => match out.flush(w) {
             Ok(()) => Ok(u8::from(!broken.is_empty())),
-            Err(fault) => Err(CliFault::Output(fault)),
+            Err(fault) => Err(fault),
         },
-        Err(fault) => Err(CliFault::Output(fault)),
+        Err(fault) => Err(fault),
     }
 }

@@ -1,5 +1,5 @@
 ghost use Rattle.std.specs.Prelude.{◌≡◌, ◌≢◌, ◌∷◌, ℕ, ◌+◌, ◌<◌, ◌≤◌, length, drop, slice_index, All, IfErr, IfOk, IsFalse, IsTrue, MatchResult};
-ghost use Rattle.uca_model.specs.Lines.{line_feed, lines_of, without_return, IsTextLine};
+ghost use Rattle.uca_model.specs.Lines.{line_feed, lines_of, IsTextLine};
 ghost use Rattle.uca_cli.specs.Input.{HasInputFault, HasFaultAt, IsOneLine};
 ghost use Rattle.uca_cli.specs.Performing.{ReadsLines, RefusesInput};
 
@@ -8,6 +8,7 @@ use crate::input::read_input;
 use memchr::memchr;
 use simdutf8::compat::from_utf8;
 use std::alloc::Global;
+use uca_allkeys::bytes::without_return;
 use uca_weights::Reader;
 use uca_window::Passage;
 
@@ -20,21 +21,6 @@ fn line_end(bytes: &[u8]) -> usize
     match memchr(b'\n', bytes) {
         Some(at) => at,
         None => bytes.len(),
-    }
-}
-
-/// The line without one CR at its end.
-fn without_return(line: &[u8]) -> &[u8]
-    ensures { result.now ≡ without_return line.now }
-{
-    if line.is_empty() {
-        return line;
-    }
-    let end = line.len() - 1;
-    if line[end] == b'\r' {
-        &line[..end]
-    } else {
-        line
     }
 }
 

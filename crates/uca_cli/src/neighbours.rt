@@ -1,12 +1,10 @@
 ghost use Rattle.std.specs.Prelude.{◌≡◌, ◌^◌, ◌<◌, ◌≤◌, ◌+◌, length, All, OnOk, MatchResult};
 ghost use Rattle.uca_weights.specs.Outgoing.{handed, Sends, StopsSending};
-ghost use Rattle.uca_weights.specs.Writer.{WritesAll};
+ghost use Rattle.uca_weights.specs.Writer.{WritesAll, WritesFront};
 ghost use Rattle.uca_weights.specs.declared.limits.TheConstants.{MAX_INPUT};
 ghost use Rattle.uca_model.specs.Compared.{compare_line, compare_output, order_line};
 ghost use Rattle.uca_model.specs.Lines.{lines_of, IsTextLine};
-ghost use Rattle.uca_cli.specs.Sending.{StopsOutput};
 
-use crate::faults::CliFault;
 use crate::lines::first_line;
 use crate::output::text_of_line;
 use std::cmp::Ordering;
@@ -53,12 +51,12 @@ pub fn write_orders<W: Writer>(
     s: Settings,
     bytes: &[u8],
     w: &mut W,
-) -> Result<(), CliFault>
+) -> Result<(), WriteFault>
     requires small { length bytes.now ≤ MAX_INPUT }
     requires texts { All IsTextLine (lines_of bytes.now) }
     ensures { MatchResult result
         (λ _. WritesAll (W.state w.old) (W.state w.new) (compare_output t.now s bytes.now))
-        (StopsOutput (W.state w.old) (W.state w.new) (compare_output t.now s bytes.now)) }
+        (WritesFront (W.state w.old) (W.state w.new) (compare_output t.now s bytes.now)) }
 {
     if bytes.is_empty() {
         return Ok(());
@@ -74,11 +72,11 @@ pub fn write_orders<W: Writer>(
                 before = line;
                 left = rest;
             }
-            Err(fault) => return Err(CliFault::Output(fault)),
+            Err(fault) => return Err(fault),
         }
     }
     match out.flush(w) {
         Ok(()) => Ok(()),
-        Err(fault) => Err(CliFault::Output(fault)),
+        Err(fault) => Err(fault),
     }
 }

@@ -1,6 +1,6 @@
 ghost use Rattle.std.specs.Prelude.{◌≡◌, ◌+◌, ◌*◌, ◌^◌, ◌<◌, ◌≤◌, ◌++◌, length, flat_map, All, OnOk, MatchResult, chars};
 ghost use Rattle.uca_weights.specs.Outgoing.{handed, Sends, StopsSending};
-ghost use Rattle.uca_weights.specs.Writer.{WritesAll};
+ghost use Rattle.uca_weights.specs.Writer.{WritesAll, WritesFront};
 ghost use Rattle.uca_weights.specs.declared.limits.TheConstants.{MAX_INPUT};
 ghost use Rattle.uca_model.specs.CanonicalText.{element_text};
 ghost use Rattle.uca_model.specs.ElementLines.{elements_text};
@@ -167,16 +167,16 @@ pub fn write_raw_key<W: Writer>(
     s: Settings,
     bytes: &[u8],
     w: &mut W,
-) -> Result<(), CliFault>
+) -> Result<(), WriteFault>
     requires one { IsOneLine bytes.now }
     requires texts { All IsTextLine (lines_of bytes.now) }
     ensures { MatchResult result
         (λ _. WritesAll (W.state w.old) (W.state w.new) (raw_key_output t.now s (lines_of bytes.now)))
-        (StopsOutput (W.state w.old) (W.state w.new) (raw_key_output t.now s (lines_of bytes.now))) }
+        (WritesFront (W.state w.old) (W.state w.new) (raw_key_output t.now s (lines_of bytes.now))) }
 {
     let (line, _) = first_line(bytes);
     match write_key(w, t, s, &text_of_line(line)) {
         Ok(_) => Ok(()),
-        Err(fault) => Err(CliFault::Output(fault)),
+        Err(fault) => Err(fault),
     }
 }

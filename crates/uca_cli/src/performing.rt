@@ -17,7 +17,7 @@ use crate::tailoring::tailored_in;
 use std::alloc::Global;
 use uca_allkeys::{read_table, write_table};
 use uca_table::Table;
-use uca_weights::{Reader, Settings, Writer};
+use uca_weights::{Reader, Settings, WriteFault, Writer};
 
 /// The table that the text in a reader says.
 fn table_in<T: Reader>(alloc: Global, reader: &mut T) -> Result<Table, CliFault>
@@ -97,6 +97,16 @@ fn done(written: Result<(), CliFault>) -> Result<u8, CliFault>
     }
 }
 
+/// The same of output for which no memory is taken.
+fn written(wrote: Result<(), WriteFault>) -> Result<u8, CliFault>
+    ensures { MatchResult wrote (λ _. result ≡ Ok 0) (λ f. result ≡ Err (CliFault.Output f)) }
+{
+    match wrote {
+        Ok(()) => Ok(0),
+        Err(fault) => Err(CliFault::Output(fault)),
+    }
+}
+
 /// Writes what a command other than `check` writes with a table for an input, whose lines were checked, and answers its
 /// status.
 fn write_for<W: Writer>(
@@ -118,18 +128,21 @@ fn write_for<W: Writer>(
         Task::Elements => done(write_lines(alloc, LineForm::Elements, t, s, bytes, output)),
         Task::Key => {
             if raw {
-                done(write_raw_key(t, s, bytes, output))
+                written(write_raw_key(t, s, bytes, output))
             } else {
                 done(write_lines(alloc, LineForm::Key, t, s, bytes, output))
             }
         }
-        Task::Compare => done(write_orders(t, s, bytes, output)),
+        Task::Compare => written(write_orders(t, s, bytes, output)),
         Task::Order => match write_in_order(alloc, t, s, bytes, output) {
             Ok(_) => Ok(0),
             Err(fault) => Err(fault),
         },
         Task::Check => unreachable!(),
-        Task::Lint => write_findings(t, output),
+        Task::Lint => match write_findings(t, output) {
+            Ok(status) => Ok(status),
+            Err(fault) => Err(CliFault::Output(fault)),
+        },
         Task::Table => match write_table(output, t) {
             Ok(_) => Ok(0),
             Err(fault) => Err(CliFault::Output(fault)),
