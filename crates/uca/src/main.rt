@@ -3,10 +3,10 @@
 
 use std::alloc::AllocError;
 use std::fs::File;
-use std::io::{ErrorKind, Write};
+use std::io::{ErrorKind, Read, Write};
 use std::process::ExitCode;
 use std::{env, fs, io};
-use uca_cli::{Job, JobFault, job_of, perform, status_of};
+use uca_cli::{Job, JobFault, Task, job_of, perform, status_of};
 use uca_weights::{Reading, Writing};
 
 /// The status for words that are no job.
@@ -77,7 +77,13 @@ fn refuse_job(rt: &HostRuntime, fault: &JobFault) -> u8 {
 struct NotOpened;
 
 /// Opens the files that the job names, first that of the table and then that of the rules, and does the job.
+///
+/// Where standard input is closed, a file that is opened would take its place, so that is looked at first.
 fn do_job(rt: &HostRuntime, job: &Job) -> u8 {
+    if reads_input(job.command) && rt.stdin().read(&mut []).is_err() {
+        let _ = eprintln!(rt; "uca: input: Read");
+        return NOT_DONE;
+    }
     let Ok(mut table) = reader_of(rt, job.table.as_ref()) else {
         return NOT_DONE;
     };
@@ -85,6 +91,10 @@ fn do_job(rt: &HostRuntime, job: &Job) -> u8 {
         return NOT_DONE;
     };
     perform_on_streams(rt, job, table.as_mut(), rules.as_mut())
+}
+
+fn reads_input(command: Task) -> bool {
+    !matches!(command, Task::Lint | Task::Table)
 }
 
 /// The reader of the file of this path, if there is one.
