@@ -61,12 +61,14 @@ is "a full disk" "uca: output byte 0: Failed|3" "$(cat "$work/err")|$status"
 
 # Where standard input is closed, the file of the table would be opened in its place.
 ./uca table >"$work/table"
-for words in "key" "check" "key --table $work/table" "order --rules $work/table"; do
-    # shellcheck disable=SC2086
-    ./uca $words <&- >"$work/out" 2>"$work/err"
+for command in elements key compare order; do
+    ./uca "$command" --table "$work/table" <&- >"$work/out" 2>"$work/err"
     status=$?
-    is "a closed input: ${words%% *}" "0|uca: input: Read|3" "$(wc -c <"$work/out")|$(cat "$work/err")|$status"
+    is "a closed input: $command" "0|uca: input: Read|3" "$(wc -c <"$work/out")|$(cat "$work/err")|$status"
 done
+./uca check --table "$work/table" <&- >"$work/out" 2>"$work/err"
+status=$?
+is "a closed test file" "0|uca: input line 1: Read|3" "$(wc -c <"$work/out")|$(cat "$work/err")|$status"
 ./uca table --table "$work/table" <&- >"$work/out"
 status=$?
 is "a closed input that is not read" "same|0" "$(cmp -s "$work/out" "$work/table" && echo same)|$status"

@@ -6,7 +6,10 @@ use std::fs::File;
 use std::io::{ErrorKind, Read, Write};
 use std::process::ExitCode;
 use std::{env, fs, io};
-use uca_cli::{Job, JobFault, Task, job_of, perform, status_of};
+use uca_cli::{
+    CliFault, ConformCause, ConformFault, InputCause, InputFault, Job, JobFault, Task, job_of,
+    perform, status_of,
+};
 use uca_weights::{Reading, Writing};
 
 /// The status for words that are no job.
@@ -80,9 +83,10 @@ struct NotOpened;
 ///
 /// Where standard input is closed, a file that is opened would take its place, so that is looked at first.
 fn do_job(rt: &HostRuntime, job: &Job) -> u8 {
-    if reads_input(job.command) && rt.stdin().read(&mut []).is_err() {
-        let _ = eprintln!(rt; "uca: input: Read");
-        return NOT_DONE;
+    if let Some(fault) = closed_input(job.command) {
+        if rt.stdin().read(&mut []).is_err() {
+            return tell(rt, &fault);
+        }
     }
     let Ok(mut table) = reader_of(rt, job.table.as_ref()) else {
         return NOT_DONE;
@@ -93,8 +97,28 @@ fn do_job(rt: &HostRuntime, job: &Job) -> u8 {
     perform_on_streams(rt, job, table.as_mut(), rules.as_mut())
 }
 
-fn reads_input(command: Task) -> bool {
-    !matches!(command, Task::Lint | Task::Table)
+/// What a command that reads an input tells where it is closed.
+fn closed_input(command: Task) -> Option<CliFault> {
+    match command {
+        Task::Lint | Task::Table => None,
+        Task::Check => Some(CliFault::Conform(ConformFault {
+            line: 1,
+            cause: ConformCause::Read,
+        })),
+        Task::Elements | Task::Key | Task::Compare | Task::Order => {
+            Some(CliFault::Input(InputFault {
+                line: 0,
+                at: 0,
+                cause: InputCause::Read,
+            }))
+        }
+    }
+}
+
+/// Tells why a job was not done, and answers the status.
+fn tell(rt: &HostRuntime, fault: &CliFault) -> u8 {
+    let _ = eprintln!(rt; "{fault}");
+    status_of(fault)
 }
 
 /// The reader of the file of this path, if there is one.
@@ -122,10 +146,7 @@ fn perform_on_streams(
     let mut output = Writing::new(rt.stdout());
     match perform(rt.alloc(), job, table, rules, &mut input, &mut output) {
         Ok(status) => flushed(rt, status),
-        Err(fault) => {
-            let _ = eprintln!(rt; "{fault}");
-            status_of(&fault)
-        }
+        Err(fault) => tell(rt, &fault),
     }
 }
 
