@@ -408,6 +408,10 @@ row 'matches' 'compare --table published --rules notes' 'a\u0323\u0308\u0301\u03
     'equal less equal greater equal less equal' 'ICU 72 RuleBasedCollator, collationtest.txt, nested and interleaved contractions'
 row 'matches' 'compare --table published --rules notes' 'a\u0331\u0331\u030A\u0358\u0358\n\u24B9\u277D\u277D\na\u0331\u0331\u0331\u030A\u0301\u0358\u0358\u0358\n\u24B9\u277D\u277D\u277D\u2776\na\U0001D165\u0323\U0001D16Ddz\u0301\n\u24BA\u00B3\u24D3\n' \
     'equal less equal less equal' 'ICU 72 RuleBasedCollator, collationtest.txt, interleaved contractions'
+# Perl and ICU try the marks behind a code point that begins no key too, as 4E00 0323 0301 with this rule; here none is tried (docs/DECISIONS.md).
+rules ideograph '&x=\u4E00\u0301 &y=\u0378\u0323\u0301'
+row 'matches' 'compare --table published --rules ideograph' '\u4E00\u0301\nx\n\u4E00\u0301\u0301\nx\u0301\n\u0378\u0301\u0323\ny\n\u4E00\n\u4E00\u0323\n' \
+    'equal less equal less equal less less' 'ICU 72 RuleBasedCollator'
 
 # Hangul
 row 'elements' 'key --table published' '\uAC00\n\uAC01\n\u1100\u1161\u11A8\n\uD7A3\n\u3131\n' \
@@ -742,7 +746,7 @@ refused 'faults' '&a<-' 'ICU 72 RuleBasedCollator, U_INVALID_FORMAT_ERROR'
 refused 'faults' '&a<!' 'ICU 72 RuleBasedCollator, U_INVALID_FORMAT_ERROR'
 refused 'faults' '!a' 'ICU 72 RuleBasedCollator, U_INVALID_FORMAT_ERROR'
 refused 'fault_at' '&\u0301<x' 'ICU 72 RuleBasedCollator, U_UNSUPPORTED_ERROR'
-refused 'fault_at' '&\x01<x' 'ICU 72 RuleBasedCollator, U_UNSUPPORTED_ERROR'
+refused 'fault_at' '&\\u0001<x' 'ICU 72 RuleBasedCollator, U_UNSUPPORTED_ERROR'
 refused 'fault_at' '&\u0378<x' 'ICU 72 RuleBasedCollator, U_UNSUPPORTED_ERROR'
 
 sum_up
