@@ -15,31 +15,39 @@ is "texts were generated" "$count" "$(wc -l <"$work/texts")"
 # ours STRENGTH VARIABLE: the keys of the texts
 ours() { ./uca key --table "$published" --strength "$1" --variable "$2" <"$work/texts"; }
 
-# theirs LEVEL VARIABLE: the keys of the same texts by perl, which ends each with one more separator at levels 3 and 4
+# theirs LEVEL VARIABLE: the keys of the same texts by perl, up to the separator behind the level. What perl has at level 4 under
+# other options than shifted are code points of implicit weights, where UTS #10 has nothing, and is left out.
 theirs() {
     perl -MUnicode::Collate -e '
         binmode STDIN, ":utf8";
-        my $c = Unicode::Collate->new(table => "allkeys.txt", level => $ARGV[0], variable => $ARGV[1], normalization => "NFD");
+        my ($level, $variable) = @ARGV;
+        my $c = Unicode::Collate->new(table => "allkeys.txt", level => $level, variable => $variable, normalization => "NFD");
         while (<STDIN>) {
             chomp;
-            print join(" ", map { sprintf "%02X", $_ } unpack "C*", substr($c->getSortKey($_), 0, -2)), "\n";
+            my ($separators, @weights) = (0);
+            for my $w (unpack "n*", $c->getSortKey($_)) {
+                last if $w == 0 && ++$separators == $level;
+                push @weights, $w unless $w && $separators == 3 && $variable ne "shifted";
+            }
+            print join(" ", map { sprintf "%02X", $_ } unpack "C*", pack "n*", @weights), "\n";
         }' "$1" "$2" <"$work/texts"
 }
 
-ours tertiary non-ignorable >"$work/ours"
-theirs 3 Non-ignorable >"$work/theirs"
-is "tertiary keys, non-ignorable" "same" "$(cmp -s "$work/ours" "$work/theirs" && echo same)"
-ours tertiary blanked >"$work/ours"
-theirs 3 Blanked >"$work/theirs"
-is "tertiary keys, blanked" "same" "$(cmp -s "$work/ours" "$work/theirs" && echo same)"
-ours tertiary shifted >"$work/ours"
-theirs 3 Shifted >"$work/theirs"
-is "tertiary keys, shifted" "same" "$(cmp -s "$work/ours" "$work/theirs" && echo same)"
+strengths=(primary secondary tertiary quaternary)
+for variable in non-ignorable blanked shifted; do
+    for level in 1 2 3 4; do
+        [ "$variable $level" = "shifted 4" ] && continue
+        ours "${strengths[level - 1]}" "$variable" >"$work/ours"
+        theirs "$level" "$variable" >"$work/theirs"
+        is "keys at level $level, $variable" "same" "$(cmp -s "$work/ours" "$work/theirs" && echo same)"
+    done
+done
 
-# Shifted, at level 4: perl gives the second element of an implicit pair no weight there, UTS #10 gives it FFFF. So the
-# keys of texts with implicit weights (FB00 to FBFF) differ there, but the order is the same, pair by pair.
+# Shifted, at level 4: perl gives the second element of an implicit pair no weight there, also where the pair stands in the
+# table, UTS #10 gives it FFFF. So the keys of texts with implicit weights (FB00 to FBFF) differ there, but the order is the
+# same, pair by pair.
 ours quaternary shifted >"$work/ours"
-theirs 4 Shifted >"$work/theirs"
+theirs 4 shifted >"$work/theirs"
 paste -d'|' "$work/ours" "$work/theirs" | awk -F'|' '
     function primary(key) { sub(/ ?00 00 .*/, "", key); return key }
     function is_implicit(key,   n, w, i) { n = split(primary(key), w, " "); for (i = 1; i <= n; i += 2) if (w[i] == "FB") return 1; return 0 }
@@ -50,6 +58,15 @@ paste -d'|' "$work/ours" "$work/theirs" | awk -F'|' '
     { last_ours = $1; last_theirs = $2 }
     END { printf "%d %d %s\n", other, swapped, (differ > 0 ? "some" : "none") }' >"$work/found"
 is "quaternary keys, shifted: other differences, pairs in another order, differences at implicit weights" "0 0 some" "$(cat "$work/found")"
+
+# The key at strength identical ends in the code points of the NFD, three bytes each.
+ours quaternary shifted >"$work/ours"
+ours identical shifted | paste -d'|' "$work/ours" - | awk -F'|' '{ points = substr($2, length($1) + 1); sub(/^ 00 00 ?/, "", points); print points }' >"$work/found"
+perl -MUnicode::Normalize -ne '
+    BEGIN { binmode STDIN, ":utf8" }
+    chomp;
+    print join(" ", map { sprintf "%02X %02X %02X", $_ >> 16, $_ >> 8 & 255, $_ & 255 } unpack "W*", NFD($_)), "\n"' <"$work/texts" >"$work/theirs"
+is "code points of the fifth level" "same" "$(cmp -s "$work/found" "$work/theirs" && echo same)"
 
 # The elements of a text are those of its key: their primary weights are the key's first level.
 ./uca elements --table "$published" <"$work/texts" |
