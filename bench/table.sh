@@ -1,40 +1,17 @@
 #!/usr/bin/env bash
 # How long a table's text takes to be read, beside perl's Unicode::Collate on the same file in the same run, and how that
 # grows with the text. Prints times, memory and ratios; it is no test.
-set -u
-cd "$(dirname "${BASH_SOURCE[0]}")/.." || exit 2
-work=$(mktemp -d) || exit 2
-trap 'rm -rf "$work"' EXIT
-./uca table >/dev/null </dev/null || exit 1
-perl -MUnicode::Collate -e1 || { echo "bench/table.sh: perl has no Unicode::Collate"; exit 1; }
-
-# measured COMMAND..: the seconds of the fastest of three runs and the most KiB that they held
-measured() {
-    python3 - "$@" <<'PYTHON'
-import os, resource, subprocess, sys, time
-best = None
-for _ in range(3):
-    began = time.monotonic()
-    subprocess.run(sys.argv[1:], stdin=subprocess.DEVNULL, stdout=subprocess.DEVNULL, check=True)
-    took = time.monotonic() - began
-    best = took if best is None else min(best, took)
-print(f"{best:.3f} {resource.getrusage(resource.RUSAGE_CHILDREN).ru_maxrss}")
-PYTHON
-}
+source "$(dirname "${BASH_SOURCE[0]}")/shared.bash"
 
 # beside NAME FILE WORD: the same file by uca and by perl, which calls it by this word; both read it and write nothing
 beside() {
-    read -r ours our_memory <<<"$(measured crates/uca/out/uca key --table "$2")"
-    read -r theirs their_memory <<<"$(measured perl -MUnicode::Collate -e 'Unicode::Collate->new(table => $ARGV[0])' "$3")"
+    read -r ours our_memory <<<"$(measured 3 /dev/null "$uca" key --table "$2")"
+    read -r theirs their_memory <<<"$(measured 3 /dev/null perl -MUnicode::Collate -e 'Unicode::Collate->new(table => $ARGV[0])' "$3")"
     awk -v name="$1" -v a="$ours" -v b="$theirs" -v m="$our_memory" -v n="$their_memory" \
         'BEGIN { printf "%s: uca %.3f s, %d KiB; perl %.3f s, %d KiB; ratio %.4f in time, %.3f in memory\n", name, a, m, b, n, a / b, m / n }'
 }
 
-published=
-for folder in $(perl -e 'print join " ", @INC'); do
-    [ -f "$folder/Unicode/Collate/allkeys.txt" ] && published=$folder/Unicode/Collate/allkeys.txt && break
-done
-[ -n "$published" ] && beside "the published table" "$published" allkeys.txt
+beside "the published table" "$published" allkeys.txt
 
 # entries BYTES: short entries with keys of two code points, all different
 entries() {
@@ -49,7 +26,7 @@ entries() {
 }
 entries $((2 * 1024 * 1024)) >"$work/small"
 entries $((64 * 1024 * 1024)) >"$work/large"
-read -r small small_memory <<<"$(measured crates/uca/out/uca key --table "$work/small")"
-read -r large large_memory <<<"$(measured crates/uca/out/uca key --table "$work/large")"
+read -r small small_memory <<<"$(measured 3 /dev/null "$uca" key --table "$work/small")"
+read -r large large_memory <<<"$(measured 3 /dev/null "$uca" key --table "$work/large")"
 awk -v a="$small" -v b="$large" -v m="$small_memory" -v n="$large_memory" -v lines="$(wc -l <"$work/large")" \
     'BEGIN { printf "short entries: 2 MiB %.3f s, %d KiB; 64 MiB (%d entries) %.3f s, %d KiB; ratio %.1f\n", a, m, lines, b, n, b / a }'

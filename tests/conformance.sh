@@ -2,6 +2,7 @@
 # The Unicode Consortium's CollationTest files of version 13, which Debian's source package haskell-unicode-collation has, under
 # the table that Debian's perl ships: `uca check` on each, and every line that fails, by name.
 source "$(dirname "${BASH_SOURCE[0]}")/checks.bash"
+source tests/debian.bash
 
 is_built
 
@@ -32,13 +33,9 @@ published=$(published_table)
 
 # fetched: brings the source package, and leaves its folder of test files in $files
 fetched() {
-    command -v apt-get >/dev/null || return 1
-    mkdir -p "$work/apt/lists/partial" "$work/apt/cache/archives/partial" "$work/source"
-    echo "deb-src http://deb.debian.org/debian $(sed -n 's/^VERSION_CODENAME=//p' /etc/os-release) main" >"$work/apt/sources.list"
-    local apt=(apt-get -q -o Dir::Etc::SourceList="$work/apt/sources.list" -o Dir::Etc::SourceParts=/dev/null
-        -o Dir::State::Lists="$work/apt/lists" -o Dir::Cache="$work/apt/cache" -o APT::Sandbox::User=root)
-    timeout 120 "${apt[@]}" update >"$work/apt/log" 2>&1 || return 1
-    (cd "$work/source" && timeout 120 "${apt[@]}" source --download-only haskell-unicode-collation >>"$work/apt/log" 2>&1) || return 1
+    mkdir "$work/source"
+    debian update || return 1
+    (cd "$work/source" && debian source --download-only haskell-unicode-collation) || return 1
     tar -xzf "$work"/source/*.orig.tar.gz -C "$work/source" || return 1
     files=$(dirname "$(find "$work/source" -name CollationTest_NON_IGNORABLE_SHORT.txt | head -n 1)")
     [ -f "$files/CollationTest_SHIFTED_SHORT.txt" ]

@@ -1,0 +1,14 @@
+# Brings packages of Debian without installing them: apt with its own folders in $work. Sourced by scripts that have $work.
+
+# debian WORDS..: apt-get with these words; `update` comes first
+debian() {
+    local release
+    if [ ! -d "$work/apt" ]; then
+        command -v apt-get >/dev/null || return 1
+        mkdir -p "$work/apt/lists/partial" "$work/apt/cache/archives/partial"
+        release=$(sed -n 's/^VERSION_CODENAME=//p' /etc/os-release)
+        printf '%s http://deb.debian.org/debian %s main\n' deb "$release" deb-src "$release" >"$work/apt/sources.list"
+    fi
+    timeout 120 apt-get -q -o Dir::Etc::SourceList="$work/apt/sources.list" -o Dir::Etc::SourceParts=/dev/null \
+        -o Dir::State::Lists="$work/apt/lists" -o Dir::Cache="$work/apt/cache" -o APT::Sandbox::User=root "$@" >>"$work/apt/log" 2>&1
+}
