@@ -203,13 +203,19 @@ fn contraction_has_weights_of_its_own(rt: HostRuntime) -> Result<(), Fail> {
 
 #[test]
 fn mark_is_taken_across_one_of_another_class(rt: HostRuntime) -> Result<(), Fail> {
-    for text in ["\u{1EA1}\u{301}", "\u{E1}\u{323}"] {
-        let es = elements_of(rt.alloc(), text)?;
-        assert_eq!(rt;
-            es.as_slice(),
-            [plain(0x1008, 0x20, 2), DOT_BELOW].as_slice()
-        );
-    }
+    let es = elements_of(rt.alloc(), "\u{1EA1}\u{301}")?;
+    assert_eq!(rt;
+        es.as_slice(),
+        [plain(0x1008, 0x20, 2), DOT_BELOW].as_slice()
+    );
+    Ok(())
+}
+
+#[test]
+fn marks_stand_in_canonical_order(rt: HostRuntime) -> Result<(), Fail> {
+    let es = elements_of(rt.alloc(), "\u{E9}\u{323}")?;
+    let wanted = [plain(0x1004, 0x20, 2), DOT_BELOW, ACUTE];
+    assert_eq!(rt; es.as_slice(), wanted.as_slice());
     Ok(())
 }
 

@@ -222,6 +222,9 @@ fn first_level_is_full_at_7fff(rt: HostRuntime) -> Result<(), Fail> {
     assert_elements(&rt, rt.alloc(), &last, behind_a, wanted)?;
     let two: &[(&str, &[Said])] = &[("a", &[(First, "c", ""), (First, "d", "")])];
     assert_fault(&rt, rt.alloc(), &last, two, 2, Cause::Full(1))?;
+    let least = two_entries(rt.alloc(), primary(0x1000), primary(0x8000))?;
+    let wanted: &[(&str, &[Element])] = &[("b", &[primary(0x8000)]), ("c", &[primary(0x1001)])];
+    assert_elements(&rt, rt.alloc(), &least, behind_a, wanted)?;
     let high = two_entries(rt.alloc(), primary(0x1000), primary(0xFFFF))?;
     let wanted: &[(&str, &[Element])] = &[("b", &[primary(0xFFFF)]), ("c", &[primary(0x1001)])];
     assert_elements(&rt, rt.alloc(), &high, behind_a, wanted)?;
