@@ -1,4 +1,4 @@
-ghost use Rattle.std.specs.Prelude.{◌≡◌, ◌≤◌, length, OnOk};
+ghost use Rattle.std.specs.Prelude.{◌≡◌, ◌≤◌, length, OnOk, OnErr};
 ghost use Rattle.std.specs.List.{insert, list_any};
 ghost use Rattle.uca_model.specs.Ranges.{shares, highest_last, spans_too_far, is_bad_range, put_range};
 
@@ -65,9 +65,10 @@ fn place_of(ranges: &[Range], range: Range) -> usize
     ranges.len()
 }
 
-/// Puts a range before the first one that begins above it.
+/// Puts a range before the first one that begins above it. Where memory is wanted the ranges stay as they are.
 pub fn put_range(ranges: &mut Vec<Range>, range: Range) -> Result<(), AllocError>
-    ensures { OnOk result (ranges.new.items ≡ put_range range ranges.old.items) }
+    ensures ok { OnOk result (ranges.new.items ≡ put_range range ranges.old.items) }
+    ensures err { OnErr result (ranges.new.items ≡ ranges.old.items) }
 {
     let place = place_of(ranges, range);
     ranges.insert(place, range)?;

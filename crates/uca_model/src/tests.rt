@@ -1,10 +1,14 @@
 ghost use Rattle.uca_model.specs.Table.{AreRanges};
 
+use crate::canonical_text::canonical;
 use crate::collation::{elements, nfd};
 use crate::entry::Entry;
 use crate::implicit_weights::implicit;
 use crate::keys::sort_key;
+use crate::lines::lines_of;
+use crate::matching::get;
 use crate::ordered::lines_in_order;
+use crate::output::{elements_line, key_line};
 use std::alloc::{AllocError, Global};
 use std::test::Fail;
 use uca_weights::{Element, Range, Settings, Strength, Variable};
@@ -208,6 +212,14 @@ fn mark_is_taken_across_one_of_another_class(rt: HostRuntime) -> Result<(), Fail
 }
 
 #[test]
+fn marks_stand_in_canonical_order(rt: HostRuntime) -> Result<(), Fail> {
+    let es = elements_of(rt.alloc(), "\u{E9}\u{323}")?;
+    let wanted = [plain(0x1004, 0x20, 2), DOT_BELOW, ACUTE];
+    assert_eq!(rt; es.as_slice(), wanted.as_slice());
+    Ok(())
+}
+
+#[test]
 fn blocked_acute_is_not_taken(rt: HostRuntime) -> Result<(), Fail> {
     let es = elements_of(rt.alloc(), "a\u{300}\u{301}")?;
     let wanted = [plain(0x1000, 0x20, 2), plain(0, 0x21, 2), ACUTE];
@@ -274,7 +286,13 @@ fn mark_after_a_variable_has_no_weight(rt: HostRuntime) -> Result<(), Fail> {
 fn implicit_weights_go_by_block_range_and_code_point(rt: HostRuntime) {
     for (c, aaaa, bbbb) in [
         ('\u{4E00}', 0xFB40, 0xCE00),
+        ('\u{9FFF}', 0xFB41, 0x9FFF),
+        ('\u{FA0E}', 0xFB41, 0xFA0E),
+        ('\u{F900}', 0xFBC1, 0xF900),
         ('\u{3400}', 0xFB80, 0xB400),
+        ('\u{20000}', 0xFB84, 0x8000),
+        ('\u{2B81D}', 0xFB85, 0xB81D),
+        ('\u{2B81E}', 0xFBC5, 0xB81E),
         ('\u{18D00}', 0xFB00, 0x9D00),
         ('\u{10FFFF}', 0xFBE1, 0xFFFF),
     ] {
@@ -343,6 +361,46 @@ fn marks_alone_count_at_the_second_level(rt: HostRuntime) -> Result<(), Fail> {
     assert!(rt; key.as_slice() > empty.as_slice());
     let key = key_of(rt.alloc(), PRIMARY, text.as_str())?;
     assert_eq!(rt; key.len(), 0);
+    Ok(())
+}
+
+#[test]
+fn first_entry_of_a_key_holds(rt: HostRuntime) -> Result<(), Fail> {
+    let mut table = Vec::new(rt.alloc());
+    add(rt.alloc(), &mut table, &['a'], plain(0x1000, 0x20, 2))?;
+    add(rt.alloc(), &mut table, &['a'], variable(0x201))?;
+    assert!(rt; get(&table, &['a']) == Some([plain(0x1000, 0x20, 2)].as_slice()));
+    let text = canonical(rt.alloc(), &table, &[])?;
+    assert_eq!(rt; text.as_slice(), b"0061 ; [.1000.0020.0002]\n".as_slice());
+    Ok(())
+}
+
+#[test]
+fn keys_and_elements_are_written_as_lines(rt: HostRuntime) -> Result<(), Fail> {
+    let table = small_table(rt.alloc())?;
+    let line = key_line(rt.alloc(), &table, ranges(), TERTIARY, "a")?;
+    assert_eq!(rt;
+        line.as_slice(),
+        b"10 00 00 00 00 20 00 00 00 02\n".as_slice()
+    );
+    let line = elements_line(rt.alloc(), &table, ranges(), "a-")?;
+    assert_eq!(rt;
+        line.as_slice(),
+        b"[.1000.0020.0002][*0202.0020.0002]\n".as_slice()
+    );
+    Ok(())
+}
+
+#[test]
+fn lines_end_at_line_feeds(rt: HostRuntime) -> Result<(), Fail> {
+    let wanted = ["ab", "", "c\r", "d"];
+    let lines = lines_of(rt.alloc(), b"ab\n\r\nc\r\r\nd")?;
+    assert_eq!(rt; lines.len(), wanted.len());
+    for (line, wanted) in lines.iter().zip(wanted) {
+        assert_eq!(rt; line.as_slice(), wanted.as_bytes());
+    }
+    assert_eq!(rt; lines_of(rt.alloc(), b"")?.len(), 0);
+    assert_eq!(rt; lines_of(rt.alloc(), b"\n")?.len(), 1);
     Ok(())
 }
 

@@ -102,6 +102,13 @@ fn quotes_escapes_blanks_and_comments_are_read(rt: HostRuntime) -> Result<(), Fa
         " & a << b # of b\u{2028} c\u{85}<<<\u{200F}d",
         &[(&['a'], blanks)],
     )?;
+    let controls: &[Said] = &[(First, &['b'], &[]), (First, &['c'], &[])];
+    assert_rules(
+        &rt,
+        rt.alloc(),
+        "&a\u{B}<b# x\u{B}<x\u{C}<c",
+        &[(&['a'], controls)],
+    )?;
     let escaped: &[Said] = &[(First, &['<', '\u{1F600}', 'u'], &[])];
     assert_rules(
         &rt,

@@ -129,6 +129,21 @@ fn a_text_gives_its_table(rt: HostRuntime) {
 }
 
 #[test]
+fn code_points_have_no_more_digits_than_needed(rt: HostRuntime) {
+    let text = b"@implicitweights F0000..F7FFF; FB00\nFFFF F0000 100000 ; [.1000.0020.0002]\n";
+    let Some(answer) = read(rt.alloc(), TextEnd::Ends, text) else {
+        return;
+    };
+    let Ok(table) = answer else {
+        assert!(rt; false, "a table");
+        return;
+    };
+    if let Ok(written) = canonical(rt.alloc(), &table.entries, &table.ranges) {
+        assert_eq!(rt; written.as_slice(), text.as_slice());
+    }
+}
+
+#[test]
 fn no_bytes_give_an_empty_table(rt: HostRuntime) {
     if let Some(Ok(table)) = read(rt.alloc(), TextEnd::Ends, b"") {
         assert!(rt; table.entries.is_empty());
@@ -181,6 +196,16 @@ fn each_fault_of_a_directive_is_told_at_its_line(rt: HostRuntime) {
         ),
         ("@implicitweights 17000..17001; FB0", 1, Cause::BadDirective),
         ("@implicitweights 17001..17000; FB00", 1, Cause::BadRange),
+        (
+            "@implicitweights 17002..17003; FB01\n@implicitweights 17000..17002; FB00",
+            2,
+            Cause::BadRange,
+        ),
+        (
+            "@implicitweights 17000..17000; FB00\n@implicitweights 1F000..1F000; FB00",
+            2,
+            Cause::BadRange,
+        ),
         ("@implicitweights 17000..17001; 7FFF", 1, Cause::BadRange),
         (
             "@implicitweights 17000..17002; FB00\n@implicitweights 17002..17003; FB01",
@@ -204,6 +229,7 @@ fn blanks_and_digits_of_either_case_are_read(rt: HostRuntime) {
         "0061\t;\t[.1000.0020.0002.10FFFF][*abCD.0020.0002] \t # two\r\n",
         "10FFFF;[.1000.0020.0002] [.0000.0000.0002]",
         " @implicitweights\t17000 .. 17001 ;fb00 \n@version \u{e9}",
+        "@implicitweights 17000..17000; FB00\n@implicitweights 1EFFF..1EFFF; FB00",
     ] {
         assert_answer(&rt, rt.alloc(), TextEnd::Ends, text.as_bytes(), None);
     }
@@ -233,6 +259,14 @@ fn limits_hold_to_the_byte(rt: HostRuntime) {
         (
             [("0061 ;", 1), ("[.1000.0020.0002]", 65), ("\n", 1)],
             Some((1, Cause::TooManyElements)),
+        ),
+        (
+            [("0061 ", 32), ("xyz", 1), ("", 0)],
+            Some((1, Cause::BadCodePoint)),
+        ),
+        (
+            [("0061 ;", 1), ("[.1000.0020.0002]", 64), ("[]", 1)],
+            Some((1, Cause::BadElement)),
         ),
     ] {
         if let Ok(text) = repeated(rt.alloc(), &pieces) {

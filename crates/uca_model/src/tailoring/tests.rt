@@ -152,6 +152,20 @@ fn next_item_goes_behind_the_place_without_the_expansion(rt: HostRuntime) -> Res
 }
 
 #[test]
+fn item_behind_a_variable_is_variable(rt: HostRuntime) -> Result<(), Fail> {
+    let entries = small_table(rt.alloc())?;
+    let wanted = [Element {
+        starred: true,
+        l1: 0x203,
+        l2: 0x20,
+        l3: 2,
+    }];
+    let rules: &[(&str, &[Said])] = &[("-", &[(First, "x", "")])];
+    assert_elements(&rt, rt.alloc(), &entries, rules, &[("x", &wanted)])?;
+    Ok(())
+}
+
+#[test]
 fn items_stand_at_the_third_level_and_at_none(rt: HostRuntime) -> Result<(), Fail> {
     let entries = small_table(rt.alloc())?;
     assert_elements(
@@ -189,6 +203,10 @@ fn small_and_high_anchors_are_refused(rt: HostRuntime) -> Result<(), Fail> {
     assert_fault(&rt, rt.alloc(), &small, second, 2, Cause::SmallWeight)?;
     let third: &[(&str, &[Said])] = &[("a", &[(Third, "x", "")])];
     assert_fault(&rt, rt.alloc(), &small, third, 1, Cause::SmallWeight)?;
+    let both = two_entries(rt.alloc(), plain(0x8000, 0x20, 1), primary(0x7FFF))?;
+    assert_fault(&rt, rt.alloc(), &both, third, 1, Cause::SmallWeight)?;
+    let high: &[(&str, &[Said])] = &[("a", &[(First, "x", "")])];
+    assert_fault(&rt, rt.alloc(), &both, high, 1, Cause::HighReset)?;
     Ok(())
 }
 
@@ -204,6 +222,9 @@ fn first_level_is_full_at_7fff(rt: HostRuntime) -> Result<(), Fail> {
     assert_elements(&rt, rt.alloc(), &last, behind_a, wanted)?;
     let two: &[(&str, &[Said])] = &[("a", &[(First, "c", ""), (First, "d", "")])];
     assert_fault(&rt, rt.alloc(), &last, two, 2, Cause::Full(1))?;
+    let least = two_entries(rt.alloc(), primary(0x1000), primary(0x8000))?;
+    let wanted: &[(&str, &[Element])] = &[("b", &[primary(0x8000)]), ("c", &[primary(0x1001)])];
+    assert_elements(&rt, rt.alloc(), &least, behind_a, wanted)?;
     let high = two_entries(rt.alloc(), primary(0x1000), primary(0xFFFF))?;
     let wanted: &[(&str, &[Element])] = &[("b", &[primary(0xFFFF)]), ("c", &[primary(0x1001)])];
     assert_elements(&rt, rt.alloc(), &high, behind_a, wanted)?;
@@ -229,15 +250,19 @@ fn other_levels_are_full_at_ffff(rt: HostRuntime) -> Result<(), Fail> {
 #[test]
 fn items_have_at_most_64_elements(rt: HostRuntime) -> Result<(), Fail> {
     let mut elements = Vec::new(rt.alloc());
-    for _ in 0..33 {
+    for _ in 0..32 {
         elements.push(primary(0x1000))?;
     }
     let key = ['a'].to_vec(rt.alloc())?;
     let mut long = Vec::new(rt.alloc());
     long.push(Entry { key, elements })?;
-    let expanded: &[(&str, &[Said])] = &[("a", &[(Same, "b", "a")])];
+    add(rt.alloc(), &mut long, &['c'], primary(0x1001))?;
+    let most: &[(&str, &[Said])] = &[("a", &[(Same, "b", "a")])];
+    let all = [primary(0x1000); 64];
+    assert_elements(&rt, rt.alloc(), &long, most, &[("b", &all)])?;
+    let expanded: &[(&str, &[Said])] = &[("a", &[(Same, "b", "ac")])];
     assert_fault(&rt, rt.alloc(), &long, expanded, 1, Cause::TooManyElements)?;
-    let twice: &[(&str, &[Said])] = &[("aa", &[(Same, "b", "")])];
+    let twice: &[(&str, &[Said])] = &[("aac", &[(Same, "b", "")])];
     assert_fault(&rt, rt.alloc(), &long, twice, 1, Cause::TooManyElements)?;
     Ok(())
 }
