@@ -139,7 +139,8 @@ pub(crate) fn word_len(text: &[u8]) -> usize
 
 /// The first word of a text, up to a blank, and what stands behind it.
 pub fn next_word(text: &[u8]) -> Option<(&[u8], &[u8])>
-    ensures { MatchOption result (words text.now ≡ []) (λ p. (words text.now ≡ p.0.now ∷ words p.1.now) × ((length p.1.now < length text.now) × (length p.0.now + length p.1.now ≤ length text.now))) }
+    ensures words { MatchOption result (words text.now ≡ []) (λ p. (words text.now ≡ p.0.now ∷ words p.1.now) × ((length p.1.now < length text.now) × (length p.0.now + length p.1.now ≤ length text.now))) }
+    ensures rest { IfSome result (λ p. skip_blanks text.now ≡ p.0.now ++ p.1.now) }
 {
     let rest = skip_blanks(text);
     if rest.is_empty() {
@@ -176,11 +177,12 @@ pub fn next_line(text: &[u8]) -> Option<(&[u8], &[u8])>
     }
 }
 
-/// Holds more bytes of a line, and answers whether the line is still short enough.
+/// Holds more bytes of a line, and answers whether the line is still short enough. If not, it holds what it held.
 pub fn extend_held(held: &mut ArrayVec<u8, MAX_LINE>, part: &[u8]) -> bool
     ensures fits { OnTrue result (held.new.items ≡ held.old.items ++ part.now) }
     ensures short { OnTrue result (length held.new.items ≤ MAX_LINE) }
     ensures full { result ≡ false → MAX_LINE < length (held.old.items ++ part.now) }
+    ensures kept { result ≡ false → held.new.items ≡ held.old.items }
 {
     held.try_extend_from_slice(part).is_ok()
 }

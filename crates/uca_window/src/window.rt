@@ -71,12 +71,14 @@ impl Window {
         self.closed
     }
 
-    /// Reads on until at least `longest` points are closed, or to the end of the text. It leaves the rest as it is.
+    /// Reads on until at least `longest` points are closed, or to the end of the text. It leaves the rest as it is, and
+    /// reads nothing where that many are closed.
     pub fn fill<S: Source>(&mut self, source: &mut S)
         requires { Fits self.old (unread (S.state source.old)) }
         ensures reads { ReadsOn self.old (S.state source.old) self.new (S.state source.new) }
         ensures rest { rest_of self.new (unread (S.state source.new)) ≡ rest_of self.old (unread (S.state source.old)) }
         ensures enough { self.new.closed < self.new.longest → self.new.closed ≡ length (rest_of self.new (unread (S.state source.new))) }
+        ensures idle { self.old.longest ≤ self.old.closed → (self.new ≡ self.old) × (S.state source.new ≡ S.state source.old) }
     {
         while self.wants() {
             self.read(source);

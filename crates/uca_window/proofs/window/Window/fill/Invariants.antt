@@ -1,13 +1,14 @@
-use Rattle.std.proofs.Common.{◌≡◌}
+use Rattle.std.proofs.Common.{◌≡◌, ◌≤◌}
 use Rattle.uca_model.specs.Source.{unread}
 use Rattle.uca_model.specs.Window.{credit, rest_of, ReadsOn}
 use Rattle.uca_window.proofs.window.Window.fill.Given as goal
 
--- it has read on, and the rest is as it was
+-- it has read on, the rest is as it was, and it was left as it was if enough was closed
 abbrev pub invariant-loop-self : goal.invariant-loop-self
 invariant-loop-self g l = record {
   reads : ReadsOn l.initial.self (g.S.Source.state l.initial.source) l.self (g.S.Source.state l.source);
   rest : rest_of l.self (unread (g.S.Source.state l.source)) ≡ rest_of l.initial.self (unread (g.S.Source.state l.initial.source));
+  idle : l.initial.self.longest ≤ l.initial.self.closed → (l.self ≡ l.initial.self) × (g.S.Source.state l.source ≡ g.S.Source.state l.initial.source);
 }
 
 abbrev pub decreases-loop-self : goal.decreases-loop-self
