@@ -174,8 +174,7 @@ fn show_room(t: &Table, s: Settings, p: &Passage)
 }
 
 /// Writes the sort key of a text, and answers its length in bytes (UTS #10, section 7.3). On a fault just the first
-/// `written` bytes of the key went out. The text is read once for each level. It takes no memory, and does not flush
-/// the writer.
+/// `written` bytes of the key went out. It takes no memory, and does not flush the writer.
 pub fn write_key<W: Writer>(
     w: &mut W,
     t: &Table,
