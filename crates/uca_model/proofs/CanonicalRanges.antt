@@ -9,7 +9,7 @@ use Rattle.std.specs.Prelude.{Result, Ok, Err, Option}
 use Rattle.uca_weights.specs.declared.range.Range.{Range}
 use Rattle.uca_model.specs.Table.{IsRange}
 use Rattle.uca_model.specs.TableText as text
-use Rattle.uca_model.specs.TableText.{◌>>=◌, Cause, Statement, version, range, bad_directive, bad_code_point, is_blank, skip_blanks, from_first, code_point, version_word, range_word, ends_point, range_end, range_base, two_stops, range_of_text, some_text, directive, statement_of, statement}
+use Rattle.uca_model.specs.TableText.{◌>>=◌, Cause, Statement, version, range, bad_directive, bad_code_point, is_blank, skip_blanks, code_point, version_word, range_word, ends_point, range_end, range_base, two_stops, range_of_text, some_text, directive, statement_of, statement}
 use Rattle.uca_model.specs.CanonicalText.{four_digits, point_text, ends_text}
 use Rattle.uca_model.proofs.CanonicalLines.{range_said, plain-range, statement-plain}
 use Rattle.uca_model.proofs.CanonicalDigits.{is_hex, no_hex, hex_no_blank, hex_ends_no_point, hex-point, code_point-said, four_digits-said, scalar-below, begins-append, begins-point, skip-hex}

@@ -1,7 +1,7 @@
 -- One piece of the text of rules, and all of them.
-use Rattle.std.proofs.Common.{◌≡◌, ℕ, zero, suc, ◌+◌, ◌≤◌, Bool, true, false, List, [], ◌∷◌, length, drop, if◌then◌else◌, refl, ap, ◌∙◌, arith, length-drop}
+use Rattle.std.proofs.Common.{◌≡◌, ℕ, zero, suc, ◌+◌, ◌≤◌, Bool, true, false, List, [], ◌∷◌, length, drop, if◌then◌else◌, refl, ap, arith, length-drop}
 use Rattle.std.proofs.Common.{Option, Some, None}
-use Rattle.uca_model.specs.RuleText.{Piece, Part, piece_of, part_at, parts_within, parts_from, less_signs, operator, less_run, hex_value, code_point, escape, quote, quoted, Quoted, gives, refused, syntax, is_white_space, number_sign, ampersand, less_than, equals, solidus, apostrophe, backslash, small_u, capital_u, is_left_out, is_plain, begins_with, asterisk}
+use Rattle.uca_model.specs.RuleText.{Piece, Part, piece_of, part_at, parts_within, parts_from, less_signs, less_run, hex_value, code_point, escape, quote, quoted, Quoted, gives, refused, syntax, is_white_space, number_sign, ampersand, less_than, equals, solidus, apostrophe, backslash, small_u, capital_u, is_left_out, is_plain, begins_with, asterisk}
 use Rattle.std.proofs.Common.{◌==◌}
 use Rattle.std.specs.Option.{option_map_or}
 use lib.Utf8.{scalar}

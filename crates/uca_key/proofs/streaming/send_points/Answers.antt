@@ -1,4 +1,4 @@
-use Rattle.std.proofs.Common.{refl, ◌≡◌, ◌<◌, flat_map, sym, ap, ◌∙◌, arith}
+use Rattle.std.proofs.Common.{refl, flat_map, ap, ◌∙◌}
 use Rattle.uca_model.specs.SortKey.{code_point_bytes}
 use Rattle.uca_model.specs.Source.{unread}
 use Rattle.uca_model.specs.Window.{WindowState, rest_of}

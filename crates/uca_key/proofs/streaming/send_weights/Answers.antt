@@ -1,4 +1,4 @@
-use Rattle.std.proofs.Common.{refl, ◌≡◌, ◌<◌, flat_map, sym, ap, ◌∙◌, arith}
+use Rattle.std.proofs.Common.{refl, flat_map, sym, ap, ◌∙◌, arith}
 use Rattle.uca_model.specs.SortKey.{weight_bytes}
 use Rattle.uca_model.specs.Source.{unread}
 use Rattle.uca_model.proofs.LevelLemmas.{at_weights}

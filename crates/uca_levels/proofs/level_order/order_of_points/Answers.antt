@@ -1,4 +1,4 @@
-use Rattle.std.proofs.Common.{◌≡◌, ℕ, ◌+◌, ◌<◌, ◌^◌, ◌≤◌, ap, arith}
+use Rattle.std.proofs.Common.{ℕ, ◌<◌, ◌^◌, ap}
 use Rattle.uca_model.proofs.LevelLemmas.{OrdersLevel-ends, OrdersLevel-points_shorter, OrdersLevel-points_longer, OrdersLevel-points_differ}
 use Rattle.uca_model.specs.Source.{unread}
 use Rattle.uca_model.specs.Window.{WindowState, rest_of}
