@@ -1,4 +1,4 @@
-ghost use Rattle.std.specs.Prelude.{◌≡◌, ◌+◌, ◌^◌, ◌<◌, ◌≤◌, [], length, MatchResult};
+ghost use Rattle.std.specs.Prelude.{◌≡◌, ◌+◌, ◌^◌, ◌<◌, ◌≤◌, [], length, MatchResult, OnErr};
 
 use crate::writer::{WriteFault, Writer};
 use crate::writing::write_whole;
@@ -36,13 +36,14 @@ impl Outgoing {
         self.written
     }
 
-    /// Has what waits go out.
+    /// Has what waits go out. On a fault the buffer stays as it was, and only the fault tells what went out of it.
     pub fn flush<W: Writer>(&mut self, w: &mut W) -> Result<(), WriteFault>
         requires { handed self.old < 2 ^ 128 }
         ensures all { MatchResult result
             (λ _. Sends (W.state w.old) self.old (W.state w.new) self.new [])
             (λ f. StopsSending (W.state w.old) self.old (W.state w.new) [] f) }
         ensures empty { MatchResult result (λ _. waiting_of self.new ≡ []) (λ _. Unit {0}) }
+        ensures err { OnErr result (self.new ≡ self.old) }
     {
         match write_whole(w, self.waiting.as_slice()) {
             Ok(()) => {
@@ -57,13 +58,15 @@ impl Outgoing {
         }
     }
 
-    /// Has a piece go out, now or later.
+    /// Has a piece go out, now or later. On a fault the buffer stays as it was, without the piece, and only the fault
+    /// tells what went out of it.
     pub fn send<W: Writer>(&mut self, w: &mut W, piece: &[u8]) -> Result<(), WriteFault>
         requires short { length piece.now ≤ ROOM }
         requires room { handed self.old + length piece.now < 2 ^ 128 }
-        ensures { MatchResult result
+        ensures all { MatchResult result
             (λ _. Sends (W.state w.old) self.old (W.state w.new) self.new piece.now)
             (λ f. StopsSending (W.state w.old) self.old (W.state w.new) piece.now f) }
+        ensures err { OnErr result (self.new ≡ self.old) }
     {
         if self.waiting.try_extend_from_slice(piece).is_ok() {
             return Ok(());

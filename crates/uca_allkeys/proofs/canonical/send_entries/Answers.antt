@@ -32,8 +32,8 @@ loop-key-preserved g c =
     let line : List ℕ = entry_line entry in let rest : List ℕ = flat_map entry_line c.next.new.self in
     let is : c.as_slice-in-loop-key.result.now ≡ line = c.as_slice-in-loop-key.ensures.value ∙ c.entry_line.ensures ∙ ap (λ (key : List ℕ). entry_line (key, c.in-Some.elements.now)) c.as_slice.ensures.value in
     let told : c.loop-key.invariant.sent ++ (line ++ rest) ≡ flat_map entry_line (entries c.args.table.now.entries) = ap (λ (es : List (List ℕ × List Element)). c.loop-key.invariant.sent ++ flat_map entry_line es) (sym steps) ∙ c.loop-key.invariant.told in
-    let more = sent_more _ _ _ c.args.out.now c.loop-key.out c.send.new.self c.loop-key.invariant.sent line rest _ c.as_slice-in-loop-key.result.now c.loop-key.invariant.sends told is c.in_ok-send.ensures in
-    let size : handed c.send.new.self ≡ handed c.loop-key.out + length c.as_slice-in-loop-key.result.now = handed-Sends _ _ _ _ c.as_slice-in-loop-key.result.now c.in_ok-send.ensures in
+    let more = sent_more _ _ _ c.args.out.now c.loop-key.out c.send.new.self c.loop-key.invariant.sent line rest _ c.as_slice-in-loop-key.result.now c.loop-key.invariant.sends told is c.in_ok-send.ensures.all in
+    let size : handed c.send.new.self ≡ handed c.loop-key.out + length c.as_slice-in-loop-key.result.now = handed-Sends _ _ _ _ c.as_slice-in-loop-key.result.now c.in_ok-send.ensures.all in
     let fits : length c.as_slice-in-loop-key.result.now ≤ 4096 = c.as_slice-in-loop-key.ensures.fits in
     let count : length c.loop-key.key-iterator ≡ length c.next.new.self + 1 = ap length steps ∙ omega arith in
     let valid : All IsEntry (entry ∷ c.next.new.self) = subst (λ (es : List (List ℕ × List Element)). All IsEntry es) steps c.loop-key.invariant.valid in
@@ -55,4 +55,4 @@ returns-in_err-send-clause-lines g c =
     let line : List ℕ = entry_line entry in let rest : List ℕ = flat_map entry_line c.next.new.self in
     let is : c.as_slice-in-loop-key.result.now ≡ line = c.as_slice-in-loop-key.ensures.value ∙ c.entry_line.ensures ∙ ap (λ (key : List ℕ). entry_line (key, c.in-Some.elements.now)) c.as_slice.ensures.value in
     let told : c.loop-key.invariant.sent ++ (line ++ rest) ≡ flat_map entry_line (entries c.args.table.now.entries) = ap (λ (es : List (List ℕ × List Element)). c.loop-key.invariant.sent ++ flat_map entry_line es) (sym steps) ∙ c.loop-key.invariant.told in
-    rw (p.1, p.2) (stopped_there _ _ _ c.args.out.now c.loop-key.out c.loop-key.invariant.sent line rest _ c.as_slice-in-loop-key.result.now _ c.loop-key.invariant.sends told is c.in_err-send.ensures)
+    rw (p.1, p.2) (stopped_there _ _ _ c.args.out.now c.loop-key.out c.loop-key.invariant.sent line rest _ c.as_slice-in-loop-key.result.now _ c.loop-key.invariant.sends told is c.in_err-send.ensures.all)

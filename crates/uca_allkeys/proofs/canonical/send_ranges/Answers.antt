@@ -16,7 +16,7 @@ returns-in_err-send-clause-lines g c =
     let line : List ℕ = range_line (get_or ranges i none) in let rest : List ℕ = flat_map range_line (drop (i + 1) ranges) in
     let here : flat_map range_line (drop i ranges) ≡ line ++ rest = ap (flat_map range_line) (drop_more ranges i none c.loop-range-test.true) in
     let told : c.loop-range.invariant.sent ++ (line ++ rest) ≡ flat_map range_line ranges = ap (λ l. c.loop-range.invariant.sent ++ l) (sym here) ∙ c.loop-range.invariant.told in
-    rw (p.1, p.2) (stopped_there _ _ _ c.args.out.now c.loop-range.out c.loop-range.invariant.sent line rest _ c.as_slice.result.now _ c.loop-range.invariant.sends told (c.as_slice.ensures.value ∙ c.range_line.ensures) c.in_err-send.ensures)
+    rw (p.1, p.2) (stopped_there _ _ _ c.args.out.now c.loop-range.out c.loop-range.invariant.sent line rest _ c.as_slice.result.now _ c.loop-range.invariant.sends told (c.as_slice.ensures.value ∙ c.range_line.ensures) c.in_err-send.ensures.all)
 
 pub loop-range-preserved : goal.loop-range-preserved
 loop-range-preserved g c =
@@ -25,8 +25,8 @@ loop-range-preserved g c =
     let line : List ℕ = range_line (get_or ranges i none) in let rest : List ℕ = flat_map range_line (drop (i + 1) ranges) in
     let here : flat_map range_line (drop i ranges) ≡ line ++ rest = ap (flat_map range_line) (drop_more ranges i none c.loop-range-test.true) in
     let told : c.loop-range.invariant.sent ++ (line ++ rest) ≡ flat_map range_line ranges = ap (λ l. c.loop-range.invariant.sent ++ l) (sym here) ∙ c.loop-range.invariant.told in
-    let more = sent_more _ _ _ c.args.out.now c.loop-range.out c.send.new.self c.loop-range.invariant.sent line rest _ c.as_slice.result.now c.loop-range.invariant.sends told (c.as_slice.ensures.value ∙ c.range_line.ensures) c.in_ok-send.ensures in
-    let size : handed c.send.new.self ≡ handed c.loop-range.out + length c.as_slice.result.now = handed-Sends _ _ _ _ c.as_slice.result.now c.in_ok-send.ensures in
+    let more = sent_more _ _ _ c.args.out.now c.loop-range.out c.send.new.self c.loop-range.invariant.sent line rest _ c.as_slice.result.now c.loop-range.invariant.sends told (c.as_slice.ensures.value ∙ c.range_line.ensures) c.in_ok-send.ensures.all in
+    let size : handed c.send.new.self ≡ handed c.loop-range.out + length c.as_slice.result.now = handed-Sends _ _ _ _ c.as_slice.result.now c.in_ok-send.ensures.all in
     let fits : length c.as_slice.result.now ≤ 4096 = c.as_slice.ensures.fits in
     record {
       sent = c.loop-range.invariant.sent ++ line;

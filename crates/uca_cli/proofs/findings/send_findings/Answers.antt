@@ -22,7 +22,7 @@ returns-in_err-send-clause-sends g c =
     let piece : List ℕ = finding_line (condition_of (get_or broken i WF1)) in let rest : List ℕ = flat_map finding_line (map condition_of (drop (i + 1) broken)) in
     let told : c.loop-condition.invariant.sent ++ (piece ++ rest) ≡ flat_map finding_line (map condition_of broken)
     = ap (λ l. c.loop-condition.invariant.sent ++ l) (sym (here broken i c.loop-condition-test.true)) ∙ c.loop-condition.invariant.told in
-    rw (p.1, p.2) (stopped_there _ _ _ c.args.out.now c.loop-condition.out c.loop-condition.invariant.sent piece rest _ _ _ c.loop-condition.invariant.sends told c.finding.ensures.text c.in_err-send.ensures)
+    rw (p.1, p.2) (stopped_there _ _ _ c.args.out.now c.loop-condition.out c.loop-condition.invariant.sent piece rest _ _ _ c.loop-condition.invariant.sends told c.finding.ensures.text c.in_err-send.ensures.all)
 
 pub loop-condition-preserved : goal.loop-condition-preserved
 loop-condition-preserved g c =
@@ -30,8 +30,8 @@ loop-condition-preserved g c =
     let piece : List ℕ = finding_line (condition_of (get_or broken i WF1)) in let rest : List ℕ = flat_map finding_line (map condition_of (drop (i + 1) broken)) in
     let told : c.loop-condition.invariant.sent ++ (piece ++ rest) ≡ flat_map finding_line (map condition_of broken)
     = ap (λ l. c.loop-condition.invariant.sent ++ l) (sym (here broken i c.loop-condition-test.true)) ∙ c.loop-condition.invariant.told in
-    let more = sent_more _ _ _ c.args.out.now c.loop-condition.out c.send.new.self c.loop-condition.invariant.sent piece rest _ _ c.loop-condition.invariant.sends told c.finding.ensures.text c.in_ok-send.ensures in
-    let size : handed c.send.new.self ≡ handed c.loop-condition.out + 4 = handed-Sends _ _ _ _ _ c.in_ok-send.ensures ∙ ap (λ n. handed c.loop-condition.out + n) c.finding.ensures.short in
+    let more = sent_more _ _ _ c.args.out.now c.loop-condition.out c.send.new.self c.loop-condition.invariant.sent piece rest _ _ c.loop-condition.invariant.sends told c.finding.ensures.text c.in_ok-send.ensures.all in
+    let size : handed c.send.new.self ≡ handed c.loop-condition.out + 4 = handed-Sends _ _ _ _ _ c.in_ok-send.ensures.all ∙ ap (λ n. handed c.loop-condition.out + n) c.finding.ensures.short in
     let left : length (drop i broken) ≡ length broken - i = length-drop i broken in
     let less : length (drop (i + 1) broken) ≡ length broken - (i + 1) = length-drop (i + 1) broken in
     record {

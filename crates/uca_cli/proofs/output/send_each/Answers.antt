@@ -20,7 +20,7 @@ returns-in_err-send g c =
     let piece : List ℕ = element_text (get_or es i none) in let rest : List ℕ = flat_map element_text (drop (i + 1) es) in
     let here : flat_map element_text (drop i es) ≡ piece ++ rest = ap (flat_map element_text) (drop_more es i none c.loop-element-test.true) in
     let told : c.loop-element.invariant.sent ++ (piece ++ rest) ≡ flat_map element_text es = ap (λ l. c.loop-element.invariant.sent ++ l) (sym here) ∙ c.loop-element.invariant.told in
-    rw (p.1, p.2) (stopped_there _ _ _ c.args.out.now c.loop-element.out c.loop-element.invariant.sent piece rest _ _ _ c.loop-element.invariant.sends told c.element_text.ensures c.in_err-send.ensures)
+    rw (p.1, p.2) (stopped_there _ _ _ c.args.out.now c.loop-element.out c.loop-element.invariant.sent piece rest _ _ _ c.loop-element.invariant.sends told c.element_text.ensures c.in_err-send.ensures.all)
 
 pub loop-element-preserved : goal.loop-element-preserved
 loop-element-preserved g c =
@@ -28,8 +28,8 @@ loop-element-preserved g c =
     let piece : List ℕ = element_text (get_or es i none) in let rest : List ℕ = flat_map element_text (drop (i + 1) es) in
     let here : flat_map element_text (drop i es) ≡ piece ++ rest = ap (flat_map element_text) (drop_more es i none c.loop-element-test.true) in
     let told : c.loop-element.invariant.sent ++ (piece ++ rest) ≡ flat_map element_text es = ap (λ l. c.loop-element.invariant.sent ++ l) (sym here) ∙ c.loop-element.invariant.told in
-    let more = sent_more _ _ _ c.args.out.now c.loop-element.out c.send.new.self c.loop-element.invariant.sent piece rest _ _ c.loop-element.invariant.sends told c.element_text.ensures c.in_ok-send.ensures in
-    let size : handed c.send.new.self ≡ handed c.loop-element.out + 17 = handed-Sends _ _ _ _ _ c.in_ok-send.ensures ∙ ap (λ n. handed c.loop-element.out + n) (ap length c.element_text.ensures ∙ length-element_text (get_or es i none)) in
+    let more = sent_more _ _ _ c.args.out.now c.loop-element.out c.send.new.self c.loop-element.invariant.sent piece rest _ _ c.loop-element.invariant.sends told c.element_text.ensures c.in_ok-send.ensures.all in
+    let size : handed c.send.new.self ≡ handed c.loop-element.out + 17 = handed-Sends _ _ _ _ _ c.in_ok-send.ensures.all ∙ ap (λ n. handed c.loop-element.out + n) (ap length c.element_text.ensures ∙ length-element_text (get_or es i none)) in
     let left : length (drop i es) ≡ length es - i = length-drop i es in
     let less : length (drop (i + 1) es) ≡ length es - (i + 1) = length-drop (i + 1) es in
     record {

@@ -14,9 +14,9 @@ send-requires-clause-room g c =
     omega (arith, size, length-hex_text c.args.key.now)
 
 pub returns-in-Ok-clause-sends : goal.returns-in-Ok-clause-sends
-returns-in-Ok-clause-sends g c = both_sent _ _ _ _ _ _ (hex_text c.args.key.now) (line_feed ∷ []) c.send.result c.in-Ok.ensures c.send.ensures
+returns-in-Ok-clause-sends g c = both_sent _ _ _ _ _ _ (hex_text c.args.key.now) (line_feed ∷ []) c.send.result c.in-Ok.ensures c.send.ensures.all
 
 pub returns-in-Ok-clause-small : goal.returns-in-Ok-clause-small
 returns-in-Ok-clause-small g c =
     let size : handed c.send_hex.new.out ≡ handed c.args.out.now + length (hex_text c.args.key.now) = handed-Sends _ _ _ _ (hex_text c.args.key.now) c.in-Ok.ensures in
-    handed-after _ _ _ _ (line_feed ∷ []) _ c.send.result c.send.ensures (omega (arith, size, length-hex_text c.args.key.now))
+    handed-after _ _ _ _ (line_feed ∷ []) _ c.send.result c.send.ensures.all (omega (arith, size, length-hex_text c.args.key.now))
