@@ -1,5 +1,5 @@
 -- How a table is tested for well-formedness: by the highest and lowest weights of its elements.
-use Rattle.std.specs.Prelude.{ℕ, Bool, false, not, ◌==◌, ◌||◌, ◌&&◌, nat_le, nat_lt, if◌then◌else◌}
+use Rattle.std.specs.Prelude.{Bool, false, not, ◌==◌, ◌||◌, ◌&&◌, nat_le, nat_lt, if◌then◌else◌}
 use Rattle.uca_weights.specs.declared.element.Element.{Element}
 use Rattle.uca_weights.specs.Element.{has_primary, is_variable}
 use Rattle.uca_model.specs.WellFormed.{Condition, wf1, wf2, wf3, wf4, wf5, skips_a_level, is_marked_in_vain}

@@ -1,4 +1,4 @@
-use Rattle.std.proofs.Common.{◌≡◌, ap, ◌∙◌}
+use Rattle.std.proofs.Common.{ap, ◌∙◌}
 use Rattle.std.specs.List.{list_any}
 use Rattle.uca_model.specs.WellFormed.{all_elements}
 use Rattle.uca_table.specs.Bounds.{is_against}

@@ -1,6 +1,6 @@
-use Rattle.std.proofs.Common.{◌≡◌, ◌+◌, ◌≤◌, ◌++◌, [], ◌∷◌, length, map, drop, flat_map, fold, cond}
-use Rattle.uca_model.specs.WellFormed.{all_elements, is_broken, broken}
-use Rattle.uca_table.specs.Bounds.{condition_of, bounded, unbounded}
+use Rattle.std.proofs.Common.{◌≡◌, ◌+◌, ◌≤◌, ◌++◌, [], ◌∷◌, length, map, drop, flat_map, cond}
+use Rattle.uca_model.specs.WellFormed.{is_broken, broken}
+use Rattle.uca_table.specs.Bounds.{condition_of}
 use Rattle.uca_table.proofs.well_formed.lint.Given as goal
 
 abbrev pub invariant-loop-condition : goal.invariant-loop-condition
