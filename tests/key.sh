@@ -81,12 +81,12 @@ is "one byte more than 64 MiB" "0|uca: input: TooLarge|3" "$(wc -c <"$work/out")
 # Want of memory, at each step that many words take, and for the input. The program alone, since bash has no room there.
 if command -v prlimit >/dev/null; then
     mapfile -t many < <(yes a | head -n 40000)
-    for limit in $(seq 7000000 250000 24000000); do
-        prlimit --as="$limit" crates/uca/out/uca key "${many[@]}" </dev/null >"$work/out" 2>"$work/err"
+    for limit in $(seq 2000000 250000 20000000); do
+        prlimit --data="$limit" crates/uca/out/uca key "${many[@]}" </dev/null >"$work/out" 2>"$work/err"
         echo "$?|$(wc -c <"$work/out")|$(head -n 1 "$work/err")"
     done >"$work/answers"
     is "want of memory for the words" "2|0|error: unexpected argument 'a' found 3|0|uca: OutOfMemory" "$(sort -u "$work/answers" | paste -sd' ')"
-    prlimit --as=48000000 crates/uca/out/uca key <"$work/large" >"$work/out" 2>"$work/err"
+    prlimit --data=48000000 crates/uca/out/uca key <"$work/large" >"$work/out" 2>"$work/err"
     status=$?
     is "want of memory for the input" "0|uca: OutOfMemory|3" "$(wc -c <"$work/out")|$(cat "$work/err")|$status"
 else
