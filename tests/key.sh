@@ -52,8 +52,16 @@ is "the bytes of a key, and a full disk" "uca: output byte 0: Failed|3" "$(cat "
 for words in "" "sort" "key --strength third" "key extra" "table --raw" "key --raw --raw" "--help"; do
     # shellcheck disable=SC2086
     runs $words </dev/null
-    is "words that are no job: $words" "0|2" "$(wc -c <"$work/out")|$status"
+    is "words that are no job: $words" "0|told|2" "$(wc -c <"$work/out")|$([ -s "$work/err" ] && echo told)|$status"
 done
+runs sort </dev/null
+is "clap's text for words that are no job" "error: unrecognized subcommand 'sort'||Usage: uca <COMMAND>||For more information, try '--help'." "$(paste -sd'|' "$work/err")"
+runs key '' </dev/null
+is "an empty word" "0|error: unexpected argument '' found|2" "$(wc -c <"$work/out")|$(head -n 1 "$work/err")|$status"
+runs 'key ' </dev/null
+is "a blank in a word" "0|error: unrecognized subcommand 'key '|2" "$(wc -c <"$work/out")|$(head -n 1 "$work/err")|$status"
+runs key --table $'\xff' </dev/null
+is "a word that is not UTF-8" "0|uca: a word of the command line is not UTF-8|2" "$(wc -c <"$work/out")|$(cat "$work/err")|$status"
 
 ./uca key < <(printf 'a\n') >/dev/full 2>"$work/err"
 status=$?
@@ -83,6 +91,21 @@ echo "tests/key.sh: 64 MiB of short lines took $(($(date +%s) - from)) s"
 printf 'x' >>"$work/large"
 runs key <"$work/large"
 is "one byte more than 64 MiB" "0|uca: input: TooLarge|3" "$(wc -c <"$work/out")|$(cat "$work/err")|$status"
+
+# Want of memory, at each step that many words take, and for the input. The program alone, since bash has no room there.
+if command -v prlimit >/dev/null; then
+    mapfile -t many < <(yes a | head -n 40000)
+    for limit in $(seq 2000000 250000 20000000); do
+        prlimit --data="$limit" crates/uca/out/uca key "${many[@]}" </dev/null >"$work/out" 2>"$work/err"
+        echo "$?|$(wc -c <"$work/out")|$(head -n 1 "$work/err")"
+    done >"$work/answers"
+    is "want of memory for the words" "2|0|error: unexpected argument 'a' found 3|0|uca: OutOfMemory" "$(sort -u "$work/answers" | paste -sd' ')"
+    prlimit --data=48000000 crates/uca/out/uca key <"$work/large" >"$work/out" 2>"$work/err"
+    status=$?
+    is "want of memory for the input" "0|uca: OutOfMemory|3" "$(wc -c <"$work/out")|$(cat "$work/err")|$status"
+else
+    echo "tests/key.sh: there is no prlimit, so no memory was wanted"
+fi
 
 # A line of letters with thirty marks each takes time near to linear, too.
 perl -e 'print(("a" . "\xCC\xA3\xCC\x81" x 15) x (67108864 / 61))' >"$work/marks"

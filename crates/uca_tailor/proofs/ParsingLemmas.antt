@@ -1,5 +1,5 @@
 -- How relations, chains and rules are read, string by string.
-use Rattle.std.proofs.Common.{◌≡◌, ℕ, ◌+◌, ◌<◌, ◌≤◌, ◌==◌, Bool, true, false, List, [], ◌∷◌, ◌++◌, length, map, flat_map, All, Option, Some, None, Result, Ok, Err, MatchOption, is_ok, is_err, append-nil, append_assoc, length-append, refl, sym, ap, ap₂, subst, ◌∙◌, arith}
+use Rattle.std.proofs.Common.{◌≡◌, ◌≢◌, ℕ, ◌+◌, ◌<◌, ◌≤◌, ◌==◌, Bool, true, false, List, [], ◌∷◌, ◌++◌, length, map, flat_map, All, Option, Some, None, Result, Ok, Err, MatchOption, is_ok, is_err, append-nil, append_assoc, length-append, refl, sym, ap, ap₂, subst, ◌∙◌, arith}
 use Rattle.std.proofs.lemmas.Bool.{cond-true, cond-false}
 use Rattle.std.proofs.lemmas.List.{map-append, length-map}
 use Rattle.std.proofs.lemmas.Bool.Decides.{nat_tests}
@@ -11,6 +11,7 @@ use Rattle.uca_model.specs.Rules as rules
 use Rattle.uca_model.specs.Rules.{IsString, IsRelation, IsChain, AreRules, items}
 use Rattle.uca_model.specs.RuleText as text
 use Rattle.uca_model.specs.RuleText.{RuleFault, Kind, Segment, Grouped, string_of, part_faults, leading_faults, end_faults, segment_faults, operator_faults, before_next, counted, no_item, item, nothing, resets, relates, expands, grouped, with_segment, fault_if, too_many_relations, first_or, rules_of, faults, segments, parts}
+use Rattle.uca_tailor.proofs.StringLemmas.{some_faults}
 use Rattle.uca_tailor.specs.Chains.{operator_of, relation_of, chain_of}
 use Rattle.uca_tailor.specs.Faults.{told_of_text, RefusesText}
 use Rattle.uca_tailor.specs.Pieces.{kind_of}
@@ -352,6 +353,43 @@ reset_from operator.Reset is = refl
 reset_from (operator.Relation op) is = cc
 reset_from operator.LeftOut is = cc
 reset_from operator.Expansion is = cc
+
+-- Texts that say something: a chain, or a fault
+
+first-some : (fs : List RuleFault) (cs : List rules.Chain) → (fs ≡ [] → cs ≢ []) → first_or fs cs ≢ Ok []
+first-some [] cs some = λ same. (let none : cs ≡ [] = cc in some refl none)
+first-some (f ∷ fs) cs some = λ same. cc
+
+-- a fault before the first operator
+pub leading_some : (cs : List ℕ) → flat_map leading_faults (left_of (scan_of cs)).leading ≢ [] → rules_of cs ≢ Ok []
+unfolding rules_of
+leading_some cs some = first-some (faults (segments (parts cs))) _ (λ none. absurd (some (front-none (flat_map leading_faults (left_of (scan_of cs)).leading) _ none)))
+  where
+    front-none : (xs ys : List RuleFault) → xs ++ ys ≡ [] → xs ≡ []
+    front-none [] ys e = refl
+    front-none (x ∷ xs) ys e = cc
+
+-- an operator
+pub operator_some : (cs : List ℕ) (chains : List Chain) (count : ℕ) (next : Option Found) (g : Found) (t : ScanState) → InRules cs chains count next t → next ≡ Some g → rules_of cs ≢ Ok []
+unfolding rules_of
+operator_some cs chains count next g t is here = first-some (faults (segments (parts cs))) _ (λ none said. by_operator g.operator refl none said)
+  where
+    behind-some : (xs ys : List rules.Chain) (y : rules.Chain) → xs ++ y ∷ ys ≢ []
+    behind-some [] ys y = λ e. cc
+    behind-some (x ∷ xs) ys y = λ e. cc
+
+    fault_here : (o : Operator) → g.operator ≡ o → faults (segments (parts cs)) ≡ [] → segment_faults nothing count (segments_from (Some (record { operator = o; at = g.at })) t) ≡ []
+    fault_here o e none =
+        sym (ap (λ n. segment_faults nothing count (segments_from n t)) here ∙ ap (λ o. let f : Found = record { operator = o; at = g.at } in segment_faults nothing count (segments_from (Some f) t)) e)
+        ∙ sym is.fine ∙ none
+
+    by_operator : (o : Operator) → g.operator ≡ o → faults (segments (parts cs)) ≡ [] → (grouped (segments (parts cs)).all).chains ≢ []
+    by_operator operator.Reset e none = λ said.
+        behind-some (map chain_of chains) (grouped (left_of t).all).chains _
+        (sym (ap (λ n. map chain_of chains ++ (grouped (segments_from n t)).chains) here ∙ ap (λ o. let f : Found = record { operator = o; at = g.at } in map chain_of chains ++ (grouped (segments_from (Some f) t)).chains) e) ∙ sym is.says ∙ said)
+    by_operator (operator.Relation op) e none = absurd (some_faults _ _ (no_reset (operator.Relation op) g.at t count refl) (fault_here (operator.Relation op) e none))
+    by_operator operator.LeftOut e none = absurd (some_faults _ _ (no_reset operator.LeftOut g.at t count refl) (fault_here operator.LeftOut e none))
+    by_operator operator.Expansion e none = absurd (some_faults _ _ (no_reset operator.Expansion g.at t count refl) (fault_here operator.Expansion e none))
 
 -- a push that is no error
 pub pushed : {A B : Type 0} (r : Result A B) (b : Bool) → b ≡ is_err r → b ≡ false → is_ok r ≡ true

@@ -1,5 +1,5 @@
 -- How pieces are read, character by character.
-use Rattle.std.proofs.Common.{◌≡◌, ℕ, zero, suc, ◌+◌, ◌*◌, ◌^◌, Ok, ◌-◌, ◌<◌, ◌≤◌, Bool, true, false, not, ◌==◌, List, [], ◌∷◌, ◌++◌, length, take, drop, Option, Some, None, MatchOption, append-nil, append_assoc, ne_eqb, refl, sym, ap, ap₂, subst, ◌∙◌, arith}
+use Rattle.std.proofs.Common.{◌≡◌, cond, ℕ, zero, suc, ◌+◌, ◌*◌, ◌^◌, Ok, ◌-◌, ◌<◌, ◌≤◌, Bool, true, false, not, ◌==◌, List, [], ◌∷◌, ◌++◌, length, take, drop, Option, Some, None, MatchOption, append-nil, append_assoc, ne_eqb, refl, sym, ap, ap₂, subst, ◌∙◌, arith}
 use Rattle.std.proofs.lemmas.Bool.{cond-true, cond-false}
 use Rattle.std.proofs.lemmas.Bool.Decides.{nat_tests}
 use Rattle.std.proofs.lemmas.List.Sums.{take_while-cons}
@@ -12,7 +12,7 @@ use Rattle.uca_model.specs.Rules.{same}
 use Rattle.uca_model.proofs.RuleTextLemmas.{piece-some}
 use lib.Utf8.{scalar}
 use Rattle.uca_tailor.specs.Scan.{ScanState, passed, first_left, TakesOne}
-use Rattle.uca_tailor.specs.Pieces.{TakesPiece, quoted_piece, plain_piece, kind_of, first_piece, ReadsNext}
+use Rattle.uca_tailor.specs.Pieces.{TakesPiece, quoted_piece, plain_piece, kind_of, first_piece, ReadsNext, takes_memory}
 use Rattle.uca_tailor.specs.declared.pieces.Operator.{Operator}
 use Rattle.uca_tailor.specs.declared.pieces.Operator.TheVariants as operator
 use Rattle.uca_tailor.specs.declared.pieces.Piece.{Piece}
@@ -204,6 +204,31 @@ code_point_taken n value c said s old t string longer is ok is_value e f appends
       scan = f ∙ sym (passed-taken n s old e) ∙ ap (λ k. passed k s) (let g : n + 1 ≡ (n + 2) - 1 = omega arith in g);
       appends = appends ∙ ap (λ x. string ++ x ∷ []) is_value;
     })
+
+-- Memory
+
+takes-either : (b : Bool) (p q : text.Piece) → takes_memory p.kind ≡ true → takes_memory q.kind ≡ true → takes_memory (cond b p q).kind ≡ true
+takes-either true p q first second = first
+takes-either false p q first second = second
+
+-- each piece with characters of a string takes memory, whatever becomes of it
+pub code_point_takes : (n : ℕ) (said : Option ℕ) → takes_memory (code_point n said).kind ≡ true
+code_point_takes n None = refl
+code_point_takes n (Some c) = takes-either (scalar c) _ _ refl refl
+
+pub escape_takes : (cs : List ℕ) → takes_memory (text.escape cs).kind ≡ true
+escape_takes [] = refl
+escape_takes (c ∷ cs) = takes-either (c == text.small_u) _ _ (code_point_takes 4 (hex_value 4 0 cs)) (takes-either (c == text.capital_u) _ _ (code_point_takes 8 (hex_value 8 0 cs)) refl)
+
+pub quoted_takes : (q : Option Quoted) → takes_memory (quoted_piece q).kind ≡ true
+quoted_takes None = refl
+quoted_takes (Some q) = refl
+
+pub quote_takes : (cs : List ℕ) → takes_memory (text.quote cs).kind ≡ true
+quote_takes cs = takes-either (begins_with apostrophe cs) _ _ refl (quoted_takes (quoted cs))
+
+pub plain_takes : (c : ℕ) → takes_memory (plain_piece c).kind ≡ true
+plain_takes c = takes-either (text.is_left_out c) _ _ refl (takes-either (text.is_plain c) _ _ refl refl)
 
 -- Operators
 

@@ -1,5 +1,5 @@
 -- How a string is read, piece by piece.
-use Rattle.std.proofs.Common.{◌≡◌, ℕ, ◌+◌, ◌<◌, ◌≤◌, Bool, true, false, List, [], ◌∷◌, ◌++◌, length, take, drop, flat_map, Option, Some, None, Result, Ok, Err, MatchOption, append-nil, append_assoc, refl, sym, ap, ap₂, subst, ◌∙◌, arith, length-drop, length-append, encode_utf8_all}
+use Rattle.std.proofs.Common.{◌≡◌, ◌≢◌, ℕ, ◌+◌, ◌<◌, ◌≤◌, Bool, true, false, List, [], ◌∷◌, ◌++◌, length, take, drop, flat_map, Option, Some, None, Result, Ok, Err, MatchOption, append-nil, append_assoc, refl, sym, ap, ap₂, subst, ◌∙◌, arith, length-drop, length-append, encode_utf8_all}
 use Rattle.std.proofs.lemmas.Bool.{cond-true, cond-false, le-ltb}
 use Rattle.std.proofs.lemmas.Bool.Decides.{nat_tests}
 use Rattle.std.specs.Prelude.{nat_lt}
@@ -18,7 +18,7 @@ use Rattle.uca_model.specs.RuleText.{parts_from}
 use Rattle.uca_model.proofs.RuleTextLemmas.{parts-step, parts-none, piece-some}
 use Rattle.uca_tailor.specs.Faults.{told_of_text}
 use Rattle.uca_tailor.specs.Scan.{ScanState, passed}
-use Rattle.uca_tailor.specs.Pieces.{first_piece, kind_of, ReadsNext, TakesNext, RefusesPiece}
+use Rattle.uca_tailor.specs.Pieces.{first_piece, kind_of, ReadsNext, TakesNext, RefusesPiece, takes_memory}
 use Rattle.uca_tailor.specs.Strings.{left_of, segments_from, part_of, FindsNext, ReadsString, string_faults, BeginsWith, BeginsAt}
 use Rattle.uca_tailor.specs.declared.faults.RuleCause.{RuleCause}
 use Rattle.uca_tailor.specs.declared.strings.Found.{Found}
@@ -203,20 +203,56 @@ fault-first faults_of s t p f is e no_operator fault =
 pub refused_leading : (s t : ScanState) (cause : RuleCause) → Skips leading_faults s t → Refused t cause → BeginsAt t.at cause (flat_map leading_faults (left_of s).leading)
 refused_leading s t cause is fault = go (told_of_text cause) fault.fault
   where
-    go : (o : Option text.RuleCause) → MatchOption o (Unit {0}) (λ told. fault.first.kind ≡ text.refused told) → MatchOption o (Unit {0}) (λ told. (rest : List RuleFault) × (flat_map leading_faults (left_of s).leading ≡ record { at = t.at; cause = told } ∷ rest))
+    go : (o : Option text.RuleCause) → MatchOption o (takes_memory fault.first.kind ≡ true) (λ told. fault.first.kind ≡ text.refused told) → MatchOption o (Unit {0}) (λ told. (rest : List RuleFault) × (flat_map leading_faults (left_of s).leading ≡ record { at = t.at; cause = told } ∷ rest))
     go None u = tt
     go (Some told) e = fault-first leading_faults s t fault.first (record { at = t.at; cause = told }) is fault.is_first (no_operator_from _ _ e refl) (ap (leading_kind_faults t.at) e)
 
 pub refused_part : (s t : ScanState) (cause : RuleCause) → Skips part_faults s t → Refused t cause → BeginsAt t.at cause (flat_map part_faults (left_of s).leading)
 refused_part s t cause is fault = go (told_of_text cause) fault.fault
   where
-    go : (o : Option text.RuleCause) → MatchOption o (Unit {0}) (λ told. fault.first.kind ≡ text.refused told) → MatchOption o (Unit {0}) (λ told. (rest : List RuleFault) × (flat_map part_faults (left_of s).leading ≡ record { at = t.at; cause = told } ∷ rest))
+    go : (o : Option text.RuleCause) → MatchOption o (takes_memory fault.first.kind ≡ true) (λ told. fault.first.kind ≡ text.refused told) → MatchOption o (Unit {0}) (λ told. (rest : List RuleFault) × (flat_map part_faults (left_of s).leading ≡ record { at = t.at; cause = told } ∷ rest))
     go None u = tt
     go (Some told) e = fault-first part_faults s t fault.first (record { at = t.at; cause = told }) is fault.is_first (no_operator_from _ _ e refl) (ap (piece_faults t.at) e)
 
 -- a character stands before the first operator
 pub given_leading : (s t u : ScanState) (string longer : List ℕ) → Skips leading_faults s t → Took t string u longer piece.Given → (rest : List RuleFault) × (flat_map leading_faults (left_of s).leading ≡ record { at = t.at; cause = text.syntax } ∷ rest)
 given_leading s t u string longer is took = fault-first leading_faults s t took.first (record { at = t.at; cause = text.syntax }) is took.is_first (no_operator_from _ _ took.taken.kind refl) (ap (leading_kind_faults t.at) took.taken.kind)
+
+-- the faults of a text in which one was met
+pub some_faults : (fs : List RuleFault) (f : RuleFault) → (rest : List RuleFault) × (fs ≡ f ∷ rest) → fs ≢ []
+some_faults fs f (rest, e) = λ none. (let same : f ∷ rest ≡ [] = sym e ∙ none in cc)
+
+leading-one : (at : ℕ) (k : Kind) → takes_memory k ≡ true → (f : RuleFault) × (leading_kind_faults at k ≡ f ∷ [])
+leading-one at (gives cs) is = (_, refl)
+leading-one at (refused cause) is = (_, refl)
+leading-one at skipped is = cc
+leading-one at text.resets is = cc
+leading-one at (text.relates op) is = cc
+leading-one at text.left_out_relation is = cc
+leading-one at text.expands is = cc
+
+takes-no_operator : (k : Kind) → takes_memory k ≡ true → is_operator k ≡ false
+takes-no_operator (gives cs) is = refl
+takes-no_operator (refused cause) is = refl
+takes-no_operator skipped is = refl
+takes-no_operator text.resets is = cc
+takes-no_operator (text.relates op) is = cc
+takes-no_operator text.left_out_relation is = cc
+takes-no_operator text.expands is = cc
+
+takes-refused : (p : text.Piece) (cause : RuleCause) → RefusesPiece p cause → takes_memory p.kind ≡ true
+takes-refused p cause fault = go (told_of_text cause) fault
+  where
+    go : (o : Option text.RuleCause) → MatchOption o (takes_memory p.kind ≡ true) (λ told. p.kind ≡ text.refused told) → takes_memory p.kind ≡ true
+    go None is = is
+    go (Some told) e = ap takes_memory e
+
+-- a piece that is refused, or for which memory is wanted
+pub refused_some : (s t : ScanState) (cause : RuleCause) → Skips leading_faults s t → Refused t cause → flat_map leading_faults (left_of s).leading ≢ []
+refused_some s t cause is fault =
+    let takes = takes-refused fault.first cause fault.fault in
+    let one = leading-one t.at fault.first.kind takes in
+    some_faults _ one.0 (fault-first leading_faults s t fault.first one.0 is fault.is_first (takes-no_operator fault.first.kind takes) one.1)
 
 -- Whole strings
 

@@ -1,5 +1,5 @@
 -- What the scan gives of pieces of the text of rules, by their kinds.
-use Rattle.std.specs.Prelude.{◌≡◌, ℕ, ◌+◌, ◌-◌, List, [], ◌∷◌, ◌++◌, Option, Some, None, Result, Ok, MatchOption, MatchResult, if◌then◌else◌}
+use Rattle.std.specs.Prelude.{◌≡◌, ℕ, ◌+◌, ◌-◌, Bool, true, false, List, [], ◌∷◌, ◌++◌, Option, Some, None, Result, Ok, MatchOption, MatchResult, if◌then◌else◌}
 use Rattle.std.specs.Option.{option_map_or}
 use Rattle.uca_model.specs.RuleText as text
 use Rattle.uca_model.specs.RuleText.{Kind, resets, relates, left_out_relation, expands, skipped, gives, refused, given, piece_of, syntax, left_out, is_left_out, is_plain, Quoted}
@@ -30,9 +30,19 @@ pub record TakesPiece (p : text.Piece) (s : ScanState) (string : List ℕ) (t : 
   pub scan : t ≡ passed (p.size - 1) s
   pub appends : longer ≡ string ++ given p.kind
 
--- a piece is refused, or memory is wanted
+-- a piece with characters of a string, or with a fault: only at these memory is taken
+abbrev pub takes_memory : Kind → Bool
+takes_memory (gives cs) = true
+takes_memory (refused cause) = true
+takes_memory skipped = false
+takes_memory resets = false
+takes_memory (relates op) = false
+takes_memory left_out_relation = false
+takes_memory expands = false
+
+-- a piece is refused, or memory is wanted for it
 abbrev pub RefusesPiece : text.Piece → RuleCause → Type 0
-RefusesPiece p cause = MatchOption (told_of_text cause) (Unit {0}) (λ told. p.kind ≡ refused told)
+RefusesPiece p cause = MatchOption (told_of_text cause) (takes_memory p.kind ≡ true) (λ told. p.kind ≡ refused told)
 
 -- one of the two
 abbrev pub ReadsPiece : text.Piece → ScanState → List ℕ → ScanState → List ℕ → Result Piece RuleCause → Type 0

@@ -1,4 +1,4 @@
-ghost use Rattle.std.specs.Prelude.{◌≡◌, ◌≤◌, ◌+◌, ◌==◌, false, ℕ, Ok, MatchResult, MatchOption, chars, length};
+ghost use Rattle.std.specs.Prelude.{◌≡◌, ◌≢◌, ◌≤◌, ◌+◌, ◌==◌, [], false, ℕ, Ok, IfErr, MatchResult, MatchOption, chars, length};
 ghost use Rattle.uca_weights.specs.declared.limits.TheConstants.{MAX_RELATIONS};
 ghost use Rattle.uca_model.specs.RuleText.{rules_of, no_item, segment_faults, resets, relates};
 ghost use Rattle.uca_tailor.specs.Chains.{operator_of};
@@ -108,9 +108,11 @@ fn read_chain(
     Ok((chain, next))
 }
 
-/// The rules that a text says (a profile of UTS #35, Part 5, section 3, Rules), or its first fault.
+/// The rules that a text says (a profile of UTS #35, Part 5, section 3, Rules), or its first fault. A text without
+/// chain and fault takes no memory, so it is never refused.
 pub fn parse(alloc: Global, text: &str) -> Result<Rules, RuleFault>
-    ensures { MatchResult result (λ r. rules_of (chars text.now) ≡ Ok r) (RefusesText (rules_of (chars text.now))) }
+    ensures says { MatchResult result (λ r. rules_of (chars text.now) ≡ Ok r) (RefusesText (rules_of (chars text.now))) }
+    ensures some { IfErr result (λ _. rules_of (chars text.now) ≢ Ok []) }
 {
     let mut scanner = Scanner::new(text);
     let mut next = match first_operator(alloc, &mut scanner) {

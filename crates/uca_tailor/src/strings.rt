@@ -1,4 +1,4 @@
-ghost use Rattle.std.specs.Prelude.{◌≡◌, ◌++◌, [], ℕ, flat_map, OnOk, MatchOption, MatchResult};
+ghost use Rattle.std.specs.Prelude.{◌≡◌, ◌≢◌, ◌++◌, [], ℕ, flat_map, IfErr, OnOk, MatchOption, MatchResult};
 ghost use Rattle.unicode_normalization.specs.Forms.{nfd};
 ghost use Rattle.uca_model.specs.Rules.{IsString};
 ghost use Rattle.uca_model.specs.SafeText.{longest_run};
@@ -44,7 +44,8 @@ pub(crate) fn first_operator(
     alloc: Global,
     scanner: &mut Scanner<'_>,
 ) -> Result<Option<Found>, RuleFault>
-    ensures { MatchResult result (λ found. FindsNext leading_faults scanner.old found scanner.new) (λ f. BeginsWith f (flat_map leading_faults (left_of scanner.old).leading)) }
+    ensures next { MatchResult result (λ found. FindsNext leading_faults scanner.old found scanner.new) (λ f. BeginsWith f (flat_map leading_faults (left_of scanner.old).leading)) }
+    ensures some { IfErr result (λ _. flat_map leading_faults (left_of scanner.old).leading ≢ []) }
 {
     let mut none = Vec::new(alloc);
     'pieces: loop {
