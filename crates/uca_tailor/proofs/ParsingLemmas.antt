@@ -1,23 +1,21 @@
 -- How relations, chains and rules are read, string by string.
 use Rattle.std.proofs.Common.{◌≡◌, ◌≢◌, ℕ, ◌+◌, ◌<◌, ◌≤◌, ◌==◌, Bool, true, false, List, [], ◌∷◌, ◌++◌, length, map, flat_map, All, Option, Some, None, Result, Ok, Err, MatchOption, is_ok, is_err, append-nil, append_assoc, length-append, refl, sym, ap, ap₂, subst, ◌∙◌, arith}
-use Rattle.std.proofs.lemmas.Bool.{cond-true, cond-false}
 use Rattle.std.proofs.lemmas.List.{map-append, length-map}
 use Rattle.std.proofs.lemmas.Bool.Decides.{nat_tests}
 use Rattle.std.proofs.lemmas.List.Concat.{flat_map-append}
 use Rattle.std.proofs.lemmas.List.Elements.{All-push}
 use Rattle.unicode_normalization.specs.Forms.{nfd}
-use Rattle.uca_weights.specs.declared.limits.TheConstants.{MAX_KEY, MAX_RELATIONS}
+use Rattle.uca_weights.specs.declared.limits.TheConstants.{MAX_RELATIONS}
 use Rattle.uca_model.specs.Rules as rules
-use Rattle.uca_model.specs.Rules.{IsString, IsRelation, IsChain, AreRules, items}
+use Rattle.uca_model.specs.Rules.{IsRelation, IsChain, AreRules, items}
 use Rattle.uca_model.specs.RuleText as text
-use Rattle.uca_model.specs.RuleText.{RuleFault, Kind, Segment, Grouped, string_of, part_faults, leading_faults, end_faults, segment_faults, operator_faults, before_next, counted, no_item, item, nothing, resets, relates, expands, grouped, with_segment, fault_if, too_many_relations, first_or, rules_of, faults, segments, parts}
+use Rattle.uca_model.specs.RuleText.{RuleFault, Kind, string_of, part_faults, leading_faults, end_faults, segment_faults, before_next, counted, no_item, item, nothing, resets, relates, expands, grouped, with_segment, fault_if, too_many_relations, first_or, rules_of, faults, segments, parts}
 use Rattle.uca_tailor.proofs.StringLemmas.{some_faults}
 use Rattle.uca_tailor.specs.Chains.{operator_of, relation_of, chain_of}
 use Rattle.uca_tailor.specs.Faults.{told_of_text, RefusesText}
-use Rattle.uca_tailor.specs.Pieces.{kind_of}
 use Rattle.uca_tailor.specs.Scan.{ScanState, scan_of}
 use Rattle.uca_tailor.specs.Strings.{left_of, segments_from, FindsNext, ReadsString, string_faults, BeginsWith, BeginsAt}
-use Rattle.uca_tailor.specs.Parsed.{expands_here, is_expansion, left_out_here, is_left_out_next, resets_here, ends_chain, EndsChain, IsRelationNext, behind_faults, with_relation, ReadsRelation, ReadsChain}
+use Rattle.uca_tailor.specs.Parsed.{expands_here, is_expansion, left_out_here, is_left_out_next, resets_here, EndsChain, IsRelationNext, behind_faults, with_relation, ReadsRelation, ReadsChain}
 use Rattle.uca_tailor.specs.declared.faults.RuleCause.{RuleCause}
 use Rattle.uca_tailor.specs.declared.faults.RuleCause.TheVariants as fault_cause
 use Rattle.uca_tailor.specs.declared.faults.RuleFault as told

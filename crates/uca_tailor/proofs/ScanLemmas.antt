@@ -1,10 +1,10 @@
 -- How a scan goes on, character by character.
-use Rattle.std.proofs.Common.{◌≡◌, ℕ, ◌+◌, ◌^◌, ◌<◌, List, [], ◌∷◌, ◌++◌, length, take, drop, Option, Some, None, MatchOption, encode_utf8, encode_utf8_all, append-nil, length-append, refl, sym, ap, ap₂, subst, ◌∙◌, arith}
+use Rattle.std.proofs.Common.{◌≡◌, ℕ, ◌+◌, List, ◌∷◌, ◌++◌, length, take, drop, Some, None, encode_utf8, encode_utf8_all, append-nil, length-append, refl, sym, ap, ap₂, ◌∙◌, arith}
 use Rattle.std.proofs.lemmas.List.{nil_from_length, drop-drop}
 use Rattle.std.proofs.Math.Seq.{take-add}
 use Rattle.std.proofs.lemmas.Str.{chars_past_char, chars-nil, IsUtf8-past_char, encodes-append}
-use Rattle.std.specs.Str.{chars, IsUtf8}
-use Rattle.std.specs.Str.Iter.{char_indices_rest, char_indices_offset, char_indices_steps}
+use Rattle.std.specs.Str.{chars}
+use Rattle.std.specs.Str.Iter.{char_indices_rest, char_indices_offset}
 use Rattle.std.specs.declared.str.CharIndices.{CharIndices}
 use Rattle.uca_tailor.specs.Scan.{ScanState, passed, TakesOne, state_of, IsCursor}
 

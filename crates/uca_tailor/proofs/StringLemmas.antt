@@ -1,5 +1,5 @@
 -- How a string is read, piece by piece.
-use Rattle.std.proofs.Common.{◌≡◌, ◌≢◌, ℕ, ◌+◌, ◌<◌, ◌≤◌, Bool, true, false, List, [], ◌∷◌, ◌++◌, length, take, drop, flat_map, Option, Some, None, Result, Ok, Err, MatchOption, append-nil, append_assoc, refl, sym, ap, ap₂, subst, ◌∙◌, arith, length-drop, length-append, encode_utf8_all}
+use Rattle.std.proofs.Common.{◌≡◌, ◌≢◌, ℕ, ◌+◌, ◌<◌, ◌≤◌, true, false, List, [], ◌∷◌, ◌++◌, length, drop, flat_map, Option, Some, None, Ok, Err, MatchOption, append-nil, append_assoc, refl, sym, ap, ap₂, subst, ◌∙◌, arith, length-drop, length-append}
 use Rattle.std.proofs.lemmas.Bool.{cond-true, cond-false, le-ltb}
 use Rattle.std.proofs.lemmas.Bool.Decides.{nat_tests}
 use Rattle.std.specs.Prelude.{nat_lt}
@@ -13,13 +13,13 @@ use Rattle.uca_model.specs.SafeText.{longest_run}
 use Rattle.uca_model.specs.Rules.{IsString}
 use Rattle.std.proofs.lemmas.List.Concat.{flat_map-cons}
 use Rattle.uca_model.specs.RuleText as text
-use Rattle.uca_model.specs.RuleText.{Part, Segment, Segments, segments, with_part, part_at, is_operator, string_of, given, gives, skipped, refused, piece_of, RuleFault, part_faults, leading_faults, piece_faults, leading_kind_faults, Kind, end_faults, fault_if}
+use Rattle.uca_model.specs.RuleText.{Part, Segments, segments, with_part, part_at, is_operator, string_of, given, gives, skipped, refused, piece_of, RuleFault, part_faults, leading_faults, piece_faults, leading_kind_faults, Kind, end_faults, fault_if}
 use Rattle.uca_model.specs.RuleText.{parts_from}
 use Rattle.uca_model.proofs.RuleTextLemmas.{parts-step, parts-none, piece-some}
 use Rattle.uca_tailor.specs.Faults.{told_of_text}
 use Rattle.uca_tailor.specs.Scan.{ScanState, passed}
 use Rattle.uca_tailor.specs.Pieces.{first_piece, kind_of, ReadsNext, TakesNext, RefusesPiece, takes_memory}
-use Rattle.uca_tailor.specs.Strings.{left_of, segments_from, part_of, FindsNext, ReadsString, string_faults, BeginsWith, BeginsAt}
+use Rattle.uca_tailor.specs.Strings.{left_of, segments_from, part_of, FindsNext, ReadsString, string_faults, BeginsAt}
 use Rattle.uca_tailor.specs.declared.faults.RuleCause.{RuleCause}
 use Rattle.uca_tailor.specs.declared.strings.Found.{Found}
 use Rattle.uca_tailor.specs.declared.pieces.Operator.{Operator}

@@ -1,5 +1,5 @@
 -- What the faults say, by the words of the rule text and of tailoring.
-use Rattle.std.specs.Prelude.{◌≡◌, ℕ, Option, Some, None, Result, Ok, Err, MatchOption, MatchResult, List}
+use Rattle.std.specs.Prelude.{◌≡◌, Option, Some, None, Result, Err, MatchOption, List}
 use Rattle.uca_model.specs.Table.{ElementTable}
 use Rattle.uca_model.specs.Rules.{Chain}
 use Rattle.uca_model.specs.RuleText as text

@@ -1,16 +1,14 @@
 -- Strings between operators, and what the scan has still to read.
-use Rattle.std.specs.Prelude.{◌≡◌, ℕ, ◌+◌, List, [], ◌∷◌, ◌++◌, length, map, flat_map, Option, Some, None, Result, MatchOption, MatchResult}
+use Rattle.std.specs.Prelude.{◌≡◌, ℕ, ◌+◌, List, [], ◌∷◌, ◌++◌, flat_map, Option, Some, None, MatchOption}
 use Rattle.unicode_normalization.specs.Forms.{nfd}
-use Rattle.uca_model.specs.Rules.{Chain, IsString, IsRelation, IsChain}
-use Rattle.uca_model.specs.RuleText.{RuleFault, Part, Segment, Segments, segments, string_of, part_faults, leading_faults, end_faults, segment_faults, no_item, nothing, resets, relates, grouped, parts_from}
-use Rattle.uca_tailor.specs.Chains.{operator_of, relation_of, chain_of}
+use Rattle.uca_model.specs.Rules.{IsString}
+use Rattle.uca_model.specs.RuleText.{RuleFault, Part, Segment, Segments, segments, string_of, part_faults, end_faults, parts_from}
 use Rattle.uca_tailor.specs.Faults.{told_of_text}
 use Rattle.uca_tailor.specs.Pieces.{kind_of}
 use Rattle.uca_tailor.specs.Scan.{ScanState}
 use Rattle.uca_tailor.specs.declared.faults.RuleCause.{RuleCause}
 use Rattle.uca_tailor.specs.declared.faults.RuleFault as told
 use Rattle.uca_tailor.specs.declared.rules.Chain as parts
-use Rattle.uca_tailor.specs.declared.rules.Op.{Op}
 use Rattle.uca_tailor.specs.declared.rules.Relation as parts_of_relation
 use Rattle.uca_tailor.specs.declared.strings.Found.{Found}
 use Rattle.uca_tailor.specs.declared.pieces.Operator.{Operator}

@@ -1,8 +1,7 @@
-use Rattle.std.proofs.Common.{◌≡◌, ◌≢◌, ◌+◌, ◌∷◌, ◌++◌, [], length, chars, sym, ap, subst, ◌∙◌, arith}
+use Rattle.std.proofs.Common.{◌≡◌, ◌≢◌, ◌+◌, ◌∷◌, ◌++◌, [], length, chars, sym, subst, ◌∙◌, arith}
 use Rattle.std.proofs.lemmas.Bool.{cond-true}
 use Rattle.uca_tailor.proofs.ParsingLemmas.{InRules, rules_more, rules_end, rules_refused, leading_refused, before_reset, reset_from, pushed, leading_some, operator_some}
 use Rattle.uca_tailor.specs.Strings.{left_of, BeginsWith}
-use Rattle.uca_tailor.specs.Scan.{scan_of}
 use Rattle.uca_model.specs.RuleText.{leading_faults}
 use Rattle.std.proofs.Common.{flat_map}
 use Rattle.uca_tailor.proofs.parsing.parse.Goals as goal

@@ -1,7 +1,5 @@
-use Rattle.std.proofs.Common.{◌≡◌, ◌∷◌, ◌++◌, [], List, Some, rules, sym, subst, ◌∙◌}
+use Rattle.std.proofs.Common.{◌≡◌, ◌∷◌, ◌++◌, [], rules, sym, subst, ◌∙◌}
 use Rattle.std.proofs.lemmas.Bool.{cond-true}
-use Rattle.uca_tailor.specs.declared.rules.Relation.{Relation}
-use Rattle.uca_tailor.specs.Parsed.{IsRelationNext}
 use Rattle.uca_tailor.proofs.ParsingLemmas.{InChain, chain_more, pushed}
 use Rattle.uca_tailor.proofs.parsing.read_chain.Goals as goal
 

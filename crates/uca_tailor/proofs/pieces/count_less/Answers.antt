@@ -1,4 +1,4 @@
-use Rattle.std.proofs.Common.{◌≡◌, ◌+◌, ◌==◌, refl, sym, ap, ◌∙◌, arith}
+use Rattle.std.proofs.Common.{◌≡◌, ◌+◌, ◌==◌, refl, sym, ◌∙◌, arith}
 use Rattle.uca_model.specs.RuleText.{less_than, less_run}
 use Rattle.uca_tailor.proofs.PieceLemmas.{take_next, run_goes_on, run_longer}
 use Rattle.uca_tailor.proofs.pieces.count_less.Goals as goal

@@ -1,4 +1,4 @@
-use Rattle.std.proofs.Common.{◌≡◌, ◌+◌, ◌-◌, ◌*◌, ◌^◌, ◌<◌, ◌≤◌, sym, ap, subst, ◌∙◌, arith}
+use Rattle.std.proofs.Common.{◌≡◌, ◌+◌, ◌-◌, ◌*◌, ◌^◌, ◌<◌, sym, ap, subst, ◌∙◌, arith}
 use Rattle.uca_model.specs.RuleText.{hex_value}
 use Rattle.uca_model.proofs.NumberLemmas.{digit_more}
 use Rattle.uca_tailor.proofs.PieceLemmas.{passed-taken, hex_more, hex_stops, seven_digits}

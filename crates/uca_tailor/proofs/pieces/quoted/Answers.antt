@@ -1,4 +1,4 @@
-use Rattle.std.proofs.Common.{◌≡◌, ◌==◌, false, ◌∷◌, [], ◌++◌, sym, ap, subst, ◌∙◌, arith}
+use Rattle.std.proofs.Common.{◌≡◌, ◌==◌, false, ◌∷◌, [], ◌++◌, sym, subst, ◌∙◌, arith}
 use Rattle.std.proofs.lemmas.Bool.Decides.{nat_tests}
 use Rattle.uca_model.specs.RuleText.{apostrophe}
 use Rattle.uca_tailor.proofs.PieceLemmas.{InQuote, quote_begins, quote_other, quote_double, quote_ends, quote_open, take_next}

@@ -1,7 +1,7 @@
 use Rattle.std.proofs.Common.{◌≡◌, ◌<◌, ◌≤◌, ◌++◌, List, ℕ, length, ap, sym, subst, ◌∙◌, arith}
 use Rattle.std.proofs.lemmas.Bool.Decides.{nat_tests}
 use Rattle.unicode_normalization.specs.Forms.{nfd}
-use Rattle.uca_weights.specs.declared.limits.TheConstants.{MAX_RUN, MAX_KEY}
+use Rattle.uca_weights.specs.declared.limits.TheConstants.{MAX_KEY}
 use Rattle.uca_model.specs.SafeText.{longest_run}
 use Rattle.uca_tailor.proofs.StringLemmas.{some_nfd, ends_long, ends_fine}
 use Rattle.uca_tailor.proofs.strings.ended.Goals as goal

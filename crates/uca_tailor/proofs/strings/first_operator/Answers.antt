@@ -1,12 +1,10 @@
-use Rattle.std.proofs.Common.{◌≡◌, List, ℕ, Option, Some, None, Ok, Err, Result, flat_map, refl, sym, ap, subst, ◌∙◌}
+use Rattle.std.proofs.Common.{Some, Ok, flat_map, sym, ap, subst, ◌∙◌}
 use Rattle.uca_model.specs.RuleText.{leading_faults}
 use Rattle.uca_tailor.specs.Pieces.{first_piece, ReadsNext}
-use Rattle.uca_tailor.specs.Scan.{ScanState}
 use Rattle.uca_tailor.specs.Strings.{left_of, FindsNext}
 use Rattle.uca_tailor.specs.declared.faults.RuleCause.TheVariants as cause
 use Rattle.uca_tailor.specs.declared.pieces.Piece.TheVariants as piece
-use Rattle.uca_tailor.specs.declared.strings.Found.{Found}
-use Rattle.uca_tailor.proofs.StringLemmas.{Took, took, fewer, none_left, refused_first, skips_none, skips_leading, finds_operator, finds_none, refused_leading, refused_some, some_faults, given_leading, same_place}
+use Rattle.uca_tailor.proofs.StringLemmas.{took, fewer, none_left, refused_first, skips_none, skips_leading, finds_operator, finds_none, refused_leading, refused_some, some_faults, given_leading, same_place}
 use Rattle.uca_tailor.proofs.ParsingLemmas.{begins-at}
 use Rattle.uca_tailor.proofs.strings.first_operator.Goals as goal
 

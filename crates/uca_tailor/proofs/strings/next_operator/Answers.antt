@@ -1,11 +1,9 @@
-use Rattle.std.proofs.Common.{◌≡◌, ◌++◌, List, ℕ, Option, Some, None, Ok, Err, Result, flat_map, refl, sym, ap, subst, ◌∙◌}
-use Rattle.uca_model.specs.RuleText.{part_faults, string_of}
+use Rattle.std.proofs.Common.{Some, Ok, flat_map, refl, sym, ap, subst, ◌∙◌}
+use Rattle.uca_model.specs.RuleText.{part_faults}
 use Rattle.uca_tailor.specs.Pieces.{first_piece, ReadsNext}
-use Rattle.uca_tailor.specs.Scan.{ScanState}
 use Rattle.uca_tailor.specs.Strings.{left_of, FindsNext}
 use Rattle.uca_tailor.specs.declared.pieces.Piece.TheVariants as piece
-use Rattle.uca_tailor.specs.declared.strings.Found.{Found}
-use Rattle.uca_tailor.proofs.StringLemmas.{Took, took, fewer, none_left, same_at_end, refused_first, skips_none, skips_skipped, skips_given, string-skipped, string-given, string-found, string-ended, same-string, finds_operator, finds_none, refused_part, same_place}
+use Rattle.uca_tailor.proofs.StringLemmas.{took, fewer, none_left, same_at_end, refused_first, skips_none, skips_skipped, skips_given, string-skipped, string-given, string-found, string-ended, same-string, finds_operator, finds_none, refused_part, same_place}
 use Rattle.uca_tailor.proofs.ParsingLemmas.{begins-at}
 use Rattle.uca_tailor.proofs.strings.next_operator.Goals as goal
 
