@@ -24,3 +24,7 @@ StopsReading-by old new fault cause is stops =
 -- the bytes so far and n more are too many
 pub too_many : (limit : ℕ) (bytes buf : List ℕ) (n : ℕ) → length bytes ≤ limit → n ≤ length buf → limit - length bytes < n → limit < length (bytes ++ take n buf)
 too_many limit bytes buf n within fits more = omega (arith, length-append bytes (take n buf), length-take n buf)
+
+-- the bytes so far and n more are some, and not too many
+pub some_within : (limit : ℕ) (bytes buf : List ℕ) (n : ℕ) → n ≤ length buf → 0 < n → n ≤ limit - length bytes → (0 < length (bytes ++ take n buf)) × (length (bytes ++ take n buf) ≤ limit)
+some_within limit bytes buf n within some fits = (omega (arith, length-append bytes (take n buf), length-take n buf), omega (arith, length-append bytes (take n buf), length-take n buf))

@@ -9,11 +9,12 @@ use Rattle.uca_cli.specs.declared.faults.InputFault.{InputFault}
 use Rattle.uca_cli.specs.declared.input.Stop.{Stop}
 use Rattle.uca_cli.specs.declared.input.Stop.TheVariants as stop
 
--- reading did not come to the end: there was a byte too much, or the reader failed before there was one, or memory was wanted
+-- reading did not come to the end: there was a byte too much, or before there was one the reader failed, or memory was wanted
+-- for those that it gave
 abbrev pub StopsAt : ℕ → Stop → ReaderState → ReaderState → Type 0
 StopsAt limit stop.TooLarge old new = (bytes : List ℕ) × (Gives old new bytes × (limit < length bytes))
 StopsAt limit stop.Read old new = (bytes : List ℕ) × (GivesAndFails old new bytes × (length bytes ≤ limit))
-StopsAt limit stop.OutOfMemory old new = (bytes : List ℕ) × Gives old new bytes
+StopsAt limit stop.OutOfMemory old new = (bytes : List ℕ) × (Gives old new bytes × ((0 < length bytes) × (length bytes ≤ limit)))
 
 -- the same of an input of lines
 abbrev pub StopsBy : InputCause → ReaderState → ReaderState → Type 0

@@ -96,10 +96,15 @@ abbrev pub RefusesText : Option ReaderState → Option ReaderState → ReadFault
 RefusesText (Some old) (Some new) f = IsRefused old new f
 RefusesText _ _ f = ⊥
 
+-- memory was wanted for the built-in table
+abbrev pub WantsOwnTable : Option ReaderState → Option ReaderState → Type 0
+WantsOwnTable None None = ⊤
+WantsOwnTable _ _ = ⊥
+
 -- reading the table came to no table
 abbrev pub StopsTable : Option ReaderState → Option ReaderState → CliFault → Type 0
 StopsTable old new (fault.Table f) = RefusesText old new f
-StopsTable old new fault.OutOfMemory = new ≡ old
+StopsTable old new fault.OutOfMemory = WantsOwnTable old new
 StopsTable old new _ = ⊥
 
 -- ---- the input
