@@ -13,7 +13,7 @@ table() { printf '%b' "$(cat)" >"$work/$1"; }
 rules() { printf '%b' "$2" >"$work/$1"; }
 
 # row DEFINITION WORDS INPUT WANTED SOURCE: the lines of the output, with LF or `|` between, or what is told of a refusal; keys are
-# written as weights of four digits
+# written as weights of four digits and code points of six
 row() {
     local words=${2//--table /--table $work/} got
     words=${words//--rules /--rules $work/}
@@ -161,11 +161,11 @@ row 'sort_key' 'key --table published --strength quaternary --variable shifted' 
 42DA 1FBC 0000 0020 0020 0000 000E 0002 0000 FFFF FFFF' 'perl Unicode::Collate 1.31 getSortKey'
 row 'sort_key' 'key --table published --strength identical --variable shifted' '\na\n\x01\n\u304C\n\U0001D165\na-b\n' \
 '0000 0000 0000 0000
-1FA2 0000 0020 0000 0002 0000 FFFF 0000 0000 61
-0000 0000 0000 0000 0000 01
-42E0 0000 0020 0037 0000 000E 0002 0000 FFFF FFFF 0000 0030 4B00 3099
-0000 0000 0000 0000 01D1 65
-1FA2 1FBC 0000 0020 0020 0000 0002 0002 0000 FFFF 020D FFFF 0000 0000 6100 002D 0000 62' 'perl Unicode::Collate 1.31 getSortKey'
+1FA2 0000 0020 0000 0002 0000 FFFF 0000 000061
+0000 0000 0000 0000 000001
+42E0 0000 0020 0037 0000 000E 0002 0000 FFFF FFFF 0000 00304B 003099
+0000 0000 0000 0000 01D165
+1FA2 1FBC 0000 0020 0020 0000 0002 0002 0000 FFFF 020D FFFF 0000 000061 00002D 000062' 'perl Unicode::Collate 1.31 getSortKey'
 row 'key_order' 'compare --table published' '\n\x01\na\nab\nabc\nac\na\n' 'equal less less less less greater' 'perl Unicode::Collate 1.31 cmp'
 row 'key_order' 'compare --table published --strength identical --variable shifted' '\x00\n\u200B\n\u0313\n\u0343\n\u2000\n\u2001\n\u304C\n\u304B\u3099\n' \
     'less less equal greater less less equal' 'perl Unicode::Collate 1.31 cmp, t/ident.t'
@@ -179,17 +179,17 @@ row 'nfd' 'compare --table published --strength identical --variable shifted' '\
 row 'nfd' 'compare --table published --strength identical --variable shifted' '\u212B\n\u00C5\nA\u030A\n\u2126\n\u03A9\n' \
     'equal equal less equal' 'UAX #15, Singletons; perl Unicode::Collate 1.31 cmp'
 row 'nfd' 'key --table published --strength identical --variable shifted' '\uAC00\n\uAC01\n\u1100\u1161\u11A8\n' \
-'4175 41F3 0000 0020 0020 0000 0002 0002 0000 FFFF FFFF 0000 0011 0000 1161
-4175 41F3 4251 0000 0020 0020 0020 0000 0002 0002 0002 0000 FFFF FFFF FFFF 0000 0011 0000 1161 0011 A8
-4175 41F3 4251 0000 0020 0020 0020 0000 0002 0002 0002 0000 FFFF FFFF FFFF 0000 0011 0000 1161 0011 A8' 'perl Unicode::Collate 1.31 getSortKey'
+'4175 41F3 0000 0020 0020 0000 0002 0002 0000 FFFF FFFF 0000 001100 001161
+4175 41F3 4251 0000 0020 0020 0020 0000 0002 0002 0002 0000 FFFF FFFF FFFF 0000 001100 001161 0011A8
+4175 41F3 4251 0000 0020 0020 0020 0000 0002 0002 0002 0000 FFFF FFFF FFFF 0000 001100 001161 0011A8' 'perl Unicode::Collate 1.31 getSortKey'
 row 'nfd' 'key --table published --strength identical --variable shifted' '\u0344\n\u1F82\n\u01D5\n\u0F73\n\uFB2C\n' \
-'0000 002B 0024 0000 0002 0002 0000 FFFF FFFF 0000 0003 0800 0301
-231E 0000 0020 0022 0025 004C 0000 0002 0002 0002 0002 0000 FFFF FFFF FFFF FFFF 0000 0003 B100 0313 0003 0000 0345
-2217 0000 0020 002B 0032 0000 0008 0002 0002 0000 FFFF FFFF FFFF 0000 0000 5500 0308 0003 04
-332B 0000 0020 0000 0002 0000 FFFF 0000 000F 7100 0F72
-2632 0000 0020 005F 005E 0000 0002 0002 0002 0000 FFFF FFFF FFFF 0000 0005 E900 05BC 0005 C1' 'perl Unicode::Collate 1.31 getSortKey'
+'0000 002B 0024 0000 0002 0002 0000 FFFF FFFF 0000 000308 000301
+231E 0000 0020 0022 0025 004C 0000 0002 0002 0002 0002 0000 FFFF FFFF FFFF FFFF 0000 0003B1 000313 000300 000345
+2217 0000 0020 002B 0032 0000 0008 0002 0002 0000 FFFF FFFF FFFF 0000 000055 000308 000304
+332B 0000 0020 0000 0002 0000 FFFF 0000 000F71 000F72
+2632 0000 0020 005F 005E 0000 0002 0002 0002 0000 FFFF FFFF FFFF 0000 0005E9 0005BC 0005C1' 'perl Unicode::Collate 1.31 getSortKey'
 row 'nfd' 'key --table published --strength identical --variable shifted' '\u1E69\n' \
-    '21D2 0000 0020 0042 002E 0000 0002 0002 0002 0000 FFFF FFFF FFFF 0000 0000 7300 0323 0003 07' 'perl Unicode::Normalize NFD 0073 0323 0307'
+    '21D2 0000 0020 0042 002E 0000 0002 0002 0002 0000 FFFF FFFF FFFF 0000 000073 000323 000307' 'perl Unicode::Normalize NFD 0073 0323 0307'
 
 # Safe texts: a run of 30 nonstarters, and not of 31 (UAX #15, 13)
 row 'IsSafe' 'order' 'a\u0301\u0301\u0301\u0301\u0301\u0301\u0301\u0301\u0301\u0301\u0301\u0301\u0301\u0301\u0301\u0301\u0301\u0301\u0301\u0301\u0301\u0301\u0301\u0301\u0301\u0301\u0301\u0301\u0301\u0301\n' \
