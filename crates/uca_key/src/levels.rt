@@ -15,7 +15,10 @@ fn push_weight(key: &mut Vec<u8>, weights: &[u16; 4], level: u8) -> Result<(), A
     if weight == 0 {
         return Ok(());
     }
-    key.extend_from_slice(&weight.to_be_bytes())
+    let bytes = weight.to_be_bytes();
+    key.push(bytes[0])?;
+    key.push(bytes[1])?;
+    Ok(())
 }
 
 // Appends the bytes of one level, from 1 to 4 (UTS #10, section 7.3, step S3).
@@ -65,7 +68,8 @@ pub(crate) fn weighted_levels(
     requires last { levels ≤ 4 }
     ensures { IfOk result (λ key. (points : List ℕ) → key.items ≡ joined (take levels (all_levels (weighted v elements.now) points))) }
 {
-    let mut key = Vec::new(alloc);
+    let room = elements.len().saturating_mul(8).saturating_add(8);
+    let mut key = Vec::with_capacity(alloc, room)?;
     push_level(&mut key, v, elements, 1)?;
     for level in 1..levels {
         push_separator(&mut key)?;

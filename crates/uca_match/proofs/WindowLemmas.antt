@@ -10,10 +10,10 @@ use Rattle.uca_model.specs.CollationElements.{step, took_alone}
 use Rattle.uca_model.specs.Source.{SourceState, unread}
 use Rattle.uca_model.specs.Window.{WindowState, IsWindow, Fits, ShowsFront, ReadsOn, ChangesRest, begins_segment, credit, rest_of}
 use Rattle.uca_model.proofs.MatchingLemmas.{extended_ends, extended_takes, extended_passes}
-use Rattle.uca_match.specs.Running.{highest_class, passed_over}
+use Rattle.uca_table.specs.Running.{highest_class, passed_over}
 use Rattle.uca_match.specs.WindowMatch.{IsTaking, TakesMarks, TakesMatch}
-use Rattle.uca_match.proofs.PlaceLemmas.{passed_over-more, passed_over-rest, passed_over-none}
-use Rattle.uca_match.proofs.MatchLemmas.{start_len-short, highest_class-more, taken_as}
+use Rattle.uca_table.proofs.PlaceLemmas.{passed_over-more, passed_over-rest, passed_over-none}
+use Rattle.uca_table.proofs.MatchLemmas.{start_len-short, highest_class-more, taken_as}
 
 -- ---- the start
 

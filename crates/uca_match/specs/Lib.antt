@@ -1,4 +1,3 @@
-pub mod Running
 pub mod WindowMatch
 pub mod Pulls
 pub mod ToCome

@@ -4,7 +4,7 @@ use Rattle.uca_model.specs.Table.{ElementTable, is_key}
 use Rattle.uca_model.specs.Match.{extension_of, took}
 use Rattle.uca_model.specs.CollationElements.{step}
 use Rattle.uca_model.specs.Window.{WindowState, Fits, rest_of}
-use Rattle.uca_match.specs.Running.{highest_class, passed_over}
+use Rattle.uca_table.specs.Running.{highest_class, passed_over}
 
 -- of the marks behind the first `start` points those before `at` were tried, and those that the key took are gone from the rest
 pub record IsTaking (is_key : List ℕ → Bool) (start : ℕ) (first : List ℕ) (old : WindowState) (key : List ℕ) (w : WindowState) (at high : ℕ) : Type 0 where

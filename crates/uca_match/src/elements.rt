@@ -1,4 +1,4 @@
-ghost use Rattle.std.specs.Prelude.{◌≡◌, ℕ, List, ◌<◌, ◌++◌, ◌∷◌, length, IfOk, OnOk};
+ghost use Rattle.std.specs.Prelude.{◌≡◌, ℕ, List, ◌<◌, ◌++◌, ◌∷◌, length, chars, IfOk, OnOk};
 ghost use Rattle.unicode_normalization.specs.Forms.{nfd};
 ghost use Rattle.uca_model.specs.CollationElements.{elements, elements_or_implicit};
 ghost use Rattle.uca_model.specs.SafeText.{IsSafe};
@@ -8,50 +8,29 @@ ghost use Rattle.uca_window.specs.Passage.{text_of};
 ghost use Rattle.uca_match.specs.Pulls.{Pulls};
 ghost use Rattle.uca_match.specs.ToCome.{new_elements, elements_to_come, window_of, waiting_of};
 
-use crate::matching::match_front;
 use crate::window_match::next_match;
 use std::alloc::{AllocError, Global};
 use std::marker::Model;
 use uca_table::Table;
+use uca_table::collation::push_matches;
 use uca_weights::Element;
-use uca_window::{Passage, Source, Window, nfd_of};
-
-// Appends the elements of a match, one or more: those of the key, or else the implicit ones of its first code point
-// (UTS #10, 7.2, step S2.2).
-fn push_elements(out: &mut Vec<Element>, t: &Table, matched: &[char]) -> Result<(), AllocError>
-    requires { 0 < length matched.now }
-    ensures elements { OnOk result (out.new.items ≡ out.old.items ++ elements_or_implicit t.now matched.now) }
-    ensures some { OnOk result (length out.old.items < length out.new.items) }
-{
-    match t.get(matched) {
-        Some(elements) => out.extend_from_slice(elements),
-        None => out.extend_from_slice(&t.implicit(matched[0])),
-    }
-}
-
-// Appends the elements of a text in NFD, match after match (UTS #10, 7.2, step S2). Each match is put in order
-// within the text, and nothing behind its marks is moved.
-fn push_matches(out: &mut Vec<Element>, t: &Table, text: &mut [char]) -> Result<(), AllocError>
-    ensures elements { OnOk result (out.new.items ≡ out.old.items ++ elements t.now text.old) }
-    ensures some { OnOk result (0 < length text.old → length out.old.items < length out.new.items) }
-{
-    let mut at = 0;
-    'matches: while at < text.len() {
-        let n = match_front(t, &mut text[at..]);
-        push_elements(out, t, &text[at..at + n])?;
-        at += n;
-    }
-    Ok(())
-}
+use uca_window::{Passage, Source, Window};
 
 /// The collation elements of a text (UTS #10, sections 7.1 and 7.2, steps S1 and S2).
 pub fn elements_of(alloc: Global, t: &Table, p: &Passage) -> Result<Vec<Element>, AllocError>
     ensures { IfOk result (λ v. v.items ≡ elements t.now (nfd (text_of p.now))) }
 {
-    let mut points = nfd_of(alloc, p)?;
-    let mut elements = Vec::new(alloc);
-    push_matches(&mut elements, t, &mut points)?;
+    let text = chars_of(alloc, p.as_str())?;
+    let mut elements = Vec::with_capacity(alloc, text.len())?;
+    t.push_elements(alloc, &mut elements, &text)?;
     Ok(elements)
+}
+
+// The characters of a text.
+fn chars_of(alloc: Global, text: &str) -> Result<Vec<char>, AllocError>
+    ensures { IfOk result (λ v. v.items ≡ chars text.now) }
+{
+    text.chars().collect(alloc)
 }
 
 /// The collation elements of a text in NFD, of which there are some where it has a code point (UTS #10, section 7.2,
@@ -66,7 +45,7 @@ pub fn elements_of_points(
 {
     let mut text = points.to_vec(alloc)?;
     let mut elements = Vec::new(alloc);
-    push_matches(&mut elements, t, &mut text)?;
+    push_matches(&mut elements, t.stored(), &mut text)?;
     Ok(elements)
 }
 

@@ -5,7 +5,6 @@
 #![tactic(auto)]
 
 pub mod elements;
-mod matching;
 mod window_match;
 
 pub use elements::{Elements, elements_of, elements_of_points};

@@ -1,17 +1,36 @@
-ghost use Rattle.std.specs.Prelude.{◌≡◌, ◌<◌, ◌≤◌, [], take, length, IfSome, IfNone, OnSome};
+ghost use Rattle.std.specs.Prelude.{◌≡◌, ◌<◌, ◌≤◌, ◌&&◌, ◌++◌, ◌∷◌, [], nat_lt, take, length, IfSome, IfNone, IsTrue, OnSome};
 ghost use Rattle.uca_weights.specs.declared.limits.TheConstants.{MAX_KEY};
 ghost use Rattle.uca_model.specs.Source.{unread};
 ghost use Rattle.uca_model.specs.Window.{Fits, ReadsOn, rest_of};
+ghost use Rattle.uca_model.specs.Match.{start_len};
 ghost use Rattle.uca_model.specs.Table.{is_key, longest};
+ghost use Rattle.unicode.specs.CanonicalCombiningClass.{canonical_combining_class};
 ghost use Rattle.uca_model.specs.CollationElements.{step};
 ghost use Rattle.uca_match.specs.WindowMatch.{TakesMarks, TakesMatch};
 
-use crate::matching::{higher, is_taken, start_len};
 use arrayvec::ArrayVec;
-use uca_table::Table;
+use uca_table::matching::higher;
+use uca_table::{Table, matching};
 use uca_weights::MAX_KEY;
 use uca_window::{Source, Window};
 use unicode_normalization::char::canonical_combining_class;
+
+// The length of the longest initial substring that is a key of a table, 0 where none is.
+fn start_len(t: &Table, text: &[char]) -> usize
+    ensures value { result ≡ start_len (is_key t.now) text.now }
+    ensures within { result ≤ length text.now }
+    ensures few { result ≤ MAX_KEY }
+{
+    matching::start_len(t.stored(), text)
+}
+
+// Whether a start takes a mark, by the keys of a table.
+fn is_taken(t: &Table, start: &[char], high: u8, mark: char) -> bool
+    ensures value { result ≡ (nat_lt high (canonical_combining_class mark) && is_key t.now (start.now ++ mark ∷ [])) }
+    ensures few { IsTrue result → length start.now < MAX_KEY }
+{
+    matching::is_taken(t.stored(), start, high, mark)
+}
 
 // Takes those nonstarters out of a window that make longer keys with its first `start` points, and puts them behind
 // the key (UTS #10, 7.2, steps S2.1.1 to S2.1.3). The start stands in the window all along.

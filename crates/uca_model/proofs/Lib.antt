@@ -2,6 +2,7 @@ pub mod MatchingLemmas
 pub mod KeyLemmas
 pub mod ImplicitLemmas
 pub mod RewritingLemmas
+pub mod StandAloneLemmas
 pub mod OrderLemmas
 pub mod OrderedLemmas
 pub mod KeysLemmas

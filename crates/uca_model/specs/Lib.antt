@@ -8,6 +8,7 @@ pub mod Match
 pub mod ImplicitWeights
 pub mod Ranges
 pub mod CollationElements
+pub mod StandAlone
 pub mod LevelWeights
 pub mod SortKey
 pub mod Reading

@@ -8,3 +8,7 @@ pub mod RangeSearchLemmas
 pub mod PutLemmas
 pub mod ShiftLemmas
 pub mod BoundsLemmas
+pub mod MatchLemmas
+pub mod PlaceLemmas
+pub mod ElementLemmas
+pub mod CellLemmas

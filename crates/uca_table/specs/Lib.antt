@@ -4,3 +4,5 @@ pub mod Coded
 pub mod Builder
 pub mod Extents
 pub mod Bounds
+pub mod Running
+pub mod Cells

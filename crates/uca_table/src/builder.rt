@@ -7,6 +7,7 @@ ghost use Rattle.uca_table.specs.Stored.{pair_in};
 use crate::entry::move_entries;
 use crate::fault::{FinishFault, InsertFault, RangeFault};
 use crate::range_map::RangeMap;
+use crate::stored::Stored;
 use crate::table::Table;
 use std::alloc::Global;
 use std::collections::BTreeMap;
@@ -103,11 +104,12 @@ impl TableBuilder {
             return Err(FinishFault { builder: self });
         };
         let (entries, longest_key) = move_entries(self.entries, room);
-        Ok(Table {
+        let stored = Stored {
             entries,
             ranges: self.ranges.finish(range_room),
             longest_key,
-        })
+        };
+        Ok(Table::of(self.alloc, stored))
     }
 }
 

@@ -6,14 +6,19 @@
 #![tactic(auto)]
 
 pub mod builder;
+pub mod cells;
+pub mod collation;
 pub mod entries;
 mod entry;
 mod extent;
 pub mod fault;
 mod implicit_weights;
+mod marks;
+pub mod matching;
 mod range_map;
 mod ranges;
 pub mod shift;
+pub mod stored;
 pub mod table;
 #[cfg(test)]
 mod tests;

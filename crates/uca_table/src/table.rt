@@ -1,10 +1,10 @@
-ghost use Rattle.std.specs.Prelude.{◌≡◌, ◌≤◌, ◌<◌, ◌^◌, false, length, All, option_copied, IfSome, IfOk, OnOk, OnErr};
+ghost use Rattle.std.specs.Prelude.{◌≡◌, ◌≤◌, ◌<◌, ◌^◌, ◌++◌, false, length, All, option_copied, IfSome, IfOk, OnOk, OnErr};
+ghost use Rattle.unicode_normalization.specs.Forms.{nfd};
+ghost use Rattle.uca_model.specs.CollationElements.{elements};
 
-use crate::builder::{read_elements, read_key};
+use crate::cells::{Cells, push_text};
 use crate::entries::Entries;
-use crate::entry::{Entry, copies, elements_of, has_stuck, put, shift_entries};
-use crate::implicit_weights;
-use crate::ranges::Ranges;
+use crate::stored::Stored;
 use std::alloc::{AllocError, Global};
 use std::marker::Model;
 use uca_weights::{Element, Range};
@@ -12,25 +12,23 @@ use uca_weights::{Element, Range};
 /// A collation element table: a finite map from keys to their elements, with ranges of implicit weights.
 #[derive(Debug, Drop)]
 pub struct Table {
-    // By key order.
-    pub(crate) entries: Vec<Entry>,
-    pub(crate) ranges: Ranges,
-    pub(crate) longest_key: usize,
+    stored: Stored,
+    // Of the characters, each by itself; none once the table was changed.
+    cells: Cells,
 }
 
 impl Model for Table {
-    ghost use Rattle.std.specs.Prelude.{◌≡◌, map};
     ghost use Rattle.uca_model.specs.Table.{ElementTable};
-    ghost use Rattle.uca_table.specs.Stored.{AreStored, pair_of, table_of, longest_of};
+    ghost use Rattle.uca_table.specs.Cells.{HoldsCells};
     ghost use Rattle.uca_table.specs.Coded.{coded_table};
 
     ghost Value = { ElementTable };
 
     ghost coded = { coded_table };
 
-    ghost view = { λ t. table_of (map pair_of t.entries.items) t.ranges };
+    ghost view = { λ t. t.stored };
 
-    ghost invariant = { λ t. AreStored (map pair_of t.entries.items) t.ranges × (t.longest_key ≡ longest_of (map pair_of t.entries.items)) };
+    ghost invariant = { λ t. HoldsCells t.stored t.cells };
 }
 
 impl Table {
@@ -49,7 +47,7 @@ impl Table {
         ensures few { IfSome result (λ es. length es.now ≤ MAX_ELEMENTS) }
         ensures elements { IfSome result (λ es. All IsElement es.now) }
     {
-        elements_of(&self.entries, key)
+        self.stored.get(key)
     }
 
     /// The length of the longest key in code points, or 1 where there is no key.
@@ -58,7 +56,7 @@ impl Table {
         ensures valid { IsTable self.now }
         ensures bounds { (1 ≤ result) × (result ≤ MAX_KEY) }
     {
-        self.longest_key
+        self.stored.longest()
     }
 
     /// The two collation elements of a code point that is no key where it stands alone. Their primary weights are
@@ -66,7 +64,7 @@ impl Table {
     pub fn implicit(&self, c: char) -> [Element; 2]
         ensures { result ≡ implicit self.now c }
     {
-        implicit_weights::implicit(&self.ranges, c)
+        self.stored.implicit(c)
     }
 
     /// The entries by key order: by code points, a proper prefix first.
@@ -74,21 +72,17 @@ impl Table {
         ensures value { result ≡ entries self.now.entries }
         ensures few { length (entries self.now.entries) < 2 ^ 64 }
     {
-        Entries {
-            rest: self.entries.as_slice(),
-        }
+        self.stored.entries()
     }
 
     /// The same table once more.
     pub fn try_clone(&self, alloc: Global) -> Result<Table, AllocError>
         ensures { IfOk result (λ t. t ≡ self.now) }
     {
-        let entries = copies(alloc, &self.entries)?;
-        let ranges = self.ranges.try_clone(alloc)?;
+        let stored = self.stored.try_clone(alloc)?;
         Ok(Table {
-            entries,
-            ranges,
-            longest_key: self.longest_key,
+            stored,
+            cells: Cells::none(alloc),
         })
     }
 
@@ -107,11 +101,8 @@ impl Table {
         ensures ok { OnOk result (self.new ≡ with_entry self.old key.now elements.now) }
         ensures err { OnErr result (self.new ≡ self.old) }
     {
-        read_key(key);
-        read_elements(elements);
-        put(alloc, &mut self.entries, key, elements)?;
-        self.longest_key = self.longest_key.max(key.len());
-        Ok(())
+        self.cells.clear();
+        self.stored.put(alloc, key, elements)
     }
 
     /// Whether some weight of the entries at a level, 1 to 3, would move if room were made above `w`, and can't.
@@ -120,7 +111,7 @@ impl Table {
         requires last { level ≤ 3 }
         ensures { result ≡ list_any (list_any (is_stuck level w)) (values self.now.entries) }
     {
-        has_stuck(level, w, &self.entries)
+        self.stored.has_stuck(level, w)
     }
 
     /// Makes room above `w` at a level, 1 to 3: all weights of the entries above it go up by one, but at level 1 not the
@@ -131,7 +122,8 @@ impl Table {
         requires room { list_any (list_any (is_stuck level w)) (values self.old.entries) ≡ false }
         ensures { self.new ≡ shifted_table level w self.old }
     {
-        shift_entries(level, w, &mut self.entries);
+        self.cells.clear();
+        self.stored.shift(level, w);
     }
 
     /// The ranges of implicit weights by their first code points.
@@ -139,6 +131,33 @@ impl Table {
         ensures value { result.now ≡ self.now.ranges }
         ensures by_first { AreByFirst result.now }
     {
-        self.ranges.as_slice()
+        self.stored.ranges()
+    }
+
+    /// The table of what is stored, with cells where memory is not refused.
+    pub(crate) fn of(alloc: Global, stored: Stored) -> Table
+        ensures { result ≡ stored }
+    {
+        let cells = Cells::of(alloc, &stored);
+        Table { stored, cells }
+    }
+
+    /// What is stored.
+    pub fn stored(&self) -> &Stored
+        ensures { result.now ≡ self.now }
+    {
+        &self.stored
+    }
+
+    /// Appends the elements of a text.
+    pub fn push_elements(
+        &self,
+        alloc: Global,
+        out: &mut Vec<Element>,
+        text: &[char],
+    ) -> Result<(), AllocError>
+        ensures { OnOk result (out.new.items ≡ out.old.items ++ elements self.now (nfd text.now)) }
+    {
+        push_text(alloc, out, &self.stored, &self.cells, text)
     }
 }

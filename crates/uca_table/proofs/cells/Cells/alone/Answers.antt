@@ -1,0 +1,20 @@
+use Rattle.std.proofs.Common.{◌≡◌, ℕ, ◌<◌, ◌≤◌, ◌++◌, drop, length, get_or, ap, ◌∙◌, subst, arith}
+use Rattle.std.proofs.lemmas.List.{get_or_read}
+use Rattle.unicode_normalization.specs.Forms.{nfd}
+use Rattle.uca_model.specs.CollationElements.{elements}
+use Rattle.uca_model.specs.StandAlone.{joining}
+use Rattle.uca_table.specs.Cells.{IsCell}
+use Rattle.uca_table.proofs.CellLemmas.{alone-cell}
+use Rattle.uca_table.proofs.cells.Cells.alone.Goals as goal
+
+pub elements_of-requires : goal.elements_of-requires
+elements_of-requires c = (c.cell-cell.ensures c.args.t.now c.requires.cells).within
+
+pub returns : goal.returns
+returns c =
+    let first : c.index-text-0.result ≡ get_or c.args.text.now 0 0 = get_or_read c.args.text.now 0 c.index-text-0.result c.requires.some c.index-text-0.is 0 in
+    let P : ℕ → Type 0 = λ x. IsCell c.args.t.now c.args.self.now.elements.items x c.cell-cell.result in
+    let cell : IsCell c.args.t.now c.args.self.now.elements.items (get_or c.args.text.now 0 0) c.cell-cell.result = subst P first (c.cell-cell.ensures c.args.t.now c.requires.cells) in
+    ap (λ es. es ++ elements c.args.t.now (nfd (drop 1 c.args.text.now))) c.elements_of.ensures
+    ∙ alone-cell c.args.t.now c.args.text.now c.args.self.now.elements.items c.cell-cell.result c.requires.some cell (omega arith)
+    (λ more. let joins : joining c.args.t.now (get_or c.args.text.now 1 0) ≤ c.joining_at.result = c.joining_at.ensures c.args.t.now c.requires.cells more in omega arith)

@@ -1,0 +1,15 @@
+use Rattle.std.proofs.Common.{◌≡◌, false, List, [], ◌∷◌, ◌++◌, ap, sym, ◌∙◌}
+use Rattle.std.proofs.lemmas.Result.{on_ok_weaker}
+use Rattle.uca_weights.specs.declared.element.Element.{Element}
+use Rattle.uca_model.specs.StandAlone.{begins}
+use Rattle.uca_model.proofs.StandAloneLemmas.{elements-one, elements-unknown}
+use Rattle.uca_table.proofs.CellLemmas.{pushed-ok}
+use Rattle.uca_table.proofs.cells.push_single.Goals as goal
+
+pub returns-then-not-begins : goal.returns-then-not-begins
+returns-then-not-begins c =
+    let none : begins c.args.t.now c.args.p ≡ false = c.begins.ensures c.args.t.now c.requires c.if-not-begins.true in
+    pushed-ok c.extend_from_slice.result c.args.out.now.items _ _ _ c.extend_from_slice.ensures.items (c.implicit.ensures ∙ sym (elements-unknown c.args.t.now c.args.p none))
+
+pub returns : goal.returns
+returns c = on_ok_weaker c.push_elements.result (λ e. e ∙ ap (λ (l : List Element). c.args.out.now.items ++ l) (sym (elements-one c.args.t.now c.args.p))) c.push_elements.ensures.elements

@@ -1,0 +1,21 @@
+use Rattle.std.proofs.Common.{◌≡◌, ℕ, List, ◌+◌, ◌-◌, ◌<◌, ◌≤◌, ◌++◌, take, drop, length, ap, sym, ◌∙◌, subst, arith}
+use Rattle.std.proofs.lemmas.List.{take_rest}
+use Rattle.unicode_normalization.specs.Forms.{nfd}
+use Rattle.uca_model.specs.CollationElements.{elements}
+use Rattle.uca_table.proofs.CellLemmas.{text-further, text-done}
+use Rattle.uca_table.proofs.cells.push_text.Goals as goal
+
+pub characters-preserved-in-Some : goal.characters-preserved-in-Some
+characters-preserved-in-Some c =
+    let t = c.args.t.now in
+    let text = c.args.text.now in
+    let at : ℕ = c.characters.at in
+    let P : List ℕ → Type 0 = λ l. c.in-Some.elements.now ++ elements t (nfd (drop 1 l)) ≡ elements t (nfd l) in
+    let step : P (drop at text) = subst P (take_rest text at) c.in-Some.ensures in
+    record {
+      within = omega arith;
+      same = ap (λ o. o ++ elements t (nfd (drop (at + 1) text))) c.in_ok-extend_from_slice-in-Some.ensures.items ∙ text-further t text at 1 c.characters.out.items c.in-Some.elements.now (c.args.out.now.items ++ elements t (nfd text)) c.characters.invariant.same step;
+    }
+
+pub returns : goal.returns
+returns c = text-done c.args.t.now c.args.text.now c.characters.at c.characters.out.items (c.args.out.now.items ++ elements c.args.t.now (nfd c.args.text.now)) c.characters-test.false c.characters.invariant.same

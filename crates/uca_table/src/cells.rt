@@ -1,0 +1,385 @@
+ghost use Rattle.std.specs.Prelude.{◌≡◌, true, ◌+◌, ◌∷◌, ◌++◌, [], ◌<◌, ◌≤◌, ◌^◌, ℕ, false, not, length, take, drop, slice_index, IfOk, IfSome, OnOk, OnErr, IsTrue, IsFalse};
+ghost use Rattle.std.specs.List.{list_all};
+ghost use Rattle.unicode_normalization.specs.Decompose.{decompose_canonical};
+ghost use Rattle.unicode_normalization.specs.Forms.{nfd};
+ghost use Rattle.unicode_normalization.specs.Order.{is_starter};
+ghost use Rattle.uca_model.specs.CollationElements.{elements};
+ghost use Rattle.uca_model.specs.StandAlone.{begins, leads, continues, joining_of, bearing_of, joining, bearing, ends_in_starter, stands_alone};
+ghost use Rattle.uca_table.specs.Cells.{AreMarks, IsCell, AreCells, HoldsCells, Grows};
+
+use crate::collation::{push_elements, push_matches};
+use crate::marks::{LIMIT, Marks, marks_of};
+use crate::stored::Stored;
+use std::alloc::{AllocError, Global};
+use uca_weights::Element;
+use unicode_normalization::char::{canonical_combining_class, decomposition};
+use unicode_normalization::{Form, slice};
+
+/// What a table says of a character by itself.
+#[derive(Clone, Copy, Debug)]
+pub(crate) struct Cell {
+    // Where its elements begin among those of all cells.
+    start: u32,
+    // How many they are, 0 where it isn't known.
+    count: u8,
+    // How it may join what stands before it: 0 not at all, 1 in a key, 2 as marks too.
+    joining: u8,
+    // Which of these it bears behind it.
+    bearing: u8,
+}
+
+/// Of which nothing is known.
+const UNKNOWN: Cell = Cell {
+    start: 0,
+    count: 0,
+    joining: 2,
+    bearing: 0,
+};
+
+/// The elements of the characters below a limit, each by itself, and whether they stand alone in a text.
+#[derive(Debug, Drop)]
+pub struct Cells {
+    cells: Vec<Cell>,
+    elements: Vec<Element>,
+}
+
+impl Marks {
+    // Whether a key of two code points or more begins with a code point.
+    fn leads(&self, p: char) -> bool
+        ensures { (t : _) → AreMarks t self.now.leads.items self.now.continues.items self.now.begins.items → IsFalse result → leads t p ≡ false }
+    {
+        match self.leads.get(p as usize) {
+            Some(flag) => *flag,
+            None => true,
+        }
+    }
+
+    // Whether a code point stands in a key at the second place or later.
+    fn continues(&self, p: char) -> bool
+        ensures { (t : _) → AreMarks t self.now.leads.items self.now.continues.items self.now.begins.items → IsFalse result → continues t p ≡ false }
+    {
+        match self.continues.get(p as usize) {
+            Some(flag) => *flag,
+            None => true,
+        }
+    }
+}
+
+impl Marks {
+    // Whether a key begins with a code point.
+    fn begins(&self, p: char) -> bool
+        ensures { (t : _) → AreMarks t self.now.leads.items self.now.continues.items self.now.begins.items → IsFalse result → begins t p ≡ false }
+    {
+        match self.begins.get(p as usize) {
+            Some(flag) => *flag,
+            None => true,
+        }
+    }
+}
+
+fn is_starter(c: char) -> bool
+    ensures { result ≡ is_starter c }
+{
+    canonical_combining_class(c) == 0
+}
+
+// How code points join what stands before them, at most.
+fn joining_of(t: &Stored, marks: &Marks, points: &[char]) -> u8
+    requires { AreMarks t.now marks.now.leads.items marks.now.continues.items marks.now.begins.items }
+    ensures value { joining_of t.now points.now ≤ result }
+{
+    if points.is_empty() || !is_starter(points[0]) {
+        return 2;
+    }
+    if marks.continues(points[0]) { 1 } else { 0 }
+}
+
+// Whether no code point begins a key of two or more.
+fn is_plain(t: &Stored, marks: &Marks, points: &[char]) -> bool
+    requires { AreMarks t.now marks.now.leads.items marks.now.continues.items marks.now.begins.items }
+    ensures { IsTrue result → list_all (λ p. not (leads t.now p)) points.now ≡ true }
+{
+    for p in points {
+        if marks.leads(*p) {
+            return false;
+        }
+    }
+    true
+}
+
+fn ends_in_starter(points: &[char]) -> bool
+    ensures { result ≡ ends_in_starter points.now }
+{
+    if points.is_empty() {
+        return false;
+    }
+    is_starter(points[points.len() - 1])
+}
+
+// What code points bear behind them, at least.
+fn bearing_of(t: &Stored, marks: &Marks, points: &[char]) -> u8
+    requires { AreMarks t.now marks.now.leads.items marks.now.continues.items marks.now.begins.items }
+    ensures { result ≤ bearing_of t.now points.now }
+{
+    if !is_plain(t, marks, points) {
+        return 0;
+    }
+    if ends_in_starter(points) { 2 } else { 1 }
+}
+
+// Where elements lie behind `start` others, as numbers that a cell has room for.
+fn extent(start: usize, end: usize) -> (u32, u8)
+    requires { start ≤ end }
+    ensures within { result.0 + result.1 ≤ end }
+    ensures place { 0 < result.1 → (result.0 ≡ start) × (result.0 + result.1 ≡ end) }
+{
+    match (u32::try_from(start), u8::try_from(end - start)) {
+        (Ok(start), Ok(count)) => (start, count),
+        _ => (0, 0),
+    }
+}
+
+// Appends the elements of a single code point.
+fn push_single(out: &mut Vec<Element>, t: &Stored, marks: &Marks, p: char) -> Result<(), AllocError>
+    requires { AreMarks t.now marks.now.leads.items marks.now.continues.items marks.now.begins.items }
+    ensures { OnOk result (out.new.items ≡ out.old.items ++ elements t.now (p ∷ [])) }
+{
+    if !marks.begins(p) {
+        return out.extend_from_slice(&t.implicit(p));
+    }
+    push_elements(out, t, &[p])
+}
+
+impl Cells {
+    // Appends the elements of a character, by the cells that there are.
+    fn push_elements(
+        &mut self,
+        alloc: Global,
+        t: &Stored,
+        marks: &Marks,
+        c: char,
+        points: &[char],
+    ) -> Result<(), AllocError>
+        requires cells { HoldsCells t.now self.old }
+        requires marks { AreMarks t.now marks.now.leads.items marks.now.continues.items marks.now.begins.items }
+        requires points { points.now ≡ decompose_canonical c }
+        ensures elements { OnOk result (self.new.elements.items ≡ self.old.elements.items ++ elements t.now (nfd (c ∷ []))) }
+        ensures cells { OnOk result (self.new.cells.items ≡ self.old.cells.items) }
+    {
+        if points.len() == 1 {
+            return push_single(&mut self.elements, t, marks, points[0]);
+        }
+        let mut fresh = Vec::new(alloc);
+        push_text(alloc, &mut fresh, t, self, points)?;
+        self.elements.extend_from_slice(&fresh)
+    }
+
+    // The cell of a character, whose elements are put behind the others.
+    fn cell_of(
+        &mut self,
+        alloc: Global,
+        t: &Stored,
+        marks: &Marks,
+        c: char,
+    ) -> Result<Cell, AllocError>
+        requires cells { HoldsCells t.now self.old }
+        requires marks { AreMarks t.now marks.now.leads.items marks.now.continues.items marks.now.begins.items }
+        ensures cell { IfOk result (λ cell. IsCell t.now self.new.elements.items c cell) }
+        ensures cells { OnOk result (self.new.cells.items ≡ self.old.cells.items) }
+        ensures grows { OnOk result (Grows self.old.elements.items self.new.elements.items) }
+    {
+        let mut room = ['\0'; 3];
+        let points = decomposition(c, Form::Nfd, &mut room);
+        let joining = joining_of(t, marks, points);
+        let bearing = bearing_of(t, marks, points);
+        let before = self.elements.len();
+        self.push_elements(alloc, t, marks, c, points)?;
+        let (start, count) = extent(before, self.elements.len());
+        Ok(Cell {
+            start,
+            count,
+            joining,
+            bearing,
+        })
+    }
+
+    // The cell of a number, of which nothing is known where it is no character.
+    fn cell_at(
+        &mut self,
+        alloc: Global,
+        t: &Stored,
+        marks: &Marks,
+        point: u32,
+    ) -> Result<Cell, AllocError>
+        requires cells { HoldsCells t.now self.old }
+        requires marks { AreMarks t.now marks.now.leads.items marks.now.continues.items marks.now.begins.items }
+        ensures cell { IfOk result (λ cell. IsCell t.now self.new.elements.items point cell) }
+        ensures cells { OnOk result (self.new.cells.items ≡ self.old.cells.items) }
+        ensures grows { OnOk result (Grows self.old.elements.items self.new.elements.items) }
+    {
+        match char::from_u32(point) {
+            Some(c) => self.cell_of(alloc, t, marks, c),
+            None => Ok(UNKNOWN),
+        }
+    }
+
+    // One more cell.
+    fn push_point(
+        &mut self,
+        alloc: Global,
+        t: &Stored,
+        marks: &Marks,
+        point: u32,
+    ) -> Result<(), AllocError>
+        requires cells { HoldsCells t.now self.old }
+        requires next { length self.old.cells.items ≡ point }
+        requires marks { AreMarks t.now marks.now.leads.items marks.now.continues.items marks.now.begins.items }
+        ensures cells { OnOk result (HoldsCells t.now self.new) }
+        ensures more { OnOk result (length self.new.cells.items ≡ point + 1) }
+    {
+        let cell = self.cell_at(alloc, t, marks, point)?;
+        self.cells.push(cell)?;
+        Ok(())
+    }
+
+    /// The cells of a table.
+    pub fn new(alloc: Global, t: &Stored) -> Result<Cells, AllocError>
+        ensures { IfOk result (λ cells. HoldsCells t.now cells) }
+    {
+        let marks = marks_of(alloc, t)?;
+        let mut made = Cells::none(alloc);
+        for point in 0..LIMIT as u32 {
+            made.push_point(alloc, t, &marks, point)?;
+        }
+        Ok(made)
+    }
+
+    // No cells.
+    pub(crate) fn none(alloc: Global) -> Cells
+        ensures cells { (t : _) → HoldsCells t result }
+        ensures none { length result.cells.items ≡ 0 }
+    {
+        Cells {
+            cells: Vec::new(alloc),
+            elements: Vec::new(alloc),
+        }
+    }
+
+    /// Forgets all.
+    pub(crate) fn clear(&mut self)
+        ensures { (t : _) → HoldsCells t self.new }
+    {
+        self.cells.clear();
+    }
+
+    /// The cells of a table, or none where memory is refused.
+    pub fn of(alloc: Global, t: &Stored) -> Cells
+        ensures { HoldsCells t.now result }
+    {
+        match Cells::new(alloc, t) {
+            Ok(cells) => cells,
+            Err(_) => Cells::none(alloc),
+        }
+    }
+
+    fn cell(&self, c: char) -> Cell
+        ensures { (t : _) → HoldsCells t self.now → IsCell t self.now.elements.items c result }
+    {
+        match self.cells.get(c as usize) {
+            Some(cell) => *cell,
+            None => UNKNOWN,
+        }
+    }
+
+    fn elements_of(&self, cell: Cell) -> &[Element]
+        requires { cell.start + cell.count ≤ length self.now.elements.items }
+        ensures { result.now ≡ take cell.count (drop cell.start self.now.elements.items) }
+    {
+        let start = cell.start as usize;
+        &self.elements[start..start + cell.count as usize]
+    }
+
+    // How the character at a place joins what stands before it, at most; not at all at the end of the text.
+    fn joining_at(&self, text: &[char], at: usize) -> u8
+        ensures { (t : _) → HoldsCells t self.now → at < length text.now → joining t (slice_index text.now at) ≤ result }
+    {
+        match text.get(at) {
+            Some(c) => self.cell(*c).joining,
+            None => 0,
+        }
+    }
+
+    // The elements of the first character of a text, where they stand alone.
+    fn alone(&self, t: &Stored, text: &[char]) -> Option<&[Element]>
+        requires some { 0 < length text.now }
+        requires cells { HoldsCells t.now self.now }
+        ensures { IfSome result (λ es. es.now ++ elements t.now (nfd (drop 1 text.now)) ≡ elements t.now (nfd text.now)) }
+    {
+        let cell = self.cell(text[0]);
+        if cell.count == 0 {
+            return None;
+        }
+        if self.joining_at(text, 1) > cell.bearing {
+            return None;
+        }
+        Some(self.elements_of(cell))
+    }
+
+    // How many characters of a text stand before the next that joins nothing.
+    fn run_len(&self, t: &Stored, text: &[char]) -> usize
+        requires some { 0 < length text.now }
+        requires cells { HoldsCells t.now self.now }
+        ensures some { 0 < result }
+        ensures within { result ≤ length text.now }
+        ensures apart { elements t.now (nfd (take result text.now)) ++ elements t.now (nfd (drop result text.now)) ≡ elements t.now (nfd text.now) }
+    {
+        for at in 1..text.len() {
+            if self.joining_at(text, at) == 0 {
+                return at;
+            }
+        }
+        text.len()
+    }
+}
+
+// Appends the elements of a text, whatever stands in it.
+fn push_run(
+    alloc: Global,
+    out: &mut Vec<Element>,
+    t: &Stored,
+    run: &[char],
+) -> Result<(), AllocError>
+    ensures { OnOk result (out.new.items ≡ out.old.items ++ elements t.now (nfd run.now)) }
+{
+    let mut points = Vec::new(alloc);
+    slice::extend_nfd(&mut points, run)?;
+    push_matches(out, t, &mut points)
+}
+
+/// Appends the elements of a text. A character whose elements stand alone takes those of its cell.
+pub fn push_text(
+    alloc: Global,
+    out: &mut Vec<Element>,
+    t: &Stored,
+    cells: &Cells,
+    text: &[char],
+) -> Result<(), AllocError>
+    requires { HoldsCells t.now cells.now }
+    ensures { OnOk result (out.new.items ≡ out.old.items ++ elements t.now (nfd text.now)) }
+{
+    let mut at = 0;
+    'characters: while at < text.len() {
+        match cells.alone(t, &text[at..]) {
+            Some(elements) => {
+                out.extend_from_slice(elements)?;
+                at += 1;
+            }
+            None => {
+                let n = cells.run_len(t, &text[at..]);
+                push_run(alloc, out, t, &text[at..at + n])?;
+                at += n;
+            }
+        }
+    }
+    Ok(())
+}

@@ -1,0 +1,91 @@
+ghost use Rattle.std.specs.Prelude.{◌≡◌, ◌==◌, ◌||◌, ◌<◌, ℕ, true, false, get_or, length, IfOk};
+ghost use Rattle.std.specs.List.{list_any};
+ghost use Rattle.uca_model.specs.StandAlone.{is_first, is_longer_from, is_inside};
+ghost use Rattle.uca_table.specs.Cells.{AreMarks};
+
+use crate::stored::Stored;
+use std::alloc::{AllocError, Global};
+
+/// The code points below which a character may have a cell.
+pub(crate) const LIMIT: usize = 0x1_0000;
+
+/// Which code points begin a longer key of a table, and which stand in a key at the second place or later. All from
+/// `LIMIT` on are held to do both.
+#[derive(Drop)]
+pub(crate) struct Marks {
+    pub(crate) leads: Vec<bool>,
+    pub(crate) continues: Vec<bool>,
+    pub(crate) begins: Vec<bool>,
+}
+
+fn mark(flags: &mut [bool], c: char)
+    ensures { (p : ℕ) → p < length flags.old → get_or flags.new p true ≡ (get_or flags.old p true || c == p) }
+{
+    let at = c as usize;
+    if at < flags.len() {
+        flags[at] = true;
+    }
+}
+
+fn mark_all(flags: &mut [bool], points: &[char])
+    ensures { (p : ℕ) → p < length flags.old → get_or flags.new p true ≡ (get_or flags.old p true || list_any (λ x. x == p) points.now) }
+{
+    for c in points {
+        mark(flags, *c);
+    }
+}
+
+// What one more key marks.
+fn mark_key(leads: &mut [bool], continues: &mut [bool], key: &[char])
+    ensures leads { (p : ℕ) → p < length leads.old → get_or leads.new p true ≡ (get_or leads.old p true || is_longer_from p key.now) }
+    ensures continues { (p : ℕ) → p < length continues.old → get_or continues.new p true ≡ (get_or continues.old p true || is_inside p key.now) }
+{
+    if key.len() < 2 {
+        return;
+    }
+    mark(leads, key[0]);
+    mark_all(continues, &key[1..]);
+}
+
+fn mark_first(begins: &mut [bool], key: &[char])
+    ensures { (p : ℕ) → p < length begins.old → get_or begins.new p true ≡ (get_or begins.old p true || is_first p key.now) }
+{
+    if !key.is_empty() {
+        mark(begins, key[0]);
+    }
+}
+
+// What the keys of a table mark, where nothing was marked before.
+fn mark_keys(leads: &mut [bool], continues: &mut [bool], begins: &mut [bool], t: &Stored)
+    requires leads { (p : ℕ) → p < length leads.old → get_or leads.old p true ≡ false }
+    requires continues { (p : ℕ) → p < length continues.old → get_or continues.old p true ≡ false }
+    requires begins { (p : ℕ) → p < length begins.old → get_or begins.old p true ≡ false }
+    ensures { AreMarks t.now leads.new continues.new begins.new }
+{
+    for (key, _) in t.entries() {
+        mark_key(leads, continues, key.as_slice());
+        mark_first(begins, key.as_slice());
+    }
+}
+
+// So many flags, of which none is set.
+fn flags(alloc: Global, n: usize) -> Result<Vec<bool>, AllocError>
+    ensures { IfOk result (λ v. (p : ℕ) → p < length v.items → get_or v.items p true ≡ false) }
+{
+    vec![in alloc; false; n]
+}
+
+/// The marks of a table.
+pub(crate) fn marks_of(alloc: Global, t: &Stored) -> Result<Marks, AllocError>
+    ensures { IfOk result (λ m. AreMarks t.now m.leads.items m.continues.items m.begins.items) }
+{
+    let mut leads = flags(alloc, LIMIT)?;
+    let mut continues = flags(alloc, LIMIT)?;
+    let mut begins = flags(alloc, LIMIT)?;
+    mark_keys(&mut leads, &mut continues, &mut begins, t);
+    Ok(Marks {
+        leads,
+        continues,
+        begins,
+    })
+}

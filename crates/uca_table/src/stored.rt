@@ -1,0 +1,144 @@
+ghost use Rattle.std.specs.Prelude.{◌≡◌, ◌≤◌, ◌<◌, ◌^◌, false, length, All, option_copied, IfSome, IfOk, OnOk, OnErr};
+
+use crate::builder::{read_elements, read_key};
+use crate::entries::Entries;
+use crate::entry::{Entry, copies, elements_of, has_stuck, put, shift_entries};
+use crate::implicit_weights;
+use crate::ranges::Ranges;
+use std::alloc::{AllocError, Global};
+use std::marker::Model;
+use uca_weights::{Element, Range};
+
+/// A collation element table: a finite map from keys to their elements, with ranges of implicit weights.
+#[derive(Debug, Drop)]
+pub struct Stored {
+    // By key order.
+    pub(crate) entries: Vec<Entry>,
+    pub(crate) ranges: Ranges,
+    pub(crate) longest_key: usize,
+}
+
+impl Model for Stored {
+    ghost use Rattle.std.specs.Prelude.{◌≡◌, map};
+    ghost use Rattle.uca_model.specs.Table.{ElementTable};
+    ghost use Rattle.uca_table.specs.Stored.{AreStored, pair_of, table_of, longest_of};
+    ghost use Rattle.uca_table.specs.Coded.{coded_table};
+
+    ghost Value = { ElementTable };
+
+    ghost coded = { coded_table };
+
+    ghost view = { λ t. table_of (map pair_of t.entries.items) t.ranges };
+
+    ghost invariant = { λ t. AreStored (map pair_of t.entries.items) t.ranges × (t.longest_key ≡ longest_of (map pair_of t.entries.items)) };
+}
+
+impl Stored {
+    ghost use Rattle.uca_weights.specs.declared.limits.TheConstants.{MAX_KEY, MAX_ELEMENTS};
+    ghost use Rattle.uca_model.specs.Table.{ElementTable, IsElement, IsTable, elements_at, longest, with_entry};
+    ghost use Rattle.uca_model.specs.ImplicitWeights.{implicit};
+    ghost use Rattle.uca_model.specs.Shift.{is_stuck, shifted_table};
+    ghost use Rattle.std.specs.List.{list_any};
+    ghost use Rattle.std.specs.FinMap.{entries, values};
+    ghost use Rattle.uca_model.specs.Ranges.{AreByFirst};
+
+    /// The collation elements of a key, 1 to `MAX_ELEMENTS` of them (UTS #10, section 3). `None`: it is no key.
+    pub fn get(&self, key: &[char]) -> Option<&[Element]>
+        ensures value { option_copied result ≡ elements_at self.now key.now }
+        ensures some { IfSome result (λ es. 0 < length es.now) }
+        ensures few { IfSome result (λ es. length es.now ≤ MAX_ELEMENTS) }
+        ensures elements { IfSome result (λ es. All IsElement es.now) }
+    {
+        elements_of(&self.entries, key)
+    }
+
+    /// The length of the longest key in code points, or 1 where there is no key.
+    pub fn longest(&self) -> usize
+        ensures value { result ≡ longest self.now }
+        ensures valid { IsTable self.now }
+        ensures bounds { (1 ≤ result) × (result ≤ MAX_KEY) }
+    {
+        self.longest_key
+    }
+
+    /// The two collation elements of a code point that is no key where it stands alone. Their primary weights are
+    /// made from the code point (UTS #10, section 10.1.3).
+    pub fn implicit(&self, c: char) -> [Element; 2]
+        ensures { result ≡ implicit self.now c }
+    {
+        implicit_weights::implicit(&self.ranges, c)
+    }
+
+    /// The entries by key order: by code points, a proper prefix first.
+    pub fn entries(&self) -> Entries<'_>
+        ensures value { result ≡ entries self.now.entries }
+        ensures few { length (entries self.now.entries) < 2 ^ 64 }
+    {
+        Entries {
+            rest: self.entries.as_slice(),
+        }
+    }
+
+    /// The same table once more.
+    pub fn try_clone(&self, alloc: Global) -> Result<Stored, AllocError>
+        ensures { IfOk result (λ t. t ≡ self.now) }
+    {
+        let entries = copies(alloc, &self.entries)?;
+        let ranges = self.ranges.try_clone(alloc)?;
+        Ok(Stored {
+            entries,
+            ranges,
+            longest_key: self.longest_key,
+        })
+    }
+
+    /// Gives a key of 1 to `MAX_KEY` code points these elements, 1 to `MAX_ELEMENTS` of them, in place of those that it
+    /// may have (UTS #10, section 8, Customization and Tailoring). Where memory is refused, the table stays as it is.
+    pub fn put(
+        &mut self,
+        alloc: Global,
+        key: &[char],
+        elements: &[Element],
+    ) -> Result<(), AllocError>
+        requires some_points { 1 ≤ length key.now }
+        requires few_points { length key.now ≤ MAX_KEY }
+        requires some_elements { 1 ≤ length elements.now }
+        requires few_elements { length elements.now ≤ MAX_ELEMENTS }
+        ensures ok { OnOk result (self.new ≡ with_entry self.old key.now elements.now) }
+        ensures err { OnErr result (self.new ≡ self.old) }
+    {
+        read_key(key);
+        read_elements(elements);
+        put(alloc, &mut self.entries, key, elements)?;
+        self.longest_key = self.longest_key.max(key.len());
+        Ok(())
+    }
+
+    /// Whether some weight of the entries at a level, 1 to 3, would move if room were made above `w`, and can't.
+    pub fn has_stuck(&self, level: u8, w: u16) -> bool
+        requires first { 1 ≤ level }
+        requires last { level ≤ 3 }
+        ensures { result ≡ list_any (list_any (is_stuck level w)) (values self.now.entries) }
+    {
+        has_stuck(level, w, &self.entries)
+    }
+
+    /// Makes room above `w` at a level, 1 to 3: all weights of the entries above it go up by one, but at level 1 not the
+    /// implicit ones, from 8000 on. It takes no memory.
+    pub fn shift(&mut self, level: u8, w: u16)
+        requires first { 1 ≤ level }
+        requires last { level ≤ 3 }
+        requires room { list_any (list_any (is_stuck level w)) (values self.old.entries) ≡ false }
+        ensures { self.new ≡ shifted_table level w self.old }
+    {
+        shift_entries(level, w, &mut self.entries);
+    }
+
+    /// The ranges of implicit weights by their first code points.
+    pub fn ranges(&self) -> &[Range]
+        ensures value { result.now ≡ self.now.ranges }
+        ensures by_first { AreByFirst result.now }
+    {
+        self.ranges.as_slice()
+    }
+}
