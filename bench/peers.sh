@@ -2,6 +2,9 @@
 # Time and memory of `uca key`, `uca compare` and `uca order` beside ICU, glibc and perl's Unicode::Collate over the same lines in
 # the same run: words of Debian's lists in several scripts, which it brings without installing them. Prints tables; it is no
 # test, but ends where a program does not give the answers that it was measured for. Times are those of the processor.
+# With the path of another build of the program as its one word, that is measured too, as `before`.
+before=${1:-}
+[ -z "$before" ] || before=$(cd "$from" && readlink -f "$before")
 source "$(dirname "${BASH_SOURCE[0]}")/shared.bash"
 source tests/debian.bash
 bytes=20000000
@@ -58,11 +61,24 @@ gather_programs() {
     unset "programs[-2]" "programs[-3]"
 }
 
+# Another build of the program comes right before the present one.
+gather_before() {
+    local program all=()
+    [ -n "$before" ] || return
+    [ -x "$before" ] || refuses "$before is no program"
+    for program in "${programs[@]}"; do
+        [ "$program" = uca ] && all+=(before)
+        all+=("$program")
+    done
+    programs=("${all[@]}")
+}
+
 # does PROGRAM JOB: whether the program does this job; leaves its words in $command
 does() {
     case $1 in
     ICU) command=("$work/peer" icu "$2") ;;
     uca) command=("$uca" "$2" --table "$published") ;;
+    before) command=("$before" "$2" --table "$published") ;;
     glibc) command=("$work/peer" en_US.UTF-8 "$2") ;;
     sort) command=(env LC_ALL=en_US.UTF-8 sort -s --parallel=1 -S 2G) && [ "$2" = order ] ;;
     perl) command=(perl bench/peer.pl "$2") ;;
@@ -178,6 +194,7 @@ tells_machine() {
 }
 
 gather_programs
+gather_before
 fetched || exit 1
 makes_inputs
 echo "$(wc -l <"$work/key") lines of one to four words, $(wc -c <"$work/key") bytes; $(cat "$work/shares")"

@@ -1,6 +1,7 @@
 # What the measurements share: a folder of their own, the built program, the table that Debian's perl ships, and the time and
 # memory of a program. Each sources it.
 set -u
+from=$PWD
 cd "$(dirname "${BASH_SOURCE[0]}")/.." || exit 2
 script=bench/$(basename "$0")
 work=$(mktemp -d) || exit 2

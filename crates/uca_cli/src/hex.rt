@@ -1,8 +1,16 @@
-ghost use Rattle.std.specs.Prelude.{◌≡◌, ◌+◌, ◌*◌, ◌^◌, ◌<◌, ◌∷◌, ◌++◌, [], length, MatchResult};
-ghost use Rattle.uca_model.specs.Output.{blank, hex_digit, hex_pair, hex_text};
+ghost use Rattle.std.specs.Prelude.{◌≡◌, ◌+◌, ◌*◌, ◌^◌, ◌<◌, ◌≤◌, ◌∷◌, ◌++◌, [], length, MatchResult};
+ghost use Rattle.uca_model.specs.Output.{hex_digit, hex_pair, hex_text};
 ghost use Rattle.uca_weights.specs.Outgoing.{handed, Sends, StopsSending};
+ghost use Rattle.uca_cli.specs.Sending.{spaced_pairs};
 
+use arrayvec::ArrayVec;
 use uca_weights::{Outgoing, WriteFault, Writer};
+
+/// How many bytes go out as digits at once.
+const PIECE: usize = 256;
+
+/// Room for the digits of a piece, and a blank before each pair.
+const PAIRS: usize = 3 * PIECE;
 
 /// An upper-case hexadecimal digit.
 fn hex_digit(n: u8) -> u8
@@ -19,11 +27,35 @@ fn hex_pair(byte: u8) -> [u8; 2]
     [hex_digit(byte / 16), hex_digit(byte % 16)]
 }
 
-/// A byte as two digits, behind a blank.
-fn next_pair(byte: u8) -> [u8; 3]
-    ensures { result ≡ blank ∷ hex_pair byte }
+/// The bytes of a piece as pairs of digits, with a blank before each.
+fn spaced_pairs(bytes: &[u8]) -> ArrayVec<u8, PAIRS>
+    requires { length bytes.now ≤ 256 }
+    ensures pairs { result.items ≡ spaced_pairs bytes.now }
+    ensures short { length result.items ≤ 768 }
 {
-    [b' ', hex_digit(byte / 16), hex_digit(byte % 16)]
+    let mut pairs: ArrayVec<u8, PAIRS> = ArrayVec::new();
+    for byte in bytes {
+        pairs.push(b' ');
+        pairs.push(hex_digit(byte / 16));
+        pairs.push(hex_digit(byte % 16));
+    }
+    pairs
+}
+
+/// Has bytes go out as pairs of digits, with a blank before each.
+fn send_spaced<W: Writer>(w: &mut W, out: &mut Outgoing, bytes: &[u8]) -> Result<(), WriteFault>
+    requires { handed out.old + 3 * length bytes.now < 2 ^ 128 }
+    ensures { MatchResult result
+        (λ _. Sends (W.state w.old) out.old (W.state w.new) out.new (spaced_pairs bytes.now))
+        (λ f. StopsSending (W.state w.old) out.old (W.state w.new) (spaced_pairs bytes.now) f) }
+{
+    let mut left = bytes;
+    while left.len() > PIECE {
+        let (front, rest) = left.split_at(PIECE);
+        out.send(w, spaced_pairs(front).as_slice())?;
+        left = rest;
+    }
+    out.send(w, spaced_pairs(left).as_slice())
 }
 
 /// Has bytes go out as pairs of digits, with one blank between.
@@ -37,8 +69,5 @@ pub fn send_hex<W: Writer>(w: &mut W, out: &mut Outgoing, bytes: &[u8]) -> Resul
         return Ok(());
     };
     out.send(w, &hex_pair(*first))?;
-    for byte in others {
-        out.send(w, &next_pair(*byte))?;
-    }
-    Ok(())
+    send_spaced(w, out, others)
 }

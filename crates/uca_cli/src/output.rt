@@ -14,8 +14,8 @@ ghost use Rattle.uca_cli.specs.Sending.{line_text, lines_text, StopsLine, StopsO
 use crate::faults::CliFault;
 use crate::hex::send_hex;
 use crate::lines::first_line;
-use simdutf8::compat::from_utf8;
 use std::alloc::Global;
+use std::str::from_utf8_unchecked;
 use uca_allkeys::element_text;
 use uca_key::{key_of, write_key};
 use uca_match::elements_of;
@@ -37,13 +37,7 @@ pub fn text_of_line(line: &[u8]) -> Passage<'_>
     requires { IsTextLine line.now }
     ensures { text_of result ≡ chars line.now }
 {
-    let Ok(text) = from_utf8(line) else {
-        unreachable!();
-    };
-    let Ok(passage) = Passage::check(text) else {
-        unreachable!();
-    };
-    passage
+    Passage::of_safe(unsafe { from_utf8_unchecked(line) })
 }
 
 /// Has collation elements go out one behind the other.

@@ -247,3 +247,64 @@ fn agrees_with_the_definition(rt: HostRuntime) {
         assert_eq!(rt; elements.as_slice(), wanted.as_slice(), "{text:?}");
     }
 }
+
+/// Texts whose characters join others in each way: in a key, as marks, as parts of a syllable, beyond the cells.
+const JOINED: [&str; 10] = [
+    "c",
+    "ch",
+    "hch\u{301}",
+    "\u{344}",
+    "e\u{344}",
+    "\u{1EA1}\u{301}x",
+    "\u{AC00}\u{11A8}\u{AC01}",
+    "\u{4E00}\u{301}\u{20000}\u{F73}",
+    "\u{1D15E}\u{1D165}",
+    "abch\u{378}",
+];
+
+/// Checks that a table gives a text the elements that another of the same entries gives it.
+fn assert_same(rt: &impl Abort, alloc: Global, t: &Table, other: &Table, text: &str) {
+    let elements = elements_again(rt, alloc, t, text);
+    let others = elements_again(rt, alloc, other, text);
+    assert_eq!(rt; elements.as_slice(), others.as_slice(), "{text:?}");
+}
+
+#[test]
+fn a_table_without_cells_gives_the_same_elements(rt: HostRuntime) {
+    let t = table(&rt, rt.alloc(), &KEYS_WITH_GAPS);
+    let Ok(copy) = t.try_clone(rt.alloc()) else {
+        return;
+    };
+    for text in JOINED {
+        assert_same(&rt, rt.alloc(), &t, &copy, text);
+    }
+    for number in 0..600 {
+        let Ok(text) = generated(rt.alloc(), number) else {
+            return;
+        };
+        assert_same(&rt, rt.alloc(), &t, &copy, &text);
+    }
+}
+
+#[test]
+fn a_changed_table_gives_its_new_elements(rt: HostRuntime) {
+    let mut t = table(&rt, rt.alloc(), &[]);
+    let changed = plain(0x1020, 0x20);
+    if t.put(rt.alloc(), &['c', 'z'], &[changed]).is_err() {
+        return;
+    }
+    let elements = elements_again(&rt, rt.alloc(), &t, "cz");
+    assert_eq!(rt; elements.as_slice(), [changed].as_slice());
+    if t.prepare(rt.alloc()).is_err() {
+        return;
+    }
+    let elements = elements_again(&rt, rt.alloc(), &t, "czc");
+    assert_eq!(rt; elements.as_slice(), [changed, plain(0x1002, 0x20)].as_slice());
+    assert!(rt; !t.has_stuck(1, 0x1002));
+    t.shift(1, 0x1002);
+    let elements = elements_again(&rt, rt.alloc(), &t, "cze");
+    assert_eq!(rt;
+        elements.as_slice(),
+        [plain(0x1021, 0x20), plain(0x1005, 0x20)].as_slice()
+    );
+}

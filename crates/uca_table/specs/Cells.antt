@@ -1,4 +1,4 @@
--- What a table says of characters by themselves, and when their elements stand alone.
+-- The elements of single characters as a table keeps them, and how they may join other text.
 use Rattle.std.specs.Prelude.{◌≡◌, ℕ, ◌+◌, ◌<◌, ◌≤◌, ◌^◌, Bool, true, List, [], ◌∷◌, ◌++◌, length, take, drop, get_or}
 use Rattle.unicode_normalization.specs.Forms.{nfd}
 use Rattle.uca_weights.specs.declared.element.Element.{Element}
@@ -8,7 +8,7 @@ use Rattle.uca_model.specs.StandAlone.{begins, leads, continues, joining, bearin
 use Rattle.uca_table.specs.declared.cells.Cell.{Cell}
 use Rattle.uca_table.specs.declared.cells.Cells.{Cells}
 
--- the flags tell which code points begin a longer key, and which stand behind the first place; those behind their end count as both
+-- the flags say which code points begin a key, which begin one of two or more, and which stand after the first place of one; code points without a flag count as all three
 pub record AreMarks (t : ElementTable) (ls cs bs : List Bool) : Type 0 where
   pub begins : (p : ℕ) → p < length bs → get_or bs p true ≡ begins t p
   pub leads : (p : ℕ) → p < length ls → get_or ls p true ≡ leads t p

@@ -15,20 +15,21 @@ use uca_weights::Element;
 use unicode_normalization::char::{canonical_combining_class, decomposition};
 use unicode_normalization::{Form, slice};
 
-/// What a table says of a character by itself.
+/// The elements of a character by itself, and whether they stay so within a text. Eight bytes, since a table has a cell
+/// for each of 65,536 characters and each character of a text is looked up.
 #[derive(Clone, Copy, Debug)]
 pub(crate) struct Cell {
     // Where its elements begin among those of all cells.
     start: u32,
-    // How many they are, 0 where it isn't known.
+    // How many there are, or 0 where they are not known.
     count: u8,
-    // How it may join what stands before it: 0 not at all, 1 in a key, 2 as marks too.
+    // How a text that begins with it may join the text before: 0 not at all, 1 in a key, 2 as nonstarters too.
     joining: u8,
-    // Which of these it bears behind it.
+    // The greatest of these that it bears after it.
     bearing: u8,
 }
 
-/// Of which nothing is known.
+/// The cell of a character of which nothing is known.
 const UNKNOWN: Cell = Cell {
     start: 0,
     count: 0,
@@ -83,7 +84,7 @@ fn is_starter(c: char) -> bool
     canonical_combining_class(c) == 0
 }
 
-// How code points join what stands before them, at most.
+// How code points may join the text before them, at most.
 fn joining_of(t: &Stored, marks: &Marks, points: &[char]) -> u8
     requires { AreMarks t.now marks.now.leads.items marks.now.continues.items marks.now.begins.items }
     ensures value { joining_of t.now points.now ≤ result }
@@ -116,7 +117,7 @@ fn ends_in_starter(points: &[char]) -> bool
     is_starter(points[points.len() - 1])
 }
 
-// What code points bear behind them, at least.
+// Which joining code points bear after them, at least.
 fn bearing_of(t: &Stored, marks: &Marks, points: &[char]) -> u8
     requires { AreMarks t.now marks.now.leads.items marks.now.continues.items marks.now.begins.items }
     ensures { result ≤ bearing_of t.now points.now }
@@ -127,7 +128,7 @@ fn bearing_of(t: &Stored, marks: &Marks, points: &[char]) -> u8
     if ends_in_starter(points) { 2 } else { 1 }
 }
 
-// Where elements lie behind `start` others, as numbers that a cell has room for.
+// Where elements lie from `start` on, as numbers that a cell has room for; no elements where it has none.
 fn extent(start: usize, end: usize) -> (u32, u8)
     requires { start ≤ end }
     ensures within { result.0 + result.1 ≤ end }
@@ -174,7 +175,7 @@ impl Cells {
         self.elements.extend_from_slice(&fresh)
     }
 
-    // The cell of a character, whose elements are put behind the others.
+    // The cell of a character, whose elements are appended to the others.
     fn cell_of(
         &mut self,
         alloc: Global,
@@ -203,7 +204,7 @@ impl Cells {
         })
     }
 
-    // The cell of a number, of which nothing is known where it is no character.
+    // The cell of a number, with nothing known where it is no scalar value.
     fn cell_at(
         &mut self,
         alloc: Global,
@@ -265,7 +266,7 @@ impl Cells {
         }
     }
 
-    /// Forgets all.
+    /// Drops all cells.
     pub(crate) fn clear(&mut self)
         ensures { (t : _) → HoldsCells t self.new }
     {

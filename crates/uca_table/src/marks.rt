@@ -6,11 +6,11 @@ ghost use Rattle.uca_table.specs.Cells.{AreMarks};
 use crate::stored::Stored;
 use std::alloc::{AllocError, Global};
 
-/// The code points below which a character may have a cell.
+/// Characters below this one have cells.
 pub(crate) const LIMIT: usize = 0x1_0000;
 
-/// Which code points begin a longer key of a table, and which stand in a key at the second place or later. All from
-/// `LIMIT` on are held to do both.
+/// Which code points begin a key of a table, which begin a key of two or more, and which stand in a key at the second
+/// place or later. Those from `LIMIT` on are taken to do all three.
 #[derive(Drop)]
 pub(crate) struct Marks {
     pub(crate) leads: Vec<bool>,
@@ -18,6 +18,7 @@ pub(crate) struct Marks {
     pub(crate) begins: Vec<bool>,
 }
 
+// Sets the flag of a code point, if it has one.
 fn mark(flags: &mut [bool], c: char)
     ensures { (p : ℕ) → p < length flags.old → get_or flags.new p true ≡ (get_or flags.old p true || c == p) }
 {
@@ -27,6 +28,7 @@ fn mark(flags: &mut [bool], c: char)
     }
 }
 
+// Sets the flags of code points.
 fn mark_all(flags: &mut [bool], points: &[char])
     ensures { (p : ℕ) → p < length flags.old → get_or flags.new p true ≡ (get_or flags.old p true || list_any (λ x. x == p) points.now) }
 {
@@ -35,7 +37,7 @@ fn mark_all(flags: &mut [bool], points: &[char])
     }
 }
 
-// What one more key marks.
+// Marks the first and the later code points of a key of two or more.
 fn mark_key(leads: &mut [bool], continues: &mut [bool], key: &[char])
     ensures leads { (p : ℕ) → p < length leads.old → get_or leads.new p true ≡ (get_or leads.old p true || is_longer_from p key.now) }
     ensures continues { (p : ℕ) → p < length continues.old → get_or continues.new p true ≡ (get_or continues.old p true || is_inside p key.now) }
@@ -47,6 +49,7 @@ fn mark_key(leads: &mut [bool], continues: &mut [bool], key: &[char])
     mark_all(continues, &key[1..]);
 }
 
+// Marks the first code point of a key.
 fn mark_first(begins: &mut [bool], key: &[char])
     ensures { (p : ℕ) → p < length begins.old → get_or begins.new p true ≡ (get_or begins.old p true || is_first p key.now) }
 {
@@ -55,7 +58,7 @@ fn mark_first(begins: &mut [bool], key: &[char])
     }
 }
 
-// What the keys of a table mark, where nothing was marked before.
+// Marks the code points of all keys, where nothing was marked before.
 fn mark_keys(leads: &mut [bool], continues: &mut [bool], begins: &mut [bool], t: &Stored)
     requires leads { (p : ℕ) → p < length leads.old → get_or leads.old p true ≡ false }
     requires continues { (p : ℕ) → p < length continues.old → get_or continues.old p true ≡ false }
@@ -68,7 +71,7 @@ fn mark_keys(leads: &mut [bool], continues: &mut [bool], begins: &mut [bool], t:
     }
 }
 
-// So many flags, of which none is set.
+// Flags, none of which is set.
 fn flags(alloc: Global, n: usize) -> Result<Vec<bool>, AllocError>
     ensures { IfOk result (λ v. (p : ℕ) → p < length v.items → get_or v.items p true ≡ false) }
 {

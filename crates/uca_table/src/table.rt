@@ -13,7 +13,7 @@ use uca_weights::{Element, Range};
 #[derive(Debug, Drop)]
 pub struct Table {
     stored: Stored,
-    // Of the characters, each by itself; none once the table was changed.
+    // The elements of single characters; none since the last change of the table.
     cells: Cells,
 }
 
@@ -134,6 +134,15 @@ impl Table {
         self.stored.ranges()
     }
 
+    /// Makes anew what quick look-ups use, which `put` and `shift` drop and a copy has not. Call it after the last change
+    /// of a table. The table is the same before and after, and also where memory is refused.
+    pub fn prepare(&mut self, alloc: Global) -> Result<(), AllocError>
+        ensures { self.new ≡ self.old }
+    {
+        self.cells = Cells::new(alloc, &self.stored)?;
+        Ok(())
+    }
+
     /// The table of what is stored, with cells where memory is not refused.
     pub(crate) fn of(alloc: Global, stored: Stored) -> Table
         ensures { result ≡ stored }
@@ -142,14 +151,14 @@ impl Table {
         Table { stored, cells }
     }
 
-    /// What is stored.
+    /// The entries and ranges, for matching code point by code point.
     pub fn stored(&self) -> &Stored
         ensures { result.now ≡ self.now }
     {
         &self.stored
     }
 
-    /// Appends the elements of a text.
+    /// Appends the collation elements of a text (UTS #10, sections 7.1 and 7.2, steps S1 and S2).
     pub fn push_elements(
         &self,
         alloc: Global,

@@ -154,5 +154,6 @@ pub fn tailor(alloc: Global, t: &Table, r: &Rules) -> Result<Table, TailorFault>
             Err(fault) => return Err(fault),
         }
     }
+    tailored.prepare(alloc)?;
     Ok(tailored)
 }

@@ -37,6 +37,14 @@ impl<'t> Passage<'t> {
         Ok(Passage { text })
     }
 
+    /// A text that was found safe before.
+    pub fn of_safe(text: &'t str) -> Passage<'t>
+        requires { IsSafe (chars text.now) }
+        ensures { bytes_of result ≡ text.now }
+    {
+        Passage { text }
+    }
+
     /// The text.
     pub fn as_str(&self) -> &'t str
         ensures text { result.now ≡ bytes_of self.now }

@@ -20,10 +20,7 @@ impl TestText {
     pub(crate) fn passage(&self) -> Passage<'_>
         ensures { text_of result ≡ chars self.now.text.bytes }
     {
-        let Ok(passage) = Passage::check(self.text.as_str()) else {
-            unreachable!();
-        };
-        passage
+        Passage::of_safe(self.text.as_str())
     }
 }
 
