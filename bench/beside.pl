@@ -44,7 +44,7 @@ sub rules {
     for (0 .. rand 3) {
         $text .= '&' . text_of(map { among(@starters[0 .. 12], @composed) } 0 .. rand 2);
         for (0 .. rand 4) {
-            $text .= among('<', '<<', '<<<', '=', '<*') . text_of(among(@starters[0 .. 17]), rand() < 0.5 ? points(2) : ());
+            $text .= among('<', '<<', '<<<', '=', rand() < 0.05 ? '<*' : '<') . text_of(among(@starters[0 .. 17]), rand() < 0.5 ? points(2) : ());
             $text .= '/' . text_of(among(@starters[0 .. 8])) if rand() < 0.1;
         }
         $text .= "\n";

@@ -5,6 +5,7 @@ pub mod HelpLemmas
 pub mod CommandLineLemmas
 pub mod PerformingLemmas
 pub mod SendingLemmas
+pub mod HexLemmas
 pub mod OrderingLemmas
 pub mod ComparingLemmas
 pub mod TestLineLemmas
