@@ -6,6 +6,8 @@
 #![tactic(auto)]
 
 pub mod comparison;
+mod common_pass;
+mod cut;
 mod level_order;
 pub mod points;
 pub mod weights;

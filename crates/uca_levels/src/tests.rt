@@ -109,6 +109,15 @@ impl<'t> Source for Counted<'t> {
         self.backs = self.backs.saturating_add(1);
         self.source.restart();
     }
+
+    fn mark(&mut self) {
+        self.source.mark();
+    }
+
+    fn rewind(&mut self) {
+        self.backs = self.backs.saturating_add(1);
+        self.source.rewind();
+    }
 }
 
 fn source_of<'t>(p: &Passage<'t>) -> Counted<'t>
@@ -337,4 +346,41 @@ fn agrees_with_the_order_of_plain_keys(rt: HostRuntime) {
             }
         }
     }
+}
+
+#[test]
+fn later_levels_begin_at_the_cut(rt: HostRuntime) {
+    let t = table(&rt, rt.alloc());
+    let s = settings(Strength::Tertiary, Variable::NonIgnorable);
+    let (p, q) = (passage(&rt, "zzza"), passage(&rt, "zzzA"));
+    let (mut left, mut right) = (source_of(&p), source_of(&q));
+    let order = compare_sources(&t, s, &mut left, &mut right);
+    assert_eq!(rt; order, Ordering::Less);
+    assert_eq!(rt; (left.taken, right.taken), (11, 11));
+    let second = settings(Strength::Secondary, Variable::NonIgnorable);
+    let (p, q, r) = (passage(&rt, "\u{e9}z"), passage(&rt, "\u{e9}z"), passage(&rt, "ez"));
+    let (mut a, mut b, mut c) = (source_of(&p), source_of(&q), source_of(&r));
+    assert_eq!(rt; compare_sources(&t, second, &mut a, &mut b), Ordering::Equal);
+    assert_eq!(rt; compare_sources(&t, second, &mut a, &mut c), Ordering::Greater);
+}
+
+#[test]
+fn no_cut_stands_inside_a_contraction(rt: HostRuntime) {
+    let t = table(&rt, rt.alloc());
+    let cuts = [('z', true), ('h', false), ('\u{301}', false), ('\u{1}', false), ('\u{4E00}', true)];
+    for (c, wanted) in cuts {
+        assert_eq!(rt; crate::cut::may_cut(&t, c), wanted, "{c:?}");
+    }
+    let mut builder = TableBuilder::new(rt.alloc());
+    for (key, starred, weights) in KEYS {
+        assert_eq!(rt; builder.insert(key, &[element(starred, weights)]), Ok(()));
+    }
+    assert_eq!(rt; builder.insert(&['x'], &[element(false, [0x1010, 0x20, 2])]), Ok(()));
+    assert_eq!(rt; builder.insert(&['y'], &[element(false, [0x1010, 0x21, 2])]), Ok(()));
+    let both = [element(false, [0x1005, 0x20, 2]), element(false, [0x1010, 0x30, 2])];
+    assert_eq!(rt; builder.insert(&['h', 'x'], &both), Ok(()));
+    let t = builder.finish().ok().expect(&rt, "a table");
+    let s = settings(Strength::Secondary, Variable::NonIgnorable);
+    let order = compare(&t, s, &passage(&rt, "chx"), &passage(&rt, "chy"));
+    assert_eq!(rt; order, Ordering::Less);
 }
