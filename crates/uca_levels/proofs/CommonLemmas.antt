@@ -120,12 +120,15 @@ module _ (t : ElementTable) (was wus : SourceState) (xs ys : List ℕ) (left rig
       first_ends : (l r : List ℕ) → l ≡ [] → DiffersFirst l r
       first_ends [] r e = tt
       first_ends (u ∷ l) r e = absurd (let clash : suc (length l) ≡ 0 = ap length e in omega arith)
+
       second_ends : (l r : List ℕ) → r ≡ [] → DiffersFirst l r
       second_ends [] r e = tt
       second_ends (u ∷ l) [] e = tt
       second_ends (u ∷ l) (v ∷ r) e = absurd (let clash : suc (length r) ≡ 0 = ap length e in omega arith)
+
       heads_differ : (c d : ℕ) (l r p q : List ℕ) → l ≡ c ∷ p → r ≡ d ∷ q → (c ≡ d → ⊥) → DiffersFirst l r
       heads_differ c d l r p q e f n = subst (λ u. DiffersFirst u r) (sym e) (subst (λ u. DiffersFirst (c ∷ p) u) (sym f) n)
+
       differs : (x y : Option ℕ) → MatchOption x ((unread a ≡ []) × (now_a.place ≡ a.place)) (λ c. (unread a ≡ c ∷ unread now_a) × (now_a.place ≡ a.place + 1))
           → MatchOption y ((unread b ≡ []) × (now_b.place ≡ b.place)) (λ c. (unread b ≡ c ∷ unread now_b) × (now_b.place ≡ b.place + 1)) → (x ≡ None) ⊎ (x ≡ y → ⊥) → DiffersFirst (unread a) (unread b)
       differs None y u v o = first_ends (unread a) (unread b) u.0
@@ -152,6 +155,7 @@ some_of t key valid e = by_entry (elements_at t key) refl e
     nothing : (es : List Element) → 1 ≤ length es → first_of es ≡ None → ⊥
     nothing [] h e = absurd (omega arith)
     nothing (x ∷ es) h e = cc
+
     by_entry : (o : Option (List Element)) → elements_at t key ≡ o → first_of (unwrap_or o (implicit_over t.ranges (slice_index key 0))) ≡ None → ⊥
     by_entry None f e = no_pair t (slice_index key 0) e
     by_entry (Some es) f e = nothing es (IsEntry-elements_at t key es valid f).some_elements e
@@ -164,6 +168,7 @@ some_held e valid size runs idle none = by_waiting e.waiting idle none
     not_wanting true true r i = cc
     not_wanting true false r i = cc
     not_wanting false d r i = refl
+
     by_waiting : (ws : List Element) → (nat_eq (length ws) 0 && is_wanting e.window) ≡ false → first_of (elements_held e.table ws e.window) ≡ None → ⊥
     by_waiting (x ∷ ws) i n = cc
     by_waiting [] i n =
@@ -178,6 +183,7 @@ running-held e = by_waiting e.waiting
     by_test : (b : Bool) (v : WindowState) → v.ended ≡ e.window.ended → (cond b e.window v).ended ≡ e.window.ended
     by_test true v same = refl
     by_test false v same = same
+
     by_waiting : (ws : List Element) → (window_held e.table ws e.window).ended ≡ e.window.ended
     by_waiting (x ∷ ws) = refl
     by_waiting [] = by_test (e.window.closed == 0) _ refl
@@ -191,6 +197,7 @@ module _ (t : ElementTable) (was wus : SourceState) (xs ys : List ℕ) (left rig
     where
       next : WeightsState → WeightsState
       next w = record { elements = after_held w.elements; weigher = weigher_given w.weigher (given_held w.elements); level = w.level }
+
       by_given : (o : Option Element) → given_held left.elements ≡ o → InCommon t was wus xs ys now_left now_right flag now_a now_b × (work_left now_left now_a < work_left left a)
       by_given None none = absurd (some_held left.elements (subst IsTable (sym h.table) valid) (h.size ∙ ap longest (sym h.table)) h.running idle none)
       by_given (Some e) some =
@@ -200,23 +207,25 @@ module _ (t : ElementTable) (was wus : SourceState) (xs ys : List ℕ) (left rig
           let come_a : all_to_come left (unread a) ≡ weight ∷ all_to_come now_left (unread now_a) = given_some _ _ x weight u.first first in
           let come_b : all_to_come right (unread b) ≡ weight ∷ all_to_come now_right (unread now_b) = given_some _ _ y weight v.first second in
           let less : length (all_to_come left (unread a)) ≡ suc (length (all_to_come now_left (unread now_a))) = ap length come_a in
-          let taken : now_a.taken ≡ a.taken = ap (λ (s : SourceState). s.taken) p.source in
-          (record {
-            same = p.becomes ∙ ap next h.same ∙ sym q.becomes;
-            level = ap (λ (w : WeightsState). w.level) p.becomes ∙ h.level;
-            table = ap (λ (w : WeightsState). w.elements.table) p.becomes ∙ h.table;
-            size = u.reads.longest ∙ h.size;
-            running = ap (λ (w : WeightsState). w.elements.window.ended) p.becomes ∙ running-held left.elements ∙ h.running;
-            front = h.front;
-            first = h.first ∙ ap (λ s. h.front ++ unread s) (sym p.source);
-            second = h.second ∙ ap (λ s. h.front ++ unread s) (sym q.source);
-            place_a = ap (λ (s : SourceState). s.place) p.source ∙ h.place_a;
-            place_b = ap (λ (s : SourceState). s.place) q.source ∙ h.place_b;
-            marks = record { none = h.marks.none; first = λ f. ap (λ (s : SourceState). s.mark) p.source ∙ h.marks.first f; second = λ f. ap (λ (s : SourceState). s.mark) q.source ∙ h.marks.second f };
-            reads_a = UnderWay-more was a now_a _ _ h.reads_a u.reads;
-            reads_b = UnderWay-more wus b now_b _ _ h.reads_b v.reads;
-            lists = InStep-more xs ys _ _ weight weight _ _ h.lists come_a come_b refl;
-          }, omega (arith, less, u.reads.taken, taken))
+          let taken : now_a.taken ≡ a.taken = ap (λ (s : SourceState). s.taken) p.source in (
+            record {
+              same = p.becomes ∙ ap next h.same ∙ sym q.becomes;
+              level = ap (λ (w : WeightsState). w.level) p.becomes ∙ h.level;
+              table = ap (λ (w : WeightsState). w.elements.table) p.becomes ∙ h.table;
+              size = u.reads.longest ∙ h.size;
+              running = ap (λ (w : WeightsState). w.elements.window.ended) p.becomes ∙ running-held left.elements ∙ h.running;
+              front = h.front;
+              first = h.first ∙ ap (λ s. h.front ++ unread s) (sym p.source);
+              second = h.second ∙ ap (λ s. h.front ++ unread s) (sym q.source);
+              place_a = ap (λ (s : SourceState). s.place) p.source ∙ h.place_a;
+              place_b = ap (λ (s : SourceState). s.place) q.source ∙ h.place_b;
+              marks = record { none = h.marks.none; first = λ f. ap (λ (s : SourceState). s.mark) p.source ∙ h.marks.first f; second = λ f. ap (λ (s : SourceState). s.mark) q.source ∙ h.marks.second f };
+              reads_a = UnderWay-more was a now_a _ _ h.reads_a u.reads;
+              reads_b = UnderWay-more wus b now_b _ _ h.reads_b v.reads;
+              lists = InStep-more xs ys _ _ weight weight _ _ h.lists come_a come_b refl;
+            },
+            omega (arith, less, u.reads.taken, taken),
+          )
         where
           weight_of : Element → ℕ
           weight_of e = slice_index (weights left.weigher.weighting left.weigher.after e) (left.level - 1)

@@ -61,13 +61,15 @@ safe-behind : (t : ElementTable) (a front left : List ℕ) (m : ℕ) → EndsAtC
 safe-behind t a front left m ends e safe =
     let parts : a ≡ ends.before ++ (ends.after ++ left) = e ∙ ap (λ l. l ++ left) ends.same ∙ append_assoc ends.before ends.after left in
     let at : drop m a ≡ ends.after ++ left = ap₂ drop (sym ends.size) parts ∙ drop-append_seam ends.before (ends.after ++ left) in
-    let within : m ≤ length a = omega (arith, ends.size, ap length parts ∙ length-append ends.before (ends.after ++ left)) in
-    (elim ends.begins [
-      | inl none ↦ subst IsSafe (sym (at ∙ sym (parts ∙ ap (λ p. p ++ (ends.after ++ left)) none))) safe
-      | inr some ↦
-          let first : ends.after ++ left ≡ some.c ∷ (some.later ++ left) = ap (λ l. l ++ left) some.same in
-          subst IsSafe (sym (at ∙ first)) (IsSafe-back t ends.before (some.later ++ left) some.c some.cut (subst IsSafe (parts ∙ ap (λ l. ends.before ++ l) first) safe))
-    ], within)
+    let within : m ≤ length a = omega (arith, ends.size, ap length parts ∙ length-append ends.before (ends.after ++ left)) in (
+      elim ends.begins [
+        | inl none ↦ subst IsSafe (sym (at ∙ sym (parts ∙ ap (λ p. p ++ (ends.after ++ left)) none))) safe
+        | inr some ↦
+            let first : ends.after ++ left ≡ some.c ∷ (some.later ++ left) = ap (λ l. l ++ left) some.same in
+            subst IsSafe (sym (at ∙ first)) (IsSafe-back t ends.before (some.later ++ left) some.c some.cut (subst IsSafe (parts ∙ ap (λ l. ends.before ++ l) first) safe))
+      ],
+      within,
+    )
 
 pub safe-cut_a : (t : ElementTable) (a b : List ℕ) → IsSafe a → IsSafe (drop (cut_of t a b) a) × (cut_of t a b ≤ length a)
 safe-cut_a t a b safe = let inside = common_front-first a b in safe-behind t a (common_front a b) inside.left (cut_of t a b) (ends_at_cut t (common_front a b)) inside.first safe

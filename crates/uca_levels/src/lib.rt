@@ -5,8 +5,8 @@
 //! here takes memory.
 #![tactic(auto)]
 
-pub mod comparison;
 mod common_pass;
+pub mod comparison;
 mod cut;
 mod level_order;
 pub mod points;

@@ -1,6 +1,6 @@
 -- A text that is cut before a safe starter: its level lists are those of the two parts, one behind the other.
-use Rattle.std.proofs.Common.{◌⊎◌, ◌≡◌, ℕ, zero, suc, ◌+◌, ◌-◌, ◌/◌, ◌%◌, ◌≤◌, ◌<◌, max, min, Bool, true, false, cond, not, ◌&&◌, ◌==◌, ◌||◌, nat_eq, List, [], ◌∷◌, ◌++◌, length, take, drop, map, filter, flat_map, get_or, slice_index, find, Option, Some, None, unwrap_or, All, refl, sym, ap, ap₂, subst, ◌∙◌, arith, inl, inr, append_assoc, append-nil, length-append, eqb-true, eq-eqb, ne_eqb}
-use Rattle.std.proofs.lemmas.Bool.{cases_Bool, cases_lt, and_parts, cond-true, cond-false, eqb-false}
+use Rattle.std.proofs.Common.{◌⊎◌, ◌≡◌, ℕ, zero, suc, ◌+◌, ◌-◌, ◌/◌, ◌%◌, ◌≤◌, ◌<◌, max, Bool, true, false, cond, not, ◌&&◌, ◌==◌, ◌||◌, nat_eq, List, [], ◌∷◌, ◌++◌, length, take, drop, map, filter, flat_map, slice_index, find, Option, Some, None, unwrap_or, All, refl, sym, ap, ap₂, subst, ◌∙◌, arith, inl, inr, append_assoc, append-nil, length-append, eqb-true, eq-eqb, ne_eqb}
+use Rattle.std.proofs.lemmas.Bool.{cases_Bool, and_parts, cond-true, cond-false, eqb-false}
 use Rattle.std.proofs.lemmas.List.{map-append, take-append-le, drop-append-le, drop_at, reverse-append, take-append-drop, length-take}
 use Rattle.std.proofs.lemmas.List.Elements.{filter-append, All-drop}
 use Rattle.std.proofs.lemmas.List.Concat.{flat_map-append}
@@ -12,7 +12,7 @@ use Rattle.std.specs.declared.cmp.Ordering.{Ordering}
 use Rattle.unicode.specs.CanonicalCombiningClass.{canonical_combining_class as ccc}
 use Rattle.unicode_normalization.specs.Decompose.{decompose_canonical}
 use Rattle.unicode_normalization.specs.Forms.{nfd}
-use Rattle.unicode_normalization.specs.Order.{is_starter, is_nonstarter, is_reorderable, sink, canonical_order}
+use Rattle.unicode_normalization.specs.Order.{is_starter, is_reorderable, sink, canonical_order}
 use Rattle.unicode_normalization.proofs.ComposeLemmas.{is_starter-true, not_starter_from}
 use Rattle.unicode_normalization.proofs.OrderLemmas.{canonical_order-at_starter, canonical_order-cons, canonical_order-nil, is_reorderable-true, sink-nil, sink-past, sink-stays, sink-starter}
 use Rattle.uca_weights.specs.declared.element.Element.{Element}
@@ -21,21 +21,21 @@ use Rattle.uca_weights.specs.declared.settings.Variable.{Variable}
 use Rattle.uca_weights.specs.declared.settings.Variable.TheVariants.{NonIgnorable, Blanked, Shifted}
 use Rattle.uca_weights.specs.Element.{has_primary, is_variable, is_completely_ignorable}
 use Rattle.uca_weights.specs.VariableWeighting.{is_after_variable, weights, weighted_after, weighted, ignored, unchanged}
-use Rattle.uca_weights.specs.declared.limits.TheConstants.{MAX_RUN, MAX_DECOMPOSITION}
-use Rattle.uca_model.specs.Table.{ElementTable, is_key, elements_at, IsTable, IsRange, AreRanges, IsEntry}
-use Rattle.uca_model.specs.Match.{Step, greatest, start_len, start_of, is_blocked, extension_of, took}
-use Rattle.uca_model.specs.CollationElements.{step, took_alone, matches_within, matches, elements, elements_or_implicit}
+use Rattle.uca_weights.specs.declared.limits.TheConstants.{MAX_DECOMPOSITION}
+use Rattle.uca_model.specs.Table.{ElementTable, is_key, elements_at, IsTable, IsRange, AreRanges}
+use Rattle.uca_model.specs.Match.{Step, greatest, start_len, is_blocked, extension_of, took}
+use Rattle.uca_model.specs.CollationElements.{step, matches_within, matches, elements, elements_or_implicit}
 use Rattle.uca_model.specs.ImplicitWeights.{pair, implicit_over, is_assigned, is_unified_ideograph, in_some, core_blocks, in_two_parts, two_parts_base, in_range, range_of, is_between, lowest_first}
 use Rattle.uca_model.specs.LevelWeights.{level_weights, level_list}
 use Rattle.uca_model.specs.SafeText.{IsSafe, longest_run, longest_run_after}
-use Rattle.uca_model.specs.SafeCut.{begins_with, begins_with_primary, keeps_apart, is_safe_starter, begins_apart, is_cut, common_front, last_cut, cut_of}
-use Rattle.uca_model.specs.Laws.{IsCutApart, AreCutApart, TextsAreCutApart}
+use Rattle.uca_model.specs.SafeCut.{begins_with, begins_with_primary, keeps_apart, is_safe_starter, begins_apart, is_cut, common_front, last_cut}
+use Rattle.uca_model.specs.Laws.{IsCutApart, TextsAreCutApart}
 use Rattle.uca_model.specs.Reading.{OrdersLevel}
 use Rattle.uca_model.proofs.ImplicitLemmas.{found}
 use Rattle.uca_model.proofs.LevelLemmas.{OrdersLevel-front}
 use Rattle.uca_model.proofs.RewritingLemmas.{matches-step, elements_nil, elements_step, step_shorter}
 use Rattle.uca_model.proofs.SafeLemmas.{nfd-is, runs-append, run_after}
-use Rattle.uca_model.proofs.TableLemmas.{IsEntry-elements_at, find-holds}
+use Rattle.uca_model.proofs.TableLemmas.{find-holds}
 
 -- ---- what a safe starter is
 
@@ -286,6 +286,7 @@ begins-implicit rs c ranges = begins-cond (is_assigned c) _ _ (by_range (range_o
   where
     by_point : BeginsPrimary (in_two_parts (two_parts_base c) c)
     by_point = begins-pair _ (c % 0x8000 + 0x8000) (base_some (is_unified_ideograph c) (in_some core_blocks c) (c / 0x8000))
+
     by_range : (o : Option Range) → range_of rs c ≡ o → BeginsPrimary (option_map_or (in_range rs c) o (in_two_parts (two_parts_base c) c))
     by_range None e = by_point
     by_range (Some r) e = begins-pair r.base (c - lowest_first rs r.base r.first + 0x8000) (let at : IsRange r = (found IsRange (λ q. is_between q.first q.last c) rs r ranges.each e).0 in omega (arith, at.above))
@@ -329,6 +330,7 @@ begins-key t s after valid safe = by_entry (elements_at t (s ∷ after)) refl
     by_elements : (es : List Element) → elements_at t (s ∷ after) ≡ Some es → BeginsPrimary es
     by_elements [] e = absurd (let none : false ≡ true = safe.primary after [] e in cc)
     by_elements (x ∷ es) e = record { first = x; others = es; same = refl; some = safe.primary after (x ∷ es) e }
+
     by_entry : (o : Option (List Element)) → elements_at t (s ∷ after) ≡ o → BeginsPrimary (unwrap_or o (implicit_over t.ranges s))
     by_entry None e = begins-implicit t.ranges s valid.ranges
     by_entry (Some es) e = by_elements es e
@@ -560,6 +562,7 @@ nothing-cut t v back =
   where
     none : nfd [] ≡ []
     none = nfd-is [] ∙ canonical_order-nil
+
     no_list : (level : ℕ) → level_list t v [] level ≡ []
     no_list level = elim (cases_Bool (level == 5)) [
       | inl five ↦ cond-true _ _ _ five ∙ none

@@ -1,3 +1,6 @@
+ghost use Rattle.std.specs.Prelude.{◌≤◌, length};
+ghost use Rattle.uca_weights.specs.declared.limits.TheConstants.{MAX_KEY, MAX_ELEMENTS};
+
 use crate::{Element, InsertFault, Range, RangeFault, Table, TableBuilder};
 use arrayvec::ArrayVec;
 use std::alloc::{AllocError, Global};
@@ -277,9 +280,9 @@ fn entries_come_by_key_order(rt: HostRuntime) {
 /// Puts an entry, once more where memory was refused.
 fn put(table: &mut Table, alloc: Global, key: &[char], elements: &[Element]) -> bool
     requires some_points { 1 ≤ length key.now }
-    requires few_points { length key.now ≤ 32 }
+    requires few_points { length key.now ≤ MAX_KEY }
     requires some_elements { 1 ≤ length elements.now }
-    requires few_elements { length elements.now ≤ 64 }
+    requires few_elements { length elements.now ≤ MAX_ELEMENTS }
 {
     table.put(alloc, key, elements).is_ok() || table.put(alloc, key, elements).is_ok()
 }
@@ -309,7 +312,10 @@ fn safe_starters_go_beyond_the_first_plane(rt: HostRuntime) {
     let without_primary = [element(false, [0, 0x20, 2])];
     assert_eq!(rt; insert(&mut builder, &['\u{1F600}'], &one), Ok(()));
     assert_eq!(rt; insert(&mut builder, &['z', '\u{1F601}'], &one), Ok(()));
-    assert_eq!(rt; insert(&mut builder, &['\u{1F602}'], &without_primary), Ok(()));
+    assert_eq!(rt;
+        insert(&mut builder, &['\u{1F602}'], &without_primary),
+        Ok(())
+    );
     let table = finish(builder).expect(&rt, "a table");
     let cuts = [
         ('z', true),
@@ -317,7 +323,7 @@ fn safe_starters_go_beyond_the_first_plane(rt: HostRuntime) {
         ('\u{1F601}', false),
         ('\u{1F602}', false),
         ('\u{1F603}', true),
-        // A mark of the third kind, and the last code point.
+        // A mark that has no key, and the last code point.
         ('\u{1D165}', false),
         ('\u{10FFFF}', true),
     ];
@@ -333,17 +339,28 @@ fn safe_starters_are_those_of_the_changed_table(rt: HostRuntime) {
     if !put(&mut table, alloc, &['z', 'z'], &[ELEMENT]) {
         return;
     }
-    if !put(&mut table, alloc, &['\u{1F602}'], &[element(false, [0, 0x20, 2])]) {
+    if !put(
+        &mut table,
+        alloc,
+        &['\u{1F602}'],
+        &[element(false, [0, 0x20, 2])],
+    ) {
         return;
     }
     if !put(&mut table, alloc, &['\u{1}'], &[ELEMENT]) {
         return;
     }
-    let cuts = [('z', false), ('c', true), ('h', false), ('\u{1F602}', false), ('\u{1}', true)];
+    let cuts = [
+        ('z', false),
+        ('c', true),
+        ('h', false),
+        ('\u{1F602}', false),
+        ('\u{1}', true),
+    ];
     for (c, wanted) in cuts {
         assert_eq!(rt; table.safe_starter(c), wanted, "{c:?}");
     }
-    // Made ready it answers the same; where memory is refused too.
+    // Made ready, the table answers the same; so it does where memory is refused.
     let _ready = table.prepare(alloc);
     for (c, wanted) in cuts {
         assert_eq!(rt; table.safe_starter(c), wanted, "{c:?}");

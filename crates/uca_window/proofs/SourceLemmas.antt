@@ -1,11 +1,9 @@
 -- Lemmas on a source over a text: one step of the iterator over its characters.
 use Rattle.std.proofs.Math.Seq.{take-append_seam, drop-append_seam}
-use Rattle.std.proofs.Common.{◌<◌, ◌≤◌, ◌++◌, take, zero, suc, encode_utf8, length-append, append_assoc, ◌≡◌, ℕ, ◌+◌, ◌-◌, List, [], ◌∷◌, Option, Some, None, length, drop, chars, IsUtf8, MatchOption, refl, sym, ap, subst, ◌∙◌, arith}
+use Rattle.std.proofs.Common.{◌<◌, ◌≤◌, ◌++◌, take, suc, encode_utf8, length-append, append_assoc, ◌≡◌, ℕ, ◌+◌, ◌-◌, List, [], ◌∷◌, Option, Some, None, length, drop, chars, IsUtf8, MatchOption, refl, sym, ap, subst, ◌∙◌, arith}
 use Rattle.std.proofs.lemmas.List.{nil_from_length, drop-drop, take-append-drop, length-take, length-drop}
 use Rattle.std.specs.Str.Iter.{chars_steps_back}
-use Rattle.std.specs.Str.{IsCharBoundary}
-use Rattle.std.specs.Char.{IsScalar}
-use Rattle.std.proofs.lemmas.Str.{chars-append, IsCharBoundary-from_drop, IsCharBoundary-at_seam, IsUtf8-append, IsUtf8-encode}
+use Rattle.std.proofs.lemmas.Str.{chars-append}
 use Rattle.std.specs.Str.Iter.{chars_rest, chars_steps}
 use Rattle.std.specs.declared.str.Chars.{Chars}
 use Rattle.std.proofs.lemmas.Str.{chars_past_char, chars-nil, IsUtf8-past_char}
@@ -119,11 +117,11 @@ pub steps_back : (text rest : List ℕ) (s t : Chars) (given : Option ℕ) → S
     → StepsBack text rest (chars_rest t)
 steps_back text rest s t None stands some e h =
     absurd (
-      let none : length (take (length text - length rest) text) ≡ 0 = ap length (sym e) ∙ h.0 in
-      let nothing : length text - length rest ≡ 0 = omega (arith, none, length-take (length text - length rest) text) in
-      let same : text ≡ rest = ap (λ n. drop n text) (sym nothing) ∙ stands.bytes in
-      let size : length (chars text) ≡ length (chars rest) = ap (λ b. length (chars b)) same in
-      omega arith)
+    let none : length (take (length text - length rest) text) ≡ 0 = ap length (sym e) ∙ h.0 in
+    let nothing : length text - length rest ≡ 0 = omega (arith, none, length-take (length text - length rest) text) in
+    let same : text ≡ rest = ap (λ n. drop n text) (sym nothing) ∙ stands.bytes in
+    let size : length (chars text) ≡ length (chars rest) = ap (λ b. length (chars b)) same in
+    omega arith)
 steps_back text rest s t (Some c) stands some e h =
     let front = chars_rest t in
     let whole : text ≡ front ++ (encode_utf8 c ++ rest) =

@@ -77,4 +77,3 @@ returns-clause-reads_b g c =
     let ys : List ℕ = all_to_come (new_weights c.args.t.now c.args.v 1) wus.text in
     let parted : Parted c.args.t.now was wus xs ys c.goes_on.new.left c.goes_on.new.right c.goes_on.new.marked (g.S.Source.state c.goes_on.new.a) (g.T.Source.state c.goes_on.new.b) = c.goes_on.ensures.parts was wus xs ys c.loop.invariant c.loop-test.false in
     ReadsOnce-up wus (g.T.Source.state c.goes_on.new.b) (g.T.Source.state c.order_to_come-order.new.b) c.goes_on.new.right.elements.window parted.reads_b c.order_to_come-order.ensures.reads_b
-

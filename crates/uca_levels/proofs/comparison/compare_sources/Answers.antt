@@ -190,9 +190,8 @@ each-preserved g c =
       last = omega (arith, inside);
       undecided = undecided-next c.args.t.now c.args.s was.text wus.text at o c.each.invariant.undecided inside orders (from_not_ne o (sym c.is_ne-in-each.ensures ∙ c.if-is_ne-2.false));
       marks = marks-stay flag m (g.S.Source.state c.each.a) (g.T.Source.state c.each.b) (g.S.Source.state c.order_of_level-order.new.a) (g.T.Source.state c.order_of_level-order.new.b) marks
-      (c.order_of_level-order.ensures.reads_a.mark ∙ ap (λ (s : SourceState). s.mark) c.go_back.ensures ∙ back-mark flag (g.S.Source.state c.each.a))
-      (c.order_of_level-order.ensures.reads_b.mark ∙ ap (λ (s : SourceState). s.mark) c.go_back-in-each.ensures ∙ back-mark flag (g.T.Source.state c.each.b));
+          (c.order_of_level-order.ensures.reads_a.mark ∙ ap (λ (s : SourceState). s.mark) c.go_back.ensures ∙ back-mark flag (g.S.Source.state c.each.a))
+          (c.order_of_level-order.ensures.reads_b.mark ∙ ap (λ (s : SourceState). s.mark) c.go_back-in-each.ensures ∙ back-mark flag (g.T.Source.state c.each.b));
       reads_a = (let past : at ≡ at + 1 - 1 = omega arith in subst (λ n. ReadsFromCut n m was (g.S.Source.state c.order_of_level-order.new.a)) past more_a);
       reads_b = (let past : at ≡ at + 1 - 1 = omega arith in subst (λ n. ReadsFromCut n m wus (g.T.Source.state c.order_of_level-order.new.b)) past more_b);
     }
-

@@ -1,4 +1,4 @@
-use Rattle.std.proofs.Common.{◌≡◌, ◌+◌, length, chars, drop, take, IsUtf8, sym, subst, ap, ◌∙◌, arith}
+use Rattle.std.proofs.Common.{length, chars, drop, IsUtf8, sym, subst, ap, ◌∙◌, arith}
 use Rattle.std.proofs.lemmas.Str.{IsCharBoundary-from_drop, IsCharBoundary-from_take, IsUtf8-drop}
 use Rattle.std.specs.Str.Iter.{chars_rest}
 use Rattle.uca_window.specs.PassageSource.{StandsIn}
