@@ -22,10 +22,10 @@ use Rattle.uca_levels.specs.Reads.{ReadsTimes, ReadsRest, IsReading, InStep}
 -- ---- weights that are not zero
 
 pub ReadsOn-none : (w : WindowState) (s : SourceState) → Fits w (unread s) → ReadsOn w s w s
-ReadsOn-none w s fits = record { text = refl; fits = fits; longest = refl; taken = omega arith; backs = refl }
+ReadsOn-none w s fits = record { text = refl; mark = refl; fits = fits; longest = refl; taken = omega arith; backs = refl }
 
 pub ReadsOn-more : (w v u : WindowState) (s t r : SourceState) → ReadsOn w s v t → ReadsOn v t u r → ReadsOn w s u r
-ReadsOn-more w v u s t r h k = record { text = k.text ∙ h.text; fits = k.fits; longest = k.longest ∙ h.longest; taken = omega (arith, h.taken, k.taken); backs = k.backs ∙ h.backs }
+ReadsOn-more w v u s t r h k = record { text = k.text ∙ h.text; mark = k.mark ∙ h.mark; fits = k.fits; longest = k.longest ∙ h.longest; taken = omega (arith, h.taken, k.taken); backs = k.backs ∙ h.backs }
 
 -- zeros were passed over
 pub record Passes (old : WeightsState) (before : SourceState) (new : WeightsState) (now : SourceState) : Type 0 where
@@ -65,14 +65,14 @@ new_weights-to_come t v level left low =
 -- ---- a reading from the start
 
 empty-reading : (old : SourceState) (longest : ℕ) → IsSafe (unread old) → IsReading old (empty_window longest) old
-empty-reading old longest safe = record { text = refl; fits = record { safe = safe; ended = λ e. cc }; taken = omega arith; backs = refl }
+empty-reading old longest safe = record { text = refl; mark = refl; fits = record { safe = safe; ended = λ e. cc }; taken = omega arith; backs = refl }
 
 pub IsReading-start : (old : SourceState) (w : WindowState) (longest : ℕ) → IsSafe (unread old) → w ≡ empty_window longest → IsReading old w old
 IsReading-start old w longest safe new = subst (λ v. IsReading old v old) (sym new) (empty-reading old longest safe)
 
 pub IsReading-more : (old before now : SourceState) (w new : WindowState) → IsReading old w before → ReadsOn w before new now → IsReading old new now
 IsReading-more old before now w new h t =
-    record { text = t.text ∙ h.text; fits = t.fits; taken = omega (arith, h.taken, t.taken); backs = t.backs ∙ h.backs }
+    record { text = t.text ∙ h.text; mark = t.mark ∙ h.mark; fits = t.fits; taken = omega (arith, h.taken, t.taken); backs = t.backs ∙ h.backs }
 
 -- a way back, and one reading
 pub ReadsTimes-one : (old start now : SourceState) → start ≡ restarted old → ReadsRest start now → ReadsTimes 1 old now

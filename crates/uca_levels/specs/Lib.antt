@@ -1,2 +1,4 @@
 pub mod ToCome
 pub mod Reads
+pub mod InCommon
+pub mod FromCut

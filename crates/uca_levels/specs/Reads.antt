@@ -12,12 +12,14 @@ pub record ReadsTimes (times : ℕ) (old new : SourceState) : Type 0 where
 -- what was unread was read once at most, the end counted as a character, with no way back
 pub record ReadsRest (old new : SourceState) : Type 0 where
   pub text : new.text ≡ old.text
+  pub mark : new.mark ≡ old.mark
   pub taken : new.taken ≤ old.taken + (length (unread old) + 1)
   pub backs : new.backs ≡ old.backs
 
 -- such a reading under way, in a window
 pub record IsReading (old : SourceState) (w : WindowState) (now : SourceState) : Type 0 where
   pub text : now.text ≡ old.text
+  pub mark : now.mark ≡ old.mark
   pub fits : Fits w (unread now)
   pub taken : now.taken + credit w (unread now) ≤ old.taken + (length (unread old) + 1)
   pub backs : now.backs ≡ old.backs
@@ -27,3 +29,10 @@ pub record InStep (xs ys left right : List ℕ) : Type 0 where
   pub front : List ℕ
   pub first : xs ≡ front ++ left
   pub second : ys ≡ front ++ right
+
+-- a window read on: no more calls of `next` than it was good for, and no way back
+pub record ReadsUp (w : WindowState) (old new : SourceState) : Type 0 where
+  pub text : new.text ≡ old.text
+  pub mark : new.mark ≡ old.mark
+  pub taken : new.taken ≤ old.taken + credit w (unread old)
+  pub backs : new.backs ≡ old.backs

@@ -1,5 +1,5 @@
 -- The weights of a level that are still to come over a source.
-use Rattle.std.specs.Prelude.{ℕ, ◌-◌, false, not, ◌==◌, List, [], ◌∷◌, map, filter, slice_index, refl}
+use Rattle.std.specs.Prelude.{◌≡◌, Bool, false, Option, Some, None, ℕ, ◌-◌, not, ◌==◌, List, [], ◌∷◌, map, filter, slice_index, refl}
 use Rattle.std.specs.Coded.{Coded, code_by, coded×, coded_ℕ}
 use Rattle.uca_weights.specs.declared.element.Element.{Element}
 use Rattle.uca_weights.specs.declared.settings.Variable.{Variable}
@@ -7,8 +7,9 @@ use Rattle.uca_weights.specs.VariableWeighting.{weights}
 use Rattle.uca_weights.specs.Weigher.{WeigherState, after_element}
 use Rattle.uca_weights.specs.Coded.{coded_weigher}
 use Rattle.uca_model.specs.Table.{ElementTable}
-use Rattle.uca_model.specs.Window.{WindowState}
-use Rattle.uca_match.specs.ToCome.{ElementsState, new_elements, elements_to_come, coded_elements}
+use Rattle.uca_model.specs.Window.{WindowState, after_read}
+use Rattle.uca_model.specs.Source.{SourceState}
+use Rattle.uca_match.specs.ToCome.{given_held, after_held, ElementsState, new_elements, elements_to_come, coded_elements}
 
 -- the elements to come, what weighs them, and the level
 pub record WeightsState : Type 0 where
@@ -44,3 +45,22 @@ itself w = w
 -- as data, by which a proof tells two of them apart
 abbrev pub coded_weights : Coded WeightsState
 coded_weights = code_by (ElementsState × (WeigherState × ℕ)) (coded× coded_elements (coded× coded_weigher coded_ℕ)) (λ w. (w.elements, (w.weigher, w.level))) (λ p. record { elements = p.0; weigher = p.1.0; level = p.1.1 }) (λ _. refl)
+
+-- the weight of an element that was given, and the weigher behind it
+abbrev pub weight_given : WeightsState → Option Element → Option ℕ
+weight_given w None = None
+weight_given w (Some e) = Some (slice_index (weights w.weigher.weighting w.weigher.after e) (w.level - 1))
+
+abbrev pub weigher_given : WeigherState → Option Element → WeigherState
+weigher_given w None = w
+weigher_given w (Some e) = record w { after = after_element w.after e }
+
+-- it gave the weight of the element that its elements give without reading, and read nothing
+pub record WeighsHeld (old : WeightsState) (before : SourceState) (given : Option ℕ) (new : WeightsState) (after : SourceState) : Type 0 where
+  pub source : after ≡ before
+  pub answers : given ≡ weight_given old (given_held old.elements)
+  pub becomes : new ≡ record { elements = after_held old.elements; weigher = weigher_given old.weigher (given_held old.elements); level = old.level }
+
+-- the weights with another window, in which a character was read, or the end
+abbrev pub read_weights : WeightsState → Option ℕ → WeightsState
+read_weights w given = record w { elements = record w.elements { window = after_read w.elements.window given } }

@@ -5,7 +5,9 @@
 //! here takes memory.
 #![tactic(auto)]
 
+mod common_pass;
 pub mod comparison;
+mod cut;
 mod level_order;
 pub mod points;
 pub mod weights;

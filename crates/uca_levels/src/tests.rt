@@ -61,21 +61,35 @@ fn element(starred: bool, [l1, l2, l3]: [u16; 3]) -> Element {
     }
 }
 
-/// Makes the table of the keys, each step once more where memory was refused.
-fn table(rt: &impl Abort, alloc: Global) -> Table {
+/// Inserts an entry, once more where memory was refused.
+fn insert(rt: &impl Abort, builder: &mut TableBuilder, key: &[char], elements: &[Element]) {
+    let inserted = match builder.insert(key, elements) {
+        Err(InsertFault::OutOfMemory) => builder.insert(key, elements),
+        answer => answer,
+    };
+    assert_eq!(rt; inserted, Ok(()));
+}
+
+/// A builder that has the keys.
+fn builder(rt: &impl Abort, alloc: Global) -> TableBuilder {
     let mut builder = TableBuilder::new(alloc);
     for (key, starred, weights) in KEYS {
-        let elements = [element(starred, weights)];
-        let inserted = match builder.insert(key, &elements) {
-            Err(InsertFault::OutOfMemory) => builder.insert(key, &elements),
-            answer => answer,
-        };
-        assert_eq!(rt; inserted, Ok(()));
+        insert(rt, &mut builder, key, &[element(starred, weights)]);
     }
+    builder
+}
+
+/// Makes the table, once more where memory was refused.
+fn finish(rt: &impl Abort, builder: TableBuilder) -> Table {
     match builder.finish() {
         Ok(table) => table,
         Err(fault) => fault.builder.finish().ok().expect(rt, "a table"),
     }
+}
+
+/// The table of the keys.
+fn table(rt: &impl Abort, alloc: Global) -> Table {
+    finish(rt, builder(rt, alloc))
 }
 
 /// The same entries as the plain programs keep them.
@@ -108,6 +122,15 @@ impl<'t> Source for Counted<'t> {
     fn restart(&mut self) {
         self.backs = self.backs.saturating_add(1);
         self.source.restart();
+    }
+
+    fn mark(&mut self) {
+        self.source.mark();
+    }
+
+    fn rewind(&mut self) {
+        self.backs = self.backs.saturating_add(1);
+        self.source.rewind();
     }
 }
 
@@ -337,4 +360,46 @@ fn agrees_with_the_order_of_plain_keys(rt: HostRuntime) {
             }
         }
     }
+}
+
+#[test]
+fn later_levels_begin_at_the_cut(rt: HostRuntime) {
+    let t = table(&rt, rt.alloc());
+    let s = settings(Strength::Tertiary, Variable::NonIgnorable);
+    let (p, q) = (passage(&rt, "zzza"), passage(&rt, "zzzA"));
+    let (mut left, mut right) = (source_of(&p), source_of(&q));
+    let order = compare_sources(&t, s, &mut left, &mut right);
+    assert_eq!(rt; order, Ordering::Less);
+    assert!(rt; left.taken <= 11 && right.taken <= 11);
+}
+
+#[test]
+fn an_older_mark_is_not_gone_back_to(rt: HostRuntime) {
+    let t = table(&rt, rt.alloc());
+    let s = settings(Strength::Secondary, Variable::NonIgnorable);
+    let (p, q) = (passage(&rt, "\u{E9}z"), passage(&rt, "ez"));
+    let (mut a, mut b, mut c) = (source_of(&p), source_of(&p), source_of(&q));
+    let same = compare_sources(&t, s, &mut a, &mut b);
+    assert_eq!(rt; same, Ordering::Equal);
+    let order = compare_sources(&t, s, &mut a, &mut c);
+    assert_eq!(rt; order, Ordering::Greater);
+}
+
+#[test]
+fn a_text_is_not_cut_before_the_end_of_a_contraction(rt: HostRuntime) {
+    // With a cut before h a later level would find `h x`, where the text has `ch` and x.
+    let mut builder = builder(&rt, rt.alloc());
+    let x = element(false, [0x1010, 0x20, 2]);
+    let y = element(false, [0x1010, 0x21, 2]);
+    let hx = [
+        element(false, [0x1005, 0x20, 2]),
+        element(false, [0x1010, 0x30, 2]),
+    ];
+    insert(&rt, &mut builder, &['x'], &[x]);
+    insert(&rt, &mut builder, &['y'], &[y]);
+    insert(&rt, &mut builder, &['h', 'x'], &hx);
+    let t = finish(&rt, builder);
+    let s = settings(Strength::Secondary, Variable::NonIgnorable);
+    let order = compare(&t, s, &passage(&rt, "chx"), &passage(&rt, "chy"));
+    assert_eq!(rt; order, Ordering::Less);
 }

@@ -1,10 +1,11 @@
-ghost use Rattle.std.specs.Prelude.{◌≡◌, ℕ, List, ◌-◌, ◌<◌, ◌≤◌, ◌^◌, slice_index, IfSome};
+ghost use Rattle.std.specs.Prelude.{◌≡◌, ℕ, List, true, false, ◌-◌, ◌<◌, ◌≤◌, ◌^◌, slice_index, IfSome};
 ghost use Rattle.uca_model.specs.LevelWeights.{level_list};
 ghost use Rattle.uca_model.specs.SafeText.{IsSafe};
-ghost use Rattle.uca_model.specs.Source.{unread};
-ghost use Rattle.uca_model.specs.Window.{Fits};
+ghost use Rattle.uca_model.specs.Source.{GivesNext, unread};
+ghost use Rattle.uca_model.specs.Window.{Fits, ReadsOn, credit};
 ghost use Rattle.uca_match.specs.Pulls.{Pulls};
-ghost use Rattle.uca_levels.specs.ToCome.{new_weights, all_to_come, weights_to_come, window_of_weights};
+ghost use Rattle.uca_match.specs.ToCome.{is_asking};
+ghost use Rattle.uca_levels.specs.ToCome.{new_weights, all_to_come, weights_to_come, window_of_weights, WeighsHeld, read_weights};
 
 use std::marker::Model;
 use uca_match::Elements;
@@ -61,11 +62,33 @@ impl<'t> Weights<'t> {
         }
     }
 
+    // Whether no element waits and its window wants a character more.
+    pub(crate) fn wants(&self) -> bool
+        ensures { result ≡ is_asking self.now.elements }
+    {
+        self.elements.wants()
+    }
+
+    // Reads one character, or the end, and answers it. The weights to come stay.
+    pub(crate) fn read<S: Source>(&mut self, source: &mut S) -> Option<char>
+        requires wants { is_asking self.old.elements ≡ true }
+        requires fits { Fits self.old.elements.window (unread (S.state source.old)) }
+        ensures reads { ReadsOn self.old.elements.window (S.state source.old) self.new.elements.window (S.state source.new) }
+        ensures given { GivesNext (S.state source.old) result (S.state source.new) }
+        ensures next { self.new ≡ read_weights self.old result }
+        ensures to_come { all_to_come self.new (unread (S.state source.new)) ≡ all_to_come self.old (unread (S.state source.old)) }
+        ensures fewer { credit self.new.elements.window (unread (S.state source.new)) < credit self.old.elements.window (unread (S.state source.old)) }
+    {
+        self.elements.read(source)
+    }
+
     // The weight of the next element, which may be zero.
-    fn next_of_all<S: Source>(&mut self, source: &mut S) -> Option<u16>
+    pub(crate) fn next_of_all<S: Source>(&mut self, source: &mut S) -> Option<u16>
         requires { Fits self.old.elements.window (unread (S.state source.old)) }
         ensures pulls { Pulls all_to_come window_of_weights self.old (S.state source.old) result self.new (S.state source.new) }
         ensures small { IfSome result (λ weight. weight < 2 ^ 16) }
+        ensures held { is_asking self.old.elements ≡ false → WeighsHeld self.old (S.state source.old) result self.new (S.state source.new) }
+        ensures level { self.new.level ≡ self.old.level }
     {
         let element = self.elements.next(source)?;
         let weights = self.weigher.weigh(element);
@@ -77,6 +100,7 @@ impl<'t> Weights<'t> {
         requires { Fits self.old.elements.window (unread (S.state source.old)) }
         ensures pulls { Pulls weights_to_come window_of_weights self.old (S.state source.old) result self.new (S.state source.new) }
         ensures weight { IfSome result (λ weight. (0 < weight) × (weight < 2 ^ 16)) }
+        ensures level { self.new.level ≡ self.old.level }
     {
         while let Some(weight) = self.next_of_all(source) {
             if weight != 0 {

@@ -1,17 +1,20 @@
 -- Matches in a window: its closed points show the match at the front of its rest.
-use Rattle.std.proofs.Common.{◌≡◌, ℕ, suc, zero, ◌+◌, ◌-◌, ◌≤◌, ◌<◌, max, Bool, true, false, cond, ◌&&◌, nat_eq, nat_lt, List, [], ◌∷◌, ◌++◌, length, take, drop, get_or, refl, sym, ap, ap₂, ◌∙◌, arith, inl, inr, append-nil, ne_eqb}
-use Rattle.std.proofs.lemmas.Bool.{cond-true, cond-false, cases_lt}
+use Rattle.std.proofs.Common.{◌≡◌, ℕ, suc, zero, ◌+◌, ◌-◌, ◌≤◌, ◌<◌, max, Bool, true, false, cond, ◌&&◌, nat_eq, nat_lt, List, [], ◌∷◌, ◌++◌, length, take, drop, get_or, not, refl, sym, ap, ap₂, subst, ◌∙◌, arith, inl, inr, append-nil, length-append, lt-ltb, ne_eqb, ◌==◌}
+use Rattle.std.proofs.lemmas.Bool.{cases_Bool, cond-true, cond-false, cases_lt}
 use Rattle.std.proofs.lemmas.List.{length-take, length-take-le, take_at, drop_at, drop-take, take-take, get_or-take, get_or_read}
 use Rattle.std.specs.List.{remove}
 use Rattle.unicode.specs.CanonicalCombiningClass.{canonical_combining_class as ccc}
 use Rattle.uca_model.specs.Table.{ElementTable, is_key, longest}
 use Rattle.uca_model.specs.Match.{Step, took, greatest, start_len, extension_of}
 use Rattle.uca_model.specs.CollationElements.{step, took_alone}
+use Rattle.unicode_normalization.specs.Forms.{nfd}
+use Rattle.uca_model.specs.SafeText.{IsSafe}
+use Rattle.uca_model.proofs.SafeLemmas.{IsSafe-front}
 use Rattle.uca_model.specs.Source.{SourceState, unread}
-use Rattle.uca_model.specs.Window.{WindowState, IsWindow, Fits, ShowsFront, ReadsOn, ChangesRest, begins_segment, credit, rest_of}
+use Rattle.uca_model.specs.Window.{WindowState, is_wanting, IsWindow, Fits, ShowsFront, ReadsOn, ChangesRest, begins_segment, credit, rest_of}
 use Rattle.uca_model.proofs.MatchingLemmas.{extended_ends, extended_takes, extended_passes}
 use Rattle.uca_table.specs.Running.{highest_class, passed_over}
-use Rattle.uca_match.specs.WindowMatch.{IsTaking, TakesMarks, TakesMatch}
+use Rattle.uca_match.specs.WindowMatch.{IsTaking, TakesMarks, TakesMatch, key_held, after_match, TakesHeld}
 use Rattle.uca_table.proofs.PlaceLemmas.{passed_over-more, passed_over-rest, passed_over-none}
 use Rattle.uca_table.proofs.MatchLemmas.{start_len-short, highest_class-more, taken_as}
 
@@ -81,6 +84,7 @@ IsTaking-start is_key start key w within = record {
   within = within;
   longest = refl;
   ended = refl;
+  size = refl;
   highest = sym (ap highest_class (passed_over-none w.points start));
   over = λ left fits. (fits, ap (λ p. extension_of is_key key p (drop start (rest_of w left))) (passed_over-none (rest_of w left) start));
 }
@@ -101,6 +105,7 @@ module _ (is_key : List ℕ → Bool) (start : ℕ) (first : List ℕ) (old : Wi
         within = omega arith;
         longest = h.longest;
         ended = h.ended;
+        size = h.size;
         highest = more ∙ ap₂ max h.highest e ∙ sym (ap highest_class passed ∙ highest_class-more (passed_over w.points start at) x);
         over = λ left fits.
             let was = h.over left fits in
@@ -127,6 +132,7 @@ module _ (is_key : List ℕ → Bool) (start : ℕ) (first : List ℕ) (old : Wi
         within = omega (arith, ap (λ (v : WindowState). v.closed) changed);
         longest = ap (λ (v : WindowState). v.longest) changed ∙ h.longest;
         ended = ap (λ (v : WindowState). v.ended) changed ∙ h.ended;
+        size = omega (arith, h.size, lt, ap (λ (v : WindowState). v.closed) changed, ap length more ∙ length-append key (x ∷ []));
         highest = h.highest ∙ sym (ap highest_class (ap (λ (v : WindowState). passed_over v.points start at) changed ∙ passed_over-removed w.points start at h.upto (omega arith)));
         over = λ left fits.
             let was = h.over left fits in
@@ -147,6 +153,7 @@ module _ (is_key : List ℕ → Bool) (start : ℕ) (first : List ℕ) (old : Wi
   pub IsTaking-stops : (x class : ℕ) → at < w.closed → x ≡ get_or w.points at x → class ≡ ccc x → class ≡ 0 → TakesMarks is_key start first old key w
   IsTaking-stops x class lt is e none = record {
     within = omega (arith, h.upto, h.within);
+    size = h.size;
     longest = h.longest;
     ended = h.ended;
     over = λ left fits.
@@ -164,6 +171,7 @@ module _ (is_key : List ℕ → Bool) (start : ℕ) (first : List ℕ) (old : Wi
   pub IsTaking-ends : 0 < start → w.closed ≤ at → TakesMarks is_key start first old key w
   IsTaking-ends some past = record {
     within = omega (arith, h.upto, h.within);
+    size = h.size;
     longest = h.longest;
     ended = h.ended;
     over = λ left fits.
@@ -194,9 +202,11 @@ module _ (t : ElementTable) (w : WindowState) (same : w.longest ≡ longest t) (
   firsts-of_rest left n fits few = sym (take-take n w.closed (rest_of w left) few) ∙ ap (take n) (shows left fits).front ∙ take-take n w.closed w.points few
 
   -- a code point that begins no key
-  pub TakesMatch-alone : (key : List ℕ) (new : WindowState) → start_len (is_key t) (take w.closed w.points) ≡ 0 → key ≡ take 1 w.points → new ≡ record w { points = drop 1 w.points; closed = w.closed - 1 } → ChangesRest (drop 1) w new
+  pub TakesMatch-alone : (key : List ℕ) (new : WindowState) → start_len (is_key t) (take w.closed w.points) ≡ 0 → key ≡ take 1 w.points → new ≡ record w { points = drop 1 w.points; closed = w.closed - 1 } → ChangesRest (drop 1) w new → IsWindow new
       → TakesMatch t w key new
-  TakesMatch-alone key new none one changed drops = record {
+  TakesMatch-alone key new none one changed drops is_window = record {
+    valid = is_window;
+    size = omega (arith, some, ap (λ (v : WindowState). v.closed) changed, ap length one ∙ length-take 1 w.points, valid.segments.within);
     longest = ap (λ (v : WindowState). v.longest) changed;
     ended = ap (λ (v : WindowState). v.ended) changed;
     over = λ left fits enough.
@@ -209,8 +219,10 @@ module _ (t : ElementTable) (w : WindowState) (same : w.longest ≡ longest t) (
 
   -- a key with the marks that it took
   pub TakesMatch-key : (n : ℕ) (first key : List ℕ) (middle new : WindowState) → start_len (is_key t) (take w.closed w.points) ≡ n → 0 < n → n ≤ w.closed → first ≡ take n w.points → TakesMarks (is_key t) n first w key middle
-      → new ≡ record middle { points = drop n middle.points; closed = middle.closed - n } → ChangesRest (drop n) middle new → TakesMatch t w key new
-  TakesMatch-key n first key middle new start positive few begins takes changed drops = record {
+      → new ≡ record middle { points = drop n middle.points; closed = middle.closed - n } → ChangesRest (drop n) middle new → IsWindow new → TakesMatch t w key new
+  TakesMatch-key n first key middle new start positive few begins takes changed drops is_window = record {
+    valid = is_window;
+    size = omega (arith, takes.size, takes.within, few, ap (λ (v : WindowState). v.closed) changed, ap length begins ∙ length-take n w.points, valid.segments.within);
     longest = ap (λ (v : WindowState). v.longest) changed ∙ takes.longest;
     ended = ap (λ (v : WindowState). v.ended) changed ∙ takes.ended;
     over = λ left fits enough.
@@ -234,5 +246,47 @@ ReadsOn-match t old filled new key before after reads takes enough =
       fits = (takes.over (unread after) reads.fits enough).0;
       longest = takes.longest ∙ reads.longest;
       taken = omega (arith, reads.taken);
+      mark = reads.mark;
       backs = reads.backs;
     }
+
+-- ---- a match in a window that wants no more
+
+-- the points of a window are their own NFD
+nfd-held : (w : WindowState) → IsWindow w → rest_of w [] ≡ w.points
+nfd-held w valid = ap nfd (append-nil w.points) ∙ valid.form
+
+fits-held : (w : WindowState) (left : List ℕ) → Fits w left → Fits w []
+fits-held w left fits = record { safe = subst IsSafe (sym (append-nil w.points)) (IsSafe-front w.points left fits.safe); ended = λ _. refl }
+
+-- whether it holds enough or the end was read
+enough-held : (w : WindowState) → IsWindow w → is_wanting w ≡ false → w.closed < w.longest → w.closed ≡ length (rest_of w [])
+enough-held w valid idle few =
+    elim (cases_Bool w.ended) [
+      | inl ended ↦ valid.segments.ended ended ∙ ap length (sym (nfd-held w valid))
+      | inr runs ↦ let clash : true ≡ false = sym (ap₂ (λ a b. a && b) (lt-ltb _ _ few) (ap not runs)) ∙ idle in cc
+    ]
+
+-- the match and the window behind it are those of the points alone
+pub match-held : (t : ElementTable) (w new : WindowState) (key left : List ℕ) → IsWindow w → Fits w left → is_wanting w ≡ false → TakesMatch t w key new → 0 < w.closed → (key ≡ key_held t w) × (new ≡ after_match t w)
+match-held t w new key left valid fits idle takes some =
+    let done = takes.over [] (fits-held w left fits) (enough-held w valid idle) in
+    let same = nfd-held w valid in
+    let is_match : key ≡ key_held t w = sym done.1.0 ∙ ap (λ xs. (step (is_key t) xs).matched.code_points) same in
+    let points : new.points ≡ (step (is_key t) w.points).rest = sym (nfd-held new takes.valid) ∙ sym done.1.1 ∙ ap (λ xs. (step (is_key t) xs).rest) same in
+    let closed : new.closed ≡ w.closed - length (key_held t w) = omega (arith, takes.size, ap length is_match) in (
+      is_match,
+      parts new (step (is_key t) w.points).rest (w.closed - length (key_held t w)) w.longest w.ended points closed takes.longest takes.ended
+          ∙ sym (cond-false (w.closed == 0) _ _ (ne_eqb w.closed 0 (λ none. absurd (omega arith)))),
+    )
+  where
+    parts : (v : WindowState) (points : List ℕ) (closed longest : ℕ) (ended : Bool) → v.points ≡ points → v.closed ≡ closed → v.longest ≡ longest → v.ended ≡ ended → v ≡ record { points = points; closed = closed; longest = longest; ended = ended }
+    parts v points closed longest ended a b c d =
+        ap₂ (λ p k. record { points = p; closed = k; longest = v.longest; ended = v.ended }) a b ∙ ap₂ (λ l e. record { points = points; closed = closed; longest = l; ended = e }) c d
+
+-- `fill` did nothing, and then the match was taken
+pub TakesHeld-filled : (t : ElementTable) (w filled new : WindowState) (key : List ℕ) (before after : SourceState) → IsWindow filled → Fits w (unread before) → is_wanting w ≡ false
+    → (filled ≡ w) × (after ≡ before) → TakesMatch t filled key new → 0 < filled.closed → TakesHeld t w before key new after
+TakesHeld-filled t w filled new key before after valid fits idle same takes some =
+    let found = match-held t w new key (unread before) (subst IsWindow same.0 valid) fits idle (subst (λ v. TakesMatch t v key new) same.0 takes) (subst (λ v. 0 < v.closed) same.0 some) in
+    record { source = same.1; some = subst (λ v. 0 < v.closed) same.0 some; found = found.0; becomes = found.1 }

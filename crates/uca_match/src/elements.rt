@@ -1,12 +1,12 @@
-ghost use Rattle.std.specs.Prelude.{◌≡◌, ℕ, List, ◌<◌, ◌++◌, ◌∷◌, length, chars, IfOk, OnOk};
+ghost use Rattle.std.specs.Prelude.{◌≡◌, ℕ, List, true, false, ◌<◌, ◌++◌, ◌∷◌, length, chars, IfOk, OnOk};
 ghost use Rattle.unicode_normalization.specs.Forms.{nfd};
 ghost use Rattle.uca_model.specs.CollationElements.{elements, elements_or_implicit};
 ghost use Rattle.uca_model.specs.SafeText.{IsSafe};
-ghost use Rattle.uca_model.specs.Source.{unread};
-ghost use Rattle.uca_model.specs.Window.{Fits};
+ghost use Rattle.uca_model.specs.Source.{GivesNext, unread};
+ghost use Rattle.uca_model.specs.Window.{Fits, ReadsOn, after_read, credit};
 ghost use Rattle.uca_window.specs.Passage.{text_of};
 ghost use Rattle.uca_match.specs.Pulls.{Pulls};
-ghost use Rattle.uca_match.specs.ToCome.{new_elements, elements_to_come, window_of, waiting_of};
+ghost use Rattle.uca_match.specs.ToCome.{new_elements, elements_to_come, window_of, waiting_of, is_asking, GivesHeld};
 
 use crate::window_match::next_match;
 use std::alloc::{AllocError, Global};
@@ -126,6 +126,7 @@ impl<'t> Elements<'t> {
         requires { Fits self.old.window (unread (S.state source.old)) }
         ensures pulls { Pulls elements_to_come window_of self.old (S.state source.old) result self.new (S.state source.new) }
         ensures table { self.new.table ≡ self.old.table }
+        ensures held { is_asking self.old ≡ false → GivesHeld self.old (S.state source.old) result self.new (S.state source.new) }
     {
         if !self.waiting.is_empty() {
             let first = self.waiting[0];
@@ -141,5 +142,25 @@ impl<'t> Elements<'t> {
         self.waiting = given.others;
         self.second = given.second;
         Some(given.first)
+    }
+
+    /// Whether no element waits and its window wants a character more.
+    pub fn wants(&self) -> bool
+        ensures { result ≡ is_asking self.now }
+    {
+        self.waiting.is_empty() && self.second.is_none() && self.window.wants()
+    }
+
+    /// Reads one character, or the end, and answers it. The elements to come stay.
+    pub fn read<S: Source>(&mut self, source: &mut S) -> Option<char>
+        requires wants { is_asking self.old ≡ true }
+        requires fits { Fits self.old.window (unread (S.state source.old)) }
+        ensures reads { ReadsOn self.old.window (S.state source.old) self.new.window (S.state source.new) }
+        ensures given { GivesNext (S.state source.old) result (S.state source.new) }
+        ensures next { self.new ≡ record self.old { window = after_read self.old.window result } }
+        ensures to_come { elements_to_come self.new (unread (S.state source.new)) ≡ elements_to_come self.old (unread (S.state source.old)) }
+        ensures fewer { credit self.new.window (unread (S.state source.new)) < credit self.old.window (unread (S.state source.old)) }
+    {
+        self.window.read(source)
     }
 }

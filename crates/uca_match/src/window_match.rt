@@ -1,12 +1,12 @@
-ghost use Rattle.std.specs.Prelude.{◌≡◌, ◌<◌, ◌≤◌, ◌&&◌, ◌++◌, ◌∷◌, [], nat_lt, take, length, IfSome, IfNone, IsTrue, OnSome};
+ghost use Rattle.std.specs.Prelude.{◌≡◌, ◌<◌, ◌≤◌, ◌&&◌, ◌++◌, ◌∷◌, [], false, nat_lt, take, length, IfSome, IfNone, IsTrue, OnSome};
 ghost use Rattle.uca_weights.specs.declared.limits.TheConstants.{MAX_KEY};
 ghost use Rattle.uca_model.specs.Source.{unread};
-ghost use Rattle.uca_model.specs.Window.{Fits, ReadsOn, rest_of};
+ghost use Rattle.uca_model.specs.Window.{Fits, ReadsOn, is_wanting, rest_of};
 ghost use Rattle.uca_model.specs.Match.{start_len};
 ghost use Rattle.uca_model.specs.Table.{is_key, longest};
 ghost use Rattle.unicode.specs.CanonicalCombiningClass.{canonical_combining_class};
 ghost use Rattle.uca_model.specs.CollationElements.{step};
-ghost use Rattle.uca_match.specs.WindowMatch.{TakesMarks, TakesMatch};
+ghost use Rattle.uca_match.specs.WindowMatch.{TakesMarks, TakesMatch, TakesHeld, EndsHeld};
 
 use arrayvec::ArrayVec;
 use uca_table::matching::higher;
@@ -102,6 +102,8 @@ pub(crate) fn next_match<S: Source>(
     ensures some { OnSome result (0 < length (rest_of window.old (unread (S.state source.old)))) }
     ensures matched { IfSome result (λ key. (step (is_key t.now) (rest_of window.old (unread (S.state source.old)))).matched.code_points ≡ key.items) }
     ensures rest { OnSome result ((step (is_key t.now) (rest_of window.old (unread (S.state source.old)))).rest ≡ rest_of window.new (unread (S.state source.new))) }
+    ensures held { IfSome result (λ key. is_wanting window.old ≡ false → TakesHeld t.now window.old (S.state source.old) key.items window.new (S.state source.new)) }
+    ensures ends { IfNone result (is_wanting window.old ≡ false → EndsHeld window.old (S.state source.old) window.new (S.state source.new)) }
 {
     window.fill(source);
     if window.closed() == 0 {

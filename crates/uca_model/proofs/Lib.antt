@@ -36,3 +36,4 @@ pub mod RelationLemmas
 pub mod PieceLemmas
 pub mod SegmentLemmas
 pub mod RuleTextLemmas
+pub mod SafeCutLemmas

@@ -1,5 +1,5 @@
 -- The elements of a character that stands alone are those of its own NFD.
-use Rattle.std.proofs.Common.{◌≡◌, ℕ, zero, suc, ◌+◌, ◌-◌, ◌≤◌, ◌<◌, Bool, true, false, cond, not, ◌&&◌, ◌||◌, ◌==◌, eqb, nat_eq, nat_le, List, [], ◌∷◌, ◌++◌, length, take, drop, map, flat_map, get_or, refl, sym, ap, ap₂, ◌∙◌, arith, inl, inr, append_assoc, append-nil, length-append, eqb-true}
+use Rattle.std.proofs.Common.{◌≡◌, ℕ, zero, suc, ◌+◌, ◌-◌, ◌≤◌, ◌<◌, Bool, true, false, cond, not, ◌&&◌, ◌||◌, ◌==◌, eqb, nat_eq, List, [], ◌∷◌, ◌++◌, length, take, drop, map, flat_map, get_or, refl, sym, ap, ap₂, ◌∙◌, arith, inl, inr, append_assoc, append-nil, length-append, eqb-true}
 use Rattle.std.proofs.lemmas.Bool.{cases_Bool, cond-true, cond-false, and_parts, leb-true, eq-eqb}
 use Rattle.std.proofs.lemmas.List.{take-append-le, drop-append-le}
 use Rattle.std.proofs.lemmas.List.Concat.{flat_map-append}
@@ -8,7 +8,6 @@ use Rattle.std.specs.Ordering.{eq_by_cmp}
 use Rattle.std.specs.Cmp.Lexicographic.{pointwise}
 use Rattle.std.specs.FinMap.{entries, contains_key-keys}
 use Rattle.uca_weights.specs.declared.element.Element.{Element}
-use Rattle.unicode.specs.CanonicalCombiningClass.{canonical_combining_class as ccc}
 use Rattle.unicode_normalization.specs.Decompose.{decompose_canonical}
 use Rattle.std.specs.Prelude.{Option, Some, None, unwrap_or}
 use Rattle.std.specs.Option.{is_some}
@@ -20,7 +19,7 @@ use Rattle.unicode_normalization.proofs.ComposeLemmas.{is_starter-true, flat_map
 use Rattle.unicode_normalization.proofs.OrderLemmas.{canonical_order-at_starter, canonical_order-nil, list_all-canonical_order, canonical_order-ordered, is_ordered-one}
 use Rattle.uca_model.specs.Table.{ElementTable, key_cmp, elements_at, is_key}
 use Rattle.uca_model.specs.ImplicitWeights.{implicit}
-use Rattle.uca_model.specs.Match.{Match, Step, took, greatest, start_len, is_blocked, extension_of}
+use Rattle.uca_model.specs.Match.{Step, took, greatest, start_len, is_blocked, extension_of}
 use Rattle.uca_model.specs.CollationElements.{step, took_alone, matches_within, matches, elements, elements_or_implicit}
 use Rattle.uca_model.specs.StandAlone.{is_first, is_longer_from, is_inside, begins, leads, continues, ends_in_starter, joining_of, bearing_of, joining, bearing, stands_alone}
 use Rattle.uca_model.proofs.SafeLemmas.{nfd-is}

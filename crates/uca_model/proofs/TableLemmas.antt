@@ -23,7 +23,7 @@ pub tied_keys : (a b : List ℕ) → eq_by_cmp key_cmp a b ≡ true → a ≡ b
 tied_keys a b h = slice_cmp-IsAntisymmetric nat_cmp-IsAntisymmetric a b (equal (key_cmp a b) h)
 
 -- what holds of each entry holds of the one that is found
-find-holds : (P : List ℕ × List Element → Type 0) (key : List ℕ) (es : List Element) (all : List (List ℕ × List Element)) → AllByRecursion P all → find key_cmp key all ≡ Some es → P (key, es)
+pub find-holds : (P : List ℕ × List Element → Type 0) (key : List ℕ) (es : List Element) (all : List (List ℕ × List Element)) → AllByRecursion P all → find key_cmp key all ≡ Some es → P (key, es)
 find-holds P key es [] holds e = cc
 find-holds P key es (x ∷ all) holds e = elim (cases_Bool (eq_by_cmp key_cmp key x.0)) [
   | inl here ↦

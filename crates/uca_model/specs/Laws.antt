@@ -1,5 +1,5 @@
 -- Laws of the definitions, which public functions with no body have as their contracts.
-use Rattle.std.specs.Prelude.{◌≡◌, ℕ, ◌<◌, ◌≤◌, ◌^◌, List, ◌++◌, All, map, flat_map, length, Ok}
+use Rattle.std.specs.Prelude.{◌≡◌, ℕ, ◌<◌, ◌≤◌, ◌^◌, List, ◌++◌, All, map, flat_map, length, take, drop, Ok}
 use Rattle.std.specs.Char.{IsScalar}
 use Rattle.std.specs.List.{AllByRecursion}
 use Rattle.std.specs.Cmp.Lexicographic.{slice_cmp}
@@ -11,6 +11,9 @@ use Rattle.uca_weights.specs.declared.settings.Variable.{Variable}
 use Rattle.uca_weights.specs.Settings.{levels}
 use Rattle.uca_model.specs.Table.{ElementTable, IsTable}
 use Rattle.uca_model.specs.LevelWeights.{level_list}
+use Rattle.uca_model.specs.CollationElements.{elements}
+use Rattle.uca_model.specs.SafeCut.{cut_of}
+use Rattle.unicode_normalization.specs.Forms.{nfd}
 use Rattle.uca_model.specs.SortKey.{weight_bytes, joined, key_order, sort_key}
 use Rattle.uca_model.specs.Reading.{list_order, deciding_level}
 use Rattle.uca_model.specs.Ranges.{AreByFirst}
@@ -48,3 +51,19 @@ pub record BeginsWith (whole front : List ℕ) : Type 0 where
 abbrev pub KeysGrowByLevels : Type 0
 KeysGrowByLevels = (t : ElementTable) (v : Variable) (low high : Strength) (text : List ℕ) → levels low ≤ levels high
     → BeginsWith (sort_key t (record { strength = high; weighting = v }) text) (sort_key t (record { strength = low; weighting = v }) text)
+
+-- a text in two parts, of which each has its NFD, its elements and its level lists by itself
+pub record IsCutApart (t : ElementTable) (v : Variable) (front back : List ℕ) : Type 0 where
+  pub decomposed : nfd (front ++ back) ≡ nfd front ++ nfd back
+  pub elements : elements t (nfd (front ++ back)) ≡ elements t (nfd front) ++ elements t (nfd back)
+  pub lists : (level : ℕ) → level_list t v (front ++ back) level ≡ level_list t v front level ++ level_list t v back level
+
+-- up to their safe cut two texts agree, and there each may be cut
+pub record AreCutApart (t : ElementTable) (v : Variable) (a b : List ℕ) : Type 0 where
+  pub same : take (cut_of t a b) a ≡ take (cut_of t a b) b
+  pub first : IsCutApart t v (take (cut_of t a b) a) (drop (cut_of t a b) a)
+  pub second : IsCutApart t v (take (cut_of t a b) b) (drop (cut_of t a b) b)
+
+-- at the safe cut of two texts each falls into two parts, and the order of each level is that of the parts behind the cut
+abbrev pub TextsAreCutApart : Type 0
+TextsAreCutApart = (t : ElementTable) (v : Variable) (a b : List ℕ) → IsTable t → AreCutApart t v a b

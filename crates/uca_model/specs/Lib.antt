@@ -11,6 +11,7 @@ pub mod CollationElements
 pub mod StandAlone
 pub mod LevelWeights
 pub mod SortKey
+pub mod SafeCut
 pub mod Reading
 pub mod Source
 pub mod Window

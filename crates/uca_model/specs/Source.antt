@@ -1,17 +1,18 @@
--- A source of characters: a text that is read one character at a time, and again from its start, and that counts the calls.
-use Rattle.std.specs.Prelude.{◌≡◌, ℕ, ◌+◌, List, [], ◌∷◌, drop, Option, MatchOption}
+-- A source of characters: a text that is read one character at a time, and again from its start or a mark, and that counts the calls.
+use Rattle.std.specs.Prelude.{◌≡◌, ℕ, ◌+◌, ◌-◌, List, [], ◌∷◌, drop, Option, MatchOption}
 use Rattle.uca_weights.specs.Counts.{one_more}
 
--- its text, how many characters of it lie before the place, and how often `next` and the ways back were called
+-- its text, how many characters of it lie before the place and before the mark, none where there is no mark, and how often `next` and the ways back were called
 pub record SourceState : Type 0 where
   pub text : List ℕ
   pub place : ℕ
+  pub mark : ℕ
   pub taken : ℕ
   pub backs : ℕ
 
 -- a source of a text that was never called
 abbrev pub source_of : List ℕ → SourceState
-source_of text = record { text = text; place = 0; taken = 0; backs = 0 }
+source_of text = record { text = text; place = 0; mark = 0; taken = 0; backs = 0 }
 
 -- the characters from the place on
 abbrev pub unread : SourceState → List ℕ
@@ -21,9 +22,18 @@ unread s = drop s.place s.text
 pub record GivesNext (old : SourceState) (given : Option ℕ) (new : SourceState) : Type 0 where
   pub text : new.text ≡ old.text
   pub value : MatchOption given ((unread old ≡ []) × (new.place ≡ old.place)) (λ c. (unread old ≡ c ∷ unread new) × (new.place ≡ old.place + 1))
+  pub mark : new.mark ≡ old.mark
   pub taken : new.taken ≡ one_more old.taken
   pub backs : new.backs ≡ old.backs
 
 -- the source with its place at the start, which is one way back more
 abbrev pub restarted : SourceState → SourceState
 restarted s = record s { place = 0; backs = one_more s.backs }
+
+-- the source with its mark at the character before the place
+abbrev pub marked : SourceState → SourceState
+marked s = record s { mark = s.place - 1 }
+
+-- the source with its place at the mark, or at the start where there is none, which is one way back more
+abbrev pub rewound : SourceState → SourceState
+rewound s = record s { place = s.mark; backs = one_more s.backs }

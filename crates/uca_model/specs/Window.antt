@@ -1,8 +1,9 @@
 -- The window: decomposed code points of a text in canonical order (UAX #15, D109), those of whole segments first.
-use Rattle.std.specs.Prelude.{◌≡◌, ℕ, ◌+◌, ◌<◌, ◌≤◌, Bool, true, false, List, [], ◌∷◌, ◌++◌, length, take, drop, if◌then◌else◌}
+use Rattle.std.specs.Prelude.{◌≡◌, ℕ, ◌+◌, ◌<◌, ◌≤◌, nat_lt, not, ◌&&◌, Bool, true, false, List, [], ◌∷◌, ◌++◌, length, take, drop, Option, Some, None, if◌then◌else◌}
 use Rattle.std.specs.List.{list_all}
 use Rattle.unicode_normalization.specs.Forms.{Nfd, nfd, IsInForm}
-use Rattle.unicode_normalization.specs.Order.{is_starter, is_nonstarter}
+use Rattle.unicode_normalization.specs.Decompose.{decompose_canonical}
+use Rattle.unicode_normalization.specs.Order.{is_starter, is_nonstarter, canonical_order}
 use Rattle.uca_weights.specs.declared.limits.TheConstants.{MAX_KEY, MAX_LOOKAHEAD}
 use Rattle.uca_model.specs.SafeText.{IsSafe}
 use Rattle.uca_model.specs.Source.{SourceState, unread}
@@ -48,6 +49,7 @@ pub record ShowsFront (w : WindowState) (rest : List ℕ) : Type 0 where
 -- it read on: no more calls of `next` than its credit fell by, and no way back
 pub record ReadsOn (old : WindowState) (before : SourceState) (new : WindowState) (after : SourceState) : Type 0 where
   pub text : after.text ≡ before.text
+  pub mark : after.mark ≡ before.mark
   pub fits : Fits new (unread after)
   pub longest : new.longest ≡ old.longest
   pub taken : after.taken + credit new (unread after) ≤ before.taken + credit old (unread before)
@@ -56,6 +58,23 @@ pub record ReadsOn (old : WindowState) (before : SourceState) (new : WindowState
 -- over all characters that the old window fits, the new one fits them too, and its rest is the old rest so changed
 abbrev pub ChangesRest : (List ℕ → List ℕ) → WindowState → WindowState → Type 0
 ChangesRest change old new = (left : List ℕ) → Fits old left → Fits new left × (rest_of new left ≡ change (rest_of old left))
+
+-- ---- what it holds, by what it held
+
+-- too few points are closed, and more may come
+abbrev pub is_wanting : WindowState → Bool
+is_wanting w = nat_lt w.closed w.longest && not w.ended
+
+-- the place of the last starter, 0 where there is none
+abbrev pub last_starter : List ℕ → ℕ
+last_starter [] = 0
+last_starter (p ∷ ps) = if list_all is_nonstarter ps then 0 else last_starter ps + 1
+
+-- it holds one character more, in NFD, or was told the end: the segment of the last starter stays open until then
+abbrev pub after_read : WindowState → Option ℕ → WindowState
+after_read w None = record w { closed = length w.points; ended = true }
+after_read w (Some c) =
+    record w { points = canonical_order (w.points ++ decompose_canonical c); closed = last_starter (canonical_order (w.points ++ decompose_canonical c)) }
 
 -- ---- what is true of every window
 

@@ -1,4 +1,4 @@
-ghost use Rattle.uca_model.specs.Laws.{KeysFollowLevels, KeyOrderIsDecided, CanonicalTextIsReadBack, KeysGrowByLevels};
+ghost use Rattle.uca_model.specs.Laws.{KeysFollowLevels, KeyOrderIsDecided, CanonicalTextIsReadBack, KeysGrowByLevels, TextsAreCutApart};
 
 /// Keys of weights are in the byte order in which their level lists are (UTS #10, 7.4).
 pub fn keys_follow_levels()
@@ -21,4 +21,10 @@ pub fn keys_grow_by_levels()
 /// Allkeys File Format). So what is written of a table says all of it.
 pub fn canonical_text_is_read_back()
     ensures { CanonicalTextIsReadBack }
+{}
+
+/// Up to their safe cut two texts agree, and there each falls into two parts that have their collation elements and
+/// their weights at each level by themselves. So a comparison may begin its later levels at the cut.
+pub fn texts_are_cut_apart()
+    ensures { TextsAreCutApart }
 {}

@@ -6,3 +6,4 @@ pub mod Extents
 pub mod Bounds
 pub mod Running
 pub mod Cells
+pub mod Starters

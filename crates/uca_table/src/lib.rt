@@ -18,6 +18,7 @@ pub mod matching;
 mod range_map;
 mod ranges;
 pub mod shift;
+pub mod starters;
 pub mod stored;
 pub mod table;
 #[cfg(test)]

@@ -4,6 +4,7 @@ ghost use Rattle.uca_model.specs.CollationElements.{elements};
 
 use crate::cells::{Cells, push_text};
 use crate::entries::Entries;
+use crate::starters::Starters;
 use crate::stored::Stored;
 use std::alloc::{AllocError, Global};
 use std::marker::Model;
@@ -15,11 +16,14 @@ pub struct Table {
     stored: Stored,
     // The elements of single characters; none since the last change of the table.
     cells: Cells,
+    // Which code points are safe starters; made and dropped with the cells.
+    starters: Starters,
 }
 
 impl Model for Table {
     ghost use Rattle.uca_model.specs.Table.{ElementTable};
     ghost use Rattle.uca_table.specs.Cells.{HoldsCells};
+    ghost use Rattle.uca_table.specs.Starters.{HoldsStarters};
     ghost use Rattle.uca_table.specs.Coded.{coded_table};
 
     ghost Value = { ElementTable };
@@ -28,13 +32,14 @@ impl Model for Table {
 
     ghost view = { λ t. t.stored };
 
-    ghost invariant = { λ t. HoldsCells t.stored t.cells };
+    ghost invariant = { λ t. HoldsCells t.stored t.cells × HoldsStarters t.stored t.starters };
 }
 
 impl Table {
     ghost use Rattle.uca_weights.specs.declared.limits.TheConstants.{MAX_KEY, MAX_ELEMENTS};
     ghost use Rattle.uca_model.specs.Table.{ElementTable, IsElement, IsTable, elements_at, longest, with_entry};
     ghost use Rattle.uca_model.specs.ImplicitWeights.{implicit};
+    ghost use Rattle.uca_model.specs.SafeCut.{is_safe_starter};
     ghost use Rattle.uca_model.specs.Shift.{is_stuck, shifted_table};
     ghost use Rattle.std.specs.List.{list_any};
     ghost use Rattle.std.specs.FinMap.{entries, values};
@@ -83,6 +88,7 @@ impl Table {
         Ok(Table {
             stored,
             cells: Cells::none(alloc),
+            starters: Starters::none(alloc),
         })
     }
 
@@ -102,6 +108,7 @@ impl Table {
         ensures err { OnErr result (self.new ≡ self.old) }
     {
         self.cells.clear();
+        self.starters.clear();
         self.stored.put(alloc, key, elements)
     }
 
@@ -123,6 +130,7 @@ impl Table {
         ensures { self.new ≡ shifted_table level w self.old }
     {
         self.cells.clear();
+        self.starters.clear();
         self.stored.shift(level, w);
     }
 
@@ -134,12 +142,21 @@ impl Table {
         self.stored.ranges()
     }
 
+    /// Whether a text may be cut before a code point, so that its two parts have their elements by themselves: a starter
+    /// that stands in no key at the second place or later, and whose keys all begin with a primary weight.
+    pub fn safe_starter(&self, c: char) -> bool
+        ensures { result ≡ is_safe_starter self.now c }
+    {
+        self.starters.is_safe(&self.stored, c)
+    }
+
     /// Makes anew what quick look-ups use, which `put` and `shift` drop and a copy has not. Call it after the last change
     /// of a table. The table is the same before and after, and also where memory is refused.
     pub fn prepare(&mut self, alloc: Global) -> Result<(), AllocError>
         ensures { self.new ≡ self.old }
     {
         self.cells = Cells::new(alloc, &self.stored)?;
+        self.starters = Starters::new(alloc, &self.stored)?;
         Ok(())
     }
 
@@ -148,7 +165,12 @@ impl Table {
         ensures { result ≡ stored }
     {
         let cells = Cells::of(alloc, &stored);
-        Table { stored, cells }
+        let starters = Starters::of(alloc, &stored);
+        Table {
+            stored,
+            cells,
+            starters,
+        }
     }
 
     /// The entries and ranges, for matching code point by code point.

@@ -1,3 +1,6 @@
+ghost use Rattle.std.specs.Prelude.{◌≤◌, length};
+ghost use Rattle.uca_weights.specs.declared.limits.TheConstants.{MAX_KEY, MAX_ELEMENTS};
+
 use crate::{Element, InsertFault, Range, RangeFault, Table, TableBuilder};
 use arrayvec::ArrayVec;
 use std::alloc::{AllocError, Global};
@@ -272,4 +275,100 @@ fn entries_come_by_key_order(rt: HostRuntime) {
         place += 1;
     }
     assert_eq!(rt; place, 18);
+}
+
+/// Puts an entry, once more where memory was refused.
+fn put(table: &mut Table, alloc: Global, key: &[char], elements: &[Element]) -> bool
+    requires some_points { 1 ≤ length key.now }
+    requires few_points { length key.now ≤ MAX_KEY }
+    requires some_elements { 1 ≤ length elements.now }
+    requires few_elements { length elements.now ≤ MAX_ELEMENTS }
+{
+    table.put(alloc, key, elements).is_ok() || table.put(alloc, key, elements).is_ok()
+}
+
+/// A safe starter; the end of a contraction; a mark; an element that weighs nothing; one with implicit weights.
+const CUTS: [(char, bool); 6] = [
+    ('z', true),
+    ('c', true),
+    ('h', false),
+    ('\u{301}', false),
+    ('\u{1}', false),
+    ('\u{4E00}', true),
+];
+
+#[test]
+fn a_safe_starter_ends_no_contraction_and_has_a_primary_weight(rt: HostRuntime) {
+    let table = small_table(&rt, rt.alloc());
+    for (c, wanted) in CUTS {
+        assert_eq!(rt; table.safe_starter(c), wanted, "{c:?}");
+    }
+}
+
+#[test]
+fn safe_starters_go_beyond_the_first_plane(rt: HostRuntime) {
+    let mut builder = small_builder(&rt, rt.alloc());
+    let one = [ELEMENT];
+    let without_primary = [element(false, [0, 0x20, 2])];
+    assert_eq!(rt; insert(&mut builder, &['\u{1F600}'], &one), Ok(()));
+    assert_eq!(rt; insert(&mut builder, &['z', '\u{1F601}'], &one), Ok(()));
+    assert_eq!(rt;
+        insert(&mut builder, &['\u{1F602}'], &without_primary),
+        Ok(())
+    );
+    let table = finish(builder).expect(&rt, "a table");
+    let cuts = [
+        ('z', true),
+        ('\u{1F600}', true),
+        ('\u{1F601}', false),
+        ('\u{1F602}', false),
+        ('\u{1F603}', true),
+        // A mark that has no key, and the last code point.
+        ('\u{1D165}', false),
+        ('\u{10FFFF}', true),
+    ];
+    for (c, wanted) in cuts {
+        assert_eq!(rt; table.safe_starter(c), wanted, "{c:?}");
+    }
+}
+
+#[test]
+fn safe_starters_are_those_of_the_changed_table(rt: HostRuntime) {
+    let mut table = small_table(&rt, rt.alloc());
+    let alloc = rt.alloc();
+    if !put(&mut table, alloc, &['z', 'z'], &[ELEMENT]) {
+        return;
+    }
+    if !put(
+        &mut table,
+        alloc,
+        &['\u{1F602}'],
+        &[element(false, [0, 0x20, 2])],
+    ) {
+        return;
+    }
+    if !put(&mut table, alloc, &['\u{1}'], &[ELEMENT]) {
+        return;
+    }
+    let cuts = [
+        ('z', false),
+        ('c', true),
+        ('h', false),
+        ('\u{1F602}', false),
+        ('\u{1}', true),
+    ];
+    for (c, wanted) in cuts {
+        assert_eq!(rt; table.safe_starter(c), wanted, "{c:?}");
+    }
+    // Made ready, the table answers the same; so it does where memory is refused.
+    let _ready = table.prepare(alloc);
+    for (c, wanted) in cuts {
+        assert_eq!(rt; table.safe_starter(c), wanted, "{c:?}");
+    }
+    let Ok(copy) = table.try_clone(alloc) else {
+        return;
+    };
+    for (c, wanted) in cuts {
+        assert_eq!(rt; copy.safe_starter(c), wanted, "{c:?}");
+    }
 }

@@ -1,6 +1,9 @@
 -- Lemmas on a source over a text: one step of the iterator over its characters.
-use Rattle.std.proofs.Common.{◌≡◌, ℕ, ◌+◌, ◌-◌, List, [], ◌∷◌, Option, Some, None, length, drop, chars, IsUtf8, MatchOption, refl, sym, ap, subst, ◌∙◌, arith}
-use Rattle.std.proofs.lemmas.List.{nil_from_length, drop-drop}
+use Rattle.std.proofs.Math.Seq.{take-append_seam, drop-append_seam}
+use Rattle.std.proofs.Common.{◌<◌, ◌≤◌, ◌++◌, take, suc, encode_utf8, length-append, append_assoc, ◌≡◌, ℕ, ◌+◌, ◌-◌, List, [], ◌∷◌, Option, Some, None, length, drop, chars, IsUtf8, MatchOption, refl, sym, ap, subst, ◌∙◌, arith}
+use Rattle.std.proofs.lemmas.List.{nil_from_length, drop-drop, take-append-drop, length-take, length-drop}
+use Rattle.std.specs.Str.Iter.{chars_steps_back}
+use Rattle.std.proofs.lemmas.Str.{chars-append}
 use Rattle.std.specs.Str.Iter.{chars_rest, chars_steps}
 use Rattle.std.specs.declared.str.Chars.{Chars}
 use Rattle.std.proofs.lemmas.Str.{chars_past_char, chars-nil, IsUtf8-past_char}
@@ -54,27 +57,93 @@ pub stands_first : (text left : List ℕ) → IsUtf8 text → left ≡ text → 
 stands_first text left utf8 e =
     record {
       utf8 = subst IsUtf8 (sym e) utf8;
+      short = omega (arith, ap length e);
+      bytes = (let none : length text - length left ≡ 0 = omega (arith, ap length e) in ap (λ n. drop n text) none ∙ sym e);
       follows = record {
         within = omega (arith, ap (λ b. length (chars b)) e);
         follows = (let none : length (chars text) - length (chars left) ≡ 0 = omega (arith, ap (λ b. length (chars b)) e) in ap (λ n. drop n (chars text)) none ∙ ap chars (sym e));
       };
     }
 
+-- the bytes that are left behind a call
+bytes-given : (text : List ℕ) (s t : Chars) (given : Option ℕ) → length (chars_rest s) ≤ length text → drop (length text - length (chars_rest s)) text ≡ chars_rest s → chars_steps s given t
+    → (length (chars_rest t) ≤ length text) × (drop (length text - length (chars_rest t)) text ≡ chars_rest t)
+bytes-given text s t None short bytes h = subst (λ u. (length (chars_rest u) ≤ length text) × (drop (length text - length (chars_rest u)) text ≡ chars_rest u)) (sym h.0.1) (short, bytes)
+bytes-given text s t (Some c) short bytes h =
+    let e : chars_rest s ≡ encode_utf8 c ++ chars_rest t = h.0 in
+    let size : length (chars_rest s) ≡ length (encode_utf8 c) + length (chars_rest t) = ap length e ∙ length-append (encode_utf8 c) (chars_rest t) in
+    let further : length text - length (chars_rest t) ≡ (length text - length (chars_rest s)) + length (encode_utf8 c) = omega (arith, short, size) in
+    (omega (arith, short, size), ap (λ n. drop n text) further ∙ sym (drop-drop (length (encode_utf8 c)) (length text - length (chars_rest s)) text) ∙ ap (drop (length (encode_utf8 c))) (bytes ∙ e) ∙ drop-append_seam (encode_utf8 c) (chars_rest t))
+
 -- the iterator behind a call
 pub stands_next : (text : List ℕ) (s t : Chars) (given : Option ℕ) → StandsIn text (chars_rest s) → chars_steps s given t → StandsIn text (chars_rest t)
 stands_next text s t given h step =
     record {
       utf8 = utf8_after s t given h.utf8 step;
+      short = (bytes-given text s t given h.short h.bytes step).0;
+      bytes = (bytes-given text s t given h.short h.bytes step).1;
       follows = follows-given _ _ _ given h.follows (gives_char s t given h.utf8 step);
     }
 
 -- a call of the source, of which the iterator gave the next character
-pub gives_next : (text : List ℕ) (s t : Chars) (given : Option ℕ) (taken backs count : ℕ) → StandsIn text (chars_rest s) → chars_steps s given t → count ≡ one_more taken
-    → GivesNext (state_at (chars text) (chars (chars_rest s)) taken backs) given (state_at (chars text) (chars (chars_rest t)) count backs)
-gives_next text s t given taken backs count h step counts =
+pub gives_next : (text : List ℕ) (s t : Chars) (marked : List ℕ) (given : Option ℕ) (taken backs count : ℕ) → StandsIn text (chars_rest s) → chars_steps s given t → count ≡ one_more taken
+    → GivesNext (state_at (chars text) (chars (chars_rest s)) marked taken backs) given (state_at (chars text) (chars (chars_rest t)) marked count backs)
+gives_next text s t marked given taken backs count h step counts =
     record {
       text = refl;
       value = next-given _ _ _ given h.follows (gives_char s t given h.utf8 step);
+      mark = refl;
       taken = counts;
       backs = refl;
+    }
+
+-- ---- one character back
+
+-- what is left behind the front of a text follows in it
+follows-bytes : (text front left : List ℕ) → text ≡ front ++ left → IsUtf8 front → Follows (chars text) (chars left)
+follows-bytes text front left e utf8 =
+    let parts : chars text ≡ chars front ++ chars left = ap chars e ∙ chars-append front left utf8 in
+    let size : length (chars text) ≡ length (chars front) + length (chars left) = ap length parts ∙ length-append (chars front) (chars left) in
+    let first : length (chars text) - length (chars left) ≡ length (chars front) = omega (arith, size) in
+    record { within = omega (arith, size); follows = ap (λ n. drop n (chars text)) first ∙ ap (drop (length (chars front))) parts ∙ drop-append_seam (chars front) (chars left) }
+
+-- an iterator over the bytes before what is left went one character back, to `front`
+pub record StepsBack (text rest front : List ℕ) : Type 0 where
+  pub within : length front ≤ length text
+  pub first : take (length front) text ≡ front
+  pub one_more : IsUtf8 (drop (length front) text) → length (chars (drop (length front) text)) ≡ length (chars rest) + 1
+
+pub steps_back : (text rest : List ℕ) (s t : Chars) (given : Option ℕ) → StandsIn text rest → length (chars rest) < length (chars text) → chars_rest s ≡ take (length text - length rest) text → chars_steps_back s given t
+    → StepsBack text rest (chars_rest t)
+steps_back text rest s t None stands some e h =
+    absurd (
+    let none : length (take (length text - length rest) text) ≡ 0 = ap length (sym e) ∙ h.0 in
+    let nothing : length text - length rest ≡ 0 = omega (arith, none, length-take (length text - length rest) text) in
+    let same : text ≡ rest = ap (λ n. drop n text) (sym nothing) ∙ stands.bytes in
+    let size : length (chars text) ≡ length (chars rest) = ap (λ b. length (chars b)) same in
+    omega arith)
+steps_back text rest s t (Some c) stands some e h =
+    let front = chars_rest t in
+    let whole : text ≡ front ++ (encode_utf8 c ++ rest) =
+    sym (take-append-drop (length text - length rest) text) ∙ ap (λ l. l ++ drop (length text - length rest) text) (sym e ∙ h) ∙ ap (λ l. (front ++ encode_utf8 c) ++ l) stands.bytes ∙ append_assoc front (encode_utf8 c) rest in
+    let back : drop (length front) text ≡ encode_utf8 c ++ rest = ap (drop (length front)) whole ∙ drop-append_seam front (encode_utf8 c ++ rest) in
+    record {
+      within = omega (arith, ap length whole ∙ length-append front (encode_utf8 c ++ rest));
+      first = ap (take (length front)) whole ∙ take-append_seam front (encode_utf8 c ++ rest);
+      one_more = λ utf8. ap length (chars_past_char (drop (length front) text) rest c utf8 back) ∙ plus_one (length (chars rest));
+    }
+  where
+    plus_one : (n : ℕ) → suc n ≡ n + 1
+    plus_one n = omega arith
+
+-- what is left from there on
+pub stands_back : (text rest front : List ℕ) → StepsBack text rest front → IsUtf8 front → IsUtf8 (drop (length front) text) → StandsIn text (drop (length front) text)
+stands_back text rest front h utf8 back =
+    let size : length (drop (length front) text) ≡ length text - length front = length-drop (length front) text in
+    let at : length text - length (drop (length front) text) ≡ length front = omega (arith, size, h.within) in
+    record {
+      utf8 = back;
+      short = omega (arith, size);
+      bytes = ap (λ n. drop n text) at;
+      follows = follows-bytes text front (drop (length front) text) (sym (take-append-drop (length front) text) ∙ ap (λ l. l ++ drop (length front) text) h.first) utf8;
     }

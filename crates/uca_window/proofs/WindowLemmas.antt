@@ -1,6 +1,6 @@
 -- Lemmas on a window: what its calls do to its points, its rest and its credit.
-use Rattle.std.proofs.Common.{◌≡◌, ℕ, zero, suc, ◌+◌, ◌-◌, ◌<◌, ◌≤◌, Bool, true, false, not, ◌&&◌, List, [], ◌∷◌, ◌++◌, length, take, drop, nat_lt, lt-ltb, Some, All, get_or, refl, sym, ap, subst, ◌∙◌, arith, inl, inr, append_assoc, append-nil, length-append, length-drop, take-append-drop, length-take-le, get_or-take}
-use Rattle.std.proofs.lemmas.Bool.{cases_Bool, cases_lt, and_parts, and_from, not_from_false}
+use Rattle.std.proofs.Common.{◌≡◌, ℕ, zero, suc, ◌+◌, ◌-◌, ◌<◌, ◌≤◌, Bool, true, false, not, ◌&&◌, List, [], ◌∷◌, ◌++◌, length, take, drop, nat_lt, lt-ltb, ltb-true, Some, All, get_or, refl, sym, ap, ap₂, subst, ◌∙◌, arith, inl, inr, append_assoc, append-nil, length-append, length-drop, take-append-drop, length-take-le, get_or-take}
+use Rattle.std.proofs.lemmas.Bool.{cases_Bool, cases_lt, cond-true, cond-false, and_parts, and_from, not_from_false}
 use Rattle.std.proofs.lemmas.List.{drop_at, take_at, drop-append-le, drop_all, get_or_append_left}
 use Rattle.std.proofs.lemmas.List.Edits.{length-remove, remove-append_left}
 use Rattle.std.proofs.lemmas.List.Elements.{All-nil, All-cons, All-head, All-tail, All-append, All-take, All-drop}
@@ -17,7 +17,7 @@ use Rattle.unicode_normalization.proofs.TableFacts.{is_final}
 use Rattle.uca_weights.specs.declared.limits.TheConstants.{MAX_RUN, MAX_DECOMPOSITION, MAX_KEY, MAX_LOOKAHEAD}
 use Rattle.uca_model.specs.SafeText.{longest_run, longest_run_after}
 use Rattle.uca_model.specs.Source.{SourceState, unread, GivesNext}
-use Rattle.uca_model.specs.Window.{WindowState, empty_window, begins_segment, IsWindow, rest_of, Fits, ChangesRest, ReadsOn, ShowsFront}
+use Rattle.uca_model.specs.Window.{WindowState, empty_window, begins_segment, is_wanting, last_starter, after_read, IsWindow, rest_of, Fits, ChangesRest, ReadsOn, ShowsFront}
 use Rattle.uca_model.proofs.SafeLemmas.{IsShort, length-nfd_one, runs-canonical_order}
 use Rattle.uca_window.specs.Segment.{IsOpen}
 use Rattle.uca_window.proofs.RunLemmas.{runs-back, runs-drop, runs-without, length-run}
@@ -148,6 +148,7 @@ reads-char w before after c points closed h fits few runs given e segments =
       fits = steps.fits;
       longest = refl;
       taken = omega (arith, given.taken, ap length given.value.0);
+      mark = given.mark;
       backs = given.backs;
     }
 
@@ -356,3 +357,38 @@ IsWindow-new longest some most =
       bound = omega arith;
       longest = (some, most);
     }
+
+-- ---- what a window holds, by what it held
+
+pub wants-few : (w : WindowState) → is_wanting w ≡ true → (w.closed < w.longest) × (w.ended ≡ false)
+wants-few w h = let both = and_parts (nat_lt w.closed w.longest) (not w.ended) h in (ltb-true _ _ both.0, is_false w.ended both.1)
+  where
+    is_false : (b : Bool) → not b ≡ true → b ≡ false
+    is_false true h = cc
+    is_false false h = refl
+
+not_all_marks : (ps : List ℕ) → begins_segment ps ≡ true → 0 < length ps → list_all is_nonstarter ps ≡ false
+not_all_marks [] h some = absurd (omega arith)
+not_all_marks (p ∷ ps) h some = rw h refl
+
+-- the open segment begins with the last starter, where one stands
+pub last_starter-open : (ps : List ℕ) (k : ℕ) → IsOpen k ps → last_starter ps ≡ k
+last_starter-open [] k open_at = omega (arith, open_at.within)
+last_starter-open (p ∷ ps) zero open_at = cond-true _ _ _ open_at.marks
+last_starter-open (p ∷ ps) (suc k) open_at =
+    let few : suc k < suc (length ps) = open_at.some (omega arith) in
+    let first : begins_segment (drop k ps) ≡ true = open_at.begins (omega arith) in
+    let some : 0 < length (drop k ps) = omega (arith, length-drop k ps) in
+    cond-false _ _ _ (not_all-later k ps (not_all_marks (drop k ps) first some))
+    ∙ ap (λ n. n + 1) (last_starter-open ps k (record { within = omega (arith, few); begins = λ _. first; marks = open_at.marks; some = λ _. omega (arith, few) }))
+    ∙ (let e : k + 1 ≡ suc k = omega arith in e)
+  where
+    not_all-later : (n : ℕ) (xs : List ℕ) → list_all is_nonstarter (drop n xs) ≡ false → list_all is_nonstarter xs ≡ false
+    not_all-later n xs h = elim (cases_Bool (list_all is_nonstarter xs)) [
+      | inl all ↦ let clash = sym (list_all-drop is_nonstarter n xs all) ∙ h in cc
+      | inr some ↦ some
+    ]
+
+pub after_read-char : (w : WindowState) (c : ℕ) (points : List ℕ) (closed : ℕ) → points ≡ canonical_order (w.points ++ decompose_canonical c) → IsOpen closed points → window_of points closed w.longest w.ended ≡ after_read w (Some c)
+after_read-char w c points closed e segments =
+    ap₂ (λ ps k. window_of ps k w.longest w.ended) e (sym (last_starter-open points closed segments) ∙ ap last_starter e)

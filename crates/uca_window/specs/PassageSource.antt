@@ -3,9 +3,9 @@ use Rattle.std.specs.Prelude.{◌≡◌, ℕ, ◌-◌, ◌≤◌, List, length, 
 use Rattle.std.specs.Str.{IsUtf8}
 use Rattle.uca_model.specs.Source.{SourceState}
 
--- a source of this text of which these characters are left
-abbrev pub state_at : List ℕ → List ℕ → ℕ → ℕ → SourceState
-state_at text left taken backs = record { text = text; place = length text - length left; taken = taken; backs = backs }
+-- a source of this text of which these characters are left, and these from its mark on
+abbrev pub state_at : List ℕ → List ℕ → List ℕ → ℕ → ℕ → SourceState
+state_at text left marked taken backs = record { text = text; place = length text - length left; mark = length text - length marked; taken = taken; backs = backs }
 
 -- the characters that are left are the text without its first ones
 pub record Follows (text left : List ℕ) : Type 0 where
@@ -15,4 +15,6 @@ pub record Follows (text left : List ℕ) : Type 0 where
 -- these bytes are what is left of a text, and a text themselves
 pub record StandsIn (text left : List ℕ) : Type 0 where
   pub utf8 : IsUtf8 left
+  pub short : length left ≤ length text
+  pub bytes : drop (length text - length left) text ≡ left
   pub follows : Follows (chars text) (chars left)

@@ -1,4 +1,6 @@
-ghost use Rattle.std.specs.Prelude.{◌≡◌};
+ghost use Rattle.std.specs.Prelude.{◌≡◌, ◌+◌, ◌<◌, length, chars};
+ghost use Rattle.std.specs.Str.Iter.{chars_rest};
+ghost use Rattle.uca_window.specs.PassageSource.{StandsIn};
 
 use crate::passage::Passage;
 use crate::source::Source;
@@ -10,6 +12,7 @@ use std::str::Chars;
 pub struct PassageSource<'t> {
     text: &'t str,
     rest: Chars<'t>,
+    marked: Chars<'t>,
     taken: u128,
     backs: u128,
 }
@@ -22,9 +25,9 @@ impl<'t> Model for PassageSource<'t> {
 
     ghost Value = { SourceState };
 
-    ghost view = { λ s. state_at (chars s.text.now) (chars (chars_rest s.rest)) s.taken s.backs };
+    ghost view = { λ s. state_at (chars s.text.now) (chars (chars_rest s.rest)) (chars (chars_rest s.marked)) s.taken s.backs };
 
-    ghost invariant = { λ s. StandsIn s.text.now (chars_rest s.rest) };
+    ghost invariant = { λ s. StandsIn s.text.now (chars_rest s.rest) × StandsIn s.text.now (chars_rest s.marked) };
 }
 
 impl<'t> PassageSource<'t> {
@@ -41,10 +44,23 @@ impl<'t> PassageSource<'t> {
         PassageSource {
             text,
             rest: text.chars(),
+            marked: text.chars(),
             taken: 0,
             backs: 0,
         }
     }
+}
+
+// What is left of a text one character earlier.
+fn behind_last<'t>(text: &'t str, rest: &str) -> Chars<'t>
+    requires stands { StandsIn text.now rest.now }
+    requires some { length (chars rest.now) < length (chars text.now) }
+    ensures stands { StandsIn text.now (chars_rest result) }
+    ensures one_more { length (chars (chars_rest result)) ≡ length (chars rest.now) + 1 }
+{
+    let mut front = text.split_at(text.len() - rest.len()).0.chars();
+    let _last = front.next_back();
+    text.split_at(front.as_str().len()).1.chars()
 }
 
 impl<'t> Source for PassageSource<'t> {
@@ -58,6 +74,15 @@ impl<'t> Source for PassageSource<'t> {
     fn restart(&mut self) {
         self.backs = self.backs.saturating_add(1);
         self.rest = self.text.chars();
+    }
+
+    fn mark(&mut self) {
+        self.marked = behind_last(self.text, self.rest.as_str());
+    }
+
+    fn rewind(&mut self) {
+        self.backs = self.backs.saturating_add(1);
+        self.rest = self.marked.as_str().chars();
     }
 }
 

@@ -1,5 +1,5 @@
-ghost use Rattle.std.specs.Prelude.{◌≡◌};
-ghost use Rattle.uca_model.specs.Source.{SourceState, GivesNext, restarted};
+ghost use Rattle.std.specs.Prelude.{◌≡◌, ◌<◌};
+ghost use Rattle.uca_model.specs.Source.{SourceState, GivesNext, restarted, marked, rewound};
 
 /// Characters of a text that are read one by one, and again from the start. A source states its text, its place, and
 /// how often it was called; a count stays at 2^128 - 1 once it is there.
@@ -13,4 +13,13 @@ pub trait Source {
     /// Sets the place to the start of the text.
     fn restart(&mut self)
         ensures { state self.new ≡ restarted (state self.old) };
+
+    /// Sets the mark to the character before the place, which is not the start.
+    fn mark(&mut self)
+        requires { 0 < (state self.old).place }
+        ensures { state self.new ≡ marked (state self.old) };
+
+    /// Sets the place to the mark, or to the start of the text where there is none.
+    fn rewind(&mut self)
+        ensures { state self.new ≡ rewound (state self.old) };
 }

@@ -1,8 +1,8 @@
-ghost use Rattle.std.specs.Prelude.{◌≡◌, ℕ, List, ◌+◌, ◌-◌, ◌<◌, ◌≤◌, false, length, drop, nat_lt, not, ◌&&◌, slice_index};
+ghost use Rattle.std.specs.Prelude.{◌≡◌, ℕ, List, ◌+◌, ◌-◌, ◌<◌, ◌≤◌, false, length, drop, nat_lt, not, ◌&&◌, true, slice_index};
 ghost use Rattle.std.specs.List.{remove};
 ghost use Rattle.unicode.specs.CanonicalCombiningClass.{canonical_combining_class};
 ghost use Rattle.uca_weights.specs.declared.limits.TheConstants.{MAX_KEY, MAX_LOOKAHEAD};
-ghost use Rattle.uca_model.specs.Source.{unread};
+ghost use Rattle.uca_model.specs.Source.{GivesNext, unread};
 
 use crate::points::{ROOM, drop_points, push_decomposed};
 use crate::source::Source;
@@ -32,7 +32,7 @@ impl Model for Window {
 
 impl Window {
     ghost use Rattle.uca_model.specs.SafeText.{IsSafe};
-    ghost use Rattle.uca_model.specs.Window.{empty_window, rest_of, Fits, credit, ShowsFront, ReadsOn, ChangesRest, IsWindow};
+    ghost use Rattle.uca_model.specs.Window.{empty_window, rest_of, Fits, is_wanting, after_read, credit, ShowsFront, ReadsOn, ChangesRest, IsWindow};
 
     /// A window that has read nothing, for keys of up to `longest` code points. It fits each source whose unread
     /// characters are a safe text.
@@ -78,10 +78,10 @@ impl Window {
         ensures reads { ReadsOn self.old (S.state source.old) self.new (S.state source.new) }
         ensures rest { rest_of self.new (unread (S.state source.new)) ≡ rest_of self.old (unread (S.state source.old)) }
         ensures enough { self.new.closed < self.new.longest → self.new.closed ≡ length (rest_of self.new (unread (S.state source.new))) }
-        ensures idle { self.old.longest ≤ self.old.closed → (self.new ≡ self.old) × (S.state source.new ≡ S.state source.old) }
+        ensures idle { is_wanting self.old ≡ false → (self.new ≡ self.old) × (S.state source.new ≡ S.state source.old) }
     {
         while self.wants() {
-            self.read(source);
+            let _given = self.read(source);
         }
     }
 
@@ -89,6 +89,7 @@ impl Window {
     pub fn drop_front(&mut self, n: usize)
         requires { n ≤ self.old.closed }
         ensures points { self.new ≡ record self.old { points = drop n self.old.points; closed = self.old.closed - n } }
+        ensures valid { IsWindow self.new }
         ensures rest { ChangesRest (drop n) self.old self.new }
     {
         drop_points(&mut self.points, n);
@@ -106,30 +107,33 @@ impl Window {
         self.closed -= 1;
     }
 
-    // Whether too few points are closed, and more may come.
-    fn wants(&self) -> bool
-        ensures value { result ≡ (nat_lt self.now.closed self.now.longest && not self.now.ended) }
+    /// Whether too few points are closed, and more may come.
+    pub fn wants(&self) -> bool
+        ensures value { result ≡ is_wanting self.now }
         ensures valid { IsWindow self.now }
     {
         self.closed < self.longest && !self.ended
     }
 
-    // Reads one character, or the end. Only what a character decomposes to tells whether it closes a segment.
-    fn read<S: Source>(&mut self, source: &mut S)
-        requires few { self.old.closed < self.old.longest }
-        requires running { self.old.ended ≡ false }
+    /// Reads one character, or the end, and answers it. Only what a character decomposes to tells whether it closes a segment.
+    pub fn read<S: Source>(&mut self, source: &mut S) -> Option<char>
+        requires wants { is_wanting self.old ≡ true }
         requires fits { Fits self.old (unread (S.state source.old)) }
         ensures reads { ReadsOn self.old (S.state source.old) self.new (S.state source.new) }
         ensures rest { rest_of self.new (unread (S.state source.new)) ≡ rest_of self.old (unread (S.state source.old)) }
+        ensures given { GivesNext (S.state source.old) result (S.state source.new) }
+        ensures next { self.new ≡ after_read self.old result }
         ensures fewer { credit self.new (unread (S.state source.new)) < credit self.old (unread (S.state source.old)) }
     {
-        match source.next() {
+        let given = source.next();
+        match given {
             Some(c) => self.closed = push_decomposed(&mut self.points, self.closed, c),
             None => {
                 self.closed = self.points.len();
                 self.ended = true;
             }
         }
+        given
     }
 }
 

@@ -32,6 +32,15 @@ impl<'t> Source for Counted<'t> {
         self.backs = self.backs.saturating_add(1);
         self.source.restart();
     }
+
+    fn mark(&mut self) {
+        self.source.mark();
+    }
+
+    fn rewind(&mut self) {
+        self.backs = self.backs.saturating_add(1);
+        self.source.rewind();
+    }
 }
 
 fn source_of<'t>(p: &Passage<'t>) -> Counted<'t>

@@ -14,13 +14,15 @@ use unicode_normalization::char::canonical_combining_class;
 struct CharsSource<'t> {
     text: &'t [char],
     place: usize,
+    marked: usize,
     taken: u128,
     backs: u128,
     ghost within: { place ≤ length text.now },
+    ghost marked_within: { marked ≤ length text.now },
 }
 
 impl<'t> Source for CharsSource<'t> {
-    ghost state = { λ s. record { text = s.text.now; place = s.place; taken = s.taken; backs = s.backs } };
+    ghost state = { λ s. record { text = s.text.now; place = s.place; mark = s.marked; taken = s.taken; backs = s.backs } };
 
     fn next(&mut self) -> Option<char> {
         self.taken = self.taken.saturating_add(1);
@@ -36,6 +38,15 @@ impl<'t> Source for CharsSource<'t> {
         self.backs = self.backs.saturating_add(1);
         self.place = 0;
     }
+
+    fn mark(&mut self) {
+        self.marked = self.place - 1;
+    }
+
+    fn rewind(&mut self) {
+        self.backs = self.backs.saturating_add(1);
+        self.place = self.marked;
+    }
 }
 
 /// A source that was never called.
@@ -46,6 +57,7 @@ fn source_of<'t>(text: &'t [char]) -> CharsSource<'t>
     CharsSource {
         text,
         place: 0,
+        marked: 0,
         taken: 0,
         backs: 0,
     }

@@ -1,125 +1,197 @@
-use Rattle.std.proofs.Common.{◌≡◌, ℕ, suc, ◌+◌, ◌-◌, ◌≤◌, ap, ap₂, sym, subst, ◌∙◌, arith, refl}
+use Rattle.std.proofs.Common.{◌≡◌, ℕ, List, Bool, ◌+◌, ◌-◌, ◌≤◌, drop, ap, ap₂, sym, subst, ◌∙◌, arith, refl}
+use Rattle.std.specs.declared.cmp.Ordering.{Ordering}
 use Rattle.uca_weights.specs.Settings.{levels}
 use Rattle.uca_model.specs.LevelWeights.{level_list}
-use Rattle.uca_model.specs.Reading.{OrdersLevel, deciding_from, key_from}
-use Rattle.uca_model.specs.SortKey.{key_order}
-use Rattle.uca_model.proofs.LevelLemmas.{sort_key-levels, levels-within, key_from-here, key_from-last, key_from-next, deciding-here, deciding-last, deciding-next}
-use Rattle.uca_model.specs.Source.{unread}
+use Rattle.uca_model.specs.Reading.{OrdersLevel, deciding_level}
+use Rattle.uca_model.specs.SafeCut.{cut_of}
 use Rattle.uca_model.specs.SafeText.{IsSafe}
-use Rattle.uca_levels.proofs.ReadsLemmas.{ReadsTimes-none, ReadsTimes-more, ReadsTimes-one, ReadsTimes-at, orders-text, from_ne, from_not_ne}
+use Rattle.uca_model.specs.Source.{SourceState, unread}
+use Rattle.uca_model.proofs.LevelLemmas.{levels-within}
+use Rattle.uca_levels.specs.FromCut.{ReadsFromCut}
+use Rattle.uca_levels.specs.InCommon.{AreMarked}
+use Rattle.uca_levels.proofs.ReadsLemmas.{orders-text, from_ne, from_not_ne}
+use Rattle.uca_levels.proofs.CutLemmas.{undecided-first, undecided-next, decided-here, orders-cut, safe-cut_a, safe-cut_b, marks-stay, back-mark, back-unread, FromCut-once, FromCut-more, FromCut-times}
 use Rattle.uca_levels.proofs.comparison.compare_sources.Goals as goal
-
-pub each-init : goal.each-init
-each-init g c =
-    record {
-      first = omega arith;
-      last = (levels-within c.args.s.strength).0;
-      reads_a = ReadsTimes-none (g.S.Source.state c.args.a.now);
-      reads_b = ReadsTimes-none (g.T.Source.state c.args.b.now);
-      order = ap₂ key_order (sort_key-levels c.args.t.now c.args.s (g.S.Source.state c.args.a.now).text) (sort_key-levels c.args.t.now c.args.s (g.T.Source.state c.args.b.now).text);
-      deciding = refl;
-    }
-
-pub each-preserved : goal.each-preserved
-each-preserved g c =
-    let la = level_list c.args.t.now c.args.s.weighting (g.S.Source.state c.args.a.now).text in
-    let lb = level_list c.args.t.now c.args.s.weighting (g.T.Source.state c.args.b.now).text in
-    let o = c.order_of_level-order.result in
-    let at : ℕ = c.each.level in
-    let top : ℕ = levels c.args.s.strength in
-    let within : top ≤ 5 = (levels-within c.args.s.strength).1 in
-    let orders : OrdersLevel at (la at) (lb at) o = orders-text c.args.t.now c.args.s.weighting at _ _ _ _ o (ap unread c.restart.ensures ∙ c.each.invariant.reads_a.text) (ap unread c.restart-in-each.ensures ∙ c.each.invariant.reads_b.text) c.order_of_level-order.ensures.order in
-    let equal = from_not_ne o (sym c.is_ne.ensures ∙ c.if-is_ne.false) in
-    let some : top - at ≡ suc (top - (at + 1)) = omega (arith, c.each.invariant.last, c.levels-last.ensures, c.if-level-last.false) in
-    record {
-      first = omega arith;
-      last = omega (arith, c.each.invariant.last, c.levels-last.ensures, c.if-level-last.false);
-      reads_a = ReadsTimes-more (at - 1) (at + 1 - 1) _ _ _ c.each.invariant.reads_a (ReadsTimes-one _ _ _ c.restart.ensures c.order_of_level-order.ensures.reads_a) (omega (arith, c.each.invariant.first));
-      reads_b = ReadsTimes-more (at - 1) (at + 1 - 1) _ _ _ c.each.invariant.reads_b (ReadsTimes-one _ _ _ c.restart-in-each.ensures c.order_of_level-order.ensures.reads_b) (omega (arith, c.each.invariant.first));
-      order = c.each.invariant.order ∙ ap (λ n. key_order (key_from n at la) (key_from n at lb)) some ∙ key_from-next (top - (at + 1)) at la lb o orders (omega (arith, some)) equal;
-      deciding = c.each.invariant.deciding ∙ ap (λ n. deciding_from n at la lb) some ∙ deciding-next (top - (at + 1)) at la lb o orders.list equal;
-    }
 
 pub returns-then-is_ne-clause-order : goal.returns-then-is_ne-clause-order
 returns-then-is_ne-clause-order g c =
-    let la = level_list c.args.t.now c.args.s.weighting (g.S.Source.state c.args.a.now).text in
-    let lb = level_list c.args.t.now c.args.s.weighting (g.T.Source.state c.args.b.now).text in
-    let o = c.order_of_level-order.result in
-    let at : ℕ = c.each.level in
-    let top : ℕ = levels c.args.s.strength in
-    let within : top ≤ 5 = (levels-within c.args.s.strength).1 in
-    let orders : OrdersLevel at (la at) (lb at) o = orders-text c.args.t.now c.args.s.weighting at _ _ _ _ o (ap unread c.restart.ensures ∙ c.each.invariant.reads_a.text) (ap unread c.restart-in-each.ensures ∙ c.each.invariant.reads_b.text) c.order_of_level-order.ensures.order in
-    let other = from_ne o (sym c.is_ne.ensures ∙ c.if-is_ne.true) in
-    sym (c.each.invariant.order ∙ key_from-here (top - at) at la lb o orders (omega (arith, c.each.invariant.last)) other)
+    let was : SourceState = g.S.Source.state c.args.a.now in
+    let wus : SourceState = g.T.Source.state c.args.b.now in
+    let m : ℕ = cut_of c.args.t.now was.text wus.text in
+    let some : 1 ≤ levels c.args.s.strength = (levels-within c.args.s.strength).0 in
+    let of_a : (g.S.Source.state c.restart.new.self).text ≡ was.text = ap (λ (s : SourceState). s.text) c.restart.ensures in
+    let of_b : (g.T.Source.state c.restart-2.new.self).text ≡ wus.text = ap (λ (s : SourceState). s.text) c.restart-2.ensures in
+    let o : Ordering = c.first_order-first.result.0 in
+    let orders : OrdersLevel 1 (level_list c.args.t.now c.args.s.weighting was.text 1) (level_list c.args.t.now c.args.s.weighting wus.text 1) o = orders-text c.args.t.now c.args.s.weighting 1 was.text wus.text _ _ o of_a of_b c.first_order-first.ensures.order in
+    sym (decided-here c.args.t.now c.args.s was.text wus.text 1 o (undecided-first c.args.t.now c.args.s was.text wus.text) some orders (from_ne o (sym c.is_ne.ensures ∙ c.if-is_ne.true))).0
 
-pub returns-then-is_ne-clause-reads_a : goal.returns-then-is_ne-clause-reads_a
-returns-then-is_ne-clause-reads_a g c =
-    let la = level_list c.args.t.now c.args.s.weighting (g.S.Source.state c.args.a.now).text in
-    let lb = level_list c.args.t.now c.args.s.weighting (g.T.Source.state c.args.b.now).text in
-    let o = c.order_of_level-order.result in
-    let at : ℕ = c.each.level in
-    let top : ℕ = levels c.args.s.strength in
-    let within : top ≤ 5 = (levels-within c.args.s.strength).1 in
-    let orders : OrdersLevel at (la at) (lb at) o = orders-text c.args.t.now c.args.s.weighting at _ _ _ _ o (ap unread c.restart.ensures ∙ c.each.invariant.reads_a.text) (ap unread c.restart-in-each.ensures ∙ c.each.invariant.reads_b.text) c.order_of_level-order.ensures.order in
-    let other = from_ne o (sym c.is_ne.ensures ∙ c.if-is_ne.true) in
-    ReadsTimes-at _ at 0 _ _ _ (c.each.invariant.deciding ∙ deciding-here (top - at) at la lb o orders.list other) c.each.invariant.first c.each.invariant.reads_a (ReadsTimes-one _ _ _ c.restart.ensures c.order_of_level-order.ensures.reads_a)
-
-pub returns-then-is_ne-clause-reads_b : goal.returns-then-is_ne-clause-reads_b
-returns-then-is_ne-clause-reads_b g c =
-    let la = level_list c.args.t.now c.args.s.weighting (g.S.Source.state c.args.a.now).text in
-    let lb = level_list c.args.t.now c.args.s.weighting (g.T.Source.state c.args.b.now).text in
-    let o = c.order_of_level-order.result in
-    let at : ℕ = c.each.level in
-    let top : ℕ = levels c.args.s.strength in
-    let within : top ≤ 5 = (levels-within c.args.s.strength).1 in
-    let orders : OrdersLevel at (la at) (lb at) o = orders-text c.args.t.now c.args.s.weighting at _ _ _ _ o (ap unread c.restart.ensures ∙ c.each.invariant.reads_a.text) (ap unread c.restart-in-each.ensures ∙ c.each.invariant.reads_b.text) c.order_of_level-order.ensures.order in
-    let other = from_ne o (sym c.is_ne.ensures ∙ c.if-is_ne.true) in
-    ReadsTimes-at _ at 0 _ _ _ (c.each.invariant.deciding ∙ deciding-here (top - at) at la lb o orders.list other) c.each.invariant.first c.each.invariant.reads_b (ReadsTimes-one _ _ _ c.restart-in-each.ensures c.order_of_level-order.ensures.reads_b)
-
-pub returns-then-level-last-clause-order : goal.returns-then-level-last-clause-order
-returns-then-level-last-clause-order g c =
-    let la = level_list c.args.t.now c.args.s.weighting (g.S.Source.state c.args.a.now).text in
-    let lb = level_list c.args.t.now c.args.s.weighting (g.T.Source.state c.args.b.now).text in
-    let o = c.order_of_level-order.result in
-    let at : ℕ = c.each.level in
-    let top : ℕ = levels c.args.s.strength in
-    let within : top ≤ 5 = (levels-within c.args.s.strength).1 in
-    let orders : OrdersLevel at (la at) (lb at) o = orders-text c.args.t.now c.args.s.weighting at _ _ _ _ o (ap unread c.restart.ensures ∙ c.each.invariant.reads_a.text) (ap unread c.restart-in-each.ensures ∙ c.each.invariant.reads_b.text) c.order_of_level-order.ensures.order in
-    let equal = from_not_ne o (sym c.is_ne.ensures ∙ c.if-is_ne.false) in
-    let none : top - at ≡ 0 = omega (arith, c.levels-last.ensures, c.if-level-last.true) in
-    sym (c.each.invariant.order ∙ ap (λ n. key_order (key_from n at la) (key_from n at lb)) none ∙ key_from-last at la lb o orders ∙ equal)
-
-pub returns-then-level-last-clause-reads_a : goal.returns-then-level-last-clause-reads_a
-returns-then-level-last-clause-reads_a g c =
-    let la = level_list c.args.t.now c.args.s.weighting (g.S.Source.state c.args.a.now).text in
-    let lb = level_list c.args.t.now c.args.s.weighting (g.T.Source.state c.args.b.now).text in
-    let o = c.order_of_level-order.result in
-    let at : ℕ = c.each.level in
-    let top : ℕ = levels c.args.s.strength in
-    let within : top ≤ 5 = (levels-within c.args.s.strength).1 in
-    let orders : OrdersLevel at (la at) (lb at) o = orders-text c.args.t.now c.args.s.weighting at _ _ _ _ o (ap unread c.restart.ensures ∙ c.each.invariant.reads_a.text) (ap unread c.restart-in-each.ensures ∙ c.each.invariant.reads_b.text) c.order_of_level-order.ensures.order in
-    let equal = from_not_ne o (sym c.is_ne.ensures ∙ c.if-is_ne.false) in
-    let none : top - at ≡ 0 = omega (arith, c.levels-last.ensures, c.if-level-last.true) in
-    ReadsTimes-at _ at 0 _ _ _ (c.each.invariant.deciding ∙ deciding-last (top - at) at la lb none) c.each.invariant.first c.each.invariant.reads_a (ReadsTimes-one _ _ _ c.restart.ensures c.order_of_level-order.ensures.reads_a)
-
-pub returns-then-level-last-clause-reads_b : goal.returns-then-level-last-clause-reads_b
-returns-then-level-last-clause-reads_b g c =
-    let la = level_list c.args.t.now c.args.s.weighting (g.S.Source.state c.args.a.now).text in
-    let lb = level_list c.args.t.now c.args.s.weighting (g.T.Source.state c.args.b.now).text in
-    let o = c.order_of_level-order.result in
-    let at : ℕ = c.each.level in
-    let top : ℕ = levels c.args.s.strength in
-    let within : top ≤ 5 = (levels-within c.args.s.strength).1 in
-    let orders : OrdersLevel at (la at) (lb at) o = orders-text c.args.t.now c.args.s.weighting at _ _ _ _ o (ap unread c.restart.ensures ∙ c.each.invariant.reads_a.text) (ap unread c.restart-in-each.ensures ∙ c.each.invariant.reads_b.text) c.order_of_level-order.ensures.order in
-    let equal = from_not_ne o (sym c.is_ne.ensures ∙ c.if-is_ne.false) in
-    let none : top - at ≡ 0 = omega (arith, c.levels-last.ensures, c.if-level-last.true) in
-    ReadsTimes-at _ at 0 _ _ _ (c.each.invariant.deciding ∙ deciding-last (top - at) at la lb none) c.each.invariant.first c.each.invariant.reads_b (ReadsTimes-one _ _ _ c.restart-in-each.ensures c.order_of_level-order.ensures.reads_b)
-
-pub order_of_level-order-requires : goal.order_of_level-order-requires
-order_of_level-order-requires g c =
+pub each-init : goal.each-init
+each-init g c =
+    let was : SourceState = g.S.Source.state c.args.a.now in
+    let wus : SourceState = g.T.Source.state c.args.b.now in
+    let m : ℕ = cut_of c.args.t.now was.text wus.text in
+    let some : 1 ≤ levels c.args.s.strength = (levels-within c.args.s.strength).0 in
+    let of_a : (g.S.Source.state c.restart.new.self).text ≡ was.text = ap (λ (s : SourceState). s.text) c.restart.ensures in
+    let of_b : (g.T.Source.state c.restart-2.new.self).text ≡ wus.text = ap (λ (s : SourceState). s.text) c.restart-2.ensures in
+    let o : Ordering = c.first_order-first.result.0 in
+    let orders : OrdersLevel 1 (level_list c.args.t.now c.args.s.weighting was.text 1) (level_list c.args.t.now c.args.s.weighting wus.text 1) o = orders-text c.args.t.now c.args.s.weighting 1 was.text wus.text _ _ o of_a of_b c.first_order-first.ensures.order in
     record {
-      first = c.each.invariant.first;
-      last = omega (arith, c.each.invariant.last, (levels-within c.args.s.strength).1);
-      safe_a = subst IsSafe (sym (ap unread c.restart.ensures ∙ c.each.invariant.reads_a.text)) c.requires.safe_a;
-      safe_b = subst IsSafe (sym (ap unread c.restart-in-each.ensures ∙ c.each.invariant.reads_b.text)) c.requires.safe_b;
+      first = omega arith;
+      last = omega (arith, some);
+      undecided = undecided-next c.args.t.now c.args.s was.text wus.text 1 o (undecided-first c.args.t.now c.args.s was.text wus.text) some orders (from_not_ne o (sym c.is_ne.ensures ∙ c.if-is_ne.false));
+      marks = subst (λ n. AreMarked c.first_order-first.result.1 n (g.S.Source.state c.first_order-first.new.a) (g.T.Source.state c.first_order-first.new.b)) (ap₂ (cut_of c.args.t.now) of_a of_b) c.first_order-first.ensures.marks;
+      reads_a = FromCut-once m was (g.S.Source.state c.restart.new.self) (g.S.Source.state c.first_order-first.new.a) c.restart.ensures c.first_order-first.ensures.reads_a;
+      reads_b = FromCut-once m wus (g.T.Source.state c.restart-2.new.self) (g.T.Source.state c.first_order-first.new.b) c.restart-2.ensures c.first_order-first.ensures.reads_b;
+    }
+
+pub order_of_level-order-requires-clause-safe_a : goal.order_of_level-order-requires-clause-safe_a
+order_of_level-order-requires-clause-safe_a g c =
+    let was : SourceState = g.S.Source.state c.args.a.now in
+    let wus : SourceState = g.T.Source.state c.args.b.now in
+    let m : ℕ = cut_of c.args.t.now was.text wus.text in
+    let some : 1 ≤ levels c.args.s.strength = (levels-within c.args.s.strength).0 in
+    let flag : Bool = c.first_order-first.result.1 in
+    let marks : AreMarked flag m (g.S.Source.state c.each.a) (g.T.Source.state c.each.b) = c.each.invariant.marks in
+    let left_a : unread (g.S.Source.state c.go_back.new.source) ≡ drop m was.text = back-unread flag m was (g.S.Source.state c.each.a) (g.S.Source.state c.go_back.new.source) c.go_back.ensures marks.none marks.first c.each.invariant.reads_a.text in
+    let left_b : unread (g.T.Source.state c.go_back-in-each.new.source) ≡ drop m wus.text = back-unread flag m wus (g.T.Source.state c.each.b) (g.T.Source.state c.go_back-in-each.new.source) c.go_back-in-each.ensures marks.none marks.second c.each.invariant.reads_b.text in
+    subst IsSafe (sym left_a) (safe-cut_a c.args.t.now was.text wus.text c.requires.safe_a).0
+
+pub order_of_level-order-requires-clause-safe_b : goal.order_of_level-order-requires-clause-safe_b
+order_of_level-order-requires-clause-safe_b g c =
+    let was : SourceState = g.S.Source.state c.args.a.now in
+    let wus : SourceState = g.T.Source.state c.args.b.now in
+    let m : ℕ = cut_of c.args.t.now was.text wus.text in
+    let some : 1 ≤ levels c.args.s.strength = (levels-within c.args.s.strength).0 in
+    let flag : Bool = c.first_order-first.result.1 in
+    let marks : AreMarked flag m (g.S.Source.state c.each.a) (g.T.Source.state c.each.b) = c.each.invariant.marks in
+    let left_a : unread (g.S.Source.state c.go_back.new.source) ≡ drop m was.text = back-unread flag m was (g.S.Source.state c.each.a) (g.S.Source.state c.go_back.new.source) c.go_back.ensures marks.none marks.first c.each.invariant.reads_a.text in
+    let left_b : unread (g.T.Source.state c.go_back-in-each.new.source) ≡ drop m wus.text = back-unread flag m wus (g.T.Source.state c.each.b) (g.T.Source.state c.go_back-in-each.new.source) c.go_back-in-each.ensures marks.none marks.second c.each.invariant.reads_b.text in
+    subst IsSafe (sym left_b) (safe-cut_b c.args.t.now was.text wus.text c.requires.safe_b).0
+
+pub returns-then-is_ne-2-clause-order : goal.returns-then-is_ne-2-clause-order
+returns-then-is_ne-2-clause-order g c =
+    let was : SourceState = g.S.Source.state c.args.a.now in
+    let wus : SourceState = g.T.Source.state c.args.b.now in
+    let m : ℕ = cut_of c.args.t.now was.text wus.text in
+    let some : 1 ≤ levels c.args.s.strength = (levels-within c.args.s.strength).0 in
+    let flag : Bool = c.first_order-first.result.1 in
+    let marks : AreMarked flag m (g.S.Source.state c.each.a) (g.T.Source.state c.each.b) = c.each.invariant.marks in
+    let left_a : unread (g.S.Source.state c.go_back.new.source) ≡ drop m was.text = back-unread flag m was (g.S.Source.state c.each.a) (g.S.Source.state c.go_back.new.source) c.go_back.ensures marks.none marks.first c.each.invariant.reads_a.text in
+    let left_b : unread (g.T.Source.state c.go_back-in-each.new.source) ≡ drop m wus.text = back-unread flag m wus (g.T.Source.state c.each.b) (g.T.Source.state c.go_back-in-each.new.source) c.go_back-in-each.ensures marks.none marks.second c.each.invariant.reads_b.text in
+    let at : ℕ = c.each.level in
+    let inside : at ≤ levels c.args.s.strength = omega (arith, c.each-test.true, c.levels-last.ensures) in
+    let o : Ordering = c.order_of_level-order.result in
+    let orders : OrdersLevel at (level_list c.args.t.now c.args.s.weighting was.text at) (level_list c.args.t.now c.args.s.weighting wus.text at) o =
+    orders-cut c.args.t.now c.args.s.weighting was.text wus.text at o c.first_order-first.ensures.valid (orders-text c.args.t.now c.args.s.weighting at (drop m was.text) (drop m wus.text) _ _ o left_a left_b c.order_of_level-order.ensures.order) in
+    let more_a : ReadsFromCut at m was (g.S.Source.state c.order_of_level-order.new.a) = FromCut-more flag m at was (g.S.Source.state c.each.a) (g.S.Source.state c.go_back.new.source) (g.S.Source.state c.order_of_level-order.new.a) c.each.invariant.reads_a c.each.invariant.first c.go_back.ensures left_a c.order_of_level-order.ensures.reads_a in
+    let more_b : ReadsFromCut at m wus (g.T.Source.state c.order_of_level-order.new.b) = FromCut-more flag m at wus (g.T.Source.state c.each.b) (g.T.Source.state c.go_back-in-each.new.source) (g.T.Source.state c.order_of_level-order.new.b) c.each.invariant.reads_b c.each.invariant.first c.go_back-in-each.ensures left_b c.order_of_level-order.ensures.reads_b in
+    let decided = decided-here c.args.t.now c.args.s was.text wus.text at o c.each.invariant.undecided inside orders (from_ne o (sym c.is_ne-in-each.ensures ∙ c.if-is_ne-2.true)) in
+    sym decided.0
+
+pub returns-then-is_ne-2-clause-cut_a : goal.returns-then-is_ne-2-clause-cut_a
+returns-then-is_ne-2-clause-cut_a g c =
+    let was : SourceState = g.S.Source.state c.args.a.now in
+    let wus : SourceState = g.T.Source.state c.args.b.now in
+    let m : ℕ = cut_of c.args.t.now was.text wus.text in
+    let some : 1 ≤ levels c.args.s.strength = (levels-within c.args.s.strength).0 in
+    let flag : Bool = c.first_order-first.result.1 in
+    let marks : AreMarked flag m (g.S.Source.state c.each.a) (g.T.Source.state c.each.b) = c.each.invariant.marks in
+    let left_a : unread (g.S.Source.state c.go_back.new.source) ≡ drop m was.text = back-unread flag m was (g.S.Source.state c.each.a) (g.S.Source.state c.go_back.new.source) c.go_back.ensures marks.none marks.first c.each.invariant.reads_a.text in
+    let left_b : unread (g.T.Source.state c.go_back-in-each.new.source) ≡ drop m wus.text = back-unread flag m wus (g.T.Source.state c.each.b) (g.T.Source.state c.go_back-in-each.new.source) c.go_back-in-each.ensures marks.none marks.second c.each.invariant.reads_b.text in
+    let at : ℕ = c.each.level in
+    let inside : at ≤ levels c.args.s.strength = omega (arith, c.each-test.true, c.levels-last.ensures) in
+    let o : Ordering = c.order_of_level-order.result in
+    let orders : OrdersLevel at (level_list c.args.t.now c.args.s.weighting was.text at) (level_list c.args.t.now c.args.s.weighting wus.text at) o =
+    orders-cut c.args.t.now c.args.s.weighting was.text wus.text at o c.first_order-first.ensures.valid (orders-text c.args.t.now c.args.s.weighting at (drop m was.text) (drop m wus.text) _ _ o left_a left_b c.order_of_level-order.ensures.order) in
+    let more_a : ReadsFromCut at m was (g.S.Source.state c.order_of_level-order.new.a) = FromCut-more flag m at was (g.S.Source.state c.each.a) (g.S.Source.state c.go_back.new.source) (g.S.Source.state c.order_of_level-order.new.a) c.each.invariant.reads_a c.each.invariant.first c.go_back.ensures left_a c.order_of_level-order.ensures.reads_a in
+    let more_b : ReadsFromCut at m wus (g.T.Source.state c.order_of_level-order.new.b) = FromCut-more flag m at wus (g.T.Source.state c.each.b) (g.T.Source.state c.go_back-in-each.new.source) (g.T.Source.state c.order_of_level-order.new.b) c.each.invariant.reads_b c.each.invariant.first c.go_back-in-each.ensures left_b c.order_of_level-order.ensures.reads_b in
+    let decided = decided-here c.args.t.now c.args.s was.text wus.text at o c.each.invariant.undecided inside orders (from_ne o (sym c.is_ne-in-each.ensures ∙ c.if-is_ne-2.true)) in
+    subst (λ d. ReadsFromCut d m was (g.S.Source.state c.order_of_level-order.new.a)) (sym decided.1) more_a
+
+pub returns-then-is_ne-2-clause-cut_b : goal.returns-then-is_ne-2-clause-cut_b
+returns-then-is_ne-2-clause-cut_b g c =
+    let was : SourceState = g.S.Source.state c.args.a.now in
+    let wus : SourceState = g.T.Source.state c.args.b.now in
+    let m : ℕ = cut_of c.args.t.now was.text wus.text in
+    let some : 1 ≤ levels c.args.s.strength = (levels-within c.args.s.strength).0 in
+    let flag : Bool = c.first_order-first.result.1 in
+    let marks : AreMarked flag m (g.S.Source.state c.each.a) (g.T.Source.state c.each.b) = c.each.invariant.marks in
+    let left_a : unread (g.S.Source.state c.go_back.new.source) ≡ drop m was.text = back-unread flag m was (g.S.Source.state c.each.a) (g.S.Source.state c.go_back.new.source) c.go_back.ensures marks.none marks.first c.each.invariant.reads_a.text in
+    let left_b : unread (g.T.Source.state c.go_back-in-each.new.source) ≡ drop m wus.text = back-unread flag m wus (g.T.Source.state c.each.b) (g.T.Source.state c.go_back-in-each.new.source) c.go_back-in-each.ensures marks.none marks.second c.each.invariant.reads_b.text in
+    let at : ℕ = c.each.level in
+    let inside : at ≤ levels c.args.s.strength = omega (arith, c.each-test.true, c.levels-last.ensures) in
+    let o : Ordering = c.order_of_level-order.result in
+    let orders : OrdersLevel at (level_list c.args.t.now c.args.s.weighting was.text at) (level_list c.args.t.now c.args.s.weighting wus.text at) o =
+    orders-cut c.args.t.now c.args.s.weighting was.text wus.text at o c.first_order-first.ensures.valid (orders-text c.args.t.now c.args.s.weighting at (drop m was.text) (drop m wus.text) _ _ o left_a left_b c.order_of_level-order.ensures.order) in
+    let more_a : ReadsFromCut at m was (g.S.Source.state c.order_of_level-order.new.a) = FromCut-more flag m at was (g.S.Source.state c.each.a) (g.S.Source.state c.go_back.new.source) (g.S.Source.state c.order_of_level-order.new.a) c.each.invariant.reads_a c.each.invariant.first c.go_back.ensures left_a c.order_of_level-order.ensures.reads_a in
+    let more_b : ReadsFromCut at m wus (g.T.Source.state c.order_of_level-order.new.b) = FromCut-more flag m at wus (g.T.Source.state c.each.b) (g.T.Source.state c.go_back-in-each.new.source) (g.T.Source.state c.order_of_level-order.new.b) c.each.invariant.reads_b c.each.invariant.first c.go_back-in-each.ensures left_b c.order_of_level-order.ensures.reads_b in
+    let decided = decided-here c.args.t.now c.args.s was.text wus.text at o c.each.invariant.undecided inside orders (from_ne o (sym c.is_ne-in-each.ensures ∙ c.if-is_ne-2.true)) in
+    subst (λ d. ReadsFromCut d m wus (g.T.Source.state c.order_of_level-order.new.b)) (sym decided.1) more_b
+
+pub returns-then-is_ne-2-clause-reads_a : goal.returns-then-is_ne-2-clause-reads_a
+returns-then-is_ne-2-clause-reads_a g c =
+    let was : SourceState = g.S.Source.state c.args.a.now in
+    let wus : SourceState = g.T.Source.state c.args.b.now in
+    let m : ℕ = cut_of c.args.t.now was.text wus.text in
+    let some : 1 ≤ levels c.args.s.strength = (levels-within c.args.s.strength).0 in
+    let flag : Bool = c.first_order-first.result.1 in
+    let marks : AreMarked flag m (g.S.Source.state c.each.a) (g.T.Source.state c.each.b) = c.each.invariant.marks in
+    let left_a : unread (g.S.Source.state c.go_back.new.source) ≡ drop m was.text = back-unread flag m was (g.S.Source.state c.each.a) (g.S.Source.state c.go_back.new.source) c.go_back.ensures marks.none marks.first c.each.invariant.reads_a.text in
+    let left_b : unread (g.T.Source.state c.go_back-in-each.new.source) ≡ drop m wus.text = back-unread flag m wus (g.T.Source.state c.each.b) (g.T.Source.state c.go_back-in-each.new.source) c.go_back-in-each.ensures marks.none marks.second c.each.invariant.reads_b.text in
+    let at : ℕ = c.each.level in
+    let inside : at ≤ levels c.args.s.strength = omega (arith, c.each-test.true, c.levels-last.ensures) in
+    let o : Ordering = c.order_of_level-order.result in
+    let orders : OrdersLevel at (level_list c.args.t.now c.args.s.weighting was.text at) (level_list c.args.t.now c.args.s.weighting wus.text at) o =
+    orders-cut c.args.t.now c.args.s.weighting was.text wus.text at o c.first_order-first.ensures.valid (orders-text c.args.t.now c.args.s.weighting at (drop m was.text) (drop m wus.text) _ _ o left_a left_b c.order_of_level-order.ensures.order) in
+    let more_a : ReadsFromCut at m was (g.S.Source.state c.order_of_level-order.new.a) = FromCut-more flag m at was (g.S.Source.state c.each.a) (g.S.Source.state c.go_back.new.source) (g.S.Source.state c.order_of_level-order.new.a) c.each.invariant.reads_a c.each.invariant.first c.go_back.ensures left_a c.order_of_level-order.ensures.reads_a in
+    let more_b : ReadsFromCut at m wus (g.T.Source.state c.order_of_level-order.new.b) = FromCut-more flag m at wus (g.T.Source.state c.each.b) (g.T.Source.state c.go_back-in-each.new.source) (g.T.Source.state c.order_of_level-order.new.b) c.each.invariant.reads_b c.each.invariant.first c.go_back-in-each.ensures left_b c.order_of_level-order.ensures.reads_b in
+    let decided = decided-here c.args.t.now c.args.s was.text wus.text at o c.each.invariant.undecided inside orders (from_ne o (sym c.is_ne-in-each.ensures ∙ c.if-is_ne-2.true)) in
+    FromCut-times (deciding_level c.args.t.now c.args.s was.text wus.text) m was (g.S.Source.state c.order_of_level-order.new.a) (omega (arith, decided.1, c.each.invariant.first)) (subst (λ d. ReadsFromCut d m was (g.S.Source.state c.order_of_level-order.new.a)) (sym decided.1) more_a)
+
+pub returns-then-is_ne-2-clause-reads_b : goal.returns-then-is_ne-2-clause-reads_b
+returns-then-is_ne-2-clause-reads_b g c =
+    let was : SourceState = g.S.Source.state c.args.a.now in
+    let wus : SourceState = g.T.Source.state c.args.b.now in
+    let m : ℕ = cut_of c.args.t.now was.text wus.text in
+    let some : 1 ≤ levels c.args.s.strength = (levels-within c.args.s.strength).0 in
+    let flag : Bool = c.first_order-first.result.1 in
+    let marks : AreMarked flag m (g.S.Source.state c.each.a) (g.T.Source.state c.each.b) = c.each.invariant.marks in
+    let left_a : unread (g.S.Source.state c.go_back.new.source) ≡ drop m was.text = back-unread flag m was (g.S.Source.state c.each.a) (g.S.Source.state c.go_back.new.source) c.go_back.ensures marks.none marks.first c.each.invariant.reads_a.text in
+    let left_b : unread (g.T.Source.state c.go_back-in-each.new.source) ≡ drop m wus.text = back-unread flag m wus (g.T.Source.state c.each.b) (g.T.Source.state c.go_back-in-each.new.source) c.go_back-in-each.ensures marks.none marks.second c.each.invariant.reads_b.text in
+    let at : ℕ = c.each.level in
+    let inside : at ≤ levels c.args.s.strength = omega (arith, c.each-test.true, c.levels-last.ensures) in
+    let o : Ordering = c.order_of_level-order.result in
+    let orders : OrdersLevel at (level_list c.args.t.now c.args.s.weighting was.text at) (level_list c.args.t.now c.args.s.weighting wus.text at) o =
+    orders-cut c.args.t.now c.args.s.weighting was.text wus.text at o c.first_order-first.ensures.valid (orders-text c.args.t.now c.args.s.weighting at (drop m was.text) (drop m wus.text) _ _ o left_a left_b c.order_of_level-order.ensures.order) in
+    let more_a : ReadsFromCut at m was (g.S.Source.state c.order_of_level-order.new.a) = FromCut-more flag m at was (g.S.Source.state c.each.a) (g.S.Source.state c.go_back.new.source) (g.S.Source.state c.order_of_level-order.new.a) c.each.invariant.reads_a c.each.invariant.first c.go_back.ensures left_a c.order_of_level-order.ensures.reads_a in
+    let more_b : ReadsFromCut at m wus (g.T.Source.state c.order_of_level-order.new.b) = FromCut-more flag m at wus (g.T.Source.state c.each.b) (g.T.Source.state c.go_back-in-each.new.source) (g.T.Source.state c.order_of_level-order.new.b) c.each.invariant.reads_b c.each.invariant.first c.go_back-in-each.ensures left_b c.order_of_level-order.ensures.reads_b in
+    let decided = decided-here c.args.t.now c.args.s was.text wus.text at o c.each.invariant.undecided inside orders (from_ne o (sym c.is_ne-in-each.ensures ∙ c.if-is_ne-2.true)) in
+    FromCut-times (deciding_level c.args.t.now c.args.s was.text wus.text) m wus (g.T.Source.state c.order_of_level-order.new.b) (omega (arith, decided.1, c.each.invariant.first)) (subst (λ d. ReadsFromCut d m wus (g.T.Source.state c.order_of_level-order.new.b)) (sym decided.1) more_b)
+
+pub each-preserved : goal.each-preserved
+each-preserved g c =
+    let was : SourceState = g.S.Source.state c.args.a.now in
+    let wus : SourceState = g.T.Source.state c.args.b.now in
+    let m : ℕ = cut_of c.args.t.now was.text wus.text in
+    let some : 1 ≤ levels c.args.s.strength = (levels-within c.args.s.strength).0 in
+    let flag : Bool = c.first_order-first.result.1 in
+    let marks : AreMarked flag m (g.S.Source.state c.each.a) (g.T.Source.state c.each.b) = c.each.invariant.marks in
+    let left_a : unread (g.S.Source.state c.go_back.new.source) ≡ drop m was.text = back-unread flag m was (g.S.Source.state c.each.a) (g.S.Source.state c.go_back.new.source) c.go_back.ensures marks.none marks.first c.each.invariant.reads_a.text in
+    let left_b : unread (g.T.Source.state c.go_back-in-each.new.source) ≡ drop m wus.text = back-unread flag m wus (g.T.Source.state c.each.b) (g.T.Source.state c.go_back-in-each.new.source) c.go_back-in-each.ensures marks.none marks.second c.each.invariant.reads_b.text in
+    let at : ℕ = c.each.level in
+    let inside : at ≤ levels c.args.s.strength = omega (arith, c.each-test.true, c.levels-last.ensures) in
+    let o : Ordering = c.order_of_level-order.result in
+    let orders : OrdersLevel at (level_list c.args.t.now c.args.s.weighting was.text at) (level_list c.args.t.now c.args.s.weighting wus.text at) o =
+    orders-cut c.args.t.now c.args.s.weighting was.text wus.text at o c.first_order-first.ensures.valid (orders-text c.args.t.now c.args.s.weighting at (drop m was.text) (drop m wus.text) _ _ o left_a left_b c.order_of_level-order.ensures.order) in
+    let more_a : ReadsFromCut at m was (g.S.Source.state c.order_of_level-order.new.a) = FromCut-more flag m at was (g.S.Source.state c.each.a) (g.S.Source.state c.go_back.new.source) (g.S.Source.state c.order_of_level-order.new.a) c.each.invariant.reads_a c.each.invariant.first c.go_back.ensures left_a c.order_of_level-order.ensures.reads_a in
+    let more_b : ReadsFromCut at m wus (g.T.Source.state c.order_of_level-order.new.b) = FromCut-more flag m at wus (g.T.Source.state c.each.b) (g.T.Source.state c.go_back-in-each.new.source) (g.T.Source.state c.order_of_level-order.new.b) c.each.invariant.reads_b c.each.invariant.first c.go_back-in-each.ensures left_b c.order_of_level-order.ensures.reads_b in
+    record {
+      first = omega (arith, c.each.invariant.first);
+      last = omega (arith, inside);
+      undecided = undecided-next c.args.t.now c.args.s was.text wus.text at o c.each.invariant.undecided inside orders (from_not_ne o (sym c.is_ne-in-each.ensures ∙ c.if-is_ne-2.false));
+      marks = marks-stay flag m (g.S.Source.state c.each.a) (g.T.Source.state c.each.b) (g.S.Source.state c.order_of_level-order.new.a) (g.T.Source.state c.order_of_level-order.new.b) marks
+          (c.order_of_level-order.ensures.reads_a.mark ∙ ap (λ (s : SourceState). s.mark) c.go_back.ensures ∙ back-mark flag (g.S.Source.state c.each.a))
+          (c.order_of_level-order.ensures.reads_b.mark ∙ ap (λ (s : SourceState). s.mark) c.go_back-in-each.ensures ∙ back-mark flag (g.T.Source.state c.each.b));
+      reads_a = (let past : at ≡ at + 1 - 1 = omega arith in subst (λ n. ReadsFromCut n m was (g.S.Source.state c.order_of_level-order.new.a)) past more_a);
+      reads_b = (let past : at ≡ at + 1 - 1 = omega arith in subst (λ n. ReadsFromCut n m wus (g.T.Source.state c.order_of_level-order.new.b)) past more_b);
     }

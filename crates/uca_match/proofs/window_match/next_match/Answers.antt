@@ -3,8 +3,8 @@ use Rattle.std.proofs.lemmas.List.{nil_from_length}
 use Rattle.uca_model.specs.Table.{is_key}
 use Rattle.uca_model.specs.CollationElements.{step}
 use Rattle.uca_model.specs.Source.{unread}
-use Rattle.uca_model.specs.Window.{rest_of}
-use Rattle.uca_match.proofs.WindowLemmas.{ReadsOn-match, closed-within}
+use Rattle.uca_model.specs.Window.{rest_of, Fits}
+use Rattle.uca_match.proofs.WindowLemmas.{ReadsOn-match, closed-within, TakesHeld-filled}
 use Rattle.uca_match.proofs.window_match.next_match.Goals as goal
 
 pub returns-then-closed-eq0-clause-none : goal.returns-then-closed-eq0-clause-none
@@ -28,3 +28,8 @@ returns-clause-matched g c =
 pub returns-clause-rest : goal.returns-clause-rest
 returns-clause-rest g c =
     ap (λ xs. (step (is_key c.args.t.now) xs).rest) (sym c.fill.ensures.rest) ∙ (c.take_match.ensures.over _ c.fill.ensures.reads.fits c.fill.ensures.enough).1.1
+
+pub returns-clause-held : goal.returns-clause-held
+returns-clause-held g c = λ idle.
+    TakesHeld-filled c.args.t.now c.args.window.now c.fill.new.self c.take_match.new.window c.take_match.result.items _ _ c.closed.ensures.valid c.requires.fits idle (c.fill.ensures.idle idle) c.take_match.ensures
+    (omega (arith, c.if-closed-eq0.false, c.closed.ensures.value))

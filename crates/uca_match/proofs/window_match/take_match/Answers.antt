@@ -9,7 +9,7 @@ pub returns-then-start-eq0 : goal.returns-then-start-eq0
 returns-then-start-eq0 c =
     let start = c.start_len-start.ensures.value ∙ ap₂ (λ n l. start_len (is_key c.args.t.now) (take n l)) c.closed-closed.ensures.value c.points-points.ensures.value in
     TakesMatch-alone c.args.t.now c.args.window.now c.requires.longest c.requires.some c.closed-closed.ensures.valid c.closed-closed.ensures.front c.key_of-key.result.items c.drop_front.new.self
-    (sym start ∙ c.if-start-eq0.true) (c.key_of-key.ensures ∙ ap (take 1) c.points-points.ensures.value) c.drop_front.ensures.points c.drop_front.ensures.rest
+    (sym start ∙ c.if-start-eq0.true) (c.key_of-key.ensures ∙ ap (take 1) c.points-points.ensures.value) c.drop_front.ensures.points c.drop_front.ensures.rest c.drop_front.ensures.valid
 
 pub returns : goal.returns
 returns c =
@@ -19,4 +19,4 @@ returns c =
     TakesMatch-key c.args.t.now c.args.window.now c.requires.longest c.requires.some c.closed-closed.ensures.valid c.closed-closed.ensures.front
     c.start_len-start.result c.key_of-key-2.result.items c.take_marks.new.key.items c.take_marks.new.window c.drop_front-2.new.self
     (sym start) (omega (arith, c.if-start-eq0.false)) (omega (arith, whole, c.start_len-start.ensures.within, c.closed-closed.ensures.value))
-    (c.key_of-key-2.ensures ∙ ap (take c.start_len-start.result) c.points-points.ensures.value) c.take_marks.ensures c.drop_front-2.ensures.points c.drop_front-2.ensures.rest
+    (c.key_of-key-2.ensures ∙ ap (take c.start_len-start.result) c.points-points.ensures.value) c.take_marks.ensures c.drop_front-2.ensures.points c.drop_front-2.ensures.rest c.drop_front-2.ensures.valid

@@ -9,6 +9,9 @@ invariant_of-self c =
     let le : c.args.n ≤ w.closed = subst (λ v. c.args.n ≤ v.closed) (sym c.self.view_is) c.requires in
     subst (λ l. IsWindow (window_of l (w.closed - c.args.n) w.longest w.ended)) (sym c.drop_points.ensures) (IsWindow-drop w c.args.n c.self.invariant le)
 
+pub returns-clause-valid : goal.returns-clause-valid
+returns-clause-valid c = invariant_of-self c
+
 pub returns-clause-rest : goal.returns-clause-rest
 returns-clause-rest c =
     let w = window_of c.self.inside.points.items c.self.inside.closed c.self.inside.longest c.self.inside.ended in

@@ -1,0 +1,88 @@
+ghost use Rattle.std.specs.Prelude.{◌≡◌, ℕ, List, ◌<◌, Bool, true, false};
+ghost use Rattle.uca_model.specs.Source.{SourceState, unread};
+ghost use Rattle.uca_model.specs.Table.{IsTable};
+ghost use Rattle.uca_model.specs.Window.{Fits};
+ghost use Rattle.uca_match.specs.ToCome.{is_asking};
+ghost use Rattle.uca_levels.specs.InCommon.{AreMarked, InCommon, Parted, ReadsOnce, work_left};
+ghost use Rattle.uca_model.specs.LevelWeights.{level_list};
+ghost use Rattle.uca_model.specs.Reading.{OrdersLevel};
+ghost use Rattle.uca_model.specs.SafeCut.{cut_of};
+ghost use Rattle.uca_model.specs.SafeText.{IsSafe};
+
+use crate::cut::may_cut;
+use crate::level_order::order_to_come;
+use crate::weights::Weights;
+use std::cmp::Ordering;
+use uca_table::Table;
+use uca_weights::Variable;
+use uca_window::Source;
+
+// Goes one step on in two texts that agree so far: reads a character of each, or gives a weight of each where none is
+// wanted. It marks the sources at each character before which they may be cut. Whether they still agree.
+fn goes_on<'t, S: Source, T: Source>(
+    t: &Table,
+    left: &mut Weights<'t>,
+    right: &mut Weights<'t>,
+    marked: &mut bool,
+    a: &mut S,
+    b: &mut T,
+) -> bool
+    requires valid { IsTable t.now }
+    requires same { left.old ≡ right.old }
+    requires fits_a { Fits left.old.elements.window (unread (S.state a.old)) }
+    requires fits_b { Fits right.old.elements.window (unread (T.state b.old)) }
+    ensures on { (was wus : SourceState) (xs ys : List ℕ) → InCommon t.now was wus xs ys left.old right.old marked.old (S.state a.old) (T.state b.old) → result ≡ true
+        → InCommon t.now was wus xs ys left.new right.new marked.new (S.state a.new) (T.state b.new) × (work_left left.new (S.state a.new) < work_left left.old (S.state a.old)) }
+    ensures parts { (was wus : SourceState) (xs ys : List ℕ) → InCommon t.now was wus xs ys left.old right.old marked.old (S.state a.old) (T.state b.old) → result ≡ false
+        → Parted t.now was wus xs ys left.new right.new marked.new (S.state a.new) (T.state b.new) }
+{
+    if !left.wants() {
+        let _weight = left.next_of_all(a);
+        let _same = right.next_of_all(b);
+        return true;
+    }
+    let x = left.read(a);
+    let y = right.read(b);
+    if x != y {
+        return false;
+    }
+    match x {
+        None => false,
+        Some(c) => {
+            if may_cut(t, c) {
+                a.mark();
+                b.mark();
+                *marked = true;
+                return true;
+            }
+            true
+        }
+    }
+}
+
+/// The order of two texts at the first level. Their sources stand at the start. Each is read once, and has its mark at
+/// the safe cut of the texts, if the second answer says that marks were set. Where none were, the cut is the start.
+pub(crate) fn first_order<S: Source, T: Source>(
+    t: &Table,
+    v: Variable,
+    a: &mut S,
+    b: &mut T,
+) -> (Ordering, bool)
+    requires start_a { (S.state a.old).place ≡ 0 }
+    requires start_b { (T.state b.old).place ≡ 0 }
+    requires safe_a { IsSafe (S.state a.old).text }
+    requires safe_b { IsSafe (T.state b.old).text }
+    ensures order { OrdersLevel 1 (level_list t.now v (S.state a.old).text 1) (level_list t.now v (T.state b.old).text 1) result.0 }
+    ensures marks { AreMarked result.1 (cut_of t.now (S.state a.old).text (T.state b.old).text) (S.state a.new) (T.state b.new) }
+    ensures reads_a { ReadsOnce (S.state a.old) (S.state a.new) }
+    ensures reads_b { ReadsOnce (T.state b.old) (T.state b.new) }
+    ensures valid { IsTable t.now }
+{
+    let _longest = t.longest();
+    let mut left = Weights::new(t, v, 1);
+    let mut right = Weights::new(t, v, 1);
+    let mut marked = false;
+    while goes_on(t, &mut left, &mut right, &mut marked, a, b) {}
+    let order = order_to_come(&mut left, &mut right, a, b);
+    (order, marked)
+}
