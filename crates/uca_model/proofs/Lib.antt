@@ -29,6 +29,7 @@ pub mod RangeLemmas
 pub mod SortedLemmas
 pub mod ReadBackLemmas
 pub mod GrowingLemmas
+pub mod ShiftedWeights
 pub mod ShiftLemmas
 pub mod EntryLemmas
 pub mod PlaceLemmas

@@ -13,7 +13,7 @@ use Rattle.uca_model.specs.Plain.{table_of, pair_of}
 use Rattle.uca_model.specs.Shift.{shifted, shifted_entry, is_stuck, top}
 use Rattle.uca_model.specs.Tailoring.{TailorCause, small_weight, high_reset, full, Anchor, alone, behind, anchor_of, least, is_high, is_full, fault_at, raised, placed_behind, placed_at, placed_after}
 use Rattle.uca_model.specs.PlainTailoring.{AreDistinct, HasRoomAt, placed_as}
-use Rattle.uca_model.proofs.ShiftLemmas.{any_entry, table_of-shifted}
+use Rattle.uca_model.proofs.ShiftLemmas.{none_some, any_entry, table_of-shifted}
 
 -- ## The anchor, from its end
 
@@ -45,30 +45,26 @@ anchor_of_found level es (suc n) d p h z =
 
 -- ## Places
 
-cond_none : {A : Type 0} (b : Bool) (x : A) (o : Option A) → cond b (Some x) o ≡ None → (b ≡ false) × (o ≡ None)
-cond_none true x o e = absurd (cc)
-cond_none false x o e = (refl, e)
-
 not_below : (a b : ℕ) → nat_lt a b ≡ false → b ≤ a
 not_below a b e = grind (arith, nat_tests)
 
-or_false : (a b : Bool) → (a || b) ≡ false → (a ≡ false) × (b ≡ false)
+pub or_false : (a b : Bool) → (a || b) ≡ false → (a ≡ false) × (b ≡ false)
 or_false true b e = (e, absurd (cc))
 or_false false b e = (refl, e)
 
 -- what it takes that a relation has no fault at a level
-record IsFree (level w : ℕ) (t : ElementTable) (anchor : List Element) : Type 0 where
-  large : least level ≤ w
-  low : list_any is_high anchor ≡ false
-  below_top : (w == top level) ≡ false
-  anchor_room : list_any (is_stuck level w) anchor ≡ false
-  table_room : list_any (list_any (is_stuck level w)) (values t.entries) ≡ false
+pub record IsFree (level w : ℕ) (t : ElementTable) (anchor : List Element) : Type 0 where
+  pub large : least level ≤ w
+  pub low : list_any is_high anchor ≡ false
+  pub below_top : (w == top level) ≡ false
+  pub anchor_room : list_any (is_stuck level w) anchor ≡ false
+  pub table_room : list_any (list_any (is_stuck level w)) (values t.entries) ≡ false
 
-is_free : (level w : ℕ) (t : ElementTable) (anchor : List Element) → fault_at level w t anchor ≡ None → IsFree level w t anchor
+pub is_free : (level w : ℕ) (t : ElementTable) (anchor : List Element) → fault_at level w t anchor ≡ None → IsFree level w t anchor
 is_free level w t anchor e =
-    let small = cond_none (nat_lt w (least level)) small_weight _ e in
-    let high = cond_none (list_any is_high anchor) high_reset _ small.1 in
-    let full = cond_none (is_full level w t anchor) (full level) None high.1 in
+    let small = none_some (nat_lt w (least level)) small_weight _ e in
+    let high = none_some (list_any is_high anchor) high_reset _ small.1 in
+    let full = none_some (is_full level w t anchor) (full level) None high.1 in
     let one = or_false _ _ full.0 in
     let two = or_false _ _ one.0 in
     record { large = not_below _ _ small.0; low = high.0; below_top = two.0; anchor_room = two.1; table_room = one.1 }
@@ -100,7 +96,7 @@ below_first x h = grind (arith, nat_tests)
 below_other : (x : ℕ) → x < 65536 → (x == 65535) ≡ false → x < 65535
 below_other x h e = grind (arith, nat_tests)
 
-below_top : (level w : ℕ) (e : Element) → 1 ≤ level → level ≤ 3 → w ≡ weight level e → w < 65536 → is_high e ≡ false → (w == top level) ≡ false → w < 65535
+pub below_top : (level w : ℕ) (e : Element) → 1 ≤ level → level ≤ 3 → w ≡ weight level e → w < 65536 → is_high e ≡ false → (w == top level) ≡ false → w < 65535
 below_top zero w e p q is f h t = absurd (omega arith)
 below_top (suc zero) w e p q is f h t = subst (λ x. x < 65535) (sym is) (below_first e.l1 h)
 below_top (suc (suc zero)) w e p q is f h t = below_other w f t

@@ -1,5 +1,5 @@
 use Rattle.std.proofs.Common.{◌≡◌, ℕ, suc, zero, ◌+◌, ◌<◌, Bool, true, false, cond, ◌||◌, ◌==◌, List, [], ◌∷◌, ◌++◌, length, take, map, get_or, Option, Some, None, refl, sym, ap, subst, ◌∙◌, arith}
-use Rattle.std.proofs.lemmas.List.{take_more}
+use Rattle.std.proofs.lemmas.List.{take_more, nil_from_length}
 use Rattle.std.specs.FinMap.Entries.{by_order}
 use Rattle.std.specs.List.{list_any}
 use Rattle.std.specs.Option.{option_map}
@@ -53,10 +53,6 @@ or_swap false b c = refl
 differ : true ≡ false → ⊥
 differ e = cc
 
-no_length : {A : Type 0} (xs : List A) → length xs ≡ 0 → xs ≡ []
-no_length [] e = refl
-no_length (x ∷ xs) e = absurd (omega arith)
-
 put_step : (p : List Element → Bool) (k : List ℕ) (v : List Element) (x : List ℕ × List Element) (es : List (List ℕ × List Element)) (o : Ordering) → key_cmp k x.0 ≡ o → find key_cmp k (x ∷ es) ≡ None
     → (find key_cmp k es ≡ None → list_any p (map (λ y. y.1) (put key_cmp k v es)) ≡ (p v || list_any p (map (λ y. y.1) es)))
     → list_any p (map (λ y. y.1) (by_order o ((k, v) ∷ x ∷ es) ((x.0, v) ∷ es) (x ∷ put key_cmp k v es))) ≡ (p v || (p x.1 || list_any p (map (λ y. y.1) es)))
@@ -70,7 +66,7 @@ any-put p k v [] e = refl
 any-put p k v (x ∷ es) e = put_step p k v x es (key_cmp k x.0) refl e (λ rest. any-put p k v es rest)
 
 any-from_entries : (p : List Element → Bool) (es : List (List ℕ × List Element)) → AreDistinct es → list_any p (values (from_entries {R = key_cmp} es)) ≡ list_any (λ e. p e.1) es
-any-from_entries p [] h = ap (λ xs. list_any p (map (λ x. x.1) xs)) (no_length (entries (empty {X = List Element} {R = key_cmp})) (sym (len-entries (empty {X = List Element} {R = key_cmp})) ∙ len-empty key_cmp (List Element)))
+any-from_entries p [] h = ap (λ xs. list_any p (map (λ x. x.1) xs)) (nil_from_length (entries (empty {X = List Element} {R = key_cmp})) (sym (len-entries (empty {X = List Element} {R = key_cmp})) ∙ len-empty key_cmp (List Element)))
 any-from_entries p (e ∷ es) h =
     ap (λ xs. list_any p (map (λ x. x.1) xs)) (entries-insert nat_list_cmp_total (from_entries {R = key_cmp} es) e.0 e.1)
     ∙ any-put p e.0 e.1 (entries (from_entries {R = key_cmp} es)) (sym (get-entries (from_entries {R = key_cmp} es) e.0) ∙ get-from_entries nat_list_cmp_total es e.0 ∙ h.0)

@@ -1,4 +1,4 @@
--- The weights that a valid table gives a text of characters have sixteen bits.
+-- The weights that a table of weights of sixteen bits, such as every valid one, gives a text of characters have sixteen bits.
 use Rattle.std.proofs.Common.{◌≡◌, ℕ, suc, zero, ◌-◌, ◌^◌, ◌≤◌, ◌<◌, Bool, true, false, cond, not, ◌&&◌, ◌||◌, ◌==◌, nat_eq, List, [], ◌∷◌, ◌++◌, length, take, drop, get_or, slice_index, All, Option, Some, None, unwrap_or, refl, sym, subst, arith, inl, inr, ne_eqb}
 use Rattle.std.proofs.lemmas.Bool.{cases_Bool, eqb-false, cond-false}
 use Rattle.std.proofs.lemmas.List.Elements.{recursion_from_All}
@@ -29,6 +29,14 @@ use Rattle.uca_model.proofs.TableLemmas.{IsEntry-elements_at}
 pub record HasWeights (t : ElementTable) (s : Settings) (text : List ℕ) : Type 0 where
   pub weights : (level : ℕ) → 1 ≤ level → level < 5 → AreWeights (level_list t s.weighting text level)
   pub points : AreCodePoints (nfd text)
+
+-- a table whose weights have sixteen bits, whatever its keys are
+pub record Fits (t : ElementTable) : Type 0 where
+  pub ranges : AreRanges t.ranges
+  pub entries : (key : List ℕ) (es : List Element) → elements_at t key ≡ Some es → AllByRecursion IsElement es
+
+pub Fits-IsTable : (t : ElementTable) → IsTable t → Fits t
+Fits-IsTable t table = record { ranges = table.ranges; entries = λ key es e. recursion_from_All IsElement es (IsEntry-elements_at t key es table e).elements }
 
 -- ---- parts of lists
 
@@ -129,15 +137,15 @@ abbrev pub IsSmall : ℕ → Type 0
 IsSmall c = c < 0x110000
 
 -- the elements of a match have weights of sixteen bits
-elements_or_implicit-elements : (t : ElementTable) (key : List ℕ) → IsTable t → AllByRecursion IsSmall key → AllByRecursion IsElement (elements_or_implicit t key)
+elements_or_implicit-elements : (t : ElementTable) (key : List ℕ) → Fits t → AllByRecursion IsSmall key → AllByRecursion IsElement (elements_or_implicit t key)
 elements_or_implicit-elements t key table small = of_answer (elements_at t key) refl
   where
     of_answer : (o : Option (List Element)) → elements_at t key ≡ o → AllByRecursion IsElement (unwrap_or o (implicit_over t.ranges (slice_index key 0)))
     of_answer None e = implicit_over-elements t.ranges (slice_index key 0) table.ranges (each-at IsSmall key 0 0 (omega arith) small)
-    of_answer (Some es) e = recursion_from_All IsElement es (IsEntry-elements_at t key es table e).elements
+    of_answer (Some es) e = table.entries key es e
 
 -- the same of a text of at most n code points
-elements-within : (n : ℕ) (t : ElementTable) (xs : List ℕ) → length xs ≤ n → IsTable t → AllByRecursion IsSmall xs → AllByRecursion IsElement (elements t xs)
+elements-within : (n : ℕ) (t : ElementTable) (xs : List ℕ) → length xs ≤ n → Fits t → AllByRecursion IsSmall xs → AllByRecursion IsElement (elements t xs)
 elements-within n t [] few table small = subst (AllByRecursion IsElement) (sym (elements_nil t)) tt
 elements-within zero t (x ∷ xs) few table small = absurd (omega arith)
 elements-within (suc n) t (x ∷ xs) few table small =
@@ -148,7 +156,7 @@ elements-within (suc n) t (x ∷ xs) few table small =
     (elements-within n t (step (is_key t) (x ∷ xs)).rest (omega arith) table parts.1))
 
 -- the elements of a text of characters have weights of sixteen bits
-pub elements-IsElement : (t : ElementTable) (xs : List ℕ) → IsTable t → AllByRecursion IsSmall xs → AllByRecursion IsElement (elements t xs)
+pub elements-IsElement : (t : ElementTable) (xs : List ℕ) → Fits t → AllByRecursion IsSmall xs → AllByRecursion IsElement (elements t xs)
 elements-IsElement t xs = elements-within (length xs) t xs (omega arith)
 
 -- ---- weights
@@ -193,14 +201,21 @@ level_weights-AreWeights level (w ∷ ws) all =
       | inr some ↦ let other : weight ≡ 0 → ⊥ = eqb-false weight 0 some in rw some ((omega arith, small), rest)
     ]
 
--- under a valid table each text of characters has weights that fit, and code points that do
+pub elements-fit : (t : ElementTable) (text : List ℕ) → Fits t → All IsScalar text → AllByRecursion IsElement (elements t (nfd text))
+elements-fit t text table scalars = elements-IsElement t (nfd text) table (each-weaker IsScalar IsSmall scalar-small (nfd text) (nfd-scalars text scalars))
+
+-- a text of characters whose elements have weights of sixteen bits has weights that fit, and code points that do
+pub HasWeights-elements : (t : ElementTable) (s : Settings) (text : List ℕ) → All IsScalar text → AllByRecursion IsElement (elements t (nfd text)) → HasWeights t s text
+HasWeights-elements t s text scalars es = record {
+  weights = λ level first last.
+      subst AreWeights (sym (cond-false (level == 5) _ _ (ne_eqb level 5 (λ e. absurd (omega arith)))))
+      (level_weights-AreWeights level (weighted s.weighting (elements t (nfd text))) (weighted_after-within s.weighting [] (elements t (nfd text)) es));
+  points = each-weaker IsScalar (λ c. c < 2 ^ 24) (λ c h. let small : c < 0x110000 = scalar-small c h in omega arith) (nfd text) (nfd-scalars text scalars);
+}
+
+pub HasWeights-Fits : (t : ElementTable) (s : Settings) (text : List ℕ) → Fits t → All IsScalar text → HasWeights t s text
+HasWeights-Fits t s text table scalars = HasWeights-elements t s text scalars (elements-fit t text table scalars)
+
+-- under a valid table so has each text of characters
 pub HasWeights-IsTable : (t : ElementTable) (s : Settings) (text : List ℕ) → IsTable t → All IsScalar text → HasWeights t s text
-HasWeights-IsTable t s text table scalars =
-    let points : AllByRecursion IsScalar (nfd text) = nfd-scalars text scalars in
-    let es : AllByRecursion IsElement (elements t (nfd text)) = elements-IsElement t (nfd text) table (each-weaker IsScalar IsSmall scalar-small (nfd text) points) in
-    record {
-      weights = λ level first last.
-          subst AreWeights (sym (cond-false (level == 5) _ _ (ne_eqb level 5 (λ e. absurd (omega arith)))))
-          (level_weights-AreWeights level (weighted s.weighting (elements t (nfd text))) (weighted_after-within s.weighting [] (elements t (nfd text)) es));
-      points = each-weaker IsScalar (λ c. c < 2 ^ 24) (λ c h. let small : c < 0x110000 = scalar-small c h in omega arith) (nfd text) points;
-    }
+HasWeights-IsTable t s text table = HasWeights-Fits t s text (Fits-IsTable t table)

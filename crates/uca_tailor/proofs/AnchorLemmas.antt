@@ -10,6 +10,7 @@ use Rattle.uca_weights.specs.Element.{weight}
 use Rattle.uca_model.specs.Shift.{shifted, shifted_table, is_stuck, top}
 use Rattle.uca_model.specs.Table.{ElementTable}
 use Rattle.uca_model.specs.Tailoring.{TailorCause, small_weight, high_reset, full, Anchor, alone, behind, anchor_of, least, is_high, is_full, fault_at, raised, placed_behind, placed_at, placed_after}
+use Rattle.uca_model.proofs.PlaceLemmas.{is_free, any_anchor, below_top}
 use Rattle.uca_tailor.specs.declared.faults.TailorCause.{TailorCause as Cause}
 use Rattle.uca_tailor.specs.Faults.{told}
 use Rattle.uca_tailor.specs.Steps.{anchor_as, placed_as, IsToldAs, Refuses}
@@ -41,64 +42,6 @@ anchor_of_found level es (suc n) d p h z =
 
 -- What no fault says
 
-cond_none : {A : Type 0} (b : Bool) (x : A) (o : Option A) → cond b (Some x) o ≡ None → (b ≡ false) × (o ≡ None)
-cond_none true x o e = absurd (cc)
-cond_none false x o e = (refl, e)
-
-both_false : (a b : Bool) → (a || b) ≡ false → (a ≡ false) × (b ≡ false)
-both_false true b e = (e, absurd (cc))
-both_false false b e = (refl, e)
-
--- no element is high or stuck, and the weight isn't the greatest
-pub record IsFree (level w : ℕ) (t : ElementTable) (es : List Element) : Type 0 where
-  pub low : list_any is_high es ≡ false
-  pub below_top : (w == top level) ≡ false
-  pub elements : list_any (is_stuck level w) es ≡ false
-  pub table : list_any (list_any (is_stuck level w)) (values t.entries) ≡ false
-
-pub is_free : (level w : ℕ) (t : ElementTable) (es : List Element) → fault_at level w t es ≡ None → IsFree level w t es
-is_free level w t es e =
-    let small = cond_none (nat_lt w (least level)) small_weight _ e in
-    let high = cond_none (list_any is_high es) high_reset _ small.1 in
-    let room = cond_none (is_full level w t es) (full level) None high.1 in
-    let one = both_false _ _ room.0 in
-    let two = both_false _ _ one.0 in
-    record { low = high.0; below_top = two.0; elements = two.1; table = one.1 }
-
-false_or : (a b : Bool) → a ≡ false → b ≡ false → (a || b) ≡ false
-false_or a b p q = rw (p, q) refl
-
-here : (p : Element → Bool) (x : Element) (b : Bool) (a : Anchor) → p x ≡ false → cond b None (Some (alone x)) ≡ Some a → (list_any p a.before ≡ false) × (p a.last ≡ false)
-here p x true a px e = absurd (cc)
-here p x false a px e = let is : alone x ≡ a = cc in subst (λ z. (list_any p z.before ≡ false) × (p z.last ≡ false)) is (refl, px)
-
-anchor_step : (p : Element → Bool) (level : ℕ) (x : Element) (o : Option Anchor) (a : Anchor) → p x ≡ false
-    → option_map_or (λ z. Some (behind x z)) o (cond (weight level x == 0) None (Some (alone x))) ≡ Some a
-    → ((b : Anchor) → o ≡ Some b → (list_any p b.before ≡ false) × (p b.last ≡ false)) → (list_any p a.before ≡ false) × (p a.last ≡ false)
-anchor_step p level x None a px e more = here p x (weight level x == 0) a px e
-anchor_step p level x (Some b) a px e more =
-    let is : behind x b ≡ a = cc in
-    let f = more b refl in
-    subst (λ z. (list_any p z.before ≡ false) × (p z.last ≡ false)) is (false_or _ _ px f.0, f.1)
-
--- what no element of a list passes, none of its anchor does
-any_anchor : (p : Element → Bool) (level : ℕ) (es : List Element) (a : Anchor) → anchor_of level es ≡ Some a → list_any p es ≡ false → (list_any p a.before ≡ false) × (p a.last ≡ false)
-any_anchor p level [] a e h = absurd (cc)
-any_anchor p level (x ∷ es) a e h = let b = both_false (p x) (list_any p es) h in anchor_step p level x (anchor_of level es) a b.0 e (λ z is. any_anchor p level es z is b.1)
-
-below_first : (x : ℕ) → nat_le 32768 x ≡ false → x < 65535
-below_first x h = grind (arith, nat_tests)
-
-below_other : (x : ℕ) → x < 65536 → (x == 65535) ≡ false → x < 65535
-below_other x h e = grind (arith, nat_tests)
-
-below_top : (level w : ℕ) (e : Element) → 1 ≤ level → level ≤ 3 → w ≡ weight level e → w < 65536 → is_high e ≡ false → (w == top level) ≡ false → w < 65535
-below_top zero w e p q is f h t = absurd (omega arith)
-below_top (suc zero) w e p q is f h t = subst (λ x. x < 65535) (sym is) (below_first e.l1 h)
-below_top (suc (suc zero)) w e p q is f h t = below_other w f t
-below_top (suc (suc (suc zero))) w e p q is f h t = below_other w f t
-below_top (suc (suc (suc (suc n)))) w e p q is f h t = absurd (omega arith)
-
 -- the raised weight has sixteen bits
 pub next_fits : (level w : ℕ) (t : ElementTable) (es before : List Element) (last : Element) → 1 ≤ level → level ≤ 3 → w < 65536 → anchor_of level es ≡ Some (anchor_as before last) → w ≡ weight level last → fault_at level w t es ≡ None → weight level last < 65535
 next_fits level w t es before last p q f a is e =
@@ -108,7 +51,7 @@ next_fits level w t es before last p q f a is e =
 
 -- each element before the last has room
 pub before_moves : (level w : ℕ) (t : ElementTable) (es before : List Element) (last : Element) → anchor_of level es ≡ Some (anchor_as before last) → w ≡ weight level last → fault_at level w t es ≡ None → list_any (is_stuck level (weight level last)) before ≡ false
-before_moves level w t es before last a is e = subst (λ x. list_any (is_stuck level x) before ≡ false) is (any_anchor (is_stuck level w) level es _ a (is_free level w t es e).elements).0
+before_moves level w t es before last a is e = subst (λ x. list_any (is_stuck level x) before ≡ false) is (any_anchor (is_stuck level w) level es _ a (is_free level w t es e).anchor_room).0
 
 -- Where an item is placed
 

@@ -1,5 +1,5 @@
 -- Strings between operators, and what the scan has still to read.
-use Rattle.std.specs.Prelude.{◌≡◌, ℕ, ◌+◌, List, [], ◌∷◌, ◌++◌, flat_map, Option, Some, None, MatchOption}
+use Rattle.std.specs.Prelude.{◌≡◌, ℕ, List, [], ◌∷◌, ◌++◌, flat_map, Option, Some, None, MatchOption}
 use Rattle.unicode_normalization.specs.Forms.{nfd}
 use Rattle.uca_model.specs.Rules.{IsString}
 use Rattle.uca_model.specs.RuleText.{RuleFault, Part, Segment, Segments, segments, string_of, part_faults, end_faults, parts_from}
@@ -8,11 +8,8 @@ use Rattle.uca_tailor.specs.Pieces.{kind_of}
 use Rattle.uca_tailor.specs.Scan.{ScanState}
 use Rattle.uca_tailor.specs.declared.faults.RuleCause.{RuleCause}
 use Rattle.uca_tailor.specs.declared.faults.RuleFault as told
-use Rattle.uca_tailor.specs.declared.rules.Chain as parts
-use Rattle.uca_tailor.specs.declared.rules.Relation as parts_of_relation
 use Rattle.uca_tailor.specs.declared.strings.Found.{Found}
 use Rattle.uca_tailor.specs.declared.pieces.Operator.{Operator}
-use Rattle.uca_tailor.specs.declared.pieces.Operator.TheVariants as operator
 
 -- the segments of what is left
 abbrev pub left_of : ScanState → Segments

@@ -1,0 +1,35 @@
+ghost use Rattle.uca_tailor.specs.TailoringLaws.{UntouchedTextsKeepTheirOrder, EachItemIsPlaced, EachItemIsNext, EachItemIsAnAnchor, RelatedTablesAreTables};
+
+/// Two texts that no rule touches keep their order: the byte order of their sort keys is the same under the lent and the
+/// tailored table, at every strength and option. So a table may be tailored while an index of such texts stays in order.
+#[tactic(auto, using(crate::proofs::Untouched::untouched))]
+pub fn untouched_texts_keep_their_order()
+    ensures { UntouchedTextsKeepTheirOrder }
+{}
+
+/// What a relation of a level makes of its anchor, where the anchor's elements are well-formed (UTS #10, 5, WF1): the item
+/// has the anchor's weights at the levels below, and at the level itself the shifted ones with the last raised by one.
+/// No other entry and no implicit element has that raised weight.
+pub fn each_item_is_placed()
+    ensures { EachItemIsPlaced }
+{}
+
+/// An item without an expansion is next to its anchor's text: equal to it at the strengths below the relation's level, and
+/// after it at all others. At the strength of that level only texts that go on with the anchor's own weights lie between
+/// the two, and no text without the item among its matches is equal to it.
+#[tactic(auto, using(crate::proofs::NextToAnchor::each_next))]
+pub fn each_item_is_next()
+    ensures { EachItemIsNext }
+{}
+
+/// After a relation without an expansion, the anchor of the next relation is what the new table gives the item. So the
+/// law of neighbours holds of each relation of a chain, with the item before it as the text.
+#[tactic(auto, using(crate::proofs::KeyAlone::each_anchor))]
+pub fn each_item_is_an_anchor()
+    ensures { EachItemIsAnAnchor }
+{}
+
+/// A relation makes of a table a table. So the laws of one relation hold in the midst of the rules, too.
+pub fn related_tables_are_tables()
+    ensures { RelatedTablesAreTables }
+{}
