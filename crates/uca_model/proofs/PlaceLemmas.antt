@@ -10,9 +10,9 @@ use Rattle.uca_model.specs.Table.{ElementTable}
 use Rattle.uca_model.specs.Shift.{is_stuck, top}
 use Rattle.uca_model.specs.Tailoring.{small_weight, high_reset, full, Anchor, alone, behind, anchor_of, least, is_high, is_full, fault_at}
 
-cond_none : {A : Type 0} (b : Bool) (x : A) (o : Option A) → cond b (Some x) o ≡ None → (b ≡ false) × (o ≡ None)
-cond_none true x o e = absurd (cc)
-cond_none false x o e = (refl, e)
+none_some : {A : Type 0} (b : Bool) (x : A) (o : Option A) → cond b (Some x) o ≡ None → (b ≡ false) × (o ≡ None)
+none_some true x o e = absurd (cc)
+none_some false x o e = (refl, e)
 
 not_below : (a b : ℕ) → nat_lt a b ≡ false → b ≤ a
 not_below a b e = grind (arith, nat_tests)
@@ -31,9 +31,9 @@ record IsFree (level w : ℕ) (t : ElementTable) (anchor : List Element) : Type 
 
 is_free : (level w : ℕ) (t : ElementTable) (anchor : List Element) → fault_at level w t anchor ≡ None → IsFree level w t anchor
 is_free level w t anchor e =
-    let small = cond_none (nat_lt w (least level)) small_weight _ e in
-    let high = cond_none (list_any is_high anchor) high_reset _ small.1 in
-    let full = cond_none (is_full level w t anchor) (full level) None high.1 in
+    let small = none_some (nat_lt w (least level)) small_weight _ e in
+    let high = none_some (list_any is_high anchor) high_reset _ small.1 in
+    let full = none_some (is_full level w t anchor) (full level) None high.1 in
     let one = or_false _ _ full.0 in
     let two = or_false _ _ one.0 in
     record { large = not_below _ _ small.0; low = high.0; below_top = two.0; anchor_room = two.1; table_room = one.1 }
