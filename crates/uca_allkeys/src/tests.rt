@@ -1,11 +1,10 @@
 use crate::laws::written_table_is_read_back;
 use crate::{read_table, write_table};
 use arrayvec::ArrayVec;
-use std::alloc::{AllocError, Global};
+use std::alloc::Global;
 use std::io;
 use std::io::Write;
 use std::process::Abort;
-use uca_model::{Entry, canonical_text};
 use uca_table::{Table, TableBuilder};
 use uca_weights::{Element, Range, Reading, WriteCause, Writing};
 
@@ -44,7 +43,7 @@ const TWO_RANGES: [Range; 2] = [
     },
 ];
 
-const SMALL_TEXT: &[u8] = b"@implicitweights 17000..18AFF; FB00
+pub(crate) const SMALL_TEXT: &[u8] = b"@implicitweights 17000..18AFF; FB00
 @implicitweights 18D00..18D8F; FB00
 0001 ; [.0000.0000.0000]
 0020 ; [*0201.0020.0002]
@@ -109,21 +108,10 @@ fn small_table(rt: &impl Abort, alloc: Global) -> Table {
     finish(builder).expect(rt, "a table")
 }
 
-/// The same entries as the plain programs keep them.
-fn plain_entries(alloc: Global) -> Result<Vec<Entry>, AllocError> {
-    let mut entries = Vec::new(alloc);
-    for (key, starred, weights) in SMALL_TABLE {
-        let key = key.to_vec(alloc)?;
-        let elements = [element(starred, weights)].to_vec(alloc)?;
-        entries.push(Entry { key, elements })?;
-    }
-    Ok(entries)
-}
-
 /// Keeps what it takes. Where it has no room left, it fails or takes none.
 #[derive(Drop)]
-struct Shelf {
-    taken: ArrayVec<u8, 1024>,
+pub(crate) struct Shelf {
+    pub(crate) taken: ArrayVec<u8, 1024>,
     room: usize,
     fails: bool,
 }
@@ -144,7 +132,7 @@ impl Write for Shelf {
     }
 }
 
-fn with_room(room: usize, fails: bool) -> Writing<Shelf> {
+pub(crate) fn with_room(room: usize, fails: bool) -> Writing<Shelf> {
     Writing::new(Shelf {
         taken: ArrayVec::new(),
         room,
@@ -164,30 +152,25 @@ fn a_small_table_has_its_canonical_text(rt: HostRuntime) {
     assert_eq!(rt; taken.as_slice(), SMALL_TEXT);
 }
 
-#[test]
-fn the_plain_program_has_the_same_text(rt: HostRuntime) {
-    let Ok(entries) = plain_entries(rt.alloc()) else {
-        return;
-    };
-    let Ok(text) = canonical_text::canonical(rt.alloc(), &entries, &TWO_RANGES) else {
-        return;
-    };
-    assert_eq!(rt; text.as_slice(), SMALL_TEXT);
-}
+/// Code points of four, five and six digits.
+const LONG_POINTS: &[u8] =
+    b"@implicitweights F0000..F7FFF; FB00\nFFFF F0000 100000 ; [.1000.0020.0002]\n";
 
 #[test]
 fn a_written_table_is_read_back(rt: HostRuntime) {
     let table = small_table(&rt, rt.alloc());
     written_table_is_read_back(&table);
-    let first = read_table(rt.alloc(), &mut Reading::new(SMALL_TEXT));
-    let Ok(table) = first.or_else(|_| read_table(rt.alloc(), &mut Reading::new(SMALL_TEXT))) else {
-        return assert!(rt; false, "a table");
-    };
-    let mut writer = with_room(1024, true);
-    let count = SMALL_TEXT.len() as u128;
-    assert_eq!(rt; write_table(&mut writer, &table), Ok(count));
-    let taken = writer.into_inner().taken;
-    assert_eq!(rt; taken.as_slice(), SMALL_TEXT);
+    for text in [SMALL_TEXT, LONG_POINTS] {
+        let first = read_table(rt.alloc(), &mut Reading::new(text));
+        let Ok(table) = first.or_else(|_| read_table(rt.alloc(), &mut Reading::new(text))) else {
+            return assert!(rt; false, "a table");
+        };
+        let mut writer = with_room(1024, true);
+        let count = text.len() as u128;
+        assert_eq!(rt; write_table(&mut writer, &table), Ok(count));
+        let taken = writer.into_inner().taken;
+        assert_eq!(rt; taken.as_slice(), text);
+    }
 }
 
 #[test]

@@ -5,7 +5,6 @@ mod findings;
 mod ordering;
 mod raw;
 mod rules;
-mod sorted;
 mod tables;
 
 use crate::input::read_input;
@@ -324,11 +323,17 @@ fn lines_may_lie_across_the_pieces_read(rt: HostRuntime) {
 
 #[test]
 fn each_line_gets_its_elements(rt: HostRuntime) {
-    let cases: [(&[u8], &[u8]); 3] = [
+    let cases: [(&[u8], &[u8]); 5] = [
         (b"", b""),
         (
             "ch\n\u{1EA1}\u{301}\n\n\u{4E00}-".as_bytes(),
             b"[.1007.0020.0002]\n[.1008.0020.0002][.0000.0024.0002]\n\n[.FB40.0020.0002][.CE00.0000.0000][*0202.0020.0002]\n",
+        ),
+        (b"a-", b"[.1000.0020.0002][*0202.0020.0002]\n"),
+        // One CR before LF is not part of the line, and another one is.
+        (
+            b"ab\n\r\nc\r\r\nd",
+            b"[.1000.0020.0002][.1001.0020.0002]\n\n[.1002.0020.0002][.FBC0.0020.0002][.800D.0000.0000]\n[.FBC0.0020.0002][.8064.0000.0000]\n",
         ),
         // A range of implicit weights, and a mark that is blocked.
         (

@@ -1,14 +1,11 @@
-ghost use Rattle.uca_model.specs.Table.{AreRanges};
-
 mod all_pairs;
 mod written;
 
 use crate::key_of;
 use std::alloc::{AllocError, Global};
 use std::process::Abort;
-use uca_model::{Entry, keys};
 use uca_table::{InsertFault, Table, TableBuilder};
-use uca_weights::{Element, Range, Settings, Strength, Variable};
+use uca_weights::{Element, Settings, Strength, Variable};
 use uca_window::Passage;
 
 /// Keys with their one element, whose mark is `*` where the flag is true.
@@ -44,12 +41,6 @@ const STRENGTHS: [Strength; 5] = [
 
 const OPTIONS: [Variable; 3] = [Variable::NonIgnorable, Variable::Blanked, Variable::Shifted];
 
-fn no_ranges() -> &'static [Range]
-    ensures { AreRanges result.now }
-{
-    &[]
-}
-
 fn element(starred: bool, [l1, l2, l3]: [u16; 3]) -> Element {
     Element {
         starred,
@@ -76,17 +67,6 @@ fn table(rt: &impl Abort, alloc: Global) -> Table {
     }
 }
 
-/// The same entries as the plain programs keep them.
-fn plain_entries(alloc: Global) -> Result<Vec<Entry>, AllocError> {
-    let mut entries = Vec::new(alloc);
-    for (key, starred, weights) in KEYS {
-        let key = key.to_vec(alloc)?;
-        let elements = [element(starred, weights)].to_vec(alloc)?;
-        entries.push(Entry { key, elements })?;
-    }
-    Ok(entries)
-}
-
 /// The key of a safe text, asked for once more where memory was refused.
 fn key_again(
     rt: &impl Abort,
@@ -110,7 +90,7 @@ fn key_again(
 #[test]
 fn levels_are_joined_by_the_strength(rt: HostRuntime) {
     let t = table(&rt, rt.alloc());
-    let cases: [(&str, Strength, &[u8]); 9] = [
+    let cases: [(&str, Strength, &[u8]); 11] = [
         ("", Strength::Primary, &[]),
         ("", Strength::Tertiary, &[0; 4]),
         ("", Strength::Identical, &[0; 8]),
@@ -130,6 +110,16 @@ fn levels_are_joined_by_the_strength(rt: HostRuntime) {
             "a",
             Strength::Identical,
             &[0x10, 0, 0, 0, 0, 0x20, 0, 0, 0, 2, 0, 0, 0, 0, 0, 0, 0x61],
+        ),
+        (
+            "\u{E0}",
+            Strength::Tertiary,
+            &[0x10, 0, 0, 0, 0, 0x20, 0, 0x21, 0, 0, 0, 2, 0, 2],
+        ),
+        (
+            "\u{4E00}",
+            Strength::Tertiary,
+            &[0xFB, 0x40, 0xCE, 0, 0, 0, 0, 0x20, 0, 0, 0, 2],
         ),
         // The fifth level has the text in NFD, with the mark that the contraction took in its place.
         (
@@ -185,6 +175,24 @@ fn variable_elements_are_weighted_by_the_option(rt: HostRuntime) {
     }
 }
 
+#[test]
+fn marks_alone_count_at_the_second_level(rt: HostRuntime) {
+    let t = table(&rt, rt.alloc());
+    let text =
+        "\u{301}\u{301}\u{301}\u{301}\u{301}\u{301}\u{301}\u{301}\u{301}\u{301}\u{301}\u{301}\u{301}\u{301}\u{301}\u{301}\u{301}\u{301}\u{301}\u{301}\u{301}\u{301}\u{301}\u{301}\u{301}\u{301}\u{301}\u{301}\u{301}\u{301}";
+    let option = Variable::NonIgnorable;
+    let key = key_again(&rt, rt.alloc(), &t, Strength::Primary, option, text);
+    assert!(rt; key.is_empty());
+    let key = key_again(&rt, rt.alloc(), &t, Strength::Secondary, option, text);
+    assert_eq!(rt; key.len(), 62);
+    for (i, b) in key.iter().enumerate() {
+        let wanted = if i > 2 && i % 2 == 1 { 0x22 } else { 0 };
+        assert_eq!(rt; *b, wanted, "at {i}");
+    }
+    let empty = key_again(&rt, rt.alloc(), &t, Strength::Secondary, option, "");
+    assert!(rt; key.as_slice() > empty.as_slice());
+}
+
 /// A text of up to nine characters, by a number.
 fn generated(alloc: Global, number: u32) -> Result<String, AllocError> {
     let characters = [
@@ -198,28 +206,4 @@ fn generated(alloc: Global, number: u32) -> Result<String, AllocError> {
         text.push(characters[(state >> 20) as usize % 16])?;
     }
     Ok(text)
-}
-
-#[test]
-fn agrees_with_the_definition(rt: HostRuntime) {
-    let t = table(&rt, rt.alloc());
-    let Ok(entries) = plain_entries(rt.alloc()) else {
-        return;
-    };
-    for number in 0..450 {
-        let strength = STRENGTHS[number as usize % 5];
-        let weighting = OPTIONS[number as usize / 150];
-        let settings = Settings {
-            strength,
-            weighting,
-        };
-        let Ok(text) = generated(rt.alloc(), number) else {
-            return;
-        };
-        let Ok(wanted) = keys::sort_key(rt.alloc(), &entries, no_ranges(), settings, &text) else {
-            return;
-        };
-        let key = key_again(&rt, rt.alloc(), &t, strength, weighting, &text);
-        assert_eq!(rt; key.as_slice(), wanted.as_slice(), "{text:?} {settings:?}");
-    }
 }

@@ -1,16 +1,14 @@
 ghost use Rattle.std.specs.Prelude.{◌≤◌};
 ghost use Rattle.uca_model.specs.SafeText.{IsSafe};
 ghost use Rattle.uca_model.specs.Source.{unread};
-ghost use Rattle.uca_model.specs.Table.{AreRanges};
 
 use crate::{Weights, compare, compare_sources};
 use std::alloc::{AllocError, Global};
 use std::cmp::Ordering;
 use std::process::Abort;
 use uca_match::Elements;
-use uca_model::{Entry, keys};
 use uca_table::{InsertFault, Table, TableBuilder};
-use uca_weights::{Element, Range, Settings, Strength, Variable};
+use uca_weights::{Element, Settings, Strength, Variable};
 use uca_window::{Passage, PassageSource, Source, Window};
 
 /// Keys with their one element, whose mark is `*` where the flag is true.
@@ -35,22 +33,6 @@ const KEYS: [(&[char], bool, [u16; 3]); 18] = [
     (&['b', '\u{301}'], false, [0x1009, 0x20, 2]),
     (&['b', '\u{301}', '\u{308}'], false, [0x100A, 0x20, 2]),
 ];
-
-const STRENGTHS: [Strength; 5] = [
-    Strength::Primary,
-    Strength::Secondary,
-    Strength::Tertiary,
-    Strength::Quaternary,
-    Strength::Identical,
-];
-
-const OPTIONS: [Variable; 3] = [Variable::NonIgnorable, Variable::Blanked, Variable::Shifted];
-
-fn no_ranges() -> &'static [Range]
-    ensures { AreRanges result.now }
-{
-    &[]
-}
 
 fn element(starred: bool, [l1, l2, l3]: [u16; 3]) -> Element {
     Element {
@@ -90,17 +72,6 @@ fn finish(rt: &impl Abort, builder: TableBuilder) -> Table {
 /// The table of the keys.
 fn table(rt: &impl Abort, alloc: Global) -> Table {
     finish(rt, builder(rt, alloc))
-}
-
-/// The same entries as the plain programs keep them.
-fn plain_entries(alloc: Global) -> Result<Vec<Entry>, AllocError> {
-    let mut entries = Vec::new(alloc);
-    for (key, starred, weights) in KEYS {
-        let key = key.to_vec(alloc)?;
-        let elements = [element(starred, weights)].to_vec(alloc)?;
-        entries.push(Entry { key, elements })?;
-    }
-    Ok(entries)
 }
 
 /// The characters of a passage, with the calls counted.
@@ -166,6 +137,7 @@ fn texts_are_in_the_order_of_their_keys(rt: HostRuntime) {
         ("A", "b", Strength::Tertiary, Ordering::Less),
         ("A", "b", Strength::Secondary, Ordering::Less),
         ("ch", "cz", Strength::Primary, Ordering::Greater),
+        ("ch", "cz", Strength::Tertiary, Ordering::Greater),
         ("", "", Strength::Identical, Ordering::Equal),
         ("", "a", Strength::Primary, Ordering::Less),
         ("", "\u{1}", Strength::Quaternary, Ordering::Equal),
@@ -306,60 +278,6 @@ fn what_reads_a_text_is_small(rt: HostRuntime) {
     assert!(rt; size_of::<Window>() <= 1024);
     assert!(rt; size_of::<Elements>() <= 1024);
     assert!(rt; size_of::<Weights>() <= 1024);
-}
-
-/// A text of up to nine characters, by a number. Those of near numbers often begin in the same way.
-fn generated(alloc: Global, number: u32) -> Result<String, AllocError> {
-    let characters = [
-        'a', 'b', 'c', 'h', 'A', '-', ' ', '\u{1}', '\u{1EA1}', '\u{C0}', '\u{4E00}', '\u{300}',
-        '\u{301}', '\u{308}', '\u{323}', '-',
-    ];
-    let mut text = String::new(alloc);
-    let mut state = number / 10;
-    for _ in 0..number % 10 {
-        state = state.wrapping_mul(1_664_525).wrapping_add(1_013_904_223);
-        text.push(characters[(state >> 20) as usize % 16])?;
-    }
-    Ok(text)
-}
-
-/// The order of the keys of two texts by the plain program.
-fn plain_order(
-    alloc: Global,
-    entries: &[Entry],
-    s: Settings,
-    a: &str,
-    b: &str,
-) -> Result<Ordering, AllocError> {
-    let left = keys::sort_key(alloc, entries, no_ranges(), s, a)?;
-    let right = keys::sort_key(alloc, entries, no_ranges(), s, b)?;
-    Ok(left.as_slice().cmp(right.as_slice()))
-}
-
-#[test]
-fn agrees_with_the_order_of_plain_keys(rt: HostRuntime) {
-    let t = table(&rt, rt.alloc());
-    let Ok(entries) = plain_entries(rt.alloc()) else {
-        return;
-    };
-    for number in 0..150 {
-        let (Ok(a), Ok(b)) = (
-            generated(rt.alloc(), number),
-            generated(rt.alloc(), number * 7 / 6 + 1),
-        ) else {
-            return;
-        };
-        let (p, q) = (passage(&rt, &a), passage(&rt, &b));
-        for strength in STRENGTHS {
-            for weighting in OPTIONS {
-                let s = settings(strength, weighting);
-                let Ok(wanted) = plain_order(rt.alloc(), &entries, s, &a, &b) else {
-                    return;
-                };
-                assert_eq!(rt; compare(&t, s, &p, &q), wanted, "{a:?} {b:?}");
-            }
-        }
-    }
 }
 
 #[test]

@@ -1,13 +1,10 @@
-ghost use Rattle.uca_model.specs.Table.{AreRanges};
-
 mod one_by_one;
 
 use crate::elements_of;
 use std::alloc::{AllocError, Global};
 use std::process::Abort;
-use uca_model::{Entry, collation};
 use uca_table::{InsertFault, RangeFault, Table, TableBuilder};
-use uca_weights::{Element, Range};
+use uca_weights::{Element, MAX_KEY, Range};
 use uca_window::Passage;
 
 /// Keys with their one element, whose mark is `*` where the flag is true.
@@ -57,12 +54,6 @@ const RANGES: [Range; 2] = [
     },
 ];
 
-fn ranges() -> &'static [Range]
-    ensures { AreRanges result.now }
-{
-    &RANGES
-}
-
 fn element(starred: bool, [l1, l2, l3]: [u16; 3]) -> Element {
     Element {
         starred,
@@ -108,19 +99,6 @@ fn table(rt: &impl Abort, alloc: Global, gaps: &[(&[char], bool, [u16; 3])]) -> 
     }
 }
 
-/// The same entries as the plain programs keep them.
-fn plain_entries(alloc: Global) -> Result<Vec<Entry>, AllocError> {
-    let mut entries = Vec::new(alloc);
-    for keys in [KEYS.as_slice(), KEYS_WITH_GAPS.as_slice()] {
-        for (key, starred, weights) in keys {
-            let key = key.to_vec(alloc)?;
-            let elements = [element(*starred, *weights)].to_vec(alloc)?;
-            entries.push(Entry { key, elements })?;
-        }
-    }
-    Ok(entries)
-}
-
 /// The elements of a safe text, asked for once more where memory was refused.
 fn elements_again(rt: &impl Abort, alloc: Global, t: &Table, text: &str) -> Vec<Element> {
     let p = Passage::check(text).ok().expect(rt, "a safe text");
@@ -133,9 +111,14 @@ fn elements_again(rt: &impl Abort, alloc: Global, t: &Table, text: &str) -> Vec<
 #[test]
 fn contractions_are_matched_whole(rt: HostRuntime) {
     let t = table(&rt, rt.alloc(), &[]);
-    let cases: [(&str, &[Element]); 9] = [
+    let cases: [(&str, &[Element]); 10] = [
         ("", &[]),
         ("ch", &[plain(0x1007, 0x20)]),
+        // Marks stand in canonical order.
+        (
+            "\u{E9}\u{323}",
+            &[plain(0x1004, 0x20), plain(0, 0x24), plain(0, 0x22)],
+        ),
         ("cch", &[plain(0x1002, 0x20), plain(0x1007, 0x20)]),
         (
             "c\u{301}h",
@@ -205,6 +188,23 @@ fn a_code_point_without_key_takes_no_mark(rt: HostRuntime) {
     assert_eq!(rt; elements.as_slice(), wanted.as_slice());
 }
 
+/// A key of as many code points as one may have.
+const LONG_KEY: [(&[char], bool, [u16; 3]); 1] = [(&['z'; MAX_KEY], false, [0x1010, 0x20, 2])];
+
+#[test]
+fn the_longest_key_is_taken_whole(rt: HostRuntime) {
+    let t = table(&rt, rt.alloc(), &LONG_KEY);
+    let text = "zzzzzzzzzzzzzzzzzzzzzzzzzzzzzzzzz";
+    let short = [plain(0x1006, 0x20); MAX_KEY - 1];
+    let whole = [plain(0x1010, 0x20)];
+    let longer = [plain(0x1010, 0x20), plain(0x1006, 0x20)];
+    let cases: [(usize, &[Element]); 3] = [(31, &short), (32, &whole), (33, &longer)];
+    for (length, wanted) in cases {
+        let elements = elements_again(&rt, rt.alloc(), &t, &text[..length]);
+        assert_eq!(rt; elements.as_slice(), wanted, "{length}");
+    }
+}
+
 /// A text of up to nine characters, by a number.
 fn generated(alloc: Global, number: u32) -> Result<String, AllocError> {
     let characters = [
@@ -218,34 +218,6 @@ fn generated(alloc: Global, number: u32) -> Result<String, AllocError> {
         text.push(characters[(state >> 20) as usize % 16])?;
     }
     Ok(text)
-}
-
-/// The elements by the plain program.
-fn plain_elements(
-    alloc: Global,
-    entries: &[Entry],
-    text: &str,
-) -> Result<Vec<Element>, AllocError> {
-    let decomposed = collation::nfd(alloc, text)?;
-    collation::elements(alloc, entries, ranges(), &decomposed)
-}
-
-#[test]
-fn agrees_with_the_definition(rt: HostRuntime) {
-    let t = table(&rt, rt.alloc(), &KEYS_WITH_GAPS);
-    let Ok(entries) = plain_entries(rt.alloc()) else {
-        return;
-    };
-    for number in 0..600 {
-        let Ok(text) = generated(rt.alloc(), number) else {
-            return;
-        };
-        let Ok(wanted) = plain_elements(rt.alloc(), &entries, &text) else {
-            return;
-        };
-        let elements = elements_again(&rt, rt.alloc(), &t, &text);
-        assert_eq!(rt; elements.as_slice(), wanted.as_slice(), "{text:?}");
-    }
 }
 
 /// Texts whose characters join others in each way: in a key, as marks, as parts of a syllable, beyond the cells.

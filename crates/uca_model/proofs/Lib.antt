@@ -4,12 +4,10 @@ pub mod ImplicitLemmas
 pub mod RewritingLemmas
 pub mod StandAloneLemmas
 pub mod OrderLemmas
-pub mod OrderedLemmas
 pub mod KeysLemmas
 pub mod LinesLemmas
 pub mod OutputLemmas
 pub mod SafeLemmas
-pub mod SingleLemmas
 pub mod CharacterLemmas
 pub mod TableLemmas
 pub mod WeightLemmas
@@ -18,7 +16,6 @@ pub mod CanonicalLemmas
 pub mod NumberLemmas
 pub mod PartLemmas
 pub mod TextLemmas
-pub mod TestFileLemmas
 pub mod StepLemmas
 pub mod CutLemmas
 pub mod CanonicalLines
@@ -31,10 +28,6 @@ pub mod ReadBackLemmas
 pub mod GrowingLemmas
 pub mod ShiftedWeights
 pub mod ShiftLemmas
-pub mod EntryLemmas
 pub mod PlaceLemmas
-pub mod RelationLemmas
-pub mod PieceLemmas
-pub mod SegmentLemmas
 pub mod RuleTextLemmas
 pub mod SafeCutLemmas

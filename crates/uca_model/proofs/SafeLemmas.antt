@@ -1,12 +1,10 @@
 -- Lemmas on safe texts: what one more character does to the longest run, and where the characters of a text stand.
-use Rattle.std.proofs.Common.{◌≡◌, ℕ, suc, ◌+◌, ◌≤◌, ◌<◌, max, Bool, true, false, ◌&&◌, leb, cond, List, [], ◌∷◌, ◌++◌, length, take, drop, flat_map, All, if◌then◌else◌, append_assoc, length-append, encode_utf8_all, encode_utf8, refl, sym, ap, ap₂, subst, ◌∙◌, arith, inl, inr, append-nil}
-use Rattle.std.proofs.lemmas.Bool.{and_parts, cases_Bool, le-leb, leb-true, not_from_false}
+use Rattle.std.proofs.Common.{◌≡◌, ℕ, suc, ◌+◌, ◌≤◌, ◌<◌, max, true, cond, List, [], ◌∷◌, ◌++◌, length, take, drop, flat_map, All, if◌then◌else◌, append_assoc, length-append, encode_utf8_all, encode_utf8, refl, sym, ap, ap₂, subst, ◌∙◌, arith, inl, inr, append-nil}
+use Rattle.std.proofs.lemmas.Bool.{cases_Bool, not_from_false}
 use Rattle.std.proofs.lemmas.List.Concat.{flat_map-append}
 use Rattle.std.proofs.lemmas.List.Elements.{All-push, All-take, All-drop, All-head}
-use Rattle.std.proofs.lemmas.List.{drop_at, take_at, take-append-drop}
-use Rattle.std.proofs.lemmas.List.Sums.{AllPass-from_list_all, list_all-from_AllPass}
+use Rattle.std.proofs.lemmas.List.{drop_at, take_at}
 use Rattle.std.proofs.lemmas.Str.{encode_same, length-encode, len_utf8_bounds, encodes-append, encodes-chars, chars_from_encodes}
-use Rattle.std.specs.List.{list_all}
 use Rattle.std.specs.Str.{chars, IsUtf8}
 use Rattle.std.specs.Char.{len_utf8}
 use Rattle.std.specs.Str.Iter.{char_indices_rest, char_indices_offset}
@@ -17,7 +15,7 @@ use Rattle.unicode_normalization.specs.Order.{is_nonstarter, is_reorderable, sin
 use Rattle.unicode_normalization.proofs.ComposeLemmas.{not_starter_from}
 use Rattle.unicode_normalization.proofs.OrderLemmas.{is_reorderable-true, sink-past, sink-stays, sink-nil, canonical_order-cons, canonical_order-nil, length-canonical_order}
 use Rattle.uca_weights.specs.declared.limits.TheConstants.{MAX_RUN, MAX_DECOMPOSITION}
-use Rattle.uca_model.specs.SafeText.{longest_run_after, longest_run, is_safe, IsSafe, IsLongRunAt}
+use Rattle.uca_model.specs.SafeText.{longest_run_after, longest_run, IsSafe, IsLongRunAt}
 
 -- ---- runs of code points
 
@@ -215,29 +213,3 @@ long_run_here text s front c rest offset at utf8 o is safe unsafe =
     }
 
 -- ---- the test of a safe text
-
-abbrev is_short : ℕ → Bool
-is_short c = leb (length (nfd (c ∷ []))) MAX_DECOMPOSITION
-
--- a safe text passes
-pub is_safe-true : (text : List ℕ) → IsSafe text → is_safe text ≡ true
-is_safe-true text safe =
-    let short : list_all is_short text ≡ true = list_all-from_AllPass is_short text (λ k d h. le-leb _ MAX_DECOMPOSITION (safe.short k d h)) in
-    ap₂ (λ a b. a && b) (le-leb _ MAX_RUN safe.runs) short
-
--- and only a safe text does
-pub IsSafe-from_test : (text : List ℕ) → is_safe text ≡ true → IsSafe text
-IsSafe-from_test text passes =
-    let parts = and_parts (leb (longest_run (nfd text)) MAX_RUN) (list_all is_short text) passes in
-    record { runs = leb-true _ MAX_RUN parts.0; short = λ k d h. leb-true _ MAX_DECOMPOSITION (AllPass-from_list_all is_short text parts.1 k d h) }
-
-pub is_safe-false : (text : List ℕ) → ¬ (IsSafe text) → is_safe text ≡ false
-is_safe-false text unsafe = elim (cases_Bool (is_safe text)) [
-  | inl passes ↦ absurd (unsafe (IsSafe-from_test text passes))
-  | inr fails ↦ fails
-]
-
--- a text with a long run is not safe
-pub unsafe_at : (text : List ℕ) (at : ℕ) → IsLongRunAt text at → ¬ (IsSafe text)
-unsafe_at text at run safe =
-    run.through (IsSafe-front (take (suc run.place) text) (drop (suc run.place) text) (subst IsSafe (sym (take-append-drop (suc run.place) text)) safe))

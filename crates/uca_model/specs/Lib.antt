@@ -29,9 +29,3 @@ pub mod WellFormed
 pub mod Ordered
 pub mod TestFile
 pub mod Laws
-pub mod Plain
-pub mod PlainText
-pub mod PlainTestFile
-pub mod PlainRules
-pub mod PlainRuleText
-pub mod PlainTailoring

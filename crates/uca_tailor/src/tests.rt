@@ -323,6 +323,7 @@ fn an_equal_item_has_the_elements_of_its_anchor(rt: HostRuntime) {
             (&['a'], &[[0x1000, 0x20, 2], [0x1001, 0x20, 2]]),
             (&['b'], &[[0x1001, 0x20, 2]]),
             (&['A'], &[[0x1000, 0x20, 8]]),
+            (&['a', '\u{301}'], &[[0x1008, 0x20, 2]]),
         ],
     );
 }
@@ -491,7 +492,7 @@ const ROOMY: [(
     &'static [PlainChain],
     [u16; 3],
     [u16; 3],
-); 3] = [
+); 4] = [
     (
         &[
             (&['a'], false, [0x1000, 0x20, 2]),
@@ -518,6 +519,15 @@ const ROOMY: [(
         &[(&['a'], &[(Op::First, &['c'], &[])])],
         [0x1001, 0x20, 2],
         [0xFFFF, 0x20, 2],
+    ),
+    (
+        &[
+            (&['a'], false, [0x1000, 0x20, 2]),
+            (&['b'], false, [0x8000, 0x20, 2]),
+        ],
+        &[(&['a'], &[(Op::First, &['c'], &[])])],
+        [0x1001, 0x20, 2],
+        [0x8000, 0x20, 2],
     ),
 ];
 
@@ -546,6 +556,100 @@ fn an_item_has_at_most_sixty_four_elements(rt: HostRuntime) {
         let u = tailored(&rt, rt.alloc(), &t, plain)
             .ok()
             .expect(&rt, "a tailored table");
-        assert_eq!(rt; u.get(&['b']).map(|es| es.len()), Some(64));
+        let all = [element([0x1000, 0x20, 2]); 64];
+        assert_eq!(rt; u.get(&['b']), Some(all.as_slice()));
+    }
+    // Five times thirteen are one too many.
+    let expanded: [PlainChain; 1] = [(&['a', 'a'], &[(Op::Same, &['b'], &['a', 'a', 'a'])])];
+    let five_times: [PlainChain; 1] = [(&['a'; 5], &[(Op::Same, &['b'], &[])])];
+    for plain in [&expanded, &five_times] {
+        let t = table(&rt, rt.alloc(), &entries, 13);
+        let answer = tailored(&rt, rt.alloc(), &t, plain).err();
+        assert_eq!(rt; answer, fault(1, TailorCause::TooManyElements));
+    }
+}
+
+#[test]
+fn an_item_behind_a_variable_is_variable(rt: HostRuntime) {
+    let t = small_table(&rt, rt.alloc());
+    let plain: [PlainChain; 1] = [(&['-'], &[(Op::First, &['x'], &[])])];
+    let u = tailored(&rt, rt.alloc(), &t, &plain)
+        .ok()
+        .expect(&rt, "a tailored table");
+    let wanted = [Element {
+        starred: true,
+        ..element([0x203, 0x20, 2])
+    }];
+    assert_eq!(rt; u.get(&['x']), Some(wanted.as_slice()));
+}
+
+#[test]
+fn elements_before_the_last_one_of_an_anchor_move_too(rt: HostRuntime) {
+    let plain: [PlainChain; 1] = [(&['b', 'a'], &[(Op::First, &['x'], &[])])];
+    assert_elements(
+        &rt,
+        rt.alloc(),
+        &plain,
+        &[
+            (&['x'], &[[0x1002, 0x20, 2], [0x1001, 0x20, 2]]),
+            (&['b'], &[[0x1002, 0x20, 2]]),
+        ],
+    );
+}
+
+const SMALL_OR_HIGH: [(
+    &'static [PlainEntry],
+    &'static [PlainChain],
+    TailorCause,
+    u64,
+); 4] = [
+    (
+        &[
+            (&['a'], false, [0x1000, 0x1F, 1]),
+            (&['b'], false, [0x1001, 0x20, 2]),
+        ],
+        &[
+            (&['b'], &[(Op::First, &['c'], &[])]),
+            (&['a'], &[(Op::Second, &['x'], &[])]),
+        ],
+        TailorCause::SmallWeight,
+        2,
+    ),
+    (
+        &[
+            (&['a'], false, [0x1000, 0x1F, 1]),
+            (&['b'], false, [0x1001, 0x20, 2]),
+        ],
+        &[(&['a'], &[(Op::Third, &['x'], &[])])],
+        TailorCause::SmallWeight,
+        1,
+    ),
+    // A small weight comes before a high reset, and that before a level without room.
+    (
+        &[
+            (&['a'], false, [0x8000, 0x20, 1]),
+            (&['b'], false, [0x7FFF, 0x20, 2]),
+        ],
+        &[(&['a'], &[(Op::Third, &['x'], &[])])],
+        TailorCause::SmallWeight,
+        1,
+    ),
+    (
+        &[
+            (&['a'], false, [0x8000, 0x20, 1]),
+            (&['b'], false, [0x7FFF, 0x20, 2]),
+        ],
+        &[(&['a'], &[(Op::First, &['x'], &[])])],
+        TailorCause::HighReset,
+        1,
+    ),
+];
+
+#[test]
+fn the_anchor_is_tested_before_its_room(rt: HostRuntime) {
+    for (entries, plain, cause, relation) in SMALL_OR_HIGH {
+        let t = table(&rt, rt.alloc(), entries, 1);
+        let answer = tailored(&rt, rt.alloc(), &t, plain).err();
+        assert_eq!(rt; answer, fault(relation, cause));
     }
 }

@@ -1,13 +1,13 @@
-use crate::{ReadCause, ReadFault, read_table};
+use crate::tests::{SMALL_TEXT as CANONICAL_TEXT, with_room};
+use crate::{ReadCause, ReadFault, read_table, write_table};
 use std::alloc::{AllocError, Global};
 use std::process::Abort;
-use uca_model::table_text::{Cause, PlainTable, TextEnd, TextFault, table_of_text};
 use uca_table::Table;
 use uca_weights::{MAX_INPUT, Range, Reader, Reading, Refused};
 
 const SMALL_TEXT: &str = "@version 15.1.0
-@implicitweights 17000..18AFF; FB00 # first range
 @implicitweights 18D00..18D8F; FB00 # second range, the same base
+@implicitweights 17000..18AFF; FB00 # first range
 
 0001  ; [.0000.0000.0000] # completely ignorable
 0020  ; [*0201.0020.0002] # SPACE
@@ -159,6 +159,11 @@ fn assert_small(rt: &impl Abort, answer: Result<Table, ReadFault>) {
         .get(&['b', '\u{301}', '\u{308}'])
         .expect(rt, "a key of three");
     assert_eq!(rt; long[0].l1, 0x100A);
+    let mut writer = with_room(1024, true);
+    let count = CANONICAL_TEXT.len() as u128;
+    assert_eq!(rt; write_table(&mut writer, &table), Ok(count));
+    let taken = writer.into_inner().taken;
+    assert_eq!(rt; taken.as_slice(), CANONICAL_TEXT);
 }
 
 /// The text with CR before each LF.
@@ -196,6 +201,7 @@ fn a_text_gives_its_table(rt: HostRuntime) {
     assert_small(&rt, read(rt.alloc(), text));
     assert_small(&rt, read_slowly(rt.alloc(), text, 1, false));
     assert_small(&rt, read_slowly(rt.alloc(), text, 100, false));
+    assert_small(&rt, read(rt.alloc(), CANONICAL_TEXT));
     if let Ok(lines) = with_returns(rt.alloc(), text) {
         assert_small(&rt, read(rt.alloc(), &lines));
     }
@@ -208,67 +214,6 @@ fn a_cut_text_says_the_same_at_once_and_in_pieces(rt: HostRuntime) {
         let at_once = fault(read(rt.alloc(), &text[..end]));
         let slowly = fault(read_slowly(rt.alloc(), &text[..end], 1, false));
         assert_eq!(rt; at_once, slowly);
-    }
-}
-
-/// The cause by the words of the plain program, which knows no want of memory.
-fn plain_cause(cause: ReadCause) -> Option<Cause> {
-    match cause {
-        ReadCause::LineTooLong => Some(Cause::LineTooLong),
-        ReadCause::BadDirective => Some(Cause::BadDirective),
-        ReadCause::BadCodePoint => Some(Cause::BadCodePoint),
-        ReadCause::KeyTooLong => Some(Cause::KeyTooLong),
-        ReadCause::NoSemicolon => Some(Cause::NoSemicolon),
-        ReadCause::BadElement => Some(Cause::BadElement),
-        ReadCause::NoElement => Some(Cause::NoElement),
-        ReadCause::TooManyElements => Some(Cause::TooManyElements),
-        ReadCause::Repeated => Some(Cause::Repeated),
-        ReadCause::BadRange => Some(Cause::BadRange),
-        ReadCause::TooLarge => Some(Cause::TooLarge),
-        ReadCause::Read => Some(Cause::Read),
-        ReadCause::OutOfMemory => None,
-    }
-}
-
-/// Looks whether a table has just the entries and the ranges of the plain one.
-fn assert_plain_table(rt: &impl Abort, table: &Table, plain: &PlainTable) {
-    assert_eq!(rt; table.entries().count(), plain.entries.len());
-    for entry in &plain.entries {
-        let elements = table
-            .get(&entry.key)
-            .expect(rt, "an entry of the plain table");
-        assert_eq!(rt; elements, entry.elements.as_slice());
-    }
-    assert_eq!(rt; table.ranges(), plain.ranges.as_slice());
-}
-
-/// Looks whether the answer is the one of the plain program.
-fn assert_plain(
-    rt: &impl Abort,
-    answer: Result<Table, ReadFault>,
-    plain: &Result<PlainTable, TextFault>,
-) {
-    match (answer, plain) {
-        (Ok(table), Ok(plain)) => assert_plain_table(rt, &table, plain),
-        (Err(fault), Err(plain)) => {
-            assert_eq!(rt; fault.line, plain.line);
-            assert_eq!(rt; plain_cause(fault.cause), Some(plain.cause));
-        }
-        _ => assert!(rt; false, "one of the programs refuses the text"),
-    }
-}
-
-#[test]
-fn a_cut_text_says_what_the_plain_program_says(rt: HostRuntime) {
-    let text = SMALL_TEXT.as_bytes();
-    for end in 0..=text.len() {
-        let cut = &text[..end];
-        if let Ok(plain) = table_of_text(rt.alloc(), TextEnd::Ends, cut) {
-            assert_plain(&rt, read(rt.alloc(), cut), &plain);
-        }
-        if let Ok(plain) = table_of_text(rt.alloc(), TextEnd::Stops(Cause::Read), cut) {
-            assert_plain(&rt, read_slowly(rt.alloc(), cut, 50, true), &plain);
-        }
     }
 }
 
@@ -290,6 +235,8 @@ fn each_fault_of_an_entry_is_told_at_its_line(rt: HostRuntime) {
             "0061 ; [.1000.0020.0002]\n0061 ; [.1001.0020.0002]",
             Some((2, ReadCause::Repeated)),
         ),
+        ("0061 ; [.1000.0020]", Some((1, ReadCause::BadElement))),
+        ("0061 ; # nothing", Some((1, ReadCause::NoElement))),
         (
             "0061 ; [.1000.0020.0002]\n0062 ;",
             Some((2, ReadCause::NoElement)),
@@ -364,6 +311,7 @@ fn each_fault_of_a_directive_is_told_at_its_line(rt: HostRuntime) {
             "0061 ; [.1000.0020.0002]\n@variable shifted",
             Some((2, ReadCause::BadDirective)),
         ),
+        ("\n@variable shifted", Some((2, ReadCause::BadDirective))),
         (
             "@version 1\n@version 1\n",
             Some((2, ReadCause::BadDirective)),
@@ -414,6 +362,35 @@ fn each_fault_of_a_directive_is_told_at_its_line(rt: HostRuntime) {
 
 #[test]
 fn a_range_may_not_meet_those_before_it(rt: HostRuntime) {
+    let bad = Some((2, ReadCause::BadRange));
+    for (text, answer) in [
+        (
+            "@implicitweights 17002..17003; FB01\n@implicitweights 17000..17002; FB00",
+            bad,
+        ),
+        (
+            "@implicitweights 17000..17000; FB00\n@implicitweights 1F000..1F000; FB00",
+            bad,
+        ),
+        (
+            "@implicitweights 17000..17002; FB00\n@implicitweights 17002..17003; FB01",
+            bad,
+        ),
+        (
+            "@implicitweights 20000..20000; FB00\n@implicitweights 17000..18000; FB00",
+            bad,
+        ),
+        (
+            "@implicitweights 17000..17000; FB00\n@implicitweights 1EFFF..1EFFF; FB00",
+            None,
+        ),
+        (
+            "@implicitweights 17000..17001; 7FFF",
+            Some((1, ReadCause::BadRange)),
+        ),
+    ] {
+        assert_answer(&rt, rt.alloc(), text.as_bytes(), answer);
+    }
     let text = repeated(
         rt.alloc(),
         &[(SMALL_TEXT, 1), ("@implicitweights 17500..17600; FB01", 1)],
@@ -449,6 +426,14 @@ fn limits_hold_to_the_byte(rt: HostRuntime) {
         (
             [("0061 ;", 1), ("[.1000.0020.0002]", 65), ("\n", 1)],
             Some((1, ReadCause::TooManyElements)),
+        ),
+        (
+            [("0061 ", 32), ("xyz", 1), ("", 0)],
+            Some((1, ReadCause::BadCodePoint)),
+        ),
+        (
+            [("0061 ;", 1), ("[.1000.0020.0002]", 64), ("[]", 1)],
+            Some((1, ReadCause::BadElement)),
         ),
     ] {
         if let Ok(text) = repeated(rt.alloc(), &pieces) {
@@ -489,8 +474,10 @@ fn lines_without_end_are_refused(rt: HostRuntime) {
 
 #[test]
 fn the_limit_of_the_input_holds_to_the_byte(rt: HostRuntime) {
-    let told = fault(read_comments(rt.alloc(), 4_095, MAX_INPUT));
-    assert_eq!(rt; told, None);
-    let told = fault(read_comments(rt.alloc(), 4_095, MAX_INPUT + 1));
-    assert_eq!(rt; told, Some((16_385, ReadCause::TooLarge)));
+    for (width, line) in [(4_095, 16_385), (4_096, 16_381)] {
+        let told = fault(read_comments(rt.alloc(), width, MAX_INPUT));
+        assert_eq!(rt; told, None);
+        let told = fault(read_comments(rt.alloc(), width, MAX_INPUT + 1));
+        assert_eq!(rt; told, Some((line, ReadCause::TooLarge)));
+    }
 }

@@ -101,12 +101,13 @@ fn table(alloc: Global) -> Result<Table, AllocError> {
     }
 }
 
-/// `0061`, a line of so many `#`, and `0062`.
+/// `0061`, a line of so many bytes, which ends in LF or in CR and LF, and `0062`; and the same up to that end.
 fn with_long_line(
     rt: &impl Abort,
     t: &Table,
     width: usize,
-    wanted: Result<Conformance, ConformFault>,
+    whole: Result<Conformance, ConformFault>,
+    cut: Result<Conformance, ConformFault>,
 )
     requires { width ≤ 4098 }
 {
@@ -114,22 +115,52 @@ fn with_long_line(
     text[..5].copy_from_slice(b"0061\n");
     text[5 + width] = b'\n';
     text[6 + width..10 + width].copy_from_slice(b"0062");
-    assert_answer(rt, t, &text[..10 + width], wanted);
+    assert_answer(rt, t, &text[..10 + width], whole);
+    assert_answer(rt, t, &text[..5 + width], cut);
+    text[4 + width] = b'\r';
+    assert_answer(rt, t, &text[..10 + width], whole);
 }
+
+/// A letter with 31 marks between two others.
+const MARKED: &[u8] = b"0062\n\
+0061 0301 0301 0301 0301 0301 0301 0301 0301 0301 0301 0301 0301 0301 0301 0301 0301 0301 0301 0301 0301 0301 0301 0301 \
+0301 0301 0301 0301 0301 0301 0301 0301\n0061\n";
+
+/// The same without the first line.
+const MARKS_FIRST: &[u8] = b"\
+0061 0301 0301 0301 0301 0301 0301 0301 0301 0301 0301 0301 0301 0301 0301 0301 0301 0301 0301 0301 0301 0301 0301 0301 \
+0301 0301 0301 0301 0301 0301 0301 0301\n0061\n";
 
 #[test]
 fn lines_are_compared_with_the_one_before(rt: HostRuntime) {
     let Ok(t) = table(rt.alloc()) else {
         return;
     };
-    let cases: [(&[u8], Result<Conformance, ConformFault>); 12] = [
+    let cases: [(&[u8], Result<Conformance, ConformFault>); 22] = [
         (b"", report(0, 0, None)),
         (b"0062\nD800\n0061;x\n", report(3, 1, Some(3))),
+        (b"# nothing\n\n \t\n", report(0, 0, None)),
+        (b"0062\nD800\n0061;x", report(3, 1, Some(3))),
         (b"0061\n# x\n\n0062\n", report(2, 0, None)),
+        (b"0061\n# x\n\n0062", report(2, 0, None)),
         (b"0061\r\n \t# x\r\n\t\r\n0062 # 0061", report(2, 0, None)),
         (b"0062\n0061\n0062\n0061\n", report(4, 0, Some(2))),
         (b"0061\n0061\n", report(2, 0, None)),
+        (
+            b"0061\r\n \t# x\r\n\t0041 0301 # y\r\n0061;",
+            report(3, 0, Some(4)),
+        ),
+        (b"0062\t0061\n\n0062#\n10FFFF\n", report(3, 0, Some(3))),
         (b"0063 0068;\n0063 0062", report(2, 0, Some(2))),
+        // Marks in another order are the same text in NFD.
+        (
+            b"0061\t0301 0323 # dotted\n0061 0323 0301;\n0061\n0041\n0061\n",
+            report(5, 0, Some(3)),
+        ),
+        (b"000A\n000D\n0020;\n1F600 0041\n", report(4, 0, Some(3))),
+        (b"0061\n0061 dfff\n0061\n", report(3, 1, None)),
+        (MARKED, report(3, 1, Some(3))),
+        (MARKS_FIRST, report(2, 1, None)),
         (b"D800 0061\n0062\n0061 DFFF\n0061", report(4, 2, Some(4))),
         (b"0062\n0061 D800\n", report(2, 1, None)),
         (b"10FFFF\n00E9;G\n000061", report(3, 0, Some(2))),
@@ -163,10 +194,17 @@ fn a_faulty_line_is_told(rt: HostRuntime) {
     let Ok(t) = table(rt.alloc()) else {
         return;
     };
-    let cases: [(&[u8], u64); 12] = [
+    let cases: [(&[u8], u64); 19] = [
         (b";x", 1),
         (b"00G1", 1),
         (b"0061\n061\n", 2),
+        (b"0061\n#\n061\n00G1", 3),
+        (b"0061\n0061 0000061\n", 2),
+        (b"110000\n", 1),
+        (b"0061\r\r\n", 1),
+        (b"\n0061,0062 # x", 2),
+        (b"0061 10FFFF;\r\n110000\n", 2),
+        (b"0061 D800 00G1\n", 1),
         (b"0061\n0000061\n", 2),
         (b"0061\n110000\n", 2),
         (b"0061\n\n \t;\n", 3),
@@ -187,8 +225,9 @@ fn a_line_has_a_limit(rt: HostRuntime) {
     let Ok(t) = table(rt.alloc()) else {
         return;
     };
-    with_long_line(&rt, &t, 4096, report(2, 0, None));
-    with_long_line(&rt, &t, 4097, fault(2, ConformCause::LineTooLong));
+    with_long_line(&rt, &t, 4096, report(2, 0, None), report(1, 0, None));
+    let long = fault(2, ConformCause::LineTooLong);
+    with_long_line(&rt, &t, 4097, long, long);
     // A line of code points with four bytes of UTF-8 each.
     let mut long = repeated(b"10000 ", 4092, 4096, false);
     assert_eq!(rt; conform(&t, PLAIN, &mut long), report(1, 0, None));
@@ -214,6 +253,13 @@ fn a_file_has_a_limit(rt: HostRuntime) {
     whole = repeated(text, MAX_INPUT + 1, 4095, false);
     let large = fault(lines + 1, ConformCause::TooLarge);
     assert_eq!(rt; conform(&t, PLAIN, &mut whole), large);
+    let mut widest = [b'#'; 4097];
+    widest[4096] = b'\n';
+    whole = repeated(&widest, MAX_INPUT, 4096, false);
+    assert_eq!(rt; conform(&t, PLAIN, &mut whole), report(0, 0, None));
+    whole = repeated(&widest, MAX_INPUT + 1, 4096, false);
+    let large = fault(16_381, ConformCause::TooLarge);
+    assert_eq!(rt; conform(&t, PLAIN, &mut whole), large);
 }
 
 #[test]
@@ -221,9 +267,14 @@ fn a_failed_read_is_told(rt: HostRuntime) {
     let Ok(t) = table(rt.alloc()) else {
         return;
     };
-    for (text, line) in [(b"".as_slice(), 1), (b"0061", 1), (b"0061\n00G1", 2)] {
+    for (text, line, cause) in [
+        (b"".as_slice(), 1, ConformCause::Read),
+        (b"0061", 1, ConformCause::Read),
+        (b"0061\n", 2, ConformCause::Read),
+        (b"0061\n00G1", 2, ConformCause::Read),
+        (b"0061\n00G1\n", 2, ConformCause::BadLine),
+    ] {
         let mut fails = repeated(text, text.len(), 4, true);
-        let read = fault(line, ConformCause::Read);
-        assert_eq!(rt; conform(&t, PLAIN, &mut fails), read);
+        assert_eq!(rt; conform(&t, PLAIN, &mut fails), fault(line, cause));
     }
 }

@@ -1,15 +1,12 @@
-//! The commands beside the plain programs, over the built-in table.
-ghost use Rattle.uca_model.specs.Table.{AreRanges};
+//! The built-in table, and comparison beside keys.
 
 use super::run_as;
 use crate::{Task, built_in};
-use simdutf8::compat::from_utf8;
 use std::alloc::{AllocError, Global};
 use std::cmp::Ordering;
 use std::process::Abort;
-use uca_model::{Entry, lines, output};
 use uca_table::Table;
-use uca_weights::{Element, Range, Settings, Strength, Variable};
+use uca_weights::{Element, Settings, Strength, Variable};
 
 /// The entries of the built-in table: a key, the mark `*` or none, and the weights.
 #[rattlefmt::skip]
@@ -67,102 +64,6 @@ fn the_built_in_table_has_eighteen_keys_and_two_ranges(rt: HostRuntime) {
         element(false, [0x9D00, 0, 0]),
     ];
     assert_eq!(rt; t.implicit('\u{18D00}'), tangut);
-}
-
-/// The built-in table as the plain programs keep it.
-pub(super) fn plain_entries(alloc: Global) -> Result<Vec<Entry>, AllocError> {
-    let mut entries = Vec::new(alloc);
-    for (key, starred, weights) in BUILT_IN {
-        let key = key.to_vec(alloc)?;
-        let elements = [element(starred, weights)].to_vec(alloc)?;
-        entries.push(Entry { key, elements })?;
-    }
-    Ok(entries)
-}
-
-/// No range, for the plain programs. The texts of the test have no code point of the built-in ranges.
-pub(super) fn no_ranges() -> &'static [Range]
-    ensures { AreRanges result.now }
-{
-    &[]
-}
-
-/// What the plain programs write for an input of texts.
-fn plain_output(
-    alloc: Global,
-    entries: &[Entry],
-    command: Task,
-    settings: Settings,
-    input: &str,
-) -> Result<Vec<u8>, AllocError> {
-    let mut out = Vec::new(alloc);
-    for line in lines::lines_of(alloc, input.as_bytes())? {
-        let Ok(text) = from_utf8(&line) else {
-            break;
-        };
-        let written = match command {
-            Task::Elements => output::elements_line(alloc, entries, no_ranges(), text)?,
-            _ => output::key_line(alloc, entries, no_ranges(), settings, text)?,
-        };
-        out.extend_from_slice(&written)?;
-    }
-    Ok(out)
-}
-
-const INPUTS: [&str; 12] = [
-    "",
-    "\r\n\n\r",
-    "a\r\nA\n\rb\r\r\nzh",
-    "a-b c\n\u{1}\u{301}-\u{300}\n-\u{1}\u{300}",
-    // Decompositions, of several steps too, and marks that change places.
-    "\u{E9}\u{212B}\n\u{1EA1}\u{301}\n\u{1E69}",
-    "e\u{301}\u{323}\ne\u{323}\u{301}\r\n\u{344}\u{F73}",
-    // Contractions, with marks between.
-    "ch\ncz\nchh\na\u{301}b\u{301}\u{308}\nb\u{323}\u{323}\u{301}\u{323}\u{308}z",
-    "\u{4E00}\u{9FFF}\n\u{3400}\u{20000}\u{323AF}\n\u{FA0E}\u{F900}\n",
-    "\u{AC00}\u{AC01}\u{D7A3}\n\u{1100}\u{1161}\u{11A8}",
-    "\u{0}\u{9}\u{B}\u{C}\u{85}\u{2028}\u{FEFF}\n\u{10FFFF}\u{E000}\u{378}",
-    "\u{1D15E}\u{1F600}\n\u{1F82}",
-    "\u{301}\u{323}\u{300}\n\u{308}\u{1}\u{345}\n \n",
-];
-
-/// Whether a command writes what the plain programs write for each input.
-fn agrees(alloc: Global, entries: &[Entry], command: Task, settings: Settings) -> bool {
-    INPUTS.iter().all(|input| {
-        match plain_output(alloc, entries, command, settings, input) {
-            Ok(want) => {
-                let done = run_as(alloc, command, settings, input.as_bytes());
-                done.answer == Ok(0) && done.output == want
-            }
-            Err(_) => true,
-        }
-    })
-}
-
-#[test]
-fn agrees_with_the_plain_programs(rt: HostRuntime) {
-    let alloc = rt.alloc();
-    let Ok(entries) = plain_entries(alloc) else {
-        return;
-    };
-    let strengths = [
-        Strength::Primary,
-        Strength::Secondary,
-        Strength::Tertiary,
-        Strength::Quaternary,
-        Strength::Identical,
-    ];
-    for strength in strengths {
-        for weighting in [Variable::NonIgnorable, Variable::Blanked, Variable::Shifted] {
-            let settings = Settings {
-                strength,
-                weighting,
-            };
-            let holds = agrees(alloc, &entries, Task::Key, settings);
-            assert!(rt; holds, "{settings:?}");
-        }
-    }
-    assert!(rt; agrees(alloc, &entries, Task::Elements, super::PLAIN));
 }
 
 /// What the command `compare` has to write for an input, by the keys that `key` writes for its lines. Digits and blanks

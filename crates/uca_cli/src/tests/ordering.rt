@@ -61,11 +61,23 @@ fn lines_come_in_the_order_of_their_keys(rt: HostRuntime) {
         strength: Strength::Tertiary,
         weighting: Variable::Shifted,
     };
-    let cases: [(Settings, &[u8], u64, &[u8]); 9] = [
+    let identical = Settings {
+        strength: Strength::Identical,
+        weighting: Variable::NonIgnorable,
+    };
+    let cases: [(Settings, &[u8], u64, &[u8]); 11] = [
         (PLAIN, LINES, 5, ORDERED),
         // `A` and `a` have one key at the first level, and stay as they stood.
         (PRIMARY, LINES, 5, b"A\na\nb\ncz\nch\n"),
         (PRIMARY, b"a\nA\na\n", 3, b"a\nA\na\n"),
+        // U+0001 has no weight, and counts at the fifth level alone.
+        (PLAIN, b"a\n\na\x01\n\x01\na", 5, b"\n\x01\na\na\x01\na\n"),
+        (
+            identical,
+            b"a\n\na\x01\n\x01\na",
+            5,
+            b"\n\x01\na\na\na\x01\n",
+        ),
         (PLAIN, b"", 0, b""),
         (PLAIN, b"\n", 1, b"\n"),
         // A key that is the front of another one comes first.

@@ -1,6 +1,5 @@
 use super::{LongRun, Passage};
 use std::alloc::{AllocError, Global};
-use uca_model::safety::long_run_at;
 
 /// The pieces one after the other, each as often as it says.
 fn join(alloc: Global, pieces: &[(&str, usize)]) -> Result<String, AllocError> {
@@ -56,32 +55,46 @@ fn long_decompositions_are_accepted(rt: HostRuntime) {
 }
 
 #[test]
-fn agrees_with_the_definition(rt: HostRuntime) {
-    let texts: [&[(&str, usize)]; 14] = [
-        &[],
-        &[("plain text, \u{E9}t\u{E9}", 3)],
+fn runs_are_counted_across_characters(rt: HostRuntime) {
+    let texts: [(&[(&str, usize)], Option<usize>); 19] = [
+        (&[], None),
+        (&[("plain text, \u{E9}t\u{E9}", 3)], None),
+        (&[("a", 1), ("\u{301}", 30), ("b", 1)], None),
+        (&[("a", 1), ("\u{301}", 31), ("b", 1)], Some(61)),
+        (&[("a", 1), ("\u{344}", 16), ("b", 1)], Some(31)),
+        (&[("\u{301}", 31), ("b", 1)], Some(60)),
         // A starter ends a run, also one that is no ASCII character.
-        &[("a", 1), ("\u{301}", 20), ("b", 1), ("\u{301}", 20)],
-        &[("\u{301}", 30), ("\u{3B1}", 1), ("\u{301}", 30)],
-        &[("\u{301}", 30), ("\u{AC00}", 1), ("\u{301}", 31)],
+        (
+            &[("a", 1), ("\u{301}", 20), ("b", 1), ("\u{301}", 20)],
+            None,
+        ),
+        (&[("\u{301}", 30), ("\u{3B1}", 1), ("\u{301}", 30)], None),
+        (
+            &[("\u{301}", 30), ("\u{AC00}", 1), ("\u{301}", 31)],
+            Some(123),
+        ),
         // A letter with marks of its own.
-        &[("x\u{C0}", 1), ("\u{301}", 29)],
-        &[("x\u{C0}", 1), ("\u{301}", 30)],
-        &[("\u{1F82}", 1), ("\u{323}", 27)],
-        &[("\u{1F82}", 1), ("\u{323}", 28)],
+        (&[("x\u{C0}", 1), ("\u{301}", 29)], None),
+        (&[("x\u{C0}", 1), ("\u{301}", 30)], Some(61)),
+        (&[("\u{1F82}", 1), ("\u{323}", 27)], None),
+        (&[("\u{1F82}", 1), ("\u{323}", 28)], Some(57)),
+        (&[("\u{1F82}", 1), ("\u{301}", 28), ("b", 1)], Some(57)),
         // Marks that change places.
-        &[("a", 1), ("\u{301}\u{323}", 15), ("b", 1)],
-        &[("a", 1), ("\u{301}\u{323}", 16), ("b", 1)],
+        (&[("a", 1), ("\u{301}\u{323}", 15), ("b", 1)], None),
+        (&[("a", 1), ("\u{301}\u{323}", 16), ("b", 1)], Some(61)),
         // The character in which the run grows too long gives two nonstarters.
-        &[("a", 1), ("\u{301}", 29), ("\u{344}", 1), ("a", 1)],
-        &[("a", 1), ("\u{F73}", 15), ("b", 1), ("\u{F73}", 16)],
-        &[("\u{301}", 30), ("a", 64), ("\u{301}", 31)],
+        (
+            &[("a", 1), ("\u{301}", 29), ("\u{344}", 1), ("a", 1)],
+            Some(59),
+        ),
+        (
+            &[("a", 1), ("\u{F73}", 15), ("b", 1), ("\u{F73}", 16)],
+            Some(92),
+        ),
+        (&[("\u{301}", 30), ("a", 64), ("\u{301}", 31)], Some(184)),
     ];
-    for pieces in texts {
+    for (pieces, want) in texts {
         let Ok(text) = join(rt.alloc(), pieces) else {
-            return;
-        };
-        let Ok(want) = long_run_at(rt.alloc(), &text) else {
             return;
         };
         assert_eq!(rt; refused_at(&text), want, "{text:?}");

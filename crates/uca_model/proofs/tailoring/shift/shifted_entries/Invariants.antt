@@ -1,7 +1,0 @@
-use Rattle.std.proofs.Common.{◌≡◌, map, take}
-use Rattle.uca_model.specs.Plain.{pair_of}
-use Rattle.uca_model.specs.Shift.{shifted_entry}
-use Rattle.uca_model.proofs.tailoring.shift.shifted_entries.Given as goal
-
-abbrev pub invariant-loop-e : goal.invariant-loop-e
-invariant-loop-e l = map pair_of l.out.items ≡ map (shifted_entry l.level l.w) (map pair_of (take l.e-index l.entries))
