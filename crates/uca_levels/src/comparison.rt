@@ -14,10 +14,10 @@ use uca_table::Table;
 use uca_weights::Settings;
 use uca_window::{Passage, PassageSource, Source};
 
-/// The order of the sort keys of two texts (UTS #10, section 7.4, step S4), wherever their sources stand. With `d` the
-/// first level at which the texts differ, or the last one where they do not, each source goes back at
-/// most `d` times, and is asked at most `d * (n + 1)` times where its text has `n` characters. Later levels begin at the
-/// safe cut `m` of the texts, so that it is asked at most `(n + 1) + (d - 1) * (n - m + 1)` times.
+/// The order of the sort keys of two texts (UTS #10, section 7.4, step S4), wherever their sources stand, and whatever
+/// marks they have. With `d` the first level at which the texts differ, or the last one where they do not, each source
+/// goes back at most `d` times, and is asked at most `d * (n + 1)` times where its text has `n` characters. Later levels
+/// begin at the safe cut `m` of the texts, so that it is asked at most `(n + 1) + (d - 1) * (n - m + 1)` times.
 pub fn compare_sources<S: Source, T: Source>(
     t: &Table,
     s: Settings,

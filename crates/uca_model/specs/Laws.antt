@@ -58,12 +58,12 @@ pub record IsCutApart (t : ElementTable) (v : Variable) (front back : List ℕ) 
   pub elements : elements t (nfd (front ++ back)) ≡ elements t (nfd front) ++ elements t (nfd back)
   pub lists : (level : ℕ) → level_list t v (front ++ back) level ≡ level_list t v front level ++ level_list t v back level
 
--- up to their safe cut two texts agree, and there each may be cut
+-- up to their safe cut two texts are the same, and there each falls into two parts
 pub record AreCutApart (t : ElementTable) (v : Variable) (a b : List ℕ) : Type 0 where
   pub same : take (cut_of t a b) a ≡ take (cut_of t a b) b
   pub first : IsCutApart t v (take (cut_of t a b) a) (drop (cut_of t a b) a)
   pub second : IsCutApart t v (take (cut_of t a b) b) (drop (cut_of t a b) b)
 
--- at the safe cut of two texts each falls into two parts, and the order of each level is that of the parts behind the cut
+-- under every table, two texts are cut apart at their safe cut
 abbrev pub TextsAreCutApart : Type 0
 TextsAreCutApart = (t : ElementTable) (v : Variable) (a b : List ℕ) → IsTable t → AreCutApart t v a b

@@ -115,7 +115,8 @@ impl Window {
         self.closed < self.longest && !self.ended
     }
 
-    /// Reads one character, or the end, and answers it. Only what a character decomposes to tells whether it closes a segment.
+    /// Reads one character, or the end, and answers it. Only what a character decomposes to decides whether it closes a
+    /// segment.
     pub fn read<S: Source>(&mut self, source: &mut S) -> Option<char>
         requires wants { is_wanting self.old ≡ true }
         requires fits { Fits self.old (unread (S.state source.old)) }

@@ -128,6 +128,24 @@ fn a_source_is_asked_once_for_each_character_and_for_the_end(rt: HostRuntime) {
 }
 
 #[test]
+fn characters_are_read_while_some_are_wanted(rt: HostRuntime) {
+    let t = table(&rt, rt.alloc(), &[]);
+    let p = Passage::check("ch").ok().expect(&rt, "a safe text");
+    let mut source = source_of(&p);
+    let mut elements = Elements::new(&t);
+    assert!(rt; elements.wants());
+    assert_eq!(rt; elements.read(&mut source), Some('c'));
+    assert!(rt; elements.wants());
+    assert_eq!(rt; elements.read(&mut source), Some('h'));
+    assert!(rt; elements.wants());
+    assert_eq!(rt; elements.read(&mut source), None);
+    assert!(rt; !elements.wants());
+    assert_eq!(rt; elements.next(&mut source), Some(plain(0x1007, 0x20)));
+    assert_eq!(rt; elements.next(&mut source), None);
+    assert_eq!(rt; (source.taken, source.backs), (3, 0));
+}
+
+#[test]
 fn elements_in_turn_are_the_elements(rt: HostRuntime) {
     let small = table(&rt, rt.alloc(), &[]);
     let gaps = table(&rt, rt.alloc(), &KEYS_WITH_GAPS);

@@ -13,3 +13,28 @@ fn gives_the_characters_again_after_a_restart(rt: HostRuntime) {
         source.restart();
     }
 }
+
+#[test]
+fn goes_back_to_its_mark(rt: HostRuntime) {
+    let Ok(p) = Passage::check("a\u{E9}b") else {
+        return;
+    };
+    let mut source = PassageSource::new(&p);
+    assert_eq!(rt; source.next(), Some('a'));
+    // Where none was set, to the start.
+    source.rewind();
+    assert_eq!(rt; source.next(), Some('a'));
+    let Some(c) = source.next() else {
+        return;
+    };
+    source.mark();
+    assert_eq!(rt; c, '\u{E9}');
+    assert_eq!(rt; source.next(), Some('b'));
+    assert_eq!(rt; source.next(), None);
+    source.rewind();
+    assert_eq!(rt; source.next(), Some('\u{E9}'));
+    source.restart();
+    assert_eq!(rt; source.next(), Some('a'));
+    source.rewind();
+    assert_eq!(rt; source.next(), Some('\u{E9}'));
+}

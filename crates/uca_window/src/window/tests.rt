@@ -171,6 +171,23 @@ fn a_window_that_was_told_the_end_asks_no_more(rt: HostRuntime) {
     );
 }
 
+#[test]
+fn a_window_wants_characters_until_enough_points_are_closed(rt: HostRuntime) {
+    let Some(chars) = safe_chars(rt.alloc(), "a\u{301}b") else {
+        return;
+    };
+    let mut source = source_of(&chars);
+    let mut window = Window::new(1);
+    assert!(rt; window.wants());
+    assert_eq!(rt; window.read(&mut source), Some('a'));
+    assert!(rt; window.wants());
+    assert_eq!(rt; window.read(&mut source), Some('\u{301}'));
+    assert!(rt; window.wants());
+    assert_eq!(rt; window.read(&mut source), Some('b'));
+    assert!(rt; !window.wants());
+    assert_eq!(rt; (window.points().len(), window.closed()), (3, 2));
+}
+
 /// The NFD of what a source has not given yet, window after window.
 fn nfd_by_window<S: Source>(
     alloc: Global,
