@@ -1,8 +1,11 @@
 -- Room above a weight: what a shift leaves, that it keeps the order of weights, and that the weight in the room is no other.
-use Rattle.std.proofs.Common.{◌≡◌, ℕ, ◌+◌, ◌≤◌, ◌<◌, Bool, false, ◌&&◌, ◌==◌, eqb, arith}
+use Rattle.std.proofs.Common.{◌≡◌, ℕ, ◌+◌, ◌≤◌, ◌<◌, Bool, false, ◌&&◌, ◌==◌, eqb, refl, arith}
 use Rattle.std.proofs.lemmas.Bool.Decides.{nat_tests}
 use Rattle.std.specs.Ordering.{nat_cmp}
+use Rattle.uca_weights.specs.declared.element.Element.{Element}
+use Rattle.uca_weights.specs.Element.{weight}
 use Rattle.uca_model.specs.Shift.{moves, shift, top}
+use Rattle.uca_model.specs.Tailoring.{raised}
 
 -- a weight of a level would move, and can't
 abbrev pub has_no_room : ℕ → ℕ → ℕ → Bool
@@ -33,3 +36,13 @@ shift-room level w x h e = grind (arith, nat_tests)
 -- where there is room a weight of sixteen bits keeps them
 pub shift-fits : (level w x : ℕ) → has_no_room level w x ≡ false → x < 65536 → shift level w x < 65536
 shift-fits level w x p h = grind (arith, nat_tests)
+
+-- a raised element has the weight in the room
+pub raised-first : (e : Element) → weight 1 (raised 1 e) ≡ weight 1 e + 1
+raised-first e = refl
+
+pub raised-second : (e : Element) → weight 2 (raised 2 e) ≡ weight 2 e + 1
+raised-second e = refl
+
+pub raised-third : (e : Element) → weight 3 (raised 3 e) ≡ weight 3 e + 1
+raised-third e = refl

@@ -6,6 +6,7 @@ use Rattle.uca_model.specs.Table.{ElementTable}
 use Rattle.uca_model.specs.Rules.{Operator, first, second, third, same}
 use Rattle.uca_model.specs.Shift.{shift, shifted}
 use Rattle.uca_model.specs.Tailoring.{raised, placed_after, placed}
+use Rattle.uca_model.proofs.ShiftedWeights.{raised-first, raised-second, raised-third}
 use Rattle.uca_tailor.specs.TailoringLaws.{op_level}
 
 -- levels 1 to 3
@@ -61,9 +62,9 @@ weight-shifted m w e level_two = refl
 weight-shifted m w e level_three = refl
 
 pub weight-raised : (m : ℕ) (e : Element) → IsLevel m → weight m (raised m e) ≡ weight m e + 1
-weight-raised m e level_one = refl
-weight-raised m e level_two = refl
-weight-raised m e level_three = refl
+weight-raised m e level_one = raised-first e
+weight-raised m e level_two = raised-second e
+weight-raised m e level_three = raised-third e
 
 -- below the level: as they were
 pub weight-shifted_above : (j m w : ℕ) (e : Element) → IsBelow j m → weight j (shifted m w e) ≡ weight j e

@@ -14,22 +14,25 @@ pub fn each_item_is_placed()
     ensures { EachItemIsPlaced }
 {}
 
-/// An item without an expansion is next to its anchor's text: equal to it at the strengths below the relation's level, and
-/// after it at all others. At the strength of that level only texts that go on with the anchor's own weights lie between
-/// the two, and no text without the item among its matches is equal to it.
+/// An item without an expansion is next to the text whose elements are its anchor, where these are well-formed and the
+/// text's matches stay as they were, the item not among them. Where variable elements are not ignored, it is equal to that
+/// text at the strengths below the relation's level, and after it at all others. At the strength of that level only texts
+/// that have the text's weights at their front, and more, lie between the two, and no text without the item among its
+/// matches is equal to it.
 #[tactic(auto, using(crate::proofs::NextToAnchor::each_next))]
 pub fn each_item_is_next()
     ensures { EachItemIsNext }
 {}
 
 /// After a relation without an expansion, the anchor of the next relation is what the new table gives the item. So the
-/// law of neighbours holds of each relation of a chain, with the item before it as the text.
+/// law of neighbours can be used for each relation of a chain, with the item before it as the text.
 #[tactic(auto, using(crate::proofs::KeyAlone::each_anchor))]
 pub fn each_item_is_an_anchor()
     ensures { EachItemIsAnAnchor }
 {}
 
-/// A relation makes of a table a table. So the laws of one relation hold in the midst of the rules, too.
+/// A relation makes of a table a table, and of an anchor an anchor. So the laws of one relation can be used in the midst of
+/// the rules, too.
 pub fn related_tables_are_tables()
     ensures { RelatedTablesAreTables }
 {}

@@ -1,35 +1,49 @@
+ghost use Rattle.std.specs.Prelude.{◌≤◌};
+
 use super::{PlainChain, PlainEntry, element, small_table, table, tailored};
 use crate::Op;
 use std::alloc::{AllocError, Global};
+use std::cmp::Ordering;
 use std::process::Abort;
 use uca_match::elements_of_points;
 use uca_table::{Element, InsertFault, Table, TableBuilder};
 
-fn weights_of(alloc: Global, t: &Table, text: &[char]) -> Result<[Vec<u16>; 3], AllocError> {
-    let mut first = Vec::new(alloc);
-    let mut second = Vec::new(alloc);
-    let mut third = Vec::new(alloc);
-    for e in elements_of_points(alloc, t, text)?.iter() {
-        if e.l1 != 0 {
-            first.push(e.l1)?;
-        }
-        if e.l2 != 0 {
-            second.push(e.l2)?;
-        }
-        if e.l3 != 0 {
-            third.push(e.l3)?;
+/// The weights of a text in NFD at a level, zeros left out: its list where variable elements are not ignored.
+fn weights_of(alloc: Global, t: &Table, text: &[char], level: u8) -> Result<Vec<u16>, AllocError>
+    requires first { 1 ≤ level }
+    requires last { level ≤ 3 }
+{
+    let elements = elements_of_points(alloc, t, text)?;
+    let mut weights = Vec::new(alloc);
+    for e in elements.iter() {
+        let weight = e.weight(level);
+        if weight != 0 {
+            weights.push(weight)?;
         }
     }
-    Ok([first, second, third])
+    Ok(weights)
 }
 
-/// The weights of a text in NFD at each level, zeros left out: its lists where variable elements are not ignored. Once
-/// more where memory was refused.
-fn lists(rt: &impl Abort, alloc: Global, t: &Table, text: &[char]) -> [Vec<u16>; 3] {
-    match weights_of(alloc, t, text) {
-        Ok(lists) => lists,
-        Err(_) => weights_of(alloc, t, text).expect(rt, "weights"),
+/// The same, once more where memory was refused.
+fn list(rt: &impl Abort, alloc: Global, t: &Table, text: &[char], level: u8) -> Vec<u16>
+    requires first { 1 ≤ level }
+    requires last { level ≤ 3 }
+{
+    match weights_of(alloc, t, text, level) {
+        Ok(weights) => weights,
+        Err(_) => weights_of(alloc, t, text, level).expect(rt, "weights"),
     }
+}
+
+/// The order of two texts at a level.
+fn order(rt: &impl Abort, alloc: Global, t: &Table, texts: [&[char]; 2], level: u8) -> Ordering
+    requires first { 1 ≤ level }
+    requires last { level ≤ 3 }
+{
+    let [x, y] = texts;
+    let x = list(rt, alloc, t, x, level);
+    let y = list(rt, alloc, t, y, level);
+    x.as_slice().cmp(y.as_slice())
 }
 
 /// A table of one key, once more where memory was refused.
@@ -71,30 +85,11 @@ fn untouched_texts_keep_their_order(rt: HostRuntime) {
         .expect(&rt, "a tailored table");
     for x in UNTOUCHED {
         for y in UNTOUCHED {
-            let [first, second, third] = lists(&rt, rt.alloc(), &t, x);
-            let [other_first, other_second, other_third] = lists(&rt, rt.alloc(), &t, y);
-            let [new_first, new_second, new_third] = lists(&rt, rt.alloc(), &u, x);
-            let [new_other_first, new_other_second, new_other_third] = lists(
-                &rt,
-                rt.alloc(),
-                &u,
-                y,
-            );
-            assert_eq!(rt;
-                new_first.cmp(&new_other_first),
-                first.cmp(&other_first),
-                "{x:?} {y:?}"
-            );
-            assert_eq!(rt;
-                new_second.cmp(&new_other_second),
-                second.cmp(&other_second),
-                "{x:?} {y:?}"
-            );
-            assert_eq!(rt;
-                new_third.cmp(&new_other_third),
-                third.cmp(&other_third),
-                "{x:?} {y:?}"
-            );
+            for level in 1..4 {
+                let was = order(&rt, rt.alloc(), &t, [x, y], level);
+                let is = order(&rt, rt.alloc(), &u, [x, y], level);
+                assert_eq!(rt; is, was, "{x:?} {y:?} {level}");
+            }
         }
     }
 }
@@ -118,10 +113,14 @@ fn an_item_is_next_to_its_anchor(rt: HostRuntime) {
     let u = tailored(&rt, rt.alloc(), &t, &plain)
         .ok()
         .expect(&rt, "a tailored table");
-    for pair in NEIGHBOURS.windows(2) {
-        let [below, _, _] = lists(&rt, rt.alloc(), &u, pair[0]);
-        let [above, _, _] = lists(&rt, rt.alloc(), &u, pair[1]);
-        assert!(rt; below < above, "{pair:?}");
+    let mut below: &[char] = &[' '];
+    for text in NEIGHBOURS {
+        assert_eq!(rt;
+            order(&rt, rt.alloc(), &u, [below, text], 1),
+            Ordering::Less,
+            "{text:?}"
+        );
+        below = text;
     }
 }
 
@@ -132,10 +131,9 @@ fn an_item_of_a_second_difference_is_equal_at_the_first_level(rt: HostRuntime) {
     let u = tailored(&rt, rt.alloc(), &t, &plain)
         .ok()
         .expect(&rt, "a tailored table");
-    let [first, second, _] = lists(&rt, rt.alloc(), &u, &['a']);
-    let [item_first, item_second, _] = lists(&rt, rt.alloc(), &u, &['x']);
-    assert_eq!(rt; item_first, first);
-    assert!(rt; second < item_second);
+    let texts: [&[char]; 2] = [&['a'], &['x']];
+    assert_eq!(rt; order(&rt, rt.alloc(), &u, texts, 1), Ordering::Equal);
+    assert_eq!(rt; order(&rt, rt.alloc(), &u, texts, 2), Ordering::Less);
 }
 
 #[test]
@@ -150,8 +148,8 @@ fn an_anchor_that_is_not_well_formed_is_not_next_to_its_item(rt: HostRuntime) {
         u.get(&['c']),
         Some([element([0x1000, 0x21, 2])].as_slice())
     );
-    let [first, _, _] = lists(&rt, rt.alloc(), &u, &['a']);
-    let [item_first, _, _] = lists(&rt, rt.alloc(), &u, &['c']);
+    let first = list(&rt, rt.alloc(), &u, &['a'], 1);
+    let item_first = list(&rt, rt.alloc(), &u, &['c'], 1);
     assert_eq!(rt; first.as_slice(), [0x1000, 0x2000].as_slice());
     assert_eq!(rt; item_first.as_slice(), [0x1000].as_slice());
 }
@@ -167,8 +165,8 @@ fn an_item_with_an_expansion_is_not_next_to_its_anchor(rt: HostRuntime) {
     let u = tailored(&rt, rt.alloc(), &t, &plain)
         .ok()
         .expect(&rt, "a tailored table");
-    let [first, _, _] = lists(&rt, rt.alloc(), &u, &['a']);
-    let [item_first, _, _] = lists(&rt, rt.alloc(), &u, &['c']);
+    let first = list(&rt, rt.alloc(), &u, &['a'], 1);
+    let item_first = list(&rt, rt.alloc(), &u, &['c'], 1);
     assert_eq!(rt; first.as_slice(), [0x1000].as_slice());
     assert_eq!(rt; item_first.as_slice(), [0x1000, 0x1001].as_slice());
 }
