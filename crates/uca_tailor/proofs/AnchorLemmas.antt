@@ -1,15 +1,13 @@
 -- Anchors from their end, and what the absence of a fault says.
-use Rattle.std.proofs.Common.{◌≡◌, ℕ, suc, zero, ◌+◌, ◌-◌, ◌≤◌, ◌<◌, Bool, true, false, cond, ◌||◌, ◌==◌, List, [], ◌∷◌, ◌++◌, length, take, map, get_or, nat_le, nat_lt, Option, Some, None, Ok, Err, MatchOption, IsSome, refl, sym, ap, ap₂, subst, ◌∙◌, arith}
-use Rattle.std.proofs.lemmas.Bool.Decides.{nat_tests}
+use Rattle.std.proofs.Common.{◌≡◌, ℕ, suc, zero, ◌+◌, ◌-◌, ◌≤◌, ◌<◌, true, false, cond, ◌==◌, List, [], ◌∷◌, ◌++◌, length, take, map, get_or, Option, Some, None, Ok, Err, MatchOption, IsSome, refl, sym, ap, ap₂, subst, ◌∙◌, arith}
 use Rattle.std.proofs.lemmas.List.{take_more}
-use Rattle.std.specs.FinMap.{values}
 use Rattle.std.specs.List.{list_any}
 use Rattle.std.specs.Option.{option_map_or}
 use Rattle.uca_weights.specs.declared.element.Element.{Element}
 use Rattle.uca_weights.specs.Element.{weight}
-use Rattle.uca_model.specs.Shift.{shifted, shifted_table, is_stuck, top}
+use Rattle.uca_model.specs.Shift.{shifted, shifted_table, is_stuck}
 use Rattle.uca_model.specs.Table.{ElementTable}
-use Rattle.uca_model.specs.Tailoring.{TailorCause, small_weight, high_reset, full, Anchor, alone, behind, anchor_of, least, is_high, is_full, fault_at, raised, placed_behind, placed_at, placed_after}
+use Rattle.uca_model.specs.Tailoring.{TailorCause, small_weight, Anchor, alone, behind, anchor_of, is_high, fault_at, raised, placed_behind, placed_at, placed_after}
 use Rattle.uca_model.proofs.PlaceLemmas.{is_free, any_anchor, below_top}
 use Rattle.uca_tailor.specs.declared.faults.TailorCause.{TailorCause as Cause}
 use Rattle.uca_tailor.specs.Faults.{told}
