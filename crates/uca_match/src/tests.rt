@@ -194,14 +194,17 @@ const LONG_KEY: [(&[char], bool, [u16; 3]); 1] = [(&['z'; MAX_KEY], false, [0x10
 #[test]
 fn the_longest_key_is_taken_whole(rt: HostRuntime) {
     let t = table(&rt, rt.alloc(), &LONG_KEY);
-    let text = "zzzzzzzzzzzzzzzzzzzzzzzzzzzzzzzzz";
-    let short = [plain(0x1006, 0x20); MAX_KEY - 1];
+    let short = [plain(0x1006, 0x20); 31];
     let whole = [plain(0x1010, 0x20)];
     let longer = [plain(0x1010, 0x20), plain(0x1006, 0x20)];
-    let cases: [(usize, &[Element]); 3] = [(31, &short), (32, &whole), (33, &longer)];
-    for (length, wanted) in cases {
-        let elements = elements_again(&rt, rt.alloc(), &t, &text[..length]);
-        assert_eq!(rt; elements.as_slice(), wanted, "{length}");
+    let cases: [(&str, &[Element]); 3] = [
+        ("zzzzzzzzzzzzzzzzzzzzzzzzzzzzzzz", &short),
+        ("zzzzzzzzzzzzzzzzzzzzzzzzzzzzzzzz", &whole),
+        ("zzzzzzzzzzzzzzzzzzzzzzzzzzzzzzzzz", &longer),
+    ];
+    for (text, wanted) in cases {
+        let elements = elements_again(&rt, rt.alloc(), &t, text);
+        assert_eq!(rt; elements.as_slice(), wanted, "{text:?}");
     }
 }
 
