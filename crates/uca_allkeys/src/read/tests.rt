@@ -402,41 +402,39 @@ fn a_range_may_not_meet_those_before_it(rt: HostRuntime) {
 
 #[test]
 fn limits_hold_to_the_byte(rt: HostRuntime) {
-    for (pieces, answer) in [
-        ([("#", 1), ("x", 4_095), ("\n", 1)], None),
+    let cases: [(&[(&str, usize)], Option<(u64, ReadCause)>); 11] = [
+        (&[("#", 1), ("x", 4_095), ("\n", 1)], None),
         (
-            [("#", 1), ("x", 4_096), ("\n", 1)],
+            &[("#", 1), ("x", 4_096), ("\n", 1)],
             Some((1, ReadCause::LineTooLong)),
         ),
-        ([("#", 1), ("x", 4_095), ("", 0)], None),
+        (&[("#", 1), ("x", 4_095)], None),
         (
-            [("\n", 2), ("x", 4_097), ("", 0)],
+            &[("\n", 2), ("x", 4_097)],
             Some((3, ReadCause::LineTooLong)),
         ),
-        ([("#", 1), ("x", 4_094), ("\r\n", 1)], None),
+        (&[("#", 1), ("x", 4_094), ("\r\n", 1)], None),
         (
-            [("#", 1), ("x", 4_095), ("\r\n", 1)],
+            &[("#", 1), ("x", 4_095), ("\r\n", 1)],
             Some((1, ReadCause::LineTooLong)),
         ),
+        (&[("0061 ", 33)], Some((1, ReadCause::KeyTooLong))),
+        (&[("0061 ", 32), (";", 1), ("[.1000.0020.0002]", 64)], None),
         (
-            [("0061 ", 33), ("", 0), ("", 0)],
-            Some((1, ReadCause::KeyTooLong)),
-        ),
-        ([("0061 ", 32), (";", 1), ("[.1000.0020.0002]", 64)], None),
-        (
-            [("0061 ;", 1), ("[.1000.0020.0002]", 65), ("\n", 1)],
+            &[("0061 ;", 1), ("[.1000.0020.0002]", 65), ("\n", 1)],
             Some((1, ReadCause::TooManyElements)),
         ),
         (
-            [("0061 ", 32), ("xyz", 1), ("", 0)],
+            &[("0061 ", 32), ("xyz", 1)],
             Some((1, ReadCause::BadCodePoint)),
         ),
         (
-            [("0061 ;", 1), ("[.1000.0020.0002]", 64), ("[]", 1)],
+            &[("0061 ;", 1), ("[.1000.0020.0002]", 64), ("[]", 1)],
             Some((1, ReadCause::BadElement)),
         ),
-    ] {
-        if let Ok(text) = repeated(rt.alloc(), &pieces) {
+    ];
+    for (pieces, answer) in cases {
+        if let Ok(text) = repeated(rt.alloc(), pieces) {
             assert_answer(&rt, rt.alloc(), &text, answer);
         }
     }
