@@ -5,8 +5,8 @@ use Rattle.std.proofs.KnownBytes.{Consumes-trans, Consumes-kept}
 use Rattle.std.specs.Io.KnownBytes.{Consumes, Keeps}
 use Rattle.std.specs.Prelude.{Result, Ok, Err, MatchOption, MatchResult, IfErr}
 use Rattle.uca_weights.specs.declared.limits.TheConstants.{MAX_INPUT}
-use Rattle.uca_weights.specs.Counts.{one_more}
-use Rattle.uca_weights.specs.Reader.{ReaderState, Gives, GivesAll, GivesAndFails}
+use Rattle.uca_io.specs.Counts.{one_more}
+use Rattle.uca_io.specs.Reader.{ReaderState, Gives, GivesAll, GivesAndFails}
 use Rattle.uca_model.specs.Table.{ElementTable}
 use Rattle.uca_model.specs.TableText.{too_large, read, TextEnd, ends, stops, no_lines, add_bytes, read_text, table_part, table_of_text}
 use Rattle.uca_allkeys.specs.declared.faults.ReadCause.{ReadCause}

@@ -1,7 +1,7 @@
 -- How far the reading of a text has come, and how it stops.
 use Rattle.std.specs.Prelude.{◌≡◌, ℕ, ◌+◌, ◌≤◌, false, List, ◌++◌, length, All, Result, Ok, Err, MatchOption, MatchResult}
 use Rattle.uca_weights.specs.declared.limits.TheConstants.{MAX_INPUT, MAX_LINE}
-use Rattle.uca_weights.specs.Reader.{ReaderState, Gives}
+use Rattle.uca_io.specs.Reader.{ReaderState, Gives}
 use Rattle.uca_model.specs.TableText.{Cause, TextState, TextFault, TextEnd, no_lines, is_line_feed, add_bytes}
 use Rattle.uca_allkeys.specs.declared.faults.ReadCause.{ReadCause}
 use Rattle.uca_allkeys.specs.declared.faults.ReadFault.{ReadFault}

@@ -1,6 +1,6 @@
 -- What a reader of table texts answers.
 use Rattle.std.specs.Prelude.{◌≡◌, ℕ, List, ◌++◌, Result, Ok, Err, ◌⊎◌}
-use Rattle.uca_weights.specs.Reader.{ReaderState, Gives, GivesAll, GivesAndFails}
+use Rattle.uca_io.specs.Reader.{ReaderState, Gives, GivesAll, GivesAndFails}
 use Rattle.uca_model.specs.Table.{ElementTable}
 use Rattle.uca_model.specs.TableText.{Cause, TextFault, TextEnd, ends, stops, read, line_too_long, bad_directive, bad_code_point, key_too_long, no_semicolon, bad_element, no_element, too_many_elements, repeated, bad_range, too_large, table_of_text}
 use Rattle.uca_allkeys.specs.declared.faults.ReadCause.{ReadCause}

@@ -1,7 +1,7 @@
 ghost use Rattle.std.specs.Prelude.{◌≡◌, ◌+◌, ◌*◌, ◌^◌, ◌<◌, ◌≤◌, ◌++◌, [], flat_map, length, All, MatchResult};
 ghost use Rattle.uca_weights.specs.declared.limits.TheConstants.{MAX_KEY, MAX_ELEMENTS, MAX_LINE};
-ghost use Rattle.uca_weights.specs.Outgoing.{handed, Sends, StopsSending};
-ghost use Rattle.uca_weights.specs.Writer.{WritesAll, WritesFront};
+ghost use Rattle.uca_io.specs.OutputBuffer.{accepted, Accepts, FailsPartway};
+ghost use Rattle.uca_io.specs.Writer.{WritesAll, WritesFront};
 ghost use Rattle.uca_model.specs.CanonicalText.{canonical, mark, element_text, ends_text, base_text, entry_line, four_digits, key_text, plane_text, point_text, range_line};
 ghost use Rattle.std.specs.FinMap.{entries};
 ghost use Rattle.uca_model.specs.Output.{hex_digit};
@@ -9,7 +9,8 @@ ghost use Rattle.uca_model.specs.Table.{IsEntry};
 
 use arrayvec::ArrayVec;
 use uca_table::Table;
-use uca_weights::{Element, MAX_LINE, Outgoing, Range, WriteFault, Writer};
+use uca_io::OutputBuffer;
+use uca_weights::{Element, MAX_LINE, Range, WriteFault, Writer};
 
 /// An upper-case hexadecimal digit.
 fn hex_digit(n: u16) -> u8
@@ -171,17 +172,17 @@ fn range_line(range: Range) -> Line
 /// Has the lines of ranges go out.
 fn send_ranges<W: Writer>(
     writer: &mut W,
-    out: &mut Outgoing,
+    out: &mut OutputBuffer,
     ranges: &[Range],
 ) -> Result<(), WriteFault>
-    requires { handed out.old ≡ 0 }
+    requires { accepted out.old ≡ 0 }
     ensures lines { MatchResult result
-        (λ _. Sends (W.state writer.old) out.old (W.state writer.new) out.new (flat_map range_line ranges.now))
-        (λ f. StopsSending (W.state writer.old) out.old (W.state writer.new) (flat_map range_line ranges.now) f) }
-    ensures room { MatchResult result (λ _. handed out.new ≤ 2 ^ 80) (λ _. Unit {0}) }
+        (λ _. Accepts (W.state writer.old) out.old (W.state writer.new) out.new (flat_map range_line ranges.now))
+        (λ f. FailsPartway (W.state writer.old) out.old (W.state writer.new) (flat_map range_line ranges.now) f) }
+    ensures room { MatchResult result (λ _. accepted out.new ≤ 2 ^ 80) (λ _. Unit {0}) }
 {
     for range in ranges {
-        out.send(writer, range_line(*range).as_slice())?;
+        out.write(writer, range_line(*range).as_slice())?;
     }
     Ok(())
 }
@@ -189,18 +190,18 @@ fn send_ranges<W: Writer>(
 /// Has the lines of a table's entries go out.
 fn send_entries<W: Writer>(
     writer: &mut W,
-    out: &mut Outgoing,
+    out: &mut OutputBuffer,
     table: &Table,
 ) -> Result<(), WriteFault>
-    requires { handed out.old ≤ 2 ^ 80 }
+    requires { accepted out.old ≤ 2 ^ 80 }
     ensures lines { MatchResult result
-        (λ _. Sends (W.state writer.old) out.old (W.state writer.new) out.new (flat_map entry_line (entries table.now.entries)))
-        (λ f. StopsSending (W.state writer.old) out.old (W.state writer.new) (flat_map entry_line (entries table.now.entries)) f) }
-    ensures room { MatchResult result (λ _. handed out.new ≤ 2 ^ 81) (λ _. Unit {0}) }
+        (λ _. Accepts (W.state writer.old) out.old (W.state writer.new) out.new (flat_map entry_line (entries table.now.entries)))
+        (λ f. FailsPartway (W.state writer.old) out.old (W.state writer.new) (flat_map entry_line (entries table.now.entries)) f) }
+    ensures room { MatchResult result (λ _. accepted out.new ≤ 2 ^ 81) (λ _. Unit {0}) }
 {
     show_entries(table);
     for (key, elements) in table.entries() {
-        out.send(writer, entry_line(key.as_slice(), elements).as_slice())?;
+        out.write(writer, entry_line(key.as_slice(), elements).as_slice())?;
     }
     Ok(())
 }
@@ -215,14 +216,14 @@ fn show_entries(table: &Table)
 /// Has the ranges and then the entries go out.
 fn send_table<W: Writer>(
     writer: &mut W,
-    out: &mut Outgoing,
+    out: &mut OutputBuffer,
     table: &Table,
 ) -> Result<(), WriteFault>
-    requires { handed out.old ≡ 0 }
+    requires { accepted out.old ≡ 0 }
     ensures lines { MatchResult result
-        (λ _. Sends (W.state writer.old) out.old (W.state writer.new) out.new (canonical table.now))
-        (λ f. StopsSending (W.state writer.old) out.old (W.state writer.new) (canonical table.now) f) }
-    ensures room { MatchResult result (λ _. handed out.new ≤ 2 ^ 81) (λ _. Unit {0}) }
+        (λ _. Accepts (W.state writer.old) out.old (W.state writer.new) out.new (canonical table.now))
+        (λ f. FailsPartway (W.state writer.old) out.old (W.state writer.new) (canonical table.now) f) }
+    ensures room { MatchResult result (λ _. accepted out.new ≤ 2 ^ 81) (λ _. Unit {0}) }
 {
     send_ranges(writer, out, table.ranges())?;
     send_entries(writer, out, table)
@@ -236,7 +237,7 @@ pub fn write_table<W: Writer>(writer: &mut W, t: &Table) -> Result<u128, WriteFa
         (λ n. WritesAll (W.state writer.old) (W.state writer.new) (canonical t.now) × (n ≡ length (canonical t.now)))
         (λ f. WritesFront (W.state writer.old) (W.state writer.new) (canonical t.now) f) }
 {
-    let mut out = Outgoing::new();
+    let mut out = OutputBuffer::new();
     send_table(writer, &mut out, t)?;
     out.flush(writer)?;
     Ok(out.written())

@@ -3,7 +3,7 @@ use Rattle.std.proofs.Common.{◌≡◌, ℕ, ◌-◌, ◌<◌, ◌≤◌, List,
 use Rattle.std.proofs.lemmas.List.{length-take}
 use Rattle.std.proofs.KnownBytes.{Consumes-trans}
 use Rattle.std.specs.Io.KnownBytes.{Consumes}
-use Rattle.uca_weights.specs.Reader.{ReaderState, Gives}
+use Rattle.uca_io.specs.Reader.{ReaderState, Gives}
 use Rattle.uca_cli.specs.declared.faults.InputCause.{InputCause}
 use Rattle.uca_cli.specs.declared.faults.InputFault.{InputFault}
 use Rattle.uca_cli.specs.Input.{StopsBy, StopsReading}

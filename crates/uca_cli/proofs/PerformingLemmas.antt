@@ -1,6 +1,6 @@
 -- A job is its table, the rules for it, and the work with the tailored table.
 use Rattle.std.proofs.Common.{ℕ, Option, Result, Ok, Err, IfOk, IfErr, inl, inr, refl}
-use Rattle.uca_weights.specs.Reader.{ReaderState}
+use Rattle.uca_io.specs.Reader.{ReaderState}
 use Rattle.uca_model.specs.Table.{ElementTable}
 use Rattle.uca_cli.specs.Performing.{Ends, ReadsTable, StopsTable, Works, StopsWork, Performs, Refuses}
 use Rattle.uca_cli.specs.RuleFile.{Tailors, RefusesTailoring}

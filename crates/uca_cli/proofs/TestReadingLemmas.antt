@@ -5,7 +5,7 @@ use Rattle.std.specs.Io.KnownBytes.{Consumes}
 use Rattle.std.specs.Prelude.{Result, Ok, Err, MatchResult, IfErr}
 use Rattle.uca_weights.specs.declared.limits.TheConstants.{MAX_INPUT}
 use Rattle.uca_weights.specs.declared.settings.Settings.{Settings}
-use Rattle.uca_weights.specs.Reader.{ReaderState, GivesAll, GivesAndFails}
+use Rattle.uca_io.specs.Reader.{ReaderState, GivesAll, GivesAndFails}
 use Rattle.uca_model.specs.Table.{ElementTable}
 use Rattle.uca_model.specs.TestFile.{ends, read, report_of, stops, too_large}
 use Rattle.uca_allkeys.proofs.ReadingLemmas.{Gives-more, cut_chunk}

@@ -1,9 +1,9 @@
 -- What `check` does with a test file in a reader.
 use Rattle.std.specs.Prelude.{◌≡◌, ℕ, List}
-use Rattle.uca_weights.specs.Reader.{GivesAll}
-use Rattle.uca_weights.specs.Writer.{WritesAll, WritesFront}
+use Rattle.uca_io.specs.Reader.{GivesAll}
+use Rattle.uca_io.specs.Writer.{WritesAll, WritesFront}
 use Rattle.uca_weights.specs.declared.settings.Settings.{Settings}
-use Rattle.uca_weights.specs.declared.writer.WriteFault.{WriteFault}
+use Rattle.uca_io.specs.declared.writer.WriteFault.{WriteFault}
 use Rattle.uca_model.specs.Table.{ElementTable}
 use Rattle.uca_cli.specs.Conforming.{RefusesFile}
 use Rattle.uca_cli.specs.Performing.{Ends, IsCheckOutput, IsCheckStatus}

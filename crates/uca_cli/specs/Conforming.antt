@@ -1,6 +1,6 @@
 -- What a reader of a test file answers.
 use Rattle.std.specs.Prelude.{◌≡◌, ℕ, List, ◌++◌, Result, Ok, Err, ◌⊎◌}
-use Rattle.uca_weights.specs.Reader.{ReaderState, Gives, GivesAll, GivesAndFails}
+use Rattle.uca_io.specs.Reader.{ReaderState, Gives, GivesAll, GivesAndFails}
 use Rattle.uca_weights.specs.declared.settings.Settings.{Settings}
 use Rattle.uca_model.specs.Table.{ElementTable}
 use Rattle.uca_model.specs.TestFile.{Report, TestCause, TestEnd, TestFault, ends, stops, line_too_long, bad_line, too_large, read, report_of}

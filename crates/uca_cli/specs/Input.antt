@@ -1,7 +1,7 @@
 -- What a fault of the input says.
 use Rattle.std.specs.Prelude.{◌≡◌, ℕ, ◌<◌, ◌≤◌, List, length}
 use Rattle.uca_weights.specs.declared.limits.TheConstants.{MAX_INPUT}
-use Rattle.uca_weights.specs.Reader.{ReaderState, Gives, GivesAndFails}
+use Rattle.uca_io.specs.Reader.{ReaderState, Gives, GivesAndFails}
 use Rattle.uca_model.specs.Lines.{lines_of, not_utf8, long_run, HasFault, IsFirstFault}
 use Rattle.uca_cli.specs.declared.faults.InputCause.{InputCause}
 use Rattle.uca_cli.specs.declared.faults.InputCause.TheVariants.{NotUtf8, LongRun, TooLarge, Read, OutOfMemory}

@@ -1,9 +1,9 @@
 -- The lines of an input in the order of their keys: what went out of them, and what stopped it.
 use Rattle.std.specs.Prelude.{◌≡◌, ℕ, List, [], ◌∷◌, length, map, flat_map, take, drop}
 use Rattle.uca_weights.specs.declared.settings.Settings.{Settings}
-use Rattle.uca_weights.specs.declared.writer.WriteFault.{WriteFault}
-use Rattle.uca_weights.specs.WriterState.{WriterState}
-use Rattle.uca_weights.specs.Writer.{WritesAll, WritesFront}
+use Rattle.uca_io.specs.declared.writer.WriteFault.{WriteFault}
+use Rattle.uca_io.specs.WriterState.{WriterState}
+use Rattle.uca_io.specs.Writer.{WritesAll, WritesFront}
 use Rattle.uca_model.specs.Lines.{lines_of}
 use Rattle.uca_model.specs.Ordered.{IsOrderOutput, line_key}
 use Rattle.uca_model.specs.Table.{ElementTable}

@@ -3,10 +3,10 @@ use Rattle.std.specs.Prelude.{◌≡◌, ⊤, ℕ, ◌<◌, ◌≤◌, ◌⊎◌
 use Rattle.std.specs.Option.{is_some}
 use Rattle.uca_weights.specs.declared.limits.TheConstants.{MAX_INPUT}
 use Rattle.uca_weights.specs.declared.settings.Settings.{Settings}
-use Rattle.uca_weights.specs.declared.writer.WriteFault.{WriteFault}
-use Rattle.uca_weights.specs.Reader.{ReaderState, GivesAll}
-use Rattle.uca_weights.specs.WriterState.{WriterState}
-use Rattle.uca_weights.specs.Writer.{WritesAll, WritesFront}
+use Rattle.uca_io.specs.declared.writer.WriteFault.{WriteFault}
+use Rattle.uca_io.specs.Reader.{ReaderState, GivesAll}
+use Rattle.uca_io.specs.WriterState.{WriterState}
+use Rattle.uca_io.specs.Writer.{WritesAll, WritesFront}
 use Rattle.uca_model.specs.CanonicalText.{canonical}
 use Rattle.uca_model.specs.Compared.{compare_output}
 use Rattle.uca_model.specs.ElementLines.{elements_output}

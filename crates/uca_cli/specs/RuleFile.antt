@@ -2,7 +2,7 @@
 use Rattle.std.specs.Prelude.{◌≡◌, ℕ, ◌≤◌, List, length, Option, Some, None, Ok, IsUtf8, chars}
 use Rattle.std.specs.Str.Lossy.{utf8_valid_len}
 use Rattle.uca_weights.specs.declared.limits.TheConstants.{MAX_RULES}
-use Rattle.uca_weights.specs.Reader.{ReaderState, GivesAll}
+use Rattle.uca_io.specs.Reader.{ReaderState, GivesAll}
 use Rattle.uca_model.specs.Rules.{Chain}
 use Rattle.uca_model.specs.RuleText.{rules_of}
 use Rattle.uca_model.specs.Table.{ElementTable}

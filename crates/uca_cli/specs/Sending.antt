@@ -1,9 +1,9 @@
 -- What goes out line by line, and what stops it.
 use Rattle.std.specs.Prelude.{◌≡◌, ℕ, List, [], ◌∷◌, ◌++◌, flat_map}
-use Rattle.uca_weights.specs.WriterState.{WriterState}
-use Rattle.uca_weights.specs.Writer.{WritesFront}
-use Rattle.uca_weights.specs.Outgoing.{StopsSending}
-use Rattle.uca_weights.specs.declared.outgoing.Outgoing.{Outgoing}
+use Rattle.uca_io.specs.WriterState.{WriterState}
+use Rattle.uca_io.specs.Writer.{WritesFront}
+use Rattle.uca_io.specs.OutputBuffer.{FailsPartway}
+use Rattle.uca_io.specs.BufferState.{BufferState}
 use Rattle.uca_weights.specs.declared.settings.Settings.{Settings}
 use Rattle.uca_model.specs.ElementLines.{elements_line}
 use Rattle.uca_model.specs.Lines.{line_feed, lines_of}
@@ -33,9 +33,9 @@ spaced_pairs bytes = flat_map (λ b. blank ∷ hex_pair b) bytes
 abbrev pub finding_line : Condition → List ℕ
 finding_line c = condition_name c ++ line_feed ∷ []
 
--- the writer stopped a line, or memory was wanted before anything of it was handed over
-abbrev pub StopsLine : WriterState → Outgoing → WriterState → Outgoing → List ℕ → CliFault → Type 0
-StopsLine old before new after line (Output fault) = StopsSending old before new line fault
+-- the writer stopped a line, or memory was wanted before anything of it was accepted
+abbrev pub StopsLine : WriterState → BufferState → WriterState → BufferState → List ℕ → CliFault → Type 0
+StopsLine old before new after line (Output fault) = FailsPartway old before new line fault
 StopsLine old before new after line OutOfMemory = (new ≡ old) × (after ≡ before)
 StopsLine old before new after line _ = ⊥
 

@@ -4,7 +4,7 @@ use Rattle.std.specs.List.{list_all}
 use lib.Utf8.{scalar}
 use Rattle.uca_weights.specs.declared.limits.TheConstants.{MAX_INPUT, MAX_LINE}
 use Rattle.uca_weights.specs.declared.settings.Settings.{Settings}
-use Rattle.uca_weights.specs.Reader.{ReaderState, Gives}
+use Rattle.uca_io.specs.Reader.{ReaderState, Gives}
 use Rattle.uca_model.specs.Table.{ElementTable}
 use Rattle.uca_model.specs.TableText.{words}
 use Rattle.uca_model.specs.TestFile.{TestCause, TestEnd, TestFault, bad_line, line_too_long, points_after, read, too_large}

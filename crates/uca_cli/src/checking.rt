@@ -1,5 +1,5 @@
 ghost use Rattle.std.specs.Prelude.{◌≡◌, ◌≤◌, ◌+◌, ◌++◌, ◌∷◌, [], length, decimal, IfErr, IfOk, MatchResult};
-ghost use Rattle.uca_weights.specs.Writer.{WritesAll, WritesFront};
+ghost use Rattle.uca_io.specs.Writer.{WritesAll, WritesFront};
 ghost use Rattle.uca_model.specs.Lines.{line_feed};
 ghost use Rattle.uca_model.specs.TestFile.{failure_text, report_text};
 ghost use Rattle.uca_cli.specs.Checking.{Checks, StopsCheck};

@@ -1,13 +1,14 @@
 ghost use Rattle.std.specs.Prelude.{◌≡◌, ◌+◌, ◌*◌, ◌^◌, ◌<◌, ◌≤◌, length, flat_map, map, IfOk, MatchResult, OnOk};
-ghost use Rattle.uca_weights.specs.Outgoing.{handed, Sends, StopsSending};
-ghost use Rattle.uca_weights.specs.Writer.{WritesAll, WritesFront};
+ghost use Rattle.uca_io.specs.OutputBuffer.{accepted, Accepts, FailsPartway};
+ghost use Rattle.uca_io.specs.Writer.{WritesAll, WritesFront};
 ghost use Rattle.uca_model.specs.WellFormed.{lint_output};
 ghost use Rattle.uca_table.specs.Bounds.{condition_of};
 ghost use Rattle.uca_cli.specs.Performing.{lint_status};
 ghost use Rattle.uca_cli.specs.Sending.{finding_line};
 
 use uca_table::{Table, WellFormed, lint};
-use uca_weights::{Outgoing, WriteFault, Writer};
+use uca_io::OutputBuffer;
+use uca_weights::{WriteFault, Writer};
 
 /// The line of a condition that a table breaks.
 fn finding(condition: WellFormed) -> &'static [u8]
@@ -26,17 +27,17 @@ fn finding(condition: WellFormed) -> &'static [u8]
 /// Has the lines of some conditions go out.
 fn send_findings<W: Writer>(
     w: &mut W,
-    out: &mut Outgoing,
+    out: &mut OutputBuffer,
     broken: &[WellFormed],
 ) -> Result<(), WriteFault>
-    requires { handed out.old + 4 * length broken.now < 2 ^ 128 }
+    requires { accepted out.old + 4 * length broken.now < 2 ^ 128 }
     ensures sends { MatchResult result
-        (λ _. Sends (W.state w.old) out.old (W.state w.new) out.new (flat_map finding_line (map condition_of broken.now)))
-        (λ f. StopsSending (W.state w.old) out.old (W.state w.new) (flat_map finding_line (map condition_of broken.now)) f) }
-    ensures small { OnOk result (handed out.new ≤ handed out.old + 4 * length broken.now) }
+        (λ _. Accepts (W.state w.old) out.old (W.state w.new) out.new (flat_map finding_line (map condition_of broken.now)))
+        (λ f. FailsPartway (W.state w.old) out.old (W.state w.new) (flat_map finding_line (map condition_of broken.now)) f) }
+    ensures small { OnOk result (accepted out.new ≤ accepted out.old + 4 * length broken.now) }
 {
     for condition in broken {
-        out.send(w, finding(*condition))?;
+        out.write(w, finding(*condition))?;
     }
     Ok(())
 }
@@ -50,7 +51,7 @@ pub fn write_findings<W: Writer>(t: &Table, w: &mut W) -> Result<u8, WriteFault>
 {
     let found = lint(t);
     let broken = found.as_slice();
-    let mut out = Outgoing::new();
+    let mut out = OutputBuffer::new();
     match send_findings(w, &mut out, broken) {
         Ok(()) => match out.flush(w) {
             Ok(()) => Ok(u8::from(!broken.is_empty())),

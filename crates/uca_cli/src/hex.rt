@@ -1,10 +1,11 @@
 ghost use Rattle.std.specs.Prelude.{◌≡◌, ◌+◌, ◌*◌, ◌^◌, ◌<◌, ◌≤◌, ◌∷◌, ◌++◌, [], length, MatchResult};
 ghost use Rattle.uca_model.specs.Output.{hex_digit, hex_pair, hex_text};
-ghost use Rattle.uca_weights.specs.Outgoing.{handed, Sends, StopsSending};
+ghost use Rattle.uca_io.specs.OutputBuffer.{accepted, Accepts, FailsPartway};
 ghost use Rattle.uca_cli.specs.Sending.{spaced_pairs};
 
 use arrayvec::ArrayVec;
-use uca_weights::{Outgoing, WriteFault, Writer};
+use uca_io::OutputBuffer;
+use uca_weights::{WriteFault, Writer};
 
 /// How many bytes go out as digits at once.
 const PIECE: usize = 256;
@@ -43,31 +44,31 @@ fn spaced_pairs(bytes: &[u8]) -> ArrayVec<u8, PAIRS>
 }
 
 /// Has bytes go out as pairs of digits, with a blank before each.
-fn send_spaced<W: Writer>(w: &mut W, out: &mut Outgoing, bytes: &[u8]) -> Result<(), WriteFault>
-    requires { handed out.old + 3 * length bytes.now < 2 ^ 128 }
+fn send_spaced<W: Writer>(w: &mut W, out: &mut OutputBuffer, bytes: &[u8]) -> Result<(), WriteFault>
+    requires { accepted out.old + 3 * length bytes.now < 2 ^ 128 }
     ensures { MatchResult result
-        (λ _. Sends (W.state w.old) out.old (W.state w.new) out.new (spaced_pairs bytes.now))
-        (λ f. StopsSending (W.state w.old) out.old (W.state w.new) (spaced_pairs bytes.now) f) }
+        (λ _. Accepts (W.state w.old) out.old (W.state w.new) out.new (spaced_pairs bytes.now))
+        (λ f. FailsPartway (W.state w.old) out.old (W.state w.new) (spaced_pairs bytes.now) f) }
 {
     let mut left = bytes;
     while left.len() > PIECE {
         let (front, rest) = left.split_at(PIECE);
-        out.send(w, spaced_pairs(front).as_slice())?;
+        out.write(w, spaced_pairs(front).as_slice())?;
         left = rest;
     }
-    out.send(w, spaced_pairs(left).as_slice())
+    out.write(w, spaced_pairs(left).as_slice())
 }
 
 /// Has bytes go out as pairs of digits, with one blank between.
-pub fn send_hex<W: Writer>(w: &mut W, out: &mut Outgoing, bytes: &[u8]) -> Result<(), WriteFault>
-    requires { handed out.old + 3 * length bytes.now < 2 ^ 128 }
+pub fn send_hex<W: Writer>(w: &mut W, out: &mut OutputBuffer, bytes: &[u8]) -> Result<(), WriteFault>
+    requires { accepted out.old + 3 * length bytes.now < 2 ^ 128 }
     ensures { MatchResult result
-        (λ _. Sends (W.state w.old) out.old (W.state w.new) out.new (hex_text bytes.now))
-        (λ f. StopsSending (W.state w.old) out.old (W.state w.new) (hex_text bytes.now) f) }
+        (λ _. Accepts (W.state w.old) out.old (W.state w.new) out.new (hex_text bytes.now))
+        (λ f. FailsPartway (W.state w.old) out.old (W.state w.new) (hex_text bytes.now) f) }
 {
     let Some((first, others)) = bytes.split_first() else {
         return Ok(());
     };
-    out.send(w, &hex_pair(*first))?;
+    out.write(w, &hex_pair(*first))?;
     send_spaced(w, out, others)
 }

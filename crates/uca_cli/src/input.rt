@@ -1,5 +1,5 @@
 ghost use Rattle.std.specs.Prelude.{◌≡◌, ◌≤◌, length, MatchResult};
-ghost use Rattle.uca_weights.specs.Reader.{GivesAll};
+ghost use Rattle.uca_io.specs.Reader.{GivesAll};
 ghost use Rattle.uca_cli.specs.Input.{StopsAt, StopsReading};
 
 use crate::faults::{InputCause, InputFault};

@@ -1,6 +1,6 @@
 ghost use Rattle.std.specs.Prelude.{◌≡◌, ◌^◌, ◌<◌, ◌≤◌, ◌+◌, length, All, OnOk, MatchResult};
-ghost use Rattle.uca_weights.specs.Outgoing.{handed, Sends, StopsSending};
-ghost use Rattle.uca_weights.specs.Writer.{WritesAll, WritesFront};
+ghost use Rattle.uca_io.specs.OutputBuffer.{accepted, Accepts, FailsPartway};
+ghost use Rattle.uca_io.specs.Writer.{WritesAll, WritesFront};
 ghost use Rattle.uca_weights.specs.declared.limits.TheConstants.{MAX_INPUT};
 ghost use Rattle.uca_model.specs.Compared.{compare_line, compare_output, order_line};
 ghost use Rattle.uca_model.specs.Lines.{lines_of, IsTextLine};
@@ -10,7 +10,8 @@ use crate::output::text_of_line;
 use std::cmp::Ordering;
 use uca_levels::compare;
 use uca_table::Table;
-use uca_weights::{Outgoing, Settings, WriteFault, Writer};
+use uca_io::OutputBuffer;
+use uca_weights::{Settings, WriteFault, Writer};
 
 /// The line that tells an order.
 fn order_line(order: Ordering) -> &'static [u8]
@@ -31,18 +32,18 @@ fn send_order<W: Writer>(
     before: &[u8],
     line: &[u8],
     w: &mut W,
-    out: &mut Outgoing,
+    out: &mut OutputBuffer,
 ) -> Result<(), WriteFault>
     requires before { IsTextLine before.now }
     requires line { IsTextLine line.now }
-    requires room { handed out.old < 2 ^ 127 }
+    requires room { accepted out.old < 2 ^ 127 }
     ensures sends { MatchResult result
-        (λ _. Sends (W.state w.old) out.old (W.state w.new) out.new (compare_line t.now s before.now line.now))
-        (StopsSending (W.state w.old) out.old (W.state w.new) (compare_line t.now s before.now line.now)) }
-    ensures small { OnOk result (handed out.new < handed out.old + 2 ^ 70) }
+        (λ _. Accepts (W.state w.old) out.old (W.state w.new) out.new (compare_line t.now s before.now line.now))
+        (FailsPartway (W.state w.old) out.old (W.state w.new) (compare_line t.now s before.now line.now)) }
+    ensures small { OnOk result (accepted out.new < accepted out.old + 2 ^ 70) }
 {
     let order = compare(t, s, &text_of_line(before), &text_of_line(line));
-    out.send(w, order_line(order))
+    out.write(w, order_line(order))
 }
 
 /// Writes the order of each two neighbours among the lines of an input, which was checked.
@@ -61,7 +62,7 @@ pub fn write_orders<W: Writer>(
     if bytes.is_empty() {
         return Ok(());
     }
-    let mut out = Outgoing::new();
+    let mut out = OutputBuffer::new();
     let (first, others) = first_line(bytes);
     let mut before = first;
     let mut left = others;

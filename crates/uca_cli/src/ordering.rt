@@ -1,8 +1,8 @@
 //! The lines of an input in the order of their sort keys.
 ghost use Rattle.std.specs.Prelude.{◌≡◌, ◌+◌, ◌^◌, ◌<◌, ◌≤◌, ◌++◌, ◌∷◌, [], length, map, sum, All, IfOk, OnOk, MatchResult};
 ghost use Rattle.std.specs.List.Sorted.{IsPermutation, IsSortedByKey, IsStableByKey};
-ghost use Rattle.uca_weights.specs.Outgoing.{handed, Sends, StopsSending};
-ghost use Rattle.uca_weights.specs.Writer.{WritesAll, WritesFront};
+ghost use Rattle.uca_io.specs.OutputBuffer.{accepted, Accepts, FailsPartway};
+ghost use Rattle.uca_io.specs.Writer.{WritesAll, WritesFront};
 ghost use Rattle.uca_weights.specs.declared.limits.TheConstants.{MAX_INPUT};
 ghost use Rattle.uca_model.specs.Lines.{line_feed, lines_of, IsTextLine};
 ghost use Rattle.uca_model.specs.Ordered.{text_of_lines};
@@ -15,8 +15,9 @@ use crate::output::text_of_line;
 use std::alloc::{AllocError, Global};
 use uca_key::key_of;
 use uca_table::Table;
-use uca_weights::outgoing::ROOM;
-use uca_weights::{Outgoing, Reader, Settings, WriteFault, Writer};
+use uca_io::output_buffer::ROOM;
+use uca_io::OutputBuffer;
+use uca_weights::{Reader, Settings, WriteFault, Writer};
 
 /// The sort keys of all lines, one behind the other, and how long each is.
 #[derive(Drop)]
@@ -86,31 +87,31 @@ fn sort_lines(lines: &mut Vec<KeyedLine<'_>>) -> Result<(), AllocError>
 }
 
 /// Has bytes go out, however many they are.
-fn send_bytes<W: Writer>(w: &mut W, out: &mut Outgoing, bytes: &[u8]) -> Result<(), WriteFault>
-    requires { handed out.old + length bytes.now < 2 ^ 128 }
+fn send_bytes<W: Writer>(w: &mut W, out: &mut OutputBuffer, bytes: &[u8]) -> Result<(), WriteFault>
+    requires { accepted out.old + length bytes.now < 2 ^ 128 }
     ensures { MatchResult result
-        (λ _. Sends (W.state w.old) out.old (W.state w.new) out.new bytes.now)
-        (λ f. StopsSending (W.state w.old) out.old (W.state w.new) bytes.now f) }
+        (λ _. Accepts (W.state w.old) out.old (W.state w.new) out.new bytes.now)
+        (λ f. FailsPartway (W.state w.old) out.old (W.state w.new) bytes.now f) }
 {
     let mut left = bytes;
     while left.len() > ROOM {
         let (front, rest) = left.split_at(ROOM);
-        out.send(w, front)?;
+        out.write(w, front)?;
         left = rest;
     }
-    out.send(w, left)
+    out.write(w, left)
 }
 
 /// Has a line go out, with LF.
-fn send_line<W: Writer>(w: &mut W, out: &mut Outgoing, line: &[u8]) -> Result<(), WriteFault>
-    requires { handed out.old < 2 ^ 127 }
+fn send_line<W: Writer>(w: &mut W, out: &mut OutputBuffer, line: &[u8]) -> Result<(), WriteFault>
+    requires { accepted out.old < 2 ^ 127 }
     ensures sends { MatchResult result
-        (λ _. Sends (W.state w.old) out.old (W.state w.new) out.new (line.now ++ line_feed ∷ []))
-        (λ f. StopsSending (W.state w.old) out.old (W.state w.new) (line.now ++ line_feed ∷ []) f) }
-    ensures small { OnOk result (handed out.new < handed out.old + 2 ^ 70) }
+        (λ _. Accepts (W.state w.old) out.old (W.state w.new) out.new (line.now ++ line_feed ∷ []))
+        (λ f. FailsPartway (W.state w.old) out.old (W.state w.new) (line.now ++ line_feed ∷ []) f) }
+    ensures small { OnOk result (accepted out.new < accepted out.old + 2 ^ 70) }
 {
     match send_bytes(w, out, line) {
-        Ok(()) => out.send(w, b"\n"),
+        Ok(()) => out.write(w, b"\n"),
         Err(fault) => Err(fault),
     }
 }
@@ -122,7 +123,7 @@ fn write_keyed<W: Writer>(lines: &[KeyedLine<'_>], w: &mut W) -> Result<(), Writ
         (λ _. WritesAll (W.state w.old) (W.state w.new) (text_of_lines (map (λ l. l.line.now) lines.now)))
         (WritesFront (W.state w.old) (W.state w.new) (text_of_lines (map (λ l. l.line.now) lines.now))) }
 {
-    let mut out = Outgoing::new();
+    let mut out = OutputBuffer::new();
     for keyed in lines {
         send_line(w, &mut out, keyed.line)?;
     }

@@ -1,6 +1,6 @@
 ghost use Rattle.std.specs.Prelude.{◌≡◌, ◌+◌, ◌*◌, ◌^◌, ◌<◌, ◌≤◌, ◌++◌, length, flat_map, All, OnOk, MatchResult, chars};
-ghost use Rattle.uca_weights.specs.Outgoing.{handed, Sends, StopsSending};
-ghost use Rattle.uca_weights.specs.Writer.{WritesAll, WritesFront};
+ghost use Rattle.uca_io.specs.OutputBuffer.{accepted, Accepts, FailsPartway};
+ghost use Rattle.uca_io.specs.Writer.{WritesAll, WritesFront};
 ghost use Rattle.uca_weights.specs.declared.limits.TheConstants.{MAX_INPUT};
 ghost use Rattle.uca_model.specs.CanonicalText.{element_text};
 ghost use Rattle.uca_model.specs.ElementLines.{elements_text};
@@ -20,7 +20,8 @@ use uca_allkeys::element_text;
 use uca_key::{key_of, write_key};
 use uca_match::elements_of;
 use uca_table::Table;
-use uca_weights::{Element, Outgoing, Settings, WriteFault, Writer};
+use uca_io::OutputBuffer;
+use uca_weights::{Element, Settings, WriteFault, Writer};
 use uca_window::Passage;
 
 /// What a command writes for each line.
@@ -43,16 +44,16 @@ pub fn text_of_line(line: &[u8]) -> Passage<'_>
 /// Has collation elements go out one behind the other.
 fn send_each<W: Writer>(
     w: &mut W,
-    out: &mut Outgoing,
+    out: &mut OutputBuffer,
     elements: &[Element],
 ) -> Result<(), WriteFault>
-    requires { handed out.old + 17 * length elements.now < 2 ^ 128 }
+    requires { accepted out.old + 17 * length elements.now < 2 ^ 128 }
     ensures { MatchResult result
-        (λ _. Sends (W.state w.old) out.old (W.state w.new) out.new (flat_map element_text elements.now))
-        (λ f. StopsSending (W.state w.old) out.old (W.state w.new) (flat_map element_text elements.now) f) }
+        (λ _. Accepts (W.state w.old) out.old (W.state w.new) out.new (flat_map element_text elements.now))
+        (λ f. FailsPartway (W.state w.old) out.old (W.state w.new) (flat_map element_text elements.now) f) }
 {
     for element in elements {
-        out.send(w, &element_text(element))?;
+        out.write(w, &element_text(element))?;
     }
     Ok(())
 }
@@ -60,31 +61,31 @@ fn send_each<W: Writer>(
 /// Has the line of some collation elements go out.
 fn send_elements<W: Writer>(
     w: &mut W,
-    out: &mut Outgoing,
+    out: &mut OutputBuffer,
     elements: &[Element],
 ) -> Result<(), WriteFault>
-    requires { handed out.old < 2 ^ 127 }
+    requires { accepted out.old < 2 ^ 127 }
     ensures sends { MatchResult result
-        (λ _. Sends (W.state w.old) out.old (W.state w.new) out.new (elements_text elements.now))
-        (StopsSending (W.state w.old) out.old (W.state w.new) (elements_text elements.now)) }
-    ensures small { OnOk result (handed out.new < handed out.old + 2 ^ 70) }
+        (λ _. Accepts (W.state w.old) out.old (W.state w.new) out.new (elements_text elements.now))
+        (FailsPartway (W.state w.old) out.old (W.state w.new) (elements_text elements.now)) }
+    ensures small { OnOk result (accepted out.new < accepted out.old + 2 ^ 70) }
 {
     match send_each(w, out, elements) {
-        Ok(()) => out.send(w, b"\n"),
+        Ok(()) => out.write(w, b"\n"),
         Err(fault) => Err(fault),
     }
 }
 
 /// Has the line of a key go out.
-fn send_key<W: Writer>(w: &mut W, out: &mut Outgoing, key: &[u8]) -> Result<(), WriteFault>
-    requires { handed out.old < 2 ^ 127 }
+fn send_key<W: Writer>(w: &mut W, out: &mut OutputBuffer, key: &[u8]) -> Result<(), WriteFault>
+    requires { accepted out.old < 2 ^ 127 }
     ensures sends { MatchResult result
-        (λ _. Sends (W.state w.old) out.old (W.state w.new) out.new (hex_line key.now))
-        (StopsSending (W.state w.old) out.old (W.state w.new) (hex_line key.now)) }
-    ensures small { OnOk result (handed out.new < handed out.old + 2 ^ 70) }
+        (λ _. Accepts (W.state w.old) out.old (W.state w.new) out.new (hex_line key.now))
+        (FailsPartway (W.state w.old) out.old (W.state w.new) (hex_line key.now)) }
+    ensures small { OnOk result (accepted out.new < accepted out.old + 2 ^ 70) }
 {
     match send_hex(w, out, key) {
-        Ok(()) => out.send(w, b"\n"),
+        Ok(()) => out.write(w, b"\n"),
         Err(fault) => Err(fault),
     }
 }
@@ -97,14 +98,14 @@ fn send_line<W: Writer>(
     s: Settings,
     line: &[u8],
     w: &mut W,
-    out: &mut Outgoing,
+    out: &mut OutputBuffer,
 ) -> Result<(), CliFault>
     requires text { IsTextLine line.now }
-    requires room { handed out.old < 2 ^ 127 }
+    requires room { accepted out.old < 2 ^ 127 }
     ensures sends { MatchResult result
-        (λ _. Sends (W.state w.old) out.old (W.state w.new) out.new (line_text form t.now s line.now))
+        (λ _. Accepts (W.state w.old) out.old (W.state w.new) out.new (line_text form t.now s line.now))
         (StopsLine (W.state w.old) out.old (W.state w.new) out.new (line_text form t.now s line.now)) }
-    ensures small { OnOk result (handed out.new < handed out.old + 2 ^ 70) }
+    ensures small { OnOk result (accepted out.new < accepted out.old + 2 ^ 70) }
 {
     let passage = text_of_line(line);
     match form {
@@ -140,7 +141,7 @@ pub fn write_lines<W: Writer>(
         (λ _. WritesAll (W.state w.old) (W.state w.new) (lines_text form t.now s bytes.now))
         (StopsOutput (W.state w.old) (W.state w.new) (lines_text form t.now s bytes.now)) }
 {
-    let mut out = Outgoing::new();
+    let mut out = OutputBuffer::new();
     let mut left = bytes;
     while !left.is_empty() {
         let (line, rest) = first_line(left);

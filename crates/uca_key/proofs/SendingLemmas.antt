@@ -1,42 +1,42 @@
 -- A key that goes out piece by piece.
 use Rattle.std.proofs.Common.{◌≡◌, ℕ, zero, suc, ◌+◌, ◌<◌, List, [], ◌∷◌, ◌++◌, length, Option, Some, None, refl, sym, ap, subst, ◌∙◌, arith, append_assoc, append-nil, length-append}
-use Rattle.uca_weights.specs.declared.outgoing.Outgoing.{Outgoing}
-use Rattle.uca_weights.specs.declared.writer.WriteFault.{WriteFault}
-use Rattle.uca_weights.specs.WriterState.{WriterState}
-use Rattle.uca_weights.specs.Writer.{WritesFront}
-use Rattle.uca_weights.specs.Outgoing.{handed, Sends, StopsSending}
-use Rattle.uca_weights.proofs.OutgoingLemmas.{Sends-none, Sends-more, handed-Sends, StopsSending-later, StopsSending-longer, StopsSending-front}
+use Rattle.uca_io.specs.BufferState.{BufferState}
+use Rattle.uca_io.specs.declared.writer.WriteFault.{WriteFault}
+use Rattle.uca_io.specs.WriterState.{WriterState}
+use Rattle.uca_io.specs.Writer.{WritesFront}
+use Rattle.uca_io.specs.OutputBuffer.{accepted, Accepts, FailsPartway}
+use Rattle.uca_io.proofs.BufferLemmas.{Accepts-none, Accepts-more, accepted-Accepts, FailsPartway-later, FailsPartway-longer, FailsPartway-front}
 use Rattle.uca_model.specs.Reading.{key_from, bytes_at}
 
 -- these bytes went out, and the others of a piece are left
-pub record IsSending (s0 : WriterState) (o0 : Outgoing) (s1 : WriterState) (o1 : Outgoing) (whole left : List ℕ) : Type 0 where
+pub record IsSending (s0 : WriterState) (o0 : BufferState) (s1 : WriterState) (o1 : BufferState) (whole left : List ℕ) : Type 0 where
   pub sent : List ℕ
-  pub sends : Sends s0 o0 s1 o1 sent
+  pub sends : Accepts s0 o0 s1 o1 sent
   pub told : sent ++ left ≡ whole
 
-pub IsSending-start : (s : WriterState) (o : Outgoing) (whole left : List ℕ) → left ≡ whole → IsSending s o s o whole left
-IsSending-start s o whole left same = record { sent = []; sends = Sends-none s o; told = same }
+pub IsSending-start : (s : WriterState) (o : BufferState) (whole left : List ℕ) → left ≡ whole → IsSending s o s o whole left
+IsSending-start s o whole left same = record { sent = []; sends = Accepts-none s o; told = same }
 
-module _ (s0 s1 : WriterState) (o0 o1 : Outgoing) (whole left : List ℕ) (h : IsSending s0 o0 s1 o1 whole left) where
-  pub IsSending-room : (piece later : List ℕ) (limit : ℕ) → left ≡ piece ++ later → handed o0 + length whole < limit → handed o1 + length piece < limit
+module _ (s0 s1 : WriterState) (o0 o1 : BufferState) (whole left : List ℕ) (h : IsSending s0 o0 s1 o1 whole left) where
+  pub IsSending-room : (piece later : List ℕ) (limit : ℕ) → left ≡ piece ++ later → accepted o0 + length whole < limit → accepted o1 + length piece < limit
   IsSending-room piece later limit split room =
-      omega (arith, handed-Sends s0 s1 o0 o1 h.sent h.sends, ap length h.told, length-append h.sent left, ap length split, length-append piece later)
+      omega (arith, accepted-Accepts s0 s1 o0 o1 h.sent h.sends, ap length h.told, length-append h.sent left, ap length split, length-append piece later)
 
-  pub IsSending-more : (s2 : WriterState) (o2 : Outgoing) (piece later : List ℕ) → left ≡ piece ++ later → Sends s1 o1 s2 o2 piece → IsSending s0 o0 s2 o2 whole later
+  pub IsSending-more : (s2 : WriterState) (o2 : BufferState) (piece later : List ℕ) → left ≡ piece ++ later → Accepts s1 o1 s2 o2 piece → IsSending s0 o0 s2 o2 whole later
   IsSending-more s2 o2 piece later split sends = record {
     sent = h.sent ++ piece;
-    sends = Sends-more s0 s1 s2 o0 o1 o2 h.sent piece h.sends sends;
+    sends = Accepts-more s0 s1 s2 o0 o1 o2 h.sent piece h.sends sends;
     told = append_assoc h.sent piece later ∙ ap (λ l. h.sent ++ l) (sym split) ∙ h.told;
   }
 
-  pub IsSending-stops : (s2 : WriterState) (piece later : List ℕ) (f : WriteFault) → left ≡ piece ++ later → StopsSending s1 o1 s2 piece f → StopsSending s0 o0 s2 whole f
+  pub IsSending-stops : (s2 : WriterState) (piece later : List ℕ) (f : WriteFault) → left ≡ piece ++ later → FailsPartway s1 o1 s2 piece f → FailsPartway s0 o0 s2 whole f
   IsSending-stops s2 piece later f split stops =
-      subst (λ (l : List ℕ). StopsSending s0 o0 s2 l f) (append_assoc h.sent piece later ∙ ap (λ l. h.sent ++ l) (sym split) ∙ h.told)
-      (StopsSending-longer s0 s2 o0 (h.sent ++ piece) later f (StopsSending-later s0 s1 s2 o0 o1 h.sent piece f h.sends stops))
+      subst (λ (l : List ℕ). FailsPartway s0 o0 s2 l f) (append_assoc h.sent piece later ∙ ap (λ l. h.sent ++ l) (sym split) ∙ h.told)
+      (FailsPartway-longer s0 s2 o0 (h.sent ++ piece) later f (FailsPartway-later s0 s1 s2 o0 o1 h.sent piece f h.sends stops))
 
-  pub IsSending-ends : left ≡ [] → Sends s0 o0 s1 o1 whole
+  pub IsSending-ends : left ≡ [] → Accepts s0 o0 s1 o1 whole
   IsSending-ends none =
-      subst (λ (l : List ℕ). Sends s0 o0 s1 o1 l) (sym (append-nil h.sent) ∙ ap (λ l. h.sent ++ l) (sym none) ∙ h.told) h.sends
+      subst (λ (l : List ℕ). Accepts s0 o0 s1 o1 l) (sym (append-nil h.sent) ∙ ap (λ l. h.sent ++ l) (sym none) ∙ h.told) h.sends
 
 -- what follows a level in a key
 abbrev pub tail_of : ℕ → ℕ → (ℕ → List ℕ) → List ℕ
@@ -52,7 +52,7 @@ none_from None other = refl
 none_from (Some x) other = absurd (other x refl)
 
 -- what waited last did not all go out
-pub stopped_last : (s0 s1 s2 : WriterState) (o0 o1 : Outgoing) (key : List ℕ) (f : WriteFault) → o0.waiting.items ≡ [] → o0.written ≡ 0 → Sends s0 o0 s1 o1 key → StopsSending s1 o1 s2 [] f → WritesFront s0 s2 key f
+pub stopped_last : (s0 s1 s2 : WriterState) (o0 o1 : BufferState) (key : List ℕ) (f : WriteFault) → o0.waiting ≡ [] → o0.written ≡ 0 → Accepts s0 o0 s1 o1 key → FailsPartway s1 o1 s2 [] f → WritesFront s0 s2 key f
 stopped_last s0 s1 s2 o0 o1 key f none nothing sends stops =
-    let whole : StopsSending s0 o0 s2 key f = subst (λ (l : List ℕ). StopsSending s0 o0 s2 l f) (append-nil key) (StopsSending-later s0 s1 s2 o0 o1 key [] f sends stops) in
-    StopsSending-front s0 s2 o0 key f none nothing whole
+    let whole : FailsPartway s0 o0 s2 key f = subst (λ (l : List ℕ). FailsPartway s0 o0 s2 l f) (append-nil key) (FailsPartway-later s0 s1 s2 o0 o1 key [] f sends stops) in
+    FailsPartway-front s0 s2 o0 key f none nothing whole

@@ -1,6 +1,6 @@
 ghost use Rattle.std.specs.Prelude.{◌≡◌, ◌+◌, ◌<◌, ◌≤◌, ◌^◌, [], ◌∷◌, length, MatchResult};
-ghost use Rattle.uca_weights.specs.Outgoing.{handed, Sends, StopsSending};
-ghost use Rattle.uca_weights.specs.Writer.{WritesAll, WritesFront};
+ghost use Rattle.uca_io.specs.OutputBuffer.{accepted, Accepts, FailsPartway};
+ghost use Rattle.uca_io.specs.Writer.{WritesAll, WritesFront};
 ghost use Rattle.uca_model.specs.LevelWeights.{level_list};
 ghost use Rattle.uca_model.specs.Reading.{bytes_at};
 ghost use Rattle.uca_model.specs.SafeText.{IsSafe};
@@ -11,46 +11,47 @@ ghost use Rattle.uca_window.specs.Passage.{text_of};
 use uca_levels::Weights;
 use uca_levels::points::next_point;
 use uca_table::Table;
-use uca_weights::{Outgoing, Settings, Variable, WriteFault, Writer};
+use uca_io::OutputBuffer;
+use uca_weights::{Settings, Variable, WriteFault, Writer};
 use uca_window::{Passage, PassageSource, Source, Window};
 
 /// How far the bytes of a key came, and why they stopped.
 pub type KeyFault = WriteFault;
 
 // Has a weight go out.
-fn send_weight<W: Writer>(w: &mut W, out: &mut Outgoing, weight: u16) -> Result<(), WriteFault>
-    requires { handed out.old + 2 < 2 ^ 128 }
+fn send_weight<W: Writer>(w: &mut W, out: &mut OutputBuffer, weight: u16) -> Result<(), WriteFault>
+    requires { accepted out.old + 2 < 2 ^ 128 }
     ensures { MatchResult result
-        (λ _. Sends (W.state w.old) out.old (W.state w.new) out.new (weight_bytes weight))
-        (λ f. StopsSending (W.state w.old) out.old (W.state w.new) (weight_bytes weight) f) }
+        (λ _. Accepts (W.state w.old) out.old (W.state w.new) out.new (weight_bytes weight))
+        (λ f. FailsPartway (W.state w.old) out.old (W.state w.new) (weight_bytes weight) f) }
 {
-    out.send(w, &weight.to_be_bytes())
+    out.write(w, &weight.to_be_bytes())
 }
 
 // Has a code point go out.
-fn send_point<W: Writer>(w: &mut W, out: &mut Outgoing, point: char) -> Result<(), WriteFault>
-    requires { handed out.old + 3 < 2 ^ 128 }
+fn send_point<W: Writer>(w: &mut W, out: &mut OutputBuffer, point: char) -> Result<(), WriteFault>
+    requires { accepted out.old + 3 < 2 ^ 128 }
     ensures { MatchResult result
-        (λ _. Sends (W.state w.old) out.old (W.state w.new) out.new (code_point_bytes point))
-        (λ f. StopsSending (W.state w.old) out.old (W.state w.new) (code_point_bytes point) f) }
+        (λ _. Accepts (W.state w.old) out.old (W.state w.new) out.new (code_point_bytes point))
+        (λ f. FailsPartway (W.state w.old) out.old (W.state w.new) (code_point_bytes point) f) }
 {
-    out.send(w, &(point as u32).to_be_bytes()[1..])
+    out.write(w, &(point as u32).to_be_bytes()[1..])
 }
 
 // Has the separator of levels go out.
-fn send_separator<W: Writer>(w: &mut W, out: &mut Outgoing) -> Result<(), WriteFault>
-    requires { handed out.old + 2 < 2 ^ 128 }
+fn send_separator<W: Writer>(w: &mut W, out: &mut OutputBuffer) -> Result<(), WriteFault>
+    requires { accepted out.old + 2 < 2 ^ 128 }
     ensures { MatchResult result
-        (λ _. Sends (W.state w.old) out.old (W.state w.new) out.new (0 ∷ 0 ∷ []))
-        (λ f. StopsSending (W.state w.old) out.old (W.state w.new) (0 ∷ 0 ∷ []) f) }
+        (λ _. Accepts (W.state w.old) out.old (W.state w.new) out.new (0 ∷ 0 ∷ []))
+        (λ f. FailsPartway (W.state w.old) out.old (W.state w.new) (0 ∷ 0 ∷ []) f) }
 {
-    out.send(w, &[0, 0])
+    out.write(w, &[0, 0])
 }
 
 // Has the weights of a level go out, of what a source has not given yet.
 fn send_weights<W: Writer, S: Source>(
     w: &mut W,
-    out: &mut Outgoing,
+    out: &mut OutputBuffer,
     t: &Table,
     v: Variable,
     level: u8,
@@ -59,10 +60,10 @@ fn send_weights<W: Writer, S: Source>(
     requires first { 1 ≤ level }
     requires last { level ≤ 4 }
     requires safe { IsSafe (unread (S.state source.old)) }
-    requires room { handed out.old + length (bytes_at level (level_list t.now v (unread (S.state source.old)) level)) < 2 ^ 128 }
+    requires room { accepted out.old + length (bytes_at level (level_list t.now v (unread (S.state source.old)) level)) < 2 ^ 128 }
     ensures bytes { MatchResult result
-        (λ _. Sends (W.state w.old) out.old (W.state w.new) out.new (bytes_at level (level_list t.now v (unread (S.state source.old)) level)))
-        (λ f. StopsSending (W.state w.old) out.old (W.state w.new) (bytes_at level (level_list t.now v (unread (S.state source.old)) level)) f) }
+        (λ _. Accepts (W.state w.old) out.old (W.state w.new) out.new (bytes_at level (level_list t.now v (unread (S.state source.old)) level)))
+        (λ f. FailsPartway (W.state w.old) out.old (W.state w.new) (bytes_at level (level_list t.now v (unread (S.state source.old)) level)) f) }
     ensures text { (S.state source.new).text ≡ (S.state source.old).text }
 {
     let mut weights = Weights::new(t, v, level);
@@ -78,16 +79,16 @@ fn send_weights<W: Writer, S: Source>(
 // Has the code points in NFD go out, of what a source has not given yet.
 fn send_points<W: Writer, S: Source>(
     w: &mut W,
-    out: &mut Outgoing,
+    out: &mut OutputBuffer,
     t: &Table,
     v: Variable,
     source: &mut S,
 ) -> Result<(), WriteFault>
     requires safe { IsSafe (unread (S.state source.old)) }
-    requires room { handed out.old + length (bytes_at 5 (level_list t.now v (unread (S.state source.old)) 5)) < 2 ^ 128 }
+    requires room { accepted out.old + length (bytes_at 5 (level_list t.now v (unread (S.state source.old)) 5)) < 2 ^ 128 }
     ensures bytes { MatchResult result
-        (λ _. Sends (W.state w.old) out.old (W.state w.new) out.new (bytes_at 5 (level_list t.now v (unread (S.state source.old)) 5)))
-        (λ f. StopsSending (W.state w.old) out.old (W.state w.new) (bytes_at 5 (level_list t.now v (unread (S.state source.old)) 5)) f) }
+        (λ _. Accepts (W.state w.old) out.old (W.state w.new) out.new (bytes_at 5 (level_list t.now v (unread (S.state source.old)) 5)))
+        (λ f. FailsPartway (W.state w.old) out.old (W.state w.new) (bytes_at 5 (level_list t.now v (unread (S.state source.old)) 5)) f) }
     ensures text { (S.state source.new).text ≡ (S.state source.old).text }
 {
     let mut window = Window::new(1);
@@ -103,7 +104,7 @@ fn send_points<W: Writer, S: Source>(
 // Has one level go out, of what a source has not given yet.
 fn send_level<W: Writer, S: Source>(
     w: &mut W,
-    out: &mut Outgoing,
+    out: &mut OutputBuffer,
     t: &Table,
     v: Variable,
     level: u8,
@@ -112,10 +113,10 @@ fn send_level<W: Writer, S: Source>(
     requires first { 1 ≤ level }
     requires last { level ≤ 5 }
     requires safe { IsSafe (unread (S.state source.old)) }
-    requires room { handed out.old + length (bytes_at level (level_list t.now v (unread (S.state source.old)) level)) < 2 ^ 128 }
+    requires room { accepted out.old + length (bytes_at level (level_list t.now v (unread (S.state source.old)) level)) < 2 ^ 128 }
     ensures bytes { MatchResult result
-        (λ _. Sends (W.state w.old) out.old (W.state w.new) out.new (bytes_at level (level_list t.now v (unread (S.state source.old)) level)))
-        (λ f. StopsSending (W.state w.old) out.old (W.state w.new) (bytes_at level (level_list t.now v (unread (S.state source.old)) level)) f) }
+        (λ _. Accepts (W.state w.old) out.old (W.state w.new) out.new (bytes_at level (level_list t.now v (unread (S.state source.old)) level)))
+        (λ f. FailsPartway (W.state w.old) out.old (W.state w.new) (bytes_at level (level_list t.now v (unread (S.state source.old)) level)) f) }
     ensures text { (S.state source.new).text ≡ (S.state source.old).text }
 {
     if level == 5 {
@@ -127,16 +128,16 @@ fn send_level<W: Writer, S: Source>(
 // Has the sort key of a source's text go out, level after level.
 fn send_key<W: Writer, S: Source>(
     w: &mut W,
-    out: &mut Outgoing,
+    out: &mut OutputBuffer,
     t: &Table,
     s: Settings,
     source: &mut S,
 ) -> Result<(), WriteFault>
     requires safe { IsSafe (S.state source.old).text }
-    requires room { handed out.old + length (sort_key t.now s (S.state source.old).text) < 2 ^ 128 }
+    requires room { accepted out.old + length (sort_key t.now s (S.state source.old).text) < 2 ^ 128 }
     ensures { MatchResult result
-        (λ _. Sends (W.state w.old) out.old (W.state w.new) out.new (sort_key t.now s (S.state source.old).text))
-        (λ f. StopsSending (W.state w.old) out.old (W.state w.new) (sort_key t.now s (S.state source.old).text) f) }
+        (λ _. Accepts (W.state w.old) out.old (W.state w.new) out.new (sort_key t.now s (S.state source.old).text))
+        (λ f. FailsPartway (W.state w.old) out.old (W.state w.new) (sort_key t.now s (S.state source.old).text) f) }
 {
     let last = s.levels();
     let mut level = 1;
@@ -186,7 +187,7 @@ pub fn write_key<W: Writer>(
         (λ f. WritesFront (W.state w.old) (W.state w.new) (sort_key t.now s (text_of p.now)) f) }
 {
     show_room(t, s, p);
-    let mut out = Outgoing::new();
+    let mut out = OutputBuffer::new();
     let mut source = PassageSource::new(p);
     match send_key(w, &mut out, t, s, &mut source) {
         Ok(()) => {}

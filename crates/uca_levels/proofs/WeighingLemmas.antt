@@ -1,4 +1,4 @@
--- A weigher that was handed the elements of a list gives the weights of those behind them.
+-- A weigher that was accepted the elements of a list gives the weights of those behind them.
 use Rattle.std.proofs.Common.{◌≡◌, false, List, [], ◌∷◌, ◌++◌, find, refl, sym, ap, ◌∙◌, inl, inr}
 use Rattle.std.proofs.lemmas.Bool.{cases_Bool, cond-true, cond-false}
 use Rattle.std.proofs.lemmas.List.{reverse-append}

@@ -25,7 +25,7 @@ new_weights t v level = record { elements = new_elements t; weigher = record { w
 abbrev pub window_of_weights : WeightsState → WindowState
 window_of_weights w = w.elements.window
 
--- the four weights of each element that a weigher is handed from now on
+-- the four weights of each element that a weigher is accepted from now on
 abbrev pub weighted_from : WeigherState → List Element → List (List ℕ)
 weighted_from w [] = []
 weighted_from w (e ∷ es) = weights w.weighting w.after e ∷ weighted_from (record w { after = after_element w.after e }) es

@@ -1,6 +1,6 @@
 -- A source of characters: a text that is read one character at a time, and again from its start or a mark, and that counts the calls.
 use Rattle.std.specs.Prelude.{◌≡◌, ℕ, ◌+◌, ◌-◌, List, [], ◌∷◌, drop, Option, MatchOption}
-use Rattle.uca_weights.specs.Counts.{one_more}
+use Rattle.uca_io.specs.Counts.{one_more}
 
 -- its text, how many characters of it lie before the place and before the mark, none where there is no mark, and how often `next` and the ways back were called
 pub record SourceState : Type 0 where

@@ -14,7 +14,7 @@ pub record WeigherState : Type 0 where
 abbrev pub after_element : Bool → Element → Bool
 after_element after e = if has_primary e then is_variable e else after
 
--- it weighs by this option, and was handed these elements so far
+-- it weighs by this option, and was accepted these elements so far
 pub record HasSeen (v : Variable) (w : WeigherState) (seen : List Element) : Type 0 where
   pub weighting : w.weighting ≡ v
   pub after : w.after ≡ is_after_variable seen

@@ -27,7 +27,7 @@ impl Model for Weigher {
 impl Weigher {
     ghost use Rattle.uca_weights.specs.Weigher.{HasSeen, after_element};
 
-    /// A weigher that was handed no element yet.
+    /// A weigher that was accepted no element yet.
     pub fn new(v: Variable) -> Weigher
         ensures value { result ≡ record { weighting = v; after = false } }
         ensures seen { HasSeen v result [] }

@@ -8,7 +8,7 @@ use Rattle.std.specs.Str.Iter.{chars_rest, chars_steps}
 use Rattle.std.specs.declared.str.Chars.{Chars}
 use Rattle.std.proofs.lemmas.Str.{chars_past_char, chars-nil, IsUtf8-past_char}
 use Rattle.uca_model.specs.Source.{GivesNext}
-use Rattle.uca_weights.specs.Counts.{one_more}
+use Rattle.uca_io.specs.Counts.{one_more}
 use Rattle.uca_window.specs.PassageSource.{state_at, Follows, StandsIn}
 
 -- what a call of `next` says of the characters that were left and are left

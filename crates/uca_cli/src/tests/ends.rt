@@ -1,6 +1,6 @@
 //! Readers and writers that stop, for the tests.
-ghost use Rattle.uca_weights.specs.Reader.{ReaderState};
-ghost use Rattle.uca_weights.specs.WriterState.{WriterState};
+ghost use Rattle.uca_io.specs.Reader.{ReaderState};
+ghost use Rattle.uca_io.specs.WriterState.{WriterState};
 ghost use Rattle.std.specs.Prelude.{None};
 
 use uca_weights::{Reader, Refused, WriteCause, Writer};

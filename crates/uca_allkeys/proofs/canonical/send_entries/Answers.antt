@@ -4,8 +4,8 @@ use Rattle.std.proofs.lemmas.List.Elements.{All-tail}
 use Rattle.std.specs.List.{All}
 use Rattle.std.specs.FinMap.{entries}
 use Rattle.uca_weights.specs.declared.element.Element.{Element}
-use Rattle.uca_weights.specs.Outgoing.{handed}
-use Rattle.uca_weights.proofs.OutgoingLemmas.{Sends-none, handed-Sends}
+use Rattle.uca_io.specs.OutputBuffer.{accepted}
+use Rattle.uca_io.proofs.BufferLemmas.{Accepts-none, accepted-Accepts}
 use Rattle.uca_model.specs.Table.{IsEntry}
 use Rattle.uca_model.specs.CanonicalText.{entry_line}
 use Rattle.uca_allkeys.proofs.SendLemmas.{sent_more, stopped_there}
@@ -19,7 +19,7 @@ loop-key-init g c =
       can = tt;
       finite = tt;
       sent = [];
-      sends = Sends-none _ _;
+      sends = Accepts-none _ _;
       told = ap (flat_map entry_line) all;
       valid = subst (λ (es : List (List ℕ × List Element)). All IsEntry es) (sym all) c.show_entries.ensures;
       room = omega (arith, few, c.requires);
@@ -32,8 +32,8 @@ loop-key-preserved g c =
     let line : List ℕ = entry_line entry in let rest : List ℕ = flat_map entry_line c.next.new.self in
     let is : c.as_slice-in-loop-key.result.now ≡ line = c.as_slice-in-loop-key.ensures.value ∙ c.entry_line.ensures ∙ ap (λ (key : List ℕ). entry_line (key, c.in-Some.elements.now)) c.as_slice.ensures.value in
     let told : c.loop-key.invariant.sent ++ (line ++ rest) ≡ flat_map entry_line (entries c.args.table.now.entries) = ap (λ (es : List (List ℕ × List Element)). c.loop-key.invariant.sent ++ flat_map entry_line es) (sym steps) ∙ c.loop-key.invariant.told in
-    let more = sent_more _ _ _ c.args.out.now c.loop-key.out c.send.new.self c.loop-key.invariant.sent line rest _ c.as_slice-in-loop-key.result.now c.loop-key.invariant.sends told is c.in_ok-send.ensures.all in
-    let size : handed c.send.new.self ≡ handed c.loop-key.out + length c.as_slice-in-loop-key.result.now = handed-Sends _ _ _ _ c.as_slice-in-loop-key.result.now c.in_ok-send.ensures.all in
+    let more = sent_more _ _ _ c.args.out.now c.loop-key.out c.write.new.self c.loop-key.invariant.sent line rest _ c.as_slice-in-loop-key.result.now c.loop-key.invariant.sends told is c.in_ok-write.ensures.all in
+    let size : accepted c.write.new.self ≡ accepted c.loop-key.out + length c.as_slice-in-loop-key.result.now = accepted-Accepts _ _ _ _ c.as_slice-in-loop-key.result.now c.in_ok-write.ensures.all in
     let fits : length c.as_slice-in-loop-key.result.now ≤ 4096 = c.as_slice-in-loop-key.ensures.fits in
     let count : length c.loop-key.key-iterator ≡ length c.next.new.self + 1 = ap length steps ∙ omega arith in
     let valid : All IsEntry (entry ∷ c.next.new.self) = subst (λ (es : List (List ℕ × List Element)). All IsEntry es) steps c.loop-key.invariant.valid in
@@ -47,12 +47,12 @@ loop-key-preserved g c =
       room = omega (arith, size, fits, count, c.loop-key.invariant.room);
     }
 
-pub returns-in_err-send-clause-lines : goal.returns-in_err-send-clause-lines
-returns-in_err-send-clause-lines g c =
+pub returns-in_err-write-clause-lines : goal.returns-in_err-write-clause-lines
+returns-in_err-write-clause-lines g c =
     let p = err_from_is_err_and c.from_residual.result c.from_residual.ensures.1 in
     let entry : List ℕ × List Element = (c.in-Some.key.items, c.in-Some.elements.now) in
     let steps : c.loop-key.key-iterator ≡ entry ∷ c.next.new.self = c.in-Some.ensures.steps in
     let line : List ℕ = entry_line entry in let rest : List ℕ = flat_map entry_line c.next.new.self in
     let is : c.as_slice-in-loop-key.result.now ≡ line = c.as_slice-in-loop-key.ensures.value ∙ c.entry_line.ensures ∙ ap (λ (key : List ℕ). entry_line (key, c.in-Some.elements.now)) c.as_slice.ensures.value in
     let told : c.loop-key.invariant.sent ++ (line ++ rest) ≡ flat_map entry_line (entries c.args.table.now.entries) = ap (λ (es : List (List ℕ × List Element)). c.loop-key.invariant.sent ++ flat_map entry_line es) (sym steps) ∙ c.loop-key.invariant.told in
-    rw (p.1, p.2) (stopped_there _ _ _ c.args.out.now c.loop-key.out c.loop-key.invariant.sent line rest _ c.as_slice-in-loop-key.result.now _ c.loop-key.invariant.sends told is c.in_err-send.ensures.all)
+    rw (p.1, p.2) (stopped_there _ _ _ c.args.out.now c.loop-key.out c.loop-key.invariant.sent line rest _ c.as_slice-in-loop-key.result.now _ c.loop-key.invariant.sends told is c.in_err-write.ensures.all)

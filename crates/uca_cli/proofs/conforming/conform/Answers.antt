@@ -1,7 +1,7 @@
 use Rattle.std.proofs.Common.{[], ◌++◌, ◌<◌, ◌≤◌, length, length-take, take, arith, rules, sym, refl, ap, ap₂, ◌∙◌, ℕ, List}
 use Rattle.std.proofs.KnownBytes.{Consumes-nil}
 use Rattle.std.specs.Io.KnownBytes.{IsAtEnd}
-use Rattle.uca_weights.specs.Reader.{ReaderState, Gives}
+use Rattle.uca_io.specs.Reader.{ReaderState, Gives}
 use Rattle.uca_allkeys.proofs.ProgressLemmas.{open_nil}
 use Rattle.uca_allkeys.proofs.ReadingLemmas.{Gives-none, Gives-fails}
 use Rattle.uca_cli.specs.Comparing.{Compared, with_bytes}

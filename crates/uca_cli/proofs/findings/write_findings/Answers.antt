@@ -1,5 +1,5 @@
 use Rattle.std.proofs.Common.{◌≡◌, ℕ, List, length, flat_map, map, ap, subst, ◌∙◌, arith}
-use Rattle.uca_weights.specs.Writer.{WritesFront}
+use Rattle.uca_io.specs.Writer.{WritesFront}
 use Rattle.uca_allkeys.proofs.SendLemmas.{stopped_last}
 use Rattle.uca_model.specs.WellFormed.{lint_output}
 use Rattle.uca_table.specs.Bounds.{condition_of}
@@ -8,7 +8,7 @@ use Rattle.uca_cli.proofs.findings.write_findings.Goals as goal
 
 pub flush-requires : goal.flush-requires
 flush-requires g c =
-    let waits : length c.new-out.result.waiting.items ≡ 0 = ap length c.new-out.ensures.waiting in
+    let waits : length c.new-out.result.waiting ≡ 0 = ap length c.new-out.ensures.waiting in
     omega (arith, waits, c.new-out.ensures.written, c.in-Ok.ensures.small, c.as_slice-broken.ensures.fits)
 
 pub returns-in-Err-flush-clause-writes : goal.returns-in-Err-flush-clause-writes

@@ -1,5 +1,5 @@
 use Rattle.std.proofs.Common.{◌≤◌, ◌-◌, length}
-use Rattle.uca_weights.specs.Reader.{Gives}
+use Rattle.uca_io.specs.Reader.{Gives}
 use Rattle.uca_cli.proofs.input.read_whole.Given as goal
 
 abbrev pub invariant-loop-bytes : goal.invariant-loop-bytes

@@ -1,5 +1,5 @@
 use Rattle.std.proofs.Common.{◌≡◌, ℕ, ◌+◌, ◌*◌, ◌^◌, ◌≤◌, List, ◌++◌, length, All}
-use Rattle.uca_weights.specs.Outgoing.{handed, Sends}
+use Rattle.uca_io.specs.OutputBuffer.{accepted, Accepts}
 use Rattle.uca_model.specs.Compared.{compare_behind, compare_output}
 use Rattle.uca_model.specs.Lines.{lines_of, IsTextLine}
 use Rattle.uca_cli.proofs.neighbours.write_orders.Given as goal
@@ -7,11 +7,11 @@ use Rattle.uca_cli.proofs.neighbours.write_orders.Given as goal
 abbrev pub invariant-loop-before : goal.invariant-loop-before
 invariant-loop-before g l = record {
   sent : List ℕ;
-  sends : Sends (g.W.Writer.state l.fn.w) l.initial.out (g.W.Writer.state l.w) l.out sent;
+  sends : Accepts (g.W.Writer.state l.fn.w) l.initial.out (g.W.Writer.state l.w) l.out sent;
   told : sent ++ compare_behind l.t l.s l.before (lines_of l.left) ≡ compare_output l.t l.s l.bytes;
   text : IsTextLine l.before;
   texts : All IsTextLine (lines_of l.left);
-  room : handed l.out + 2 ^ 70 * length l.left ≤ 2 ^ 70 * length l.bytes;
+  room : accepted l.out + 2 ^ 70 * length l.left ≤ 2 ^ 70 * length l.bytes;
 }
 
 abbrev pub decreases-loop-before : goal.decreases-loop-before

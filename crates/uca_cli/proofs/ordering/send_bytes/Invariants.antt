@@ -1,13 +1,13 @@
 use Rattle.std.proofs.Common.{◌≡◌, ◌≤◌, ◌+◌, List, ℕ, ◌++◌, length}
-use Rattle.uca_weights.specs.Outgoing.{handed, Sends}
+use Rattle.uca_io.specs.OutputBuffer.{accepted, Accepts}
 use Rattle.uca_cli.proofs.ordering.send_bytes.Given as goal
 
 abbrev pub invariant-loop-left : goal.invariant-loop-left
 invariant-loop-left g l = record {
   sent : List ℕ;
-  sends : Sends (g.W.Writer.state l.fn.w) l.fn.out (g.W.Writer.state l.w) l.out sent;
+  sends : Accepts (g.W.Writer.state l.fn.w) l.fn.out (g.W.Writer.state l.w) l.out sent;
   told : sent ++ l.left ≡ l.bytes;
-  room : handed l.out + length l.left ≤ handed l.fn.out + length l.bytes;
+  room : accepted l.out + length l.left ≤ accepted l.fn.out + length l.bytes;
 }
 
 abbrev pub decreases-loop-left : goal.decreases-loop-left

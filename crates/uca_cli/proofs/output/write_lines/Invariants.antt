@@ -1,5 +1,5 @@
 use Rattle.std.proofs.Common.{◌≡◌, ℕ, ◌+◌, ◌*◌, ◌^◌, ◌≤◌, List, ◌++◌, length, All}
-use Rattle.uca_weights.specs.Outgoing.{handed, Sends}
+use Rattle.uca_io.specs.OutputBuffer.{accepted, Accepts}
 use Rattle.uca_model.specs.Lines.{lines_of, IsTextLine}
 use Rattle.uca_cli.specs.Sending.{lines_text}
 use Rattle.uca_cli.proofs.output.write_lines.Given as goal
@@ -7,10 +7,10 @@ use Rattle.uca_cli.proofs.output.write_lines.Given as goal
 abbrev pub invariant-loop-left : goal.invariant-loop-left
 invariant-loop-left g l = record {
   sent : List ℕ;
-  sends : Sends (g.W.Writer.state l.fn.w) l.initial.out (g.W.Writer.state l.w) l.out sent;
+  sends : Accepts (g.W.Writer.state l.fn.w) l.initial.out (g.W.Writer.state l.w) l.out sent;
   told : sent ++ lines_text l.form l.t l.s l.left ≡ lines_text l.form l.t l.s l.bytes;
   texts : All IsTextLine (lines_of l.left);
-  room : handed l.out + 2 ^ 70 * length l.left ≤ 2 ^ 70 * length l.bytes;
+  room : accepted l.out + 2 ^ 70 * length l.left ≤ 2 ^ 70 * length l.bytes;
 }
 
 abbrev pub decreases-loop-left : goal.decreases-loop-left

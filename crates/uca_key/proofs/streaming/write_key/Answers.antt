@@ -1,5 +1,5 @@
 use Rattle.std.proofs.Common.{subst}
-use Rattle.uca_weights.specs.Writer.{WritesFront}
+use Rattle.uca_io.specs.Writer.{WritesFront}
 use Rattle.uca_model.specs.Source.{SourceState}
 use Rattle.uca_model.specs.SortKey.{sort_key}
 use Rattle.uca_key.proofs.SendingLemmas.{stopped_last}

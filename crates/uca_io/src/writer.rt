@@ -1,8 +1,8 @@
 ghost use Rattle.std.specs.Prelude.{◌≡◌, is_err};
 ghost use Rattle.std.specs.Io.{WritesAtMost};
 ghost use Rattle.std.specs.Io.KnownBytes.{WriteAppends};
-ghost use Rattle.uca_weights.specs.Counts.{counted};
-ghost use Rattle.uca_weights.specs.WriterState.{WriterState, took_none};
+ghost use Rattle.uca_io.specs.Counts.{counted};
+ghost use Rattle.uca_io.specs.WriterState.{WriterState, took_none};
 
 use crate::reader::Refused;
 use std::io::Write;

@@ -1,8 +1,8 @@
 use Rattle.std.proofs.Common.{◌≡◌, ℕ, ◌-◌, length, take, drop, arith, ◌∙◌, ap, ne_eqb, nat_lt, ◌&&◌}
-use Rattle.uca_weights.specs.Counts.{counted}
+use Rattle.uca_io.specs.Counts.{counted}
 use Rattle.std.proofs.lemmas.List.{take_all, length-drop}
-use Rattle.uca_weights.proofs.WriteLemmas.{Appends-next}
-use Rattle.uca_weights.proofs.writing.write_whole.Goals as goal
+use Rattle.uca_io.proofs.WriteLemmas.{Appends-next}
+use Rattle.uca_io.proofs.writing.write_whole.Goals as goal
 
 pub loop-at-preserved : goal.loop-at-preserved
 loop-at-preserved g c =

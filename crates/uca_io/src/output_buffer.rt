@@ -3,6 +3,7 @@ ghost use Rattle.std.specs.Prelude.{◌≡◌, ◌+◌, ◌^◌, ◌<◌, ◌≤
 use crate::writer::{WriteFault, Writer};
 use crate::writing::write_whole;
 use arrayvec::ArrayVec;
+use std::marker::Model;
 
 /// How many bytes wait at most until they go out, and how long a piece may be.
 pub const ROOM: usize = 8_192;
@@ -10,20 +11,28 @@ pub const ROOM: usize = 8_192;
 /// A buffer before a [`Writer`]: what waits to go out, and the count of bytes that went out before it. Pieces go out
 /// in their order, and a fault tells how many bytes of all pieces went out.
 #[derive(Drop)]
-pub struct Outgoing {
+pub struct OutputBuffer {
     waiting: ArrayVec<u8, ROOM>,
     written: u128,
 }
 
-impl Outgoing {
-    ghost use Rattle.uca_weights.specs.Outgoing.{handed, waiting_of, written_of, Sends, StopsSending};
+impl Model for OutputBuffer {
+    ghost use Rattle.uca_io.specs.BufferState.{BufferState};
+
+    ghost Value = { BufferState };
+
+    ghost view = { λ o. record { waiting = o.waiting.items; written = o.written } };
+}
+
+impl OutputBuffer {
+    ghost use Rattle.uca_io.specs.OutputBuffer.{accepted, Accepts, FailsPartway};
 
     /// Nothing waits, and nothing went out.
-    pub fn new() -> Outgoing
-        ensures written { written_of result ≡ 0 }
-        ensures waiting { waiting_of result ≡ [] }
+    pub fn new() -> OutputBuffer
+        ensures written { result.written ≡ 0 }
+        ensures waiting { result.waiting ≡ [] }
     {
-        Outgoing {
+        OutputBuffer {
             waiting: ArrayVec::new(),
             written: 0,
         }
@@ -31,18 +40,18 @@ impl Outgoing {
 
     /// The count of bytes that went out.
     pub fn written(&self) -> u128
-        ensures { result ≡ written_of self.now }
+        ensures { result ≡ self.now.written }
     {
         self.written
     }
 
     /// Has what waits go out. On a fault the buffer stays as it was, and only the fault tells what went out of it.
     pub fn flush<W: Writer>(&mut self, w: &mut W) -> Result<(), WriteFault>
-        requires { handed self.old < 2 ^ 128 }
+        requires { accepted self.old < 2 ^ 128 }
         ensures all { MatchResult result
-            (λ _. Sends (W.state w.old) self.old (W.state w.new) self.new [])
-            (λ f. StopsSending (W.state w.old) self.old (W.state w.new) [] f) }
-        ensures empty { MatchResult result (λ _. waiting_of self.new ≡ []) (λ _. Unit {0}) }
+            (λ _. Accepts (W.state w.old) self.old (W.state w.new) self.new [])
+            (λ f. FailsPartway (W.state w.old) self.old (W.state w.new) [] f) }
+        ensures empty { MatchResult result (λ _. self.new.waiting ≡ []) (λ _. Unit {0}) }
         ensures err { OnErr result (self.new ≡ self.old) }
     {
         match write_whole(w, self.waiting.as_slice()) {
@@ -60,12 +69,12 @@ impl Outgoing {
 
     /// Has a piece go out, now or later. On a fault the buffer stays as it was, without the piece, and only the fault
     /// tells what went out of it.
-    pub fn send<W: Writer>(&mut self, w: &mut W, piece: &[u8]) -> Result<(), WriteFault>
+    pub fn write<W: Writer>(&mut self, w: &mut W, piece: &[u8]) -> Result<(), WriteFault>
         requires short { length piece.now ≤ ROOM }
-        requires room { handed self.old + length piece.now < 2 ^ 128 }
+        requires room { accepted self.old + length piece.now < 2 ^ 128 }
         ensures all { MatchResult result
-            (λ _. Sends (W.state w.old) self.old (W.state w.new) self.new piece.now)
-            (λ f. StopsSending (W.state w.old) self.old (W.state w.new) piece.now f) }
+            (λ _. Accepts (W.state w.old) self.old (W.state w.new) self.new piece.now)
+            (λ f. FailsPartway (W.state w.old) self.old (W.state w.new) piece.now f) }
         ensures err { OnErr result (self.new ≡ self.old) }
     {
         if self.waiting.try_extend_from_slice(piece).is_ok() {

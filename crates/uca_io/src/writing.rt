@@ -1,5 +1,5 @@
 ghost use Rattle.std.specs.Prelude.{◌≡◌, MatchResult};
-ghost use Rattle.uca_weights.specs.Writer.{WritesAll, WritesFront};
+ghost use Rattle.uca_io.specs.Writer.{WritesAll, WritesFront};
 
 use crate::writer::{WriteCause, WriteFault, Writer};
 

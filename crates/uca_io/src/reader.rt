@@ -1,8 +1,8 @@
 ghost use Rattle.std.specs.Prelude.{◌≡◌, is_err};
 ghost use Rattle.std.specs.Io.{ReadsAtMost};
 ghost use Rattle.std.specs.Io.KnownBytes.{ReadConsumes};
-ghost use Rattle.uca_weights.specs.Counts.{counted};
-ghost use Rattle.uca_weights.specs.Reader.{ReaderState};
+ghost use Rattle.uca_io.specs.Counts.{counted};
+ghost use Rattle.uca_io.specs.Reader.{ReaderState};
 
 use std::io::Read;
 

@@ -1,11 +1,11 @@
 -- What is known of a writer, and what calls of it do.
 use Rattle.std.specs.Prelude.{◌≡◌, ℕ, ◌<◌, List, length, take}
 use Rattle.std.specs.Io.KnownBytes.{Appends}
-use Rattle.uca_weights.specs.declared.writer.WriteCause.{WriteCause}
-use Rattle.uca_weights.specs.declared.writer.WriteCause.TheVariants.{Failed, Zero}
-use Rattle.uca_weights.specs.declared.writer.WriteFault.{WriteFault}
-use Rattle.uca_weights.specs.Counts.{one_more}
-use Rattle.uca_weights.specs.WriterState.{WriterState}
+use Rattle.uca_io.specs.declared.writer.WriteCause.{WriteCause}
+use Rattle.uca_io.specs.declared.writer.WriteCause.TheVariants.{Failed, Zero}
+use Rattle.uca_io.specs.declared.writer.WriteFault.{WriteFault}
+use Rattle.uca_io.specs.Counts.{one_more}
+use Rattle.uca_io.specs.WriterState.{WriterState}
 
 -- all of these bytes went out, and no call failed or took nothing
 pub record WritesAll (old new : WriterState) (bytes : List ℕ) : Type 0 where

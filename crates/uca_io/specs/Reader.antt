@@ -1,7 +1,7 @@
 -- What is known of a reader, and what calls of it do.
 use Rattle.std.specs.Prelude.{◌≡◌, ℕ, List, Option}
 use Rattle.std.specs.Io.KnownBytes.{Consumes, IsAtEnd}
-use Rattle.uca_weights.specs.Counts.{one_more}
+use Rattle.uca_io.specs.Counts.{one_more}
 
 -- the bytes still to come, where it tells them, and how many of its calls failed
 pub record ReaderState : Type 0 where

@@ -1,0 +1,18 @@
+//! Bytes that come in and go out: readers, writers, and a buffer before a writer.
+//!
+//! [`Reader`] and [`Writer`] count the calls that failed, so that a caller above them can promise that a fault is
+//! reported only where one was met.
+#![tactic(auto)]
+
+pub mod output_buffer;
+pub mod reader;
+pub mod writer;
+pub mod writing;
+
+pub use output_buffer::OutputBuffer;
+pub use reader::{Reader, Reading, Refused};
+pub use writer::{WriteCause, WriteFault, Writer, Writing};
+pub use writing::write_whole;
+
+#[cfg(test)]
+mod tests;

@@ -1,0 +1,101 @@
+use crate::{Reader, Reading, Refused, WriteCause, Writing, write_whole};
+use std::io;
+use std::io::{Read, Write};
+use std::test::Fail;
+
+#[test]
+fn reads_memory(rt: HostRuntime) {
+    let mut reader = Reading::new(b"abc".as_slice());
+    let mut buf = [0; 2];
+    assert_eq!(rt; reader.pull(&mut buf), Ok(2));
+    assert_eq!(rt; buf, *b"ab");
+    assert_eq!(rt; reader.pull(&mut buf), Ok(1));
+    assert_eq!(rt; buf[0], b'c');
+    assert_eq!(rt; reader.pull(&mut buf), Ok(0));
+}
+
+/// Gives one byte, fails once, and gives the next.
+#[derive(Drop)]
+struct Hiccup {
+    calls: u8,
+}
+
+impl Read for Hiccup {
+    fn read(&mut self, buf: &mut [u8]) -> io::Result<usize> {
+        self.calls = self.calls.saturating_add(1);
+        if self.calls == 2 {
+            return Err(io::Error::from(io::ErrorKind::Interrupted));
+        }
+        Ok(buf.len().min(1))
+    }
+}
+
+#[test]
+fn an_interrupted_read_is_refused_and_not_tried_again(rt: HostRuntime) {
+    let mut reader = Reading::new(Hiccup { calls: 0 });
+    let mut buf = [0; 4];
+    assert_eq!(rt; reader.pull(&mut buf), Ok(1));
+    assert_eq!(rt; reader.pull(&mut buf), Err(Refused));
+    assert_eq!(rt; reader.pull(&mut buf), Ok(1));
+}
+
+/// Takes so many bytes, then fails or takes none.
+#[derive(Drop)]
+struct Small {
+    room: usize,
+    fails: bool,
+}
+
+impl Write for Small {
+    fn write(&mut self, buf: &[u8]) -> io::Result<usize> {
+        if self.room == 0 && self.fails {
+            return Err(io::Error::from(io::ErrorKind::Other));
+        }
+        let n = buf.len().min(self.room);
+        self.room -= n;
+        Ok(n)
+    }
+
+    fn flush(&mut self) -> io::Result<()> {
+        Ok(())
+    }
+}
+
+#[test]
+fn a_writer_that_stops_tells_what_went_out(rt: HostRuntime) {
+    for (fails, cause) in [(true, WriteCause::Failed), (false, WriteCause::Zero)] {
+        for room in [0, 3, 5, 6] {
+            let mut w = Writing::new(Small { room, fails });
+            let written = write_whole(&mut w, b"abcde");
+            if room < 5 {
+                assert!(rt;
+                    matches!(&written, Err(f) if f.written == room as u128 && f.cause == cause)
+                );
+            } else {
+                assert!(rt; written.is_ok());
+            }
+        }
+    }
+    let mut w = Writing::new(Small {
+        room: 0,
+        fails: false,
+    });
+    assert!(rt; write_whole(&mut w, b"").is_ok());
+}
+
+#[test]
+fn writes_memory(rt: HostRuntime) {
+    let mut w = Writing::new(Vec::new(rt.alloc()));
+    // Memory may be refused to the vector, as a writer's error.
+    if write_whole(&mut w, b"abc").is_ok() {
+        let out = w.into_inner();
+        assert_eq!(rt; out.as_slice(), b"abc".as_slice());
+    }
+}
+
+#[test]
+fn causes_have_their_names(rt: HostRuntime) -> Result<(), Fail> {
+    let text = format!(in rt.alloc(); "{} {}", WriteCause::Failed, WriteCause::Zero)?;
+    assert_eq!(rt; text.as_str(), "Failed Zero");
+    Ok(())
+}
