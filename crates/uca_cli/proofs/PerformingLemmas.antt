@@ -5,7 +5,7 @@ use Rattle.uca_model.specs.Table.{ElementTable}
 use Rattle.uca_cli.specs.Performing.{Ends, ReadsTable, StopsTable, Works, StopsWork, Performs, Refuses}
 use Rattle.uca_cli.specs.RuleFile.{Tailors, RefusesTailoring}
 use Rattle.uca_cli.specs.declared.faults.CliFault.{CliFault}
-use Rattle.uca_cli.specs.declared.job.Job.{Job}
+use Rattle.uca_job.specs.declared.job.Job.{Job}
 
 -- the work was done with the table that serves
 pub performs : (job : Job) (lent_table left_table lent_rules left_rules : Option ReaderState) (t serving : ElementTable) (old new : Ends) (result : Result ℕ CliFault)

@@ -1,6 +1,5 @@
 pub mod Input
 pub mod BuiltIn
-pub mod CommandLine
 pub mod Lent
 pub mod RuleFile
 pub mod Performing

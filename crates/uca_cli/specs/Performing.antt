@@ -28,9 +28,9 @@ use Rattle.uca_cli.specs.declared.faults.CliFault.{CliFault}
 use Rattle.uca_cli.specs.declared.faults.CliFault.TheVariants as fault
 use Rattle.uca_cli.specs.declared.faults.InputCause.TheVariants.{NotOneLine}
 use Rattle.uca_cli.specs.declared.faults.InputFault.{InputFault}
-use Rattle.uca_cli.specs.declared.job.Job.{Job}
-use Rattle.uca_cli.specs.declared.job.Task.{Task}
-use Rattle.uca_cli.specs.declared.job.Task.TheVariants.{Elements, Key, Compare, Order, Check, Lint, Table}
+use Rattle.uca_job.specs.declared.job.Job.{Job}
+use Rattle.uca_job.specs.declared.job.Task.{Task}
+use Rattle.uca_job.specs.declared.job.Task.TheVariants.{Elements, Key, Compare, Order, Check, Lint, Table}
 
 -- the settings of a job
 abbrev pub settings_of : Job → Settings

@@ -10,7 +10,6 @@ pub mod faults;
 mod findings;
 mod hex;
 mod input;
-pub mod job;
 mod lines;
 mod neighbours;
 pub mod ordering;
@@ -23,7 +22,7 @@ mod tests;
 
 pub use conforming::{ConformCause, ConformFault, Conformance, conform};
 pub use faults::{CliFault, InputCause, InputFault, RulesTextCause};
-pub use job::{Job, JobFault, Task, job_of};
+pub use uca_job::{Job, JobFault, Task, job_of};
 pub use ordering::order;
 pub use performing::{perform, status_of};
 pub use small_table::built_in;

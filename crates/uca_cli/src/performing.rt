@@ -1,13 +1,13 @@
 ghost use Rattle.std.specs.Prelude.{◌≡◌, ◌≢◌, Err, IfErr, IfOk, MatchResult, None, Ok, Some, option_map};
 ghost use Rattle.uca_cli.specs.Lent.{left_behind, lent};
 ghost use Rattle.uca_cli.specs.Performing.{IsCheckedFor, Performs, Refuses, ReadsFor, ReadsOneLine, ReadsTable, RefusesFor, RefusesOneLine, StopsOutputFor, StopsTable, StopsWork, Works, WritesFor};
-ghost use Rattle.uca_cli.specs.declared.job.Task.TheVariants.{Check};
+ghost use Rattle.uca_job.specs.declared.job.Task.TheVariants.{Check};
 
 use crate::checking::check;
 use crate::faults::{CliFault, InputCause, InputFault};
 use crate::findings::write_findings;
 use crate::input::refused;
-use crate::job::{Job, Task};
+use uca_job::{Job, Task};
 use crate::lines::{is_one_line, read_lines};
 use crate::neighbours::write_orders;
 use crate::ordering::write_in_order;

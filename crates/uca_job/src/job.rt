@@ -2,9 +2,9 @@
 ghost use Rattle.std.specs.Prelude.{◌≡◌, ◌≢◌, IfErr, IfOk, IsSome, IsSomeAnd, codes, false, map, option_map, string_bytes};
 ghost use Rattle.clap.specs.declared.builder.command.Command.TheViews.{out-Command};
 ghost use Rattle.clap.specs.Words.{app_of, first_of, found_of, kind_of, rows_of, rule_of, subcommand_rows_of};
-ghost use Rattle.uca_cli.specs.CommandLine.{IsJobFrom, IsJobOf, IsRefused, IsUsage};
-ghost use Rattle.uca_cli.specs.CommandLine.{command_with, key_command, raw_flag, raw_in, rules_option, strength_option, table_option, uca_with, variable_option, with_line_commands};
-ghost use Rattle.uca_cli.specs.CommandLine.{strength_in, strength_named, task_named, weighting_in, weighting_named};
+ghost use Rattle.uca_job.specs.CommandLine.{IsJobFrom, IsJobOf, IsRefused, IsUsage};
+ghost use Rattle.uca_job.specs.CommandLine.{command_with, key_command, raw_flag, raw_in, rules_option, strength_option, table_option, uca_with, variable_option, with_line_commands};
+ghost use Rattle.uca_job.specs.CommandLine.{strength_in, strength_named, task_named, weighting_in, weighting_named};
 
 use clap::error::ErrorKind;
 use clap::{Arg, ArgAction, ArgMatches, Command};

@@ -4,9 +4,9 @@ use Rattle.clap.specs.Words.{Kinds, HasKind, Text, app_of, fault_of, is_simple, 
 use Rattle.clap.specs.Faults.{is_simple_and_free}
 use Rattle.clap.specs.declared.error.Error.{Error}
 use Rattle.clap.specs.declared.error.kind.ErrorKind.TheVariants as kind
-use Rattle.uca_cli.specs.CommandLine.{AreChoices, Choices, IsJobFrom, IsJobOf, IsTaken, uca_with}
-use Rattle.uca_cli.proofs.CommandLineLemmas.{taken_task, uca_is_free, uca_is_simple}
-use Rattle.uca_cli.proofs.job.job_of.Goals as goal
+use Rattle.uca_job.specs.CommandLine.{AreChoices, Choices, IsJobFrom, IsJobOf, IsTaken, uca_with}
+use Rattle.uca_job.proofs.CommandLineLemmas.{taken_task, uca_is_free, uca_is_simple}
+use Rattle.uca_job.proofs.job.job_of.Goals as goal
 
 -- another error in place of the one that there was keeps what holds of a value
 IfOk-map_err : {X Y Z : Type 0} (r : Result X Y) (s : Result X Z) (P : X → Type 0) (Q : Y → Type 0) → MatchResult r (λ x. s ≡ Ok x) Q → is_ok s ≡ is_ok r

@@ -12,11 +12,11 @@ use Rattle.uca_weights.specs.declared.settings.Strength.{Strength}
 use Rattle.uca_weights.specs.declared.settings.Strength.TheVariants.{Primary, Secondary, Tertiary, Quaternary, Identical}
 use Rattle.uca_weights.specs.declared.settings.Variable.{Variable}
 use Rattle.uca_weights.specs.declared.settings.Variable.TheVariants.{NonIgnorable, Blanked, Shifted}
-use Rattle.uca_cli.specs.declared.job.Job.{Job}
-use Rattle.uca_cli.specs.declared.job.JobFault.{JobFault}
-use Rattle.uca_cli.specs.declared.job.JobFault.TheVariants.{Usage, OutOfMemory}
-use Rattle.uca_cli.specs.declared.job.Task.{Task}
-use Rattle.uca_cli.specs.declared.job.Task.TheVariants.{Elements, Key, Compare, Order, Check, Lint, Table}
+use Rattle.uca_job.specs.declared.job.Job.{Job}
+use Rattle.uca_job.specs.declared.job.JobFault.{JobFault}
+use Rattle.uca_job.specs.declared.job.JobFault.TheVariants.{Usage, OutOfMemory}
+use Rattle.uca_job.specs.declared.job.Task.{Task}
+use Rattle.uca_job.specs.declared.job.Task.TheVariants.{Elements, Key, Compare, Order, Check, Lint, Table}
 
 -- ---- the names that the options take
 

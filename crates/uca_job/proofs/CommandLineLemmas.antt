@@ -9,8 +9,8 @@ use Rattle.clap.specs.Simple.{App, Shape, built, entered, is_simple, label_of, n
 use Rattle.clap.specs.Kinds.{check_kinds}
 use Rattle.clap.specs.Faults.{built_fault, check_fault, defaults_fault, entered_fault, is_simple_and_free, settle_fault, walk_fault}
 use Rattle.clap.proofs.OnLiterals.{clap_on_literals}
-use Rattle.uca_cli.specs.CommandLine.{Choices, IsTaken, task_named, uca_with}
-use Rattle.uca_cli.proofs.HelpLemmas.{IsNotHelp, StopsAtNoHelp, or_else-nil, walk_no_help}
+use Rattle.uca_job.specs.CommandLine.{Choices, IsTaken, task_named, uca_with}
+use Rattle.uca_job.proofs.HelpLemmas.{IsNotHelp, StopsAtNoHelp, or_else-nil, walk_no_help}
 
 -- the name found is that of a task
 abbrev pub NamesTask : Text × List Row → Type 0

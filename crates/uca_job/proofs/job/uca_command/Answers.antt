@@ -1,7 +1,7 @@
 use Rattle.std.proofs.Common.{◌∙◌, ap, ap₂}
 use Rattle.std.proofs.lemmas.Result.{IfOk-weaker}
 use Rattle.clap.specs.Words.{App, Shape, with_subcommand}
-use Rattle.uca_cli.proofs.job.uca_command.Goals as goal
+use Rattle.uca_job.proofs.job.uca_command.Goals as goal
 
 abbrev top_of : App → Shape
 top_of a = a.top

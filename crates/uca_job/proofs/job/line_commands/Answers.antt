@@ -1,8 +1,8 @@
 use Rattle.std.proofs.Common.{rules, ◌≡◌, ◌∙◌, ap, ap₂}
 use Rattle.std.proofs.lemmas.Result.{IfOk-weaker}
 use Rattle.clap.specs.Words.{App, Shape, app_of, with_subcommand}
-use Rattle.uca_cli.specs.CommandLine.{bare_program}
-use Rattle.uca_cli.proofs.job.line_commands.Goals as goal
+use Rattle.uca_job.specs.CommandLine.{bare_program}
+use Rattle.uca_job.proofs.job.line_commands.Goals as goal
 
 abbrev top_of : App → Shape
 top_of a = a.top
