@@ -1,5 +1,4 @@
 pub mod SendLemmas
-pub mod SplitLemmas
 pub mod TextLemmas
 pub mod ProgressLemmas
 pub mod ReadingLemmas

@@ -9,15 +9,10 @@ use Rattle.uca_allkeys.specs.declared.faults.ReadCause.{ReadCause}
 use Rattle.uca_allkeys.specs.declared.faults.ReadFault.{ReadFault}
 use Rattle.uca_allkeys.specs.declared.reading.Progress.{Progress}
 use Rattle.uca_allkeys.specs.Faults.{told}
-use Rattle.uca_allkeys.specs.Progress.{IsOpen, fault_at, refusal, to_come, GoesOn, StopsAt}
+use Rattle.uca_io.specs.Lines.{IsOpen}
+use Rattle.uca_io.proofs.LineLemmas.{line_bytes}
+use Rattle.uca_allkeys.specs.Progress.{fault_at, refusal, to_come, GoesOn, StopsAt}
 use Rattle.uca_allkeys.proofs.TextLemmas.{add_bytes-added, add_bytes-fault, add_bytes-long, add_bytes-last}
-
-pub open_nil : (xs : List ℕ) → xs ≡ [] → IsOpen xs
-open_nil xs is = subst IsOpen (sym is) (record { line = λ k d low. absurd (omega arith) })
-
--- a line in two pieces, with its LF
-pub line_bytes : (held part more : List ℕ) → held ++ ((part ++ line_feed ∷ []) ++ more) ≡ (held ++ part) ++ line_feed ∷ more
-line_bytes held part more = simp append_assoc
 
 pub line_ends : (end : TextEnd) (n m : ℕ) (s after : TextState) (held part kept more : List ℕ) → IsOpen (held ++ part) → unless_long (held ++ part) (add_line s (held ++ part)) ≡ Ok after → m ≡ n → kept ≡ []
     → add_bytes end n s (held ++ ((part ++ line_feed ∷ []) ++ more)) ≡ add_bytes end (m + 1) after (kept ++ more)
@@ -71,7 +66,3 @@ pub StopsAt-front : (a b : Progress) (front rest first others : List ℕ) (fault
 StopsAt-front a b front rest first others fault goes is stop =
     refusal-change fault (λ c. (end : TextEnd) (more : List ℕ) → to_come end b (first ++ more) ≡ fault_at fault.line c) (λ c. (end : TextEnd) (more : List ℕ) → to_come end a (front ++ more) ≡ fault_at fault.line c)
     (λ c faulty end more. moved end a b front rest first others goes is more ∙ faulty end (others ++ more)) stop
-
--- a line with its LF, and what stands behind
-pub line_and_rest : (rest part others : List ℕ) → rest ≡ part ++ line_feed ∷ others → rest ≡ (part ++ line_feed ∷ []) ++ others
-line_and_rest rest part others is = is ∙ sym (append_assoc part (line_feed ∷ []) others)

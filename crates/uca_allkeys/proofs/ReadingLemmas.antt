@@ -16,14 +16,10 @@ use Rattle.uca_allkeys.specs.declared.reading.Progress.{Progress}
 use Rattle.uca_allkeys.specs.Faults.{told, IsOfText}
 use Rattle.uca_allkeys.specs.Progress.{state_of, fault_at, refusal, to_come, GoesOn, StopsAt, HasRead}
 use Rattle.uca_allkeys.specs.Reading.{GivesTable, IsFaulty, FailsFirst, WantsMemory, RefusedBy, IsRefused}
+use Rattle.uca_io.proofs.ReaderLemmas.{Gives-more, cut_chunk}
 use Rattle.uca_model.proofs.StepLemmas.{read_text-within}
 use Rattle.uca_allkeys.proofs.TextLemmas.{read_text-front, read_text-large}
 use Rattle.uca_allkeys.proofs.ProgressLemmas.{last_line, refusal-change}
-
--- a reader gave one piece more
-pub Gives-more : (old mid new : ReaderState) (bytes piece : List ℕ) → Gives old mid bytes → Consumes mid.coming new.coming piece → new.failures ≡ mid.failures → Gives old new (bytes ++ piece)
-Gives-more old mid new bytes piece gives given failures =
-    record { given = Consumes-trans _ _ _ bytes piece gives.given given; failures = failures ∙ gives.failures }
 
 -- a piece was read of a text
 pub HasRead-more : (old mid new : ReaderState) (left : ℕ) (a b : Progress) (piece : List ℕ) (has : HasRead old mid left a) → Consumes mid.coming new.coming piece → new.failures ≡ mid.failures → length piece ≤ left → GoesOn a piece b []
@@ -116,30 +112,12 @@ at_failure old mid new left p has fails =
       says = ap table_part (read_text-within (stops read) bytes within ∙ ap (add_bytes (stops read) 1 no_lines) (sym (append-nil bytes)) ∙ has.same (stops read) [] ∙ last_line (stops read) p has.held has.short (state_of p.lines));
     }
 
--- a call that gave no byte
-pub Gives-none : (old mid new : ReaderState) (bytes buf : List ℕ) (n : ℕ) → n ≡ 0 → Gives old mid bytes → Consumes mid.coming new.coming (take n buf) → new.failures ≡ mid.failures → Gives old new bytes
-Gives-none old mid new bytes buf n none gives given failures =
-    let piece : Consumes mid.coming new.coming [] = subst (λ (m : ℕ). Consumes mid.coming new.coming (take m buf)) none given in
-    subst (λ (xs : List ℕ). Gives old new xs) (append-nil bytes) (Gives-more old mid new bytes [] gives piece failures)
-
--- a call that failed
-pub Gives-fails : (old mid new : ReaderState) (bytes : List ℕ) → Gives old mid bytes → Keeps mid.coming new.coming → new.failures ≡ one_more mid.failures → GivesAndFails old new bytes
-Gives-fails old mid new bytes gives kept failures =
-    record { given = Consumes-kept old.coming mid.coming new.coming bytes gives.given kept; failures = failures ∙ ap one_more gives.failures }
-
 -- the front of a chunk was read
 pub HasRead-chunk : (old mid new : ReaderState) (left n : ℕ) (a b : Progress) (buf : List ℕ) (has : HasRead old mid left a) → Consumes mid.coming new.coming (take n buf) → new.failures ≡ mid.failures → n ≤ left → n ≤ length buf → GoesOn a (take n buf) b []
     → HasRead old new (left - n) b
 HasRead-chunk old mid new left n a b buf has given failures fits within goes =
     let count : length (take n buf) ≡ n = omega (arith, length-take n buf) in
     subst (λ (m : ℕ). HasRead old new (left - m) b) count (HasRead-more old mid new left a b (take n buf) has given failures (omega arith) goes)
-
-take_front : (left n : ℕ) (buf : List ℕ) → left ≤ n → take left (take n buf) ≡ take left buf
-take_front left n buf low = take-take left n buf low
-
--- the front of a chunk, in which some bytes are left
-pub cut_chunk : (left n : ℕ) (buf : List ℕ) → left ≤ n → take n buf ≡ take left buf ++ drop left (take n buf)
-cut_chunk left n buf low = sym (take-append-drop left (take n buf)) ∙ ap (λ (xs : List ℕ). xs ++ drop left (take n buf)) (take_front left n buf low)
 
 -- the front of a chunk has a byte too much
 pub in_large_chunk : (old mid new : ReaderState) (left n : ℕ) (p : Progress) (buf : List ℕ) (fault : ReadFault) (has : HasRead old mid left p) → Consumes mid.coming new.coming (take n buf) → new.failures ≡ mid.failures → left < n → n ≤ length buf

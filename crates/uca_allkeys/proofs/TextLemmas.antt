@@ -8,8 +8,9 @@ use Rattle.std.specs.Prelude.{Result, Ok, Err}
 use Rattle.uca_weights.specs.declared.limits.TheConstants.{MAX_LINE, MAX_INPUT}
 use Rattle.uca_model.specs.Lines.{line_feed}
 use Rattle.uca_model.specs.TableText.{◌>>=◌, Cause, line_too_long, too_large, TextState, TextFault, TextEnd, stops, no_lines, is_line_feed, at_line, unless_long, add_line, add_last, add_lines, add_bytes, end_within, read_text}
-use Rattle.uca_allkeys.specs.Progress.{IsOpen, fault_at}
-use Rattle.uca_model.proofs.StepLemmas.{some_parts}
+use Rattle.uca_io.specs.Lines.{IsOpen}
+use Rattle.uca_allkeys.specs.Progress.{fault_at}
+use Rattle.uca_io.proofs.LineLemmas.{FirstPart, first_part, some_parts, take-room}
 use Rattle.uca_model.proofs.TextLemmas.{lines-more}
 
 -- a line with its LF, and the bytes behind it
@@ -26,29 +27,6 @@ add_bytes-added end n s after line rest clear is = add_bytes-line end n s line r
 pub add_bytes-fault : (end : TextEnd) (n : ℕ) (s : TextState) (cause : Cause) (line rest : List ℕ) → IsOpen line → unless_long line (add_line s line) ≡ Err cause
     → add_bytes end n s (line ++ line_feed ∷ rest) ≡ fault_at n cause
 add_bytes-fault end n s cause line rest clear is = add_bytes-line end n s line rest clear ∙ ap (λ (r : Result TextState Cause). at_line n r >>= (λ t. add_bytes end (n + 1) t rest)) is
-
--- the first part of a text, which is at least so long
-pub record FirstPart (text : List ℕ) (n : ℕ) : Type 0 where
-  pub part : List ℕ
-  pub parts : List (List ℕ)
-  pub is : slice_split is_line_feed text ≡ part ∷ parts
-  pub long : n ≤ length part
-
-some_part : (text : List ℕ) (split : List (List ℕ)) → slice_split is_line_feed text ≡ split → 0 < length split → FirstPart text 0
-some_part text [] is some = absurd (omega arith)
-some_part text (part ∷ parts) is some = record { part = part; parts = parts; is = is; long = omega arith }
-
-pub first_part : (line more : List ℕ) → All (λ b. is_line_feed b ≡ false) line → FirstPart (line ++ more) (length line)
-first_part [] more clear = some_part more (slice_split is_line_feed more) refl (some_parts is_line_feed more)
-first_part (b ∷ line) more clear =
-    let later : FirstPart (line ++ more) (length line) = first_part line more (λ k d low. clear (suc k) d (omega arith)) in
-    let other : is_line_feed b ≡ false = clear 0 0 (omega arith) in
-    record {
-      part = b ∷ later.part;
-      parts = later.parts;
-      is = slice_split-cons_no is_line_feed b (line ++ more) other ∙ ap (onto_first b) later.is;
-      long = let h : length line ≤ length later.part = later.long in omega arith;
-    }
 
 lines-long : (end : TextEnd) (n : ℕ) (s : TextState) (line : List ℕ) (parts : List (List ℕ)) → MAX_LINE < length line → add_lines end n s (line ∷ parts) ≡ fault_at n line_too_long
 lines-long end n s line [] long = ap (at_line n) (cond-true _ (Err line_too_long) (add_last end s line) (lt-ltb MAX_LINE (length line) long))
@@ -67,10 +45,6 @@ pub add_bytes-last : (end : TextEnd) (n : ℕ) (s : TextState) (line : List ℕ)
 unfolding add_bytes
 add_bytes-last end n s line clear short =
     ap (add_lines end n s) (slice_split_none is_line_feed line clear.line) ∙ ap (at_line n) (cond-false _ (Err line_too_long) (add_last end s line) (le-ltb MAX_LINE (length line) short))
-
--- the front of a text that has room behind some bytes
-pub take-room : (bytes more : List ℕ) (n room : ℕ) → length bytes + room ≡ n → take n (bytes ++ more) ≡ bytes ++ take room more
-take-room bytes more n room is = subst (λ (m : ℕ). take m (bytes ++ more) ≡ bytes ++ take room more) is (take-append-add bytes more room)
 
 -- the front of a text is at fault, whatever stands behind
 pub read_text-front : (bytes : List ℕ) (room : ℕ) (fault : Result TextState TextFault) → length bytes + room ≡ MAX_INPUT → ((end : TextEnd) (more : List ℕ) → add_bytes end 1 no_lines (bytes ++ more) ≡ fault)

@@ -1,8 +1,9 @@
 -- How far the reading of a text has come, and how it stops.
 use Rattle.std.specs.Prelude.{◌≡◌, ℕ, ◌+◌, ◌≤◌, false, List, ◌++◌, length, All, Result, Ok, Err, MatchOption, MatchResult}
 use Rattle.uca_weights.specs.declared.limits.TheConstants.{MAX_INPUT, MAX_LINE}
+use Rattle.uca_io.specs.Lines.{IsOpen}
 use Rattle.uca_io.specs.Reader.{ReaderState, Gives}
-use Rattle.uca_model.specs.TableText.{Cause, TextState, TextFault, TextEnd, no_lines, is_line_feed, add_bytes}
+use Rattle.uca_model.specs.TableText.{Cause, TextState, TextFault, TextEnd, no_lines, add_bytes}
 use Rattle.uca_allkeys.specs.declared.faults.ReadCause.{ReadCause}
 use Rattle.uca_allkeys.specs.declared.faults.ReadFault.{ReadFault}
 use Rattle.uca_allkeys.specs.declared.lines.Lines.{Lines}
@@ -28,10 +29,6 @@ to_come end p more = add_bytes end p.number (state_of p.lines) (p.held.items ++ 
 -- a fault says something of its cause, or it is want of memory, which has no line
 abbrev pub refusal : ReadFault → (Cause → Type 0) → Type 0
 refusal fault says = MatchOption (told fault.cause) (fault.line ≡ 0) says
-
--- bytes without LF
-pub record IsOpen (bytes : List ℕ) : Type 0 where
-  pub line : All (λ b. is_line_feed b ≡ false) bytes
 
 -- the text says the same from one place on as from another
 pub record GoesOn (old : Progress) (front : List ℕ) (new : Progress) (rest : List ℕ) : Type 0 where

@@ -3,12 +3,13 @@ ghost use Rattle.std.specs.List.{slice_split, after_first};
 ghost use Rattle.uca_model.specs.TableText.{words, key_after, entry_key, is_semicolon, is_right_bracket, mark, weight_first, next_weight, element_ends, element, elements_after, is_old_weight, entry_of_text};
 ghost use Rattle.uca_allkeys.specs.Statements.{Tells, with_rest, said_by, IsSomeEntry, AddsPart};
 
-use crate::bytes::{
-    behind, code_point, four_digits, from_place, next_word, number, place_of, skip_blanks,
-};
+use crate::bytes::{behind, code_point, four_digits};
 use crate::faults::LineFault;
 use crate::statement::{Entry, Statement};
 use arrayvec::ArrayVec;
+use uca_io::digits::number;
+use uca_io::lines::{from_place, place_of};
+use uca_io::words::{next_word, skip_blanks};
 use uca_weights::{Element, MAX_ELEMENTS, MAX_KEY};
 
 /// The code points that the words of a text say.

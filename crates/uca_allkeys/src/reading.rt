@@ -1,15 +1,15 @@
 ghost use Rattle.std.specs.Prelude.{◌≡◌, ◌<◌, ◌≤◌, ◌+◌, ◌^◌, ◌++◌, ◌∷◌, [], length, IfErr, MatchOption, MatchResult, Ok, Err};
 ghost use Rattle.uca_weights.specs.declared.limits.TheConstants.{MAX_LINE};
-ghost use Rattle.uca_model.specs.Lines.{line_feed};
+ghost use Rattle.uca_io.specs.Lines.{line_feed, IsOpen};
 ghost use Rattle.uca_model.specs.TableText.{add_line, add_last, unless_long, no_lines, table_part, ends, stops, too_large};
 ghost use Rattle.uca_allkeys.specs.Faults.{told, IsOfText};
-ghost use Rattle.uca_allkeys.specs.Progress.{state_of, Leads, fault_at, refusal, to_come, IsOpen, GoesOn, StopsAt};
+ghost use Rattle.uca_allkeys.specs.Progress.{state_of, Leads, fault_at, refusal, to_come, GoesOn, StopsAt};
 
-use crate::bytes::{extend_held, next_line};
 use crate::faults::{ReadCause, ReadFault};
 use crate::lines::{Lines, add_line};
 use arrayvec::ArrayVec;
 use std::alloc::Global;
+use uca_io::lines::{extend_held, next_line};
 use uca_table::{Table, TableBuilder};
 use uca_weights::MAX_LINE;
 

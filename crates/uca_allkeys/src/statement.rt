@@ -2,11 +2,12 @@ ghost use Rattle.std.specs.Prelude.{◌≡◌, IfOk};
 ghost use Rattle.uca_model.specs.TableText.{said, statement};
 ghost use Rattle.uca_allkeys.specs.Statements.{Tells, said_by, IsSomeEntry};
 
-use crate::bytes::{place_of, skip_blanks, trim_end, without_return};
 use crate::directive::directive;
 use crate::entry::entry_of_text;
 use crate::faults::LineFault;
 use arrayvec::ArrayVec;
+use uca_io::lines::{place_of, without_return};
+use uca_io::words::{skip_blanks, trim_end};
 use uca_weights::{Element, MAX_ELEMENTS, MAX_KEY, Range};
 
 /// A key with its elements.

@@ -5,8 +5,3 @@ pub mod PerformingLemmas
 pub mod SendingLemmas
 pub mod HexLemmas
 pub mod OrderingLemmas
-pub mod ComparingLemmas
-pub mod TestLineLemmas
-pub mod TestBytesLemmas
-pub mod TestProgressLemmas
-pub mod TestReadingLemmas

@@ -5,7 +5,7 @@ use Rattle.uca_io.specs.Writer.{WritesAll, WritesFront}
 use Rattle.uca_weights.specs.declared.settings.Settings.{Settings}
 use Rattle.uca_io.specs.declared.writer.WriteFault.{WriteFault}
 use Rattle.uca_model.specs.Table.{ElementTable}
-use Rattle.uca_cli.specs.Conforming.{RefusesFile}
+use Rattle.uca_conform.specs.Conforming.{RefusesFile}
 use Rattle.uca_cli.specs.Performing.{Ends, IsCheckOutput, IsCheckStatus}
 use Rattle.uca_cli.specs.declared.faults.CliFault.{CliFault}
 use Rattle.uca_cli.specs.declared.faults.CliFault.TheVariants as fault

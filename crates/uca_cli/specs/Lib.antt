@@ -6,6 +6,4 @@ pub mod Performing
 pub mod Sending
 pub mod Ordering
 pub mod Checking
-pub mod Conforming
-pub mod Comparing
-pub mod TestReading
+pub use Rattle.uca_conform.specs.Conforming

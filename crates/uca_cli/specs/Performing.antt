@@ -20,10 +20,10 @@ use Rattle.uca_model.specs.WellFormed.{broken, lint_output}
 use Rattle.uca_allkeys.specs.Reading.{GivesTable, IsRefused}
 use Rattle.uca_allkeys.specs.declared.faults.ReadFault.{ReadFault}
 use Rattle.uca_cli.specs.BuiltIn.{built_in_table}
-use Rattle.uca_cli.specs.Conforming.{RefusesFile}
+use Rattle.uca_conform.specs.Conforming.{RefusesFile}
 use Rattle.uca_cli.specs.Input.{StopsReading, HasInputFault, IsOneLine}
 use Rattle.uca_cli.specs.RuleFile.{Tailors, RefusesTailoring}
-use Rattle.uca_cli.specs.declared.conforming.ConformFault.{ConformFault}
+use Rattle.uca_conform.specs.declared.conforming.ConformFault.{ConformFault}
 use Rattle.uca_cli.specs.declared.faults.CliFault.{CliFault}
 use Rattle.uca_cli.specs.declared.faults.CliFault.TheVariants as fault
 use Rattle.uca_cli.specs.declared.faults.InputCause.TheVariants.{NotOneLine}

@@ -3,12 +3,12 @@ ghost use Rattle.uca_io.specs.Writer.{WritesAll, WritesFront};
 ghost use Rattle.uca_model.specs.Lines.{line_feed};
 ghost use Rattle.uca_model.specs.TestFile.{failure_text, report_text};
 ghost use Rattle.uca_cli.specs.Checking.{Checks, StopsCheck};
-ghost use Rattle.uca_cli.specs.Conforming.{report_in};
+ghost use Rattle.uca_conform.specs.Conforming.{report_in};
 
-use crate::conforming::{Conformance, conform};
 use crate::faults::CliFault;
 use arrayvec::ArrayVec;
 use itoa::Buffer;
+use uca_conform::{Conformance, conform};
 use uca_table::Table;
 use uca_weights::{Reader, Settings, WriteFault, Writer, write_whole};
 

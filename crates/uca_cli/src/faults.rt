@@ -1,7 +1,7 @@
-use crate::conforming::ConformFault;
 use std::fmt;
 use thiserror::Error;
 use uca_allkeys::{ReadCause, ReadFault};
+use uca_conform::ConformFault;
 use uca_tailor::{RuleCause, RuleFault, TailorCause, TailorFault};
 use uca_weights::WriteFault;
 

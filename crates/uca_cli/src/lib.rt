@@ -5,7 +5,6 @@
 #![tactic(auto)]
 
 mod checking;
-pub mod conforming;
 pub mod faults;
 mod findings;
 mod hex;
@@ -20,9 +19,9 @@ mod tailoring;
 #[cfg(test)]
 mod tests;
 
-pub use conforming::{ConformCause, ConformFault, Conformance, conform};
 pub use faults::{CliFault, InputCause, InputFault, RulesTextCause};
 pub use uca_job::{Job, JobFault, Task, job_of};
 pub use ordering::order;
 pub use performing::{perform, status_of};
 pub use small_table::built_in;
+pub use uca_conform::{ConformCause, ConformFault, Conformance, conform};

@@ -8,7 +8,7 @@ use crate::input::read_input;
 use memchr::memchr;
 use simdutf8::compat::from_utf8;
 use std::alloc::Global;
-use uca_allkeys::bytes::without_return;
+use uca_io::lines::without_return;
 use uca_weights::Reader;
 use uca_window::Passage;
 

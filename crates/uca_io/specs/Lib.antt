@@ -4,3 +4,6 @@ pub mod Writer
 pub mod Counts
 pub mod BufferState
 pub mod OutputBuffer
+pub mod Lines
+pub mod Words
+pub mod Digits

@@ -1,11 +1,14 @@
-//! Bytes that come in and go out: readers, writers, and a buffer before a writer.
+//! Bytes that come in and go out: readers, writers, a buffer before a writer, and lines of bytes.
 //!
 //! [`Reader`] and [`Writer`] count the calls that failed, so that a caller above them can promise that a fault is
 //! reported only where one was met.
 #![tactic(auto)]
 
+pub mod digits;
+pub mod lines;
 pub mod output_buffer;
 pub mod reader;
+pub mod words;
 pub mod writer;
 pub mod writing;
 

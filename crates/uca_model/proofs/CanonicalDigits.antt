@@ -12,7 +12,7 @@ use Rattle.uca_model.specs.TableText.{number_after, number, is_four_to_six, only
 use Rattle.uca_model.specs.Output.{hex_digit}
 use Rattle.uca_model.specs.CanonicalText.{four_digits, plane_text, point_text}
 use Rattle.uca_model.proofs.CanonicalLines.{digit_value-hex_digit, is_digit-hex_digit, length-point_text}
-use Rattle.uca_model.proofs.CutLemmas.{skip-other}
+use Rattle.uca_io.proofs.WordLemmas.{skip-other}
 
 -- Numbers
 

@@ -36,10 +36,6 @@ module _ (p : ℕ → Bool) where
   pub before_none : (xs : List ℕ) → AllByRecursion (λ b. p b ≡ false) xs → before_first p xs ≡ xs
   before_none xs none = ap (λ (n : ℕ). take n xs) (position_none xs none) ∙ take_all (length xs) xs (omega arith)
 
--- what begins with no blank
-pub skip-other : (b : ℕ) (bytes : List ℕ) → is_blank b ≡ false → skip_blanks (b ∷ bytes) ≡ b ∷ bytes
-skip-other b bytes e = cond-false _ _ _ e
-
 -- the last byte is no blank
 abbrev pub EndsVisible : List ℕ → Type 0
 EndsVisible [] = ⊥

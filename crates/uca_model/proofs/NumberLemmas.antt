@@ -6,13 +6,3 @@ pub digit_more : (n d i : ℕ) → n < 16 ^ i → d < 16 → n * 16 + d < 16 ^ (
 digit_more n d i low digit =
     let more : 16 ^ (i + 1) ≡ 16 ^ i * 16 = rw (add-one, pow-suc 16 i) in
     omega arith
-
--- five digits leave room for one more in 32 bits
-pub five_digits : (n i : ℕ) → n < 16 ^ i → i < 6 → n < 2 ^ 20
-five_digits n zero low few = omega arith
-five_digits n (suc zero) low few = omega arith
-five_digits n (suc (suc zero)) low few = omega arith
-five_digits n (suc (suc (suc zero))) low few = omega arith
-five_digits n (suc (suc (suc (suc zero)))) low few = omega arith
-five_digits n (suc (suc (suc (suc (suc zero))))) low few = omega arith
-five_digits n (suc (suc (suc (suc (suc (suc i)))))) low few = absurd (omega arith)

@@ -13,10 +13,6 @@ use Rattle.uca_model.proofs.TextLemmas.{lines-more}
 pub step_done : {A B : Type 0} (r : Result A Cause) (a : A) (f : A → Result B Cause) → r ≡ Ok a → (r >>= f) ≡ f a
 step_done {A} r a f is = ap (λ (x : Result A Cause). x >>= f) is
 
--- what is cut has some part
-pub some_parts : (p : ℕ → Bool) (xs : List ℕ) → 0 < length (slice_split p xs)
-some_parts p xs = omega (arith, length-slice_split p xs)
-
 -- a line that is read, behind which others stand
 pub line_read : (end : TextEnd) (n : ℕ) (s after : TextState) (line : List ℕ) (parts : List (List ℕ)) → 0 < length parts → length line ≤ MAX_LINE → add_line s line ≡ Ok after
     → add_lines end n s (line ∷ parts) ≡ add_lines end (n + 1) after parts

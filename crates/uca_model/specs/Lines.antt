@@ -1,13 +1,8 @@
 -- The lines of an input, and what may be wrong with it.
 use Rattle.std.specs.Prelude.{◌≡◌, ℕ, ◌+◌, ◌==◌, List, [], ◌∷◌, ◌++◌, length, map, All, IsUtf8, chars, if◌then◌else◌}
 use Rattle.std.specs.Str.Lossy.{utf8_valid_len}
+pub use Rattle.uca_io.specs.Lines.{line_feed, carriage_return, without_return}
 use Rattle.uca_model.specs.SafeText.{IsSafe, IsLongRunAt}
-
-abbrev pub line_feed : ℕ
-line_feed = 10
-
-abbrev pub carriage_return : ℕ
-carriage_return = 13
 
 -- a byte in front of the first of some lines
 abbrev pub onto : ℕ → List (List ℕ) → List (List ℕ)
@@ -18,12 +13,6 @@ onto b (line ∷ lines) = (b ∷ line) ∷ lines
 abbrev pub split_lines : List ℕ → List (List ℕ)
 split_lines [] = []
 split_lines (b ∷ bytes) = if b == line_feed then [] ∷ split_lines bytes else onto b (split_lines bytes)
-
--- a line without one CR at its end
-abbrev pub without_return : List ℕ → List ℕ
-without_return [] = []
-without_return (b ∷ []) = if b == carriage_return then [] else b ∷ []
-without_return (b ∷ c ∷ line) = b ∷ without_return (c ∷ line)
 
 -- the lines of an input: each ends at LF or at the end of the input, and one CR there is not part of it
 abbrev pub lines_of : List ℕ → List (List ℕ)

@@ -1,13 +1,11 @@
 -- What the commands write.
 use Rattle.std.specs.Prelude.{ℕ, ◌+◌, ◌/◌, ◌%◌, nat_lt, List, [], ◌∷◌, ◌++◌, map, flat_map, chars, if◌then◌else◌}
 use Rattle.std.specs.List.{join_with_byte}
+pub use Rattle.uca_io.specs.Words.{blank}
 use Rattle.uca_weights.specs.declared.settings.Settings.{Settings}
 use Rattle.uca_model.specs.Table.{ElementTable}
 use Rattle.uca_model.specs.SortKey.{sort_key}
 use Rattle.uca_model.specs.Lines.{lines_of, line_feed}
-
-abbrev pub blank : ℕ
-blank = 32
 
 -- an upper-case hexadecimal digit, `0` to `9` and `A` to `F`
 abbrev pub hex_digit : ℕ → ℕ

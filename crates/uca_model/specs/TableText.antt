@@ -1,18 +1,19 @@
 -- The text of a collation element table, as in `allkeys.txt` (UTS #10, Allkeys File Format): the table that it says, or its first faulty line.
 use Rattle.std.specs.Prelude.{ℕ, ◌+◌, ◌-◌, ◌*◌, Bool, true, false, not, ◌&&◌, ◌||◌, ◌==◌, nat_le, nat_lt, List, [], ◌∷◌, ◌++◌, length, take, drop, filter, Option, Some, None, Result, Ok, Err, if◌then◌else◌}
-use Rattle.std.specs.Char.{digit_value, is_digit}
-use Rattle.std.specs.List.{suffix_len, position_or_len, before_first, after_first, slice_split}
+use Rattle.std.specs.List.{position_or_len, before_first, after_first, slice_split}
 use Rattle.std.specs.Option.{ok_or, is_some, option_and_then}
 use Rattle.std.specs.FinMap.{insert, empty}
 use Rattle.std.specs.Str.{bytes_eq}
 use lib.Utf8.{scalar}
+pub use Rattle.uca_io.specs.Digits.{number_after, number}
+pub use Rattle.uca_io.specs.Lines.{is_line_feed}
+pub use Rattle.uca_io.specs.Words.{tab, is_blank, skip_blanks, trim_end, words}
 use Rattle.uca_weights.specs.declared.element.Element.{Element}
 use Rattle.uca_weights.specs.declared.limits.TheConstants.{MAX_KEY, MAX_ELEMENTS, MAX_LINE, MAX_INPUT}
 use Rattle.uca_weights.specs.declared.range.Range.{Range}
 use Rattle.uca_model.specs.Table.{ElementTable, is_key}
 use Rattle.uca_model.specs.Ranges.{is_bad_range, put_range}
 use Rattle.uca_model.specs.Lines.{line_feed, without_return}
-use Rattle.uca_model.specs.Output.{blank}
 
 -- why a text is refused
 pub data Cause : Type 0 where
@@ -44,9 +45,6 @@ Err e >>= f = Err e
 
 -- Bytes
 
-abbrev pub tab : ℕ
-tab = 9
-
 abbrev pub number_sign : ℕ
 number_sign = 35
 
@@ -68,18 +66,6 @@ left_bracket = 91
 abbrev pub right_bracket : ℕ
 right_bracket = 93
 
-abbrev pub is_blank : ℕ → Bool
-is_blank b = b == blank || b == tab
-
--- without the blanks in front
-abbrev pub skip_blanks : List ℕ → List ℕ
-skip_blanks [] = []
-skip_blanks (b ∷ bs) = if is_blank b then skip_blanks bs else b ∷ bs
-
--- without the blanks behind
-abbrev pub trim_end : List ℕ → List ℕ
-trim_end bytes = take (length bytes - suffix_len is_blank bytes) bytes
-
 -- from the first byte that passes a test on
 abbrev pub from_first : (ℕ → Bool) → List ℕ → List ℕ
 from_first p bytes = drop (position_or_len p bytes) bytes
@@ -90,15 +76,6 @@ behind cause b [] = Err cause
 behind cause b (c ∷ bytes) = if c == b then Ok bytes else Err cause
 
 -- Numbers and code points
-
--- a number and the hexadecimal digits behind it, of either case
-abbrev pub number_after : ℕ → List ℕ → Option ℕ
-number_after n [] = Some n
-number_after n (b ∷ bytes) = if is_digit b 16 then number_after (n * 16 + digit_value b) bytes else None
-
--- the number that hexadecimal digits say
-abbrev pub number : List ℕ → Option ℕ
-number digits = number_after 0 digits
 
 abbrev pub is_four_to_six : ℕ → Bool
 is_four_to_six n = nat_le 4 n && nat_le n 6
@@ -169,10 +146,6 @@ directive text =
     else Err bad_directive
 
 -- Entries
-
--- the longest runs without blanks
-abbrev pub words : List ℕ → List (List ℕ)
-words text = filter (λ word. not (length word == 0)) (slice_split is_blank text)
 
 -- a key and the words behind it, each of which has to be a code point
 abbrev pub key_after : List ℕ → List (List ℕ) → Result (List ℕ) Cause
@@ -321,9 +294,6 @@ add_lines end n s (last ∷ []) = at_line n (unless_long last (add_last end s la
 add_lines end n s (line ∷ next ∷ more) = do
   after ← at_line n (unless_long line (add_line s line))
   add_lines end (n + 1) after (next ∷ more)
-
-abbrev pub is_line_feed : ℕ → Bool
-is_line_feed b = b == line_feed
 
 -- the same, of the bytes from the line with that number on
 unfoldable pub add_bytes : TextEnd → ℕ → TextState → List ℕ → Result TextState TextFault

@@ -1,7 +1,7 @@
 use Rattle.std.proofs.Common.{arith, sym, ◌∷◌, take, ap, ◌∙◌, List, ℕ}
 use Rattle.std.specs.List.{slice_split}
 use Rattle.uca_model.specs.TableText.{is_right_bracket}
-use Rattle.uca_allkeys.proofs.SplitLemmas.{split_first, split_none}
+use Rattle.uca_io.proofs.WordLemmas.{split_first, split_none}
 use Rattle.uca_allkeys.proofs.entry.next_part.Goals as goal
 
 pub returns-then-end-text : goal.returns-then-end-text

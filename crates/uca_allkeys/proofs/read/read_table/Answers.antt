@@ -1,7 +1,8 @@
 use Rattle.std.proofs.Common.{◌<◌, ◌≤◌, length, length-take, take, arith, rules}
 use Rattle.std.specs.Io.KnownBytes.{IsAtEnd}
 use Rattle.uca_io.specs.Reader.{ReaderState, Gives}
-use Rattle.uca_allkeys.proofs.ReadingLemmas.{at_end, at_failure, in_piece, in_large_chunk, HasRead-chunk, Gives-none, Gives-fails}
+use Rattle.uca_io.proofs.ReaderLemmas.{Gives-none, Gives-fails}
+use Rattle.uca_allkeys.proofs.ReadingLemmas.{at_end, at_failure, in_piece, in_large_chunk, HasRead-chunk}
 use Rattle.uca_allkeys.proofs.read.read_table.Goals as goal
 
 pub returns-in-Ok-eq0 : goal.returns-in-Ok-eq0

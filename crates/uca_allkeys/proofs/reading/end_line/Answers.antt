@@ -4,7 +4,8 @@ use Rattle.uca_model.specs.Lines.{line_feed}
 use Rattle.uca_model.specs.TableText.{TextEnd, unless_long, add_line}
 use Rattle.uca_allkeys.specs.Faults.{told}
 use Rattle.uca_allkeys.specs.Progress.{state_of, to_come, fault_at}
-use Rattle.uca_allkeys.proofs.ProgressLemmas.{open_nil, line_ends, line_faulty, refused, told_part}
+use Rattle.uca_io.proofs.LineLemmas.{open_nil}
+use Rattle.uca_allkeys.proofs.ProgressLemmas.{line_ends, line_faulty, refused, told_part}
 use Rattle.uca_allkeys.proofs.reading.end_line.Goals as goal
 
 pub returns-in-Ok-clause-goes : goal.returns-in-Ok-clause-goes

@@ -1,6 +1,7 @@
 use Rattle.std.proofs.Common.{◌∷◌, [], ◌++◌}
 use Rattle.uca_model.specs.Lines.{line_feed}
-use Rattle.uca_allkeys.proofs.ProgressLemmas.{GoesOn-step, StopsAt-front, line_and_rest}
+use Rattle.uca_allkeys.proofs.ProgressLemmas.{GoesOn-step, StopsAt-front}
+use Rattle.uca_io.proofs.LineLemmas.{line_and_rest}
 use Rattle.uca_allkeys.proofs.reading.take_piece.Goals as goal
 
 pub loop-part-preserved : goal.loop-part-preserved

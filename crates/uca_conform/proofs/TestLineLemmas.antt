@@ -1,0 +1,183 @@
+-- What the words of a test line say, and the text that is made of them.
+use Rattle.std.proofs.Common.{◌≡◌, ℕ, ◌+◌, ◌≤◌, Bool, true, false, not, ◌&&◌, ◌==◌, List, [], ◌∷◌, ◌++◌, length, Option, Some, None, encode_utf8, encode_utf8_all, append-nil, length-append, refl, sym, ap, ap₂, ◌∙◌, arith, inl, inr, ne_eqb}
+use Rattle.std.proofs.lemmas.Bool.{and_from, and_parts, cases_Bool, cond-true, cond-false, le-leb, leb-true}
+use Rattle.std.proofs.lemmas.List.Folds.{list_all-append}
+use Rattle.std.proofs.lemmas.List.Sums.{AllPass-from_list_all, list_all-from_AllPass}
+use Rattle.std.proofs.lemmas.Str.{chars_from_encodes, encodes-append}
+use Rattle.std.specs.List.{list_all}
+use Rattle.std.specs.Option.{ok_or, option_and_then}
+use Rattle.std.specs.Prelude.{MatchOption, Result, Ok, Err, nat_le}
+use Rattle.std.specs.Str.{chars}
+use Rattle.unicode_normalization.specs.Forms.{nfd}
+use Rattle.uca_weights.specs.declared.limits.TheConstants.{MAX_DECOMPOSITION, MAX_RUN}
+use Rattle.uca_model.specs.SafeText.{is_safe, longest_run, IsSafe}
+use Rattle.uca_weights.specs.declared.settings.Settings.{Settings}
+use Rattle.uca_io.specs.Lines.{carriage_return, without_return}
+use Rattle.uca_model.specs.Table.{ElementTable}
+use Rattle.uca_model.specs.TableText.{◌>>=◌, skip_blanks, words}
+use Rattle.uca_model.specs.TestFile.{TestCause, TestLine, bad_line, is_test, points_after, points_of, some_points, test_point, tests_of_line}
+use Rattle.uca_conform.specs.Comparing.{Compared, can_compare, with_line, with_more, with_skipped, with_text}
+use Rattle.uca_conform.specs.TestReading.{HasPoints, SaysPoints}
+use Rattle.uca_conform.specs.declared.test_text.TestText.{TestText}
+use lib.Utf8.{scalar, scalars}
+
+-- Safe texts
+
+pub is_safe-from : (text : List ℕ) → IsSafe text → is_safe text ≡ true
+is_safe-from text safe =
+    and_from _ _ (le-leb (longest_run (nfd text)) MAX_RUN safe.runs)
+    (list_all-from_AllPass (λ c. nat_le (length (nfd (c ∷ []))) MAX_DECOMPOSITION) text (λ k d low. le-leb _ _ (safe.short k d low)))
+
+safe_from : (text : List ℕ) → is_safe text ≡ true → IsSafe text
+safe_from text is =
+    let parts = and_parts (nat_le (longest_run (nfd text)) MAX_RUN) (list_all (λ c. nat_le (length (nfd (c ∷ []))) MAX_DECOMPOSITION) text) is in
+    record {
+      runs = leb-true _ _ parts.0;
+      short = λ k d low. leb-true _ _ (AllPass-from_list_all (λ c. nat_le (length (nfd (c ∷ []))) MAX_DECOMPOSITION) text parts.1 k d low);
+    }
+
+pub is_safe-not : (text : List ℕ) → ¬ (IsSafe text) → is_safe text ≡ false
+is_safe-not text unsafe = elim (cases_Bool (is_safe text)) [ inl e ↦ absurd (unsafe (safe_from text e)) | inr e ↦ e ]
+
+-- Points
+
+scalars-list_all : (cs : List ℕ) → scalars cs ≡ list_all scalar cs
+scalars-list_all [] = refl
+scalars-list_all (c ∷ cs) = ap (λ (b : Bool). scalar c && b) (scalars-list_all cs)
+
+-- scalar values are the characters of their text
+chars_of_points : (points : List ℕ) → list_all scalar points ≡ true → chars (encode_utf8_all points) ≡ points
+chars_of_points points all = sym (chars_from_encodes points (encode_utf8_all points) (points, (scalars-list_all points ∙ all, refl)) refl)
+
+-- before the first word
+pub points-none : (bytes text : List ℕ) → text ≡ [] → HasPoints bytes bytes text false true
+points-none bytes text is = record {
+  points = [];
+  same = refl;
+  some = refl;
+  scalars = refl;
+  encoded = λ _. is;
+  room = omega (arith, ap (length {A = ℕ}) is);
+}
+
+-- with the code point of one more word
+pub points-push : (bytes rest word others text new : List ℕ) (point : ℕ) (is_some is_text is_scalar : Bool) → HasPoints bytes rest text is_some is_text → words rest ≡ word ∷ words others → Some point ≡ test_point word
+    → 4 ≤ length word → length word + length others ≤ length rest → is_scalar ≡ scalar point → (is_scalar ≡ true → new ≡ text ++ encode_utf8 point) → length new ≤ length text + 4 → HasPoints bytes others new true (is_text && is_scalar)
+points-push bytes rest word others text new point is_some is_text is_scalar has split said long shorter scalar_is added room =
+    let points : List ℕ = has.points in record {
+      points = points ++ point ∷ [];
+      same = has.same ∙ ap (points_after points) split ∙ ap (option_and_then (λ c. points_after (points ++ c ∷ []) (words others))) (sym said);
+      some = sym (ap not (ne_eqb (length (points ++ point ∷ [])) 0 (λ none. omega (arith, length-append points (point ∷ [])))));
+      scalars = ap₂ (λ (a b : Bool). a && b) has.scalars (scalar_is ∙ sym (and_true (scalar point))) ∙ sym (list_all-append scalar points (point ∷ []));
+      encoded = λ both.
+          let parts = and_parts is_text is_scalar both in
+          added parts.1 ∙ ap₂ (λ (a b : List ℕ). a ++ b) (has.encoded parts.0) (sym (append-nil (encode_utf8 point))) ∙ sym (encodes-append points (point ∷ []));
+      room = omega (arith, has.room);
+    }
+  where
+    and_true : (b : Bool) → (b && true) ≡ b
+    and_true true = refl
+    and_true false = refl
+
+-- a word that is no code point
+pub points-fault : (bytes rest word others text : List ℕ) (is_some is_text : Bool) → HasPoints bytes rest text is_some is_text → words rest ≡ word ∷ words others → None ≡ test_point word
+    → ok_or (option_and_then some_points (points_after [] (words bytes))) bad_line ≡ (let r : Result (List ℕ) TestCause = Err bad_line in r)
+points-fault bytes rest word others text is_some is_text has split said =
+    ap (λ (o : Option (List ℕ)). ok_or (option_and_then some_points o) bad_line)
+    (has.same ∙ ap (points_after has.points) split ∙ ap (option_and_then (λ c. points_after (has.points ++ c ∷ []) (words others))) (sym said))
+
+-- what the words of a test line say
+abbrev says : List ℕ → Result (List ℕ) TestCause
+says bytes = ok_or (option_and_then some_points (points_after [] (words bytes))) bad_line
+
+-- behind the last word
+says_points : (bytes rest text : List ℕ) (is_some is_text : Bool) (has : HasPoints bytes rest text is_some is_text) → words rest ≡ [] → says bytes ≡ ok_or (some_points has.points) bad_line
+says_points bytes rest text is_some is_text has none = ap (λ (o : Option (List ℕ)). ok_or (option_and_then some_points o) bad_line) (has.same ∙ ap (points_after has.points) none)
+
+not-false : (b : Bool) → not b ≡ false → b ≡ true
+not-false true is = refl
+not-false false is = cc
+
+not-true : (b : Bool) → not b ≡ true → b ≡ false
+not-true true is = cc
+not-true false is = refl
+
+pub points-missing : (bytes rest text : List ℕ) (is_some is_text : Bool) → HasPoints bytes rest text is_some is_text → words rest ≡ [] → is_some ≡ false → says bytes ≡ Err bad_line
+points-missing bytes rest text is_some is_text has none empty =
+    says_points bytes rest text is_some is_text has none
+    ∙ ap (λ (o : Option (List ℕ)). ok_or o bad_line) (cond-true _ _ _ (not-false (length has.points == 0) (sym has.some ∙ empty)))
+
+known : (bytes rest text : List ℕ) (is_some is_text : Bool) (has : HasPoints bytes rest text is_some is_text) → words rest ≡ [] → is_some ≡ true → says bytes ≡ Ok has.points
+known bytes rest text is_some is_text has none some =
+    says_points bytes rest text is_some is_text has none
+    ∙ ap (λ (o : Option (List ℕ)). ok_or o bad_line) (cond-false _ _ _ (not-true (length has.points == 0) (sym has.some ∙ some)))
+
+-- a line with a surrogate
+pub points-skipped : (bytes rest text : List ℕ) (is_some is_text : Bool) → HasPoints bytes rest text is_some is_text → words rest ≡ [] → is_some ≡ true → is_text ≡ false → SaysPoints (says bytes) None
+points-skipped bytes rest text is_some is_text has none some other = record {
+  points = has.points;
+  known = known bytes rest text is_some is_text has none some;
+  compared = ap (λ (b : Bool). b && is_safe has.points) (sym has.scalars ∙ other);
+}
+
+-- a line whose text is looked at
+pub points-checked : (bytes rest text : List ℕ) (is_some is_text : Bool) (found : Option TestText) → HasPoints bytes rest text is_some is_text → words rest ≡ [] → is_some ≡ true → is_text ≡ true
+    → MatchOption found (is_safe (chars text) ≡ false) (λ x. (is_safe (chars text) ≡ true) × (x.text.bytes ≡ text)) → SaysPoints (says bytes) found
+points-checked bytes rest text is_some is_text found has none some all safe = record {
+  points = has.points;
+  known = known bytes rest text is_some is_text has none some;
+  compared = by found safe;
+}
+  where
+    scalars_are : list_all scalar has.points ≡ true
+    scalars_are = sym has.scalars ∙ all
+
+    chars_are : chars text ≡ has.points
+    chars_are = ap chars (has.encoded all) ∙ chars_of_points has.points scalars_are
+
+    compares : (b : Bool) → is_safe (chars text) ≡ b → can_compare has.points ≡ b
+    compares b is = ap₂ (λ (x y : Bool). x && y) scalars_are (ap is_safe (sym chars_are) ∙ is)
+
+    by : (o : Option TestText) → MatchOption o (is_safe (chars text) ≡ false) (λ x. (is_safe (chars text) ≡ true) × (x.text.bytes ≡ text)) → MatchOption o (can_compare has.points ≡ false) (λ x. (can_compare has.points ≡ true) × (chars x.text.bytes ≡ has.points))
+    by None unsafe = compares false unsafe
+    by (Some x) safe = (compares true safe.0, ap chars safe.1 ∙ chars_are)
+
+-- Lines
+
+pub length-without_return : (line : List ℕ) → length (without_return line) ≤ length line
+length-without_return [] = omega arith
+length-without_return (b ∷ []) =
+    elim (cases_Bool (b == carriage_return)) [
+      | inl e ↦ let none : length (without_return (b ∷ [])) ≡ 0 = ap (length {A = ℕ}) (cond-true _ [] (b ∷ []) e) in omega (arith, none)
+      | inr e ↦ let one : length (without_return (b ∷ [])) ≡ 1 = ap (length {A = ℕ}) (cond-false _ [] (b ∷ []) e) in omega (arith, one)
+    ]
+length-without_return (b ∷ c ∷ line) = let later : length (without_return (c ∷ line)) ≤ length (c ∷ line) = length-without_return (c ∷ line) in omega (arith, later)
+
+-- a line that is no test line
+pub line-other : (t : ElementTable) (s : Settings) (n : ℕ) (sum : Compared) (line text : List ℕ) → text ≡ without_return line → false ≡ is_test (skip_blanks text) → with_line t s n sum line ≡ Ok sum
+unfolding tests_of_line
+line-other t s n sum line text is other = ap (with_more t s sum) (cond-false _ _ _ (ap (λ (xs : List ℕ). is_test (skip_blanks xs)) (sym is) ∙ sym other))
+
+abbrev one_test : ℕ → List ℕ → List TestLine
+one_test n points = record { number = n; points = points } ∷ []
+
+line-test : (t : ElementTable) (s : Settings) (n : ℕ) (sum : Compared) (line text : List ℕ) (r : Result (List ℕ) TestCause) → text ≡ without_return line → true ≡ is_test (skip_blanks text) → points_of text ≡ r
+    → with_line t s n sum line ≡ with_more t s sum (r >>= (λ points. Ok (one_test n points)))
+unfolding tests_of_line
+line-test t s n sum line text r is test says =
+    ap (with_more t s sum) (cond-true _ _ _ (ap (λ (xs : List ℕ). is_test (skip_blanks xs)) (sym is) ∙ sym test)
+    ∙ ap (λ (x : Result (List ℕ) TestCause). x >>= (λ points. Ok (one_test n points))) (ap points_of (sym is) ∙ says))
+
+-- a test line that is at fault
+pub line-fault : (t : ElementTable) (s : Settings) (n : ℕ) (sum : Compared) (line text : List ℕ) (cause : TestCause) → text ≡ without_return line → true ≡ is_test (skip_blanks text) → points_of text ≡ Err cause → with_line t s n sum line ≡ Err cause
+line-fault t s n sum line text cause is test says = line-test t s n sum line text (Err cause) is test says
+
+-- a test line that is not compared
+pub line-skipped : (t : ElementTable) (s : Settings) (n : ℕ) (sum : Compared) (line text : List ℕ) → text ≡ without_return line → true ≡ is_test (skip_blanks text) → SaysPoints (points_of text) None → with_line t s n sum line ≡ Ok (with_skipped sum)
+line-skipped t s n sum line text is test has = line-test t s n sum line text (Ok has.points) is test has.known ∙ ap Ok (cond-false _ _ _ has.compared)
+
+-- a test line that is compared
+pub line-compared : (t : ElementTable) (s : Settings) (n : ℕ) (sum : Compared) (line text : List ℕ) (x : TestText) → text ≡ without_return line → true ≡ is_test (skip_blanks text) → SaysPoints (points_of text) (Some x)
+    → with_line t s n sum line ≡ Ok (with_text t s n sum (chars x.text.bytes))
+line-compared t s n sum line text x is test has =
+    line-test t s n sum line text (Ok has.points) is test has.known ∙ ap Ok (cond-true _ _ _ has.compared.0) ∙ ap (λ (points : List ℕ). Ok (with_text t s n sum points)) (sym has.compared.1)

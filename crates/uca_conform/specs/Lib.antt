@@ -1,0 +1,3 @@
+pub mod Conforming
+pub mod Comparing
+pub mod TestReading

@@ -1,0 +1,12 @@
+//! Test files in the manner of the Unicode Consortium's CollationTest files: [`conform`] compares each test line with
+//! the one before it, and reports how many lines there are, how many of them were not compared, and the first one that
+//! is out of order.
+#![tactic(auto)]
+
+mod comparison;
+pub mod conforming;
+mod progress;
+mod test_line;
+mod test_text;
+
+pub use conforming::{ConformCause, ConformFault, Conformance, conform};
