@@ -3,13 +3,10 @@
 
 use std::alloc::AllocError;
 use std::fs::File;
-use std::io::{ErrorKind, Read, Write};
+use std::io::{ErrorKind, Read, Stdin, Write};
 use std::process::ExitCode;
 use std::{env, fs, io};
-use uca_cli::{
-    CliFault, ConformCause, ConformFault, InputCause, InputFault, Job, JobFault, Task, job_of,
-    perform, status_of,
-};
+use uca_cli::{CliFault, Job, JobFault, job_of, perform, status_of};
 use uca_weights::{Reading, Writing};
 
 /// The status for words that are no job.
@@ -22,7 +19,7 @@ fn main(rt: HostRuntime) -> ExitCode {
     ExitCode::from(run(&rt))
 }
 
-/// Does what the words of the command line ask for, and answers the status.
+/// Does what the words of the command line ask for, and returns the status.
 fn run(rt: &HostRuntime) -> u8 {
     let words = match words_of(rt) {
         Ok(words) => words,
@@ -52,7 +49,7 @@ fn views_of<'a>(rt: &HostRuntime, words: &'a [String]) -> Result<Vec<&'a str>, A
     Ok(views)
 }
 
-/// Tells that the words could not be read.
+/// Reports that the words could not be read.
 fn refuse_words(rt: &HostRuntime, error: &io::Error) -> u8 {
     if error.kind() == ErrorKind::OutOfMemory {
         return out_of_memory(rt);
@@ -66,7 +63,7 @@ fn out_of_memory(rt: &HostRuntime) -> u8 {
     NOT_DONE
 }
 
-/// Tells that the words are no job.
+/// Reports that the words are no job.
 fn refuse_job(rt: &HostRuntime, fault: &JobFault) -> u8 {
     let _ = eprintln!(rt; "{fault}");
     match fault {
@@ -75,48 +72,50 @@ fn refuse_job(rt: &HostRuntime, fault: &JobFault) -> u8 {
     }
 }
 
-/// A file that a job names could not be opened, which was told.
+/// A file that a job names could not be opened, which was reported.
 #[derive(Drop)]
 struct NotOpened;
 
-/// Opens the files that the job names, first that of the table and then that of the rules, and does the job.
-///
-/// Where standard input is closed, a file that is opened would take its place, so that is looked at first.
-fn do_job(rt: &HostRuntime, job: &Job) -> u8 {
-    if let Some(fault) = closed_input(job.command) {
-        if rt.stdin().read(&mut []).is_err() {
-            return tell(rt, &fault);
+/// Standard input, which is never read where it was closed: a file that was opened since may have taken its place.
+#[derive(Drop)]
+struct Input {
+    stdin: Stdin,
+    is_open: bool,
+}
+
+impl Input {
+    /// Looks at standard input, before any file is opened.
+    fn new(rt: &HostRuntime) -> Input {
+        let mut stdin = rt.stdin();
+        let is_open = stdin.read(&mut []).is_ok();
+        Input { stdin, is_open }
+    }
+}
+
+impl Read for Input {
+    fn read(&mut self, buf: &mut [u8]) -> io::Result<usize> {
+        if self.is_open {
+            self.stdin.read(buf)
+        } else {
+            Err(io::Error::from(ErrorKind::Other))
         }
     }
+}
+
+/// Opens the files that the job names, first that of the table and then that of the rules, and does the job.
+fn do_job(rt: &HostRuntime, job: &Job) -> u8 {
+    let mut input = Reading::new(Input::new(rt));
     let Ok(mut table) = reader_of(rt, job.table.as_ref()) else {
         return NOT_DONE;
     };
     let Ok(mut rules) = reader_of(rt, job.rules.as_ref()) else {
         return NOT_DONE;
     };
-    perform_on_streams(rt, job, table.as_mut(), rules.as_mut())
+    perform_on_streams(rt, job, table.as_mut(), rules.as_mut(), &mut input)
 }
 
-/// What a command that reads an input tells where it is closed.
-fn closed_input(command: Task) -> Option<CliFault> {
-    match command {
-        Task::Lint | Task::Table => None,
-        Task::Check => Some(CliFault::Conform(ConformFault {
-            line: 1,
-            cause: ConformCause::Read,
-        })),
-        Task::Elements | Task::Key | Task::Compare | Task::Order => {
-            Some(CliFault::Input(InputFault {
-                line: 0,
-                at: 0,
-                cause: InputCause::Read,
-            }))
-        }
-    }
-}
-
-/// Tells why a job was not done, and answers the status.
-fn tell(rt: &HostRuntime, fault: &CliFault) -> u8 {
+/// Reports why a job was not done, and returns the status.
+fn report(rt: &HostRuntime, fault: &CliFault) -> u8 {
     let _ = eprintln!(rt; "{fault}");
     status_of(fault)
 }
@@ -141,16 +140,16 @@ fn perform_on_streams(
     job: &Job,
     table: Option<&mut Reading<File>>,
     rules: Option<&mut Reading<File>>,
+    input: &mut Reading<Input>,
 ) -> u8 {
-    let mut input = Reading::new(rt.stdin());
     let mut output = Writing::new(rt.stdout());
-    match perform(rt.alloc(), job, table, rules, &mut input, &mut output) {
+    match perform(rt.alloc(), job, table, rules, input, &mut output) {
         Ok(status) => flushed(rt, status),
-        Err(fault) => tell(rt, &fault),
+        Err(fault) => report(rt, &fault),
     }
 }
 
-/// Flushes standard output, and answers the status.
+/// Flushes standard output, and returns the status.
 fn flushed(rt: &HostRuntime, status: u8) -> u8 {
     if rt.stdout().flush().is_err() {
         let _ = eprintln!(rt; "uca: output: Failed");
