@@ -3,9 +3,9 @@ ghost use Rattle.uca_weights.specs.declared.limits.TheConstants.{MAX_LINE};
 ghost use Rattle.uca_conform.specs.Comparing.{is_below, none_compared, with_line, with_skipped, with_text};
 ghost use Rattle.uca_conform.specs.TestReading.{state_of, IsCounted, IsOfFile, Leads};
 
+use crate::conforming::{ConformCause, Conformance};
 use crate::test_line::{is_test, text_of_test};
 use crate::test_text::TestText;
-use crate::conforming::{ConformCause, Conformance};
 use uca_io::lines::without_return;
 use uca_levels::compare;
 use uca_table::Table;
