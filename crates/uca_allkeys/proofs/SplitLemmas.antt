@@ -9,7 +9,7 @@ use Rattle.std.specs.List.{position_or_len, slice_split}
 use Rattle.std.specs.Prelude.{nat_lt}
 use Rattle.uca_model.specs.TableText.{is_blank, skip_blanks, words, is_line_feed}
 use Rattle.uca_model.specs.Lines.{line_feed}
-use Rattle.uca_model.proofs.CutLemmas.{skip-other}
+use Rattle.uca_model.proofs.ByteCuts.{skip-other}
 use Rattle.uca_allkeys.specs.Progress.{IsOpen}
 
 -- where no byte passes a test, there is one part

@@ -9,8 +9,8 @@ use Rattle.uca_weights.specs.declared.limits.TheConstants.{MAX_LINE, MAX_INPUT}
 use Rattle.uca_model.specs.Lines.{line_feed}
 use Rattle.uca_model.specs.TableText.{◌>>=◌, Cause, line_too_long, too_large, TextState, TextFault, TextEnd, stops, no_lines, is_line_feed, at_line, unless_long, add_line, add_last, add_lines, add_bytes, end_within, read_text}
 use Rattle.uca_allkeys.specs.Progress.{IsOpen, fault_at}
-use Rattle.uca_model.proofs.StepLemmas.{some_parts}
-use Rattle.uca_model.proofs.TextLemmas.{lines-more}
+use Rattle.uca_model.proofs.TextSteps.{some_parts}
+use Rattle.uca_model.proofs.TableTextLines.{lines-more}
 
 -- a line with its LF, and the bytes behind it
 add_bytes-line : (end : TextEnd) (n : ℕ) (s : TextState) (line rest : List ℕ) → IsOpen line

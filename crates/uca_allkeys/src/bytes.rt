@@ -4,7 +4,7 @@ ghost use Rattle.std.specs.Bool.{OnTrue};
 ghost use Rattle.std.specs.List.{position_or_len};
 ghost use Rattle.uca_weights.specs.declared.limits.TheConstants.{MAX_LINE};
 ghost use Rattle.uca_model.specs.Lines.{line_feed, without_return};
-ghost use Rattle.uca_model.specs.TableText.{is_blank, skip_blanks, trim_end, words, number, code_point, four_digits, behind, Cause};
+ghost use Rattle.uca_model.specs.TableText.{is_blank, skip_blanks, trim_end, words, number, code_point, four_digits, after_byte, Cause};
 ghost use Rattle.uca_allkeys.specs.Progress.{IsOpen};
 
 use arrayvec::ArrayVec;
@@ -102,10 +102,10 @@ pub fn place_of(byte: u8, text: &[u8]) -> usize
 }
 
 /// What stands behind a byte that has to stand first.
-pub(crate) fn behind(byte: u8, text: &[u8]) -> Option<&[u8]>
+pub(crate) fn after_byte(byte: u8, text: &[u8]) -> Option<&[u8]>
     ensures { MatchOption result
-        ((c : Cause) → behind c byte text.now ≡ Err c)
-        (λ rest. (c : Cause) → behind c byte text.now ≡ Ok rest.now) }
+        ((c : Cause) → after_byte c byte text.now ≡ Err c)
+        (λ rest. (c : Cause) → after_byte c byte text.now ≡ Ok rest.now) }
 {
     let (first, rest) = text.split_first()?;
     if *first == byte { Some(rest) } else { None }

@@ -3,7 +3,9 @@ ghost use Rattle.std.specs.List.{position_or_len};
 ghost use Rattle.uca_model.specs.TableText.{ends_point, range_end, range_base, two_stops, range_of_text, directive, some_text, skip_blanks, version};
 ghost use Rattle.uca_allkeys.specs.Statements.{Tells, with_rest, said_by, IsSomeEntry};
 
-use crate::bytes::{behind, code_point, four_digits, from_place, is_blank, skip_blanks, word_len};
+use crate::bytes::{
+    after_byte, code_point, four_digits, from_place, is_blank, skip_blanks, word_len,
+};
 use crate::faults::LineFault;
 use crate::statement::Statement;
 use uca_weights::Range;
@@ -49,10 +51,10 @@ fn range_end(text: &[u8]) -> Result<(char, &[u8]), LineFault>
 fn two_stops(text: &[u8]) -> Result<&[u8], LineFault>
     ensures { Tells (λ rest. rest.now) (two_stops text.now) result }
 {
-    let Some(rest) = behind(b'.', skip_blanks(text)) else {
+    let Some(rest) = after_byte(b'.', skip_blanks(text)) else {
         return Err(LineFault::BadDirective);
     };
-    match behind(b'.', rest) {
+    match after_byte(b'.', rest) {
         Some(rest) => Ok(rest),
         None => Err(LineFault::BadDirective),
     }
@@ -63,7 +65,7 @@ fn two_stops(text: &[u8]) -> Result<&[u8], LineFault>
 fn range_base(text: &[u8]) -> Result<u16, LineFault>
     ensures { Tells (λ base. base) (range_base text.now) result }
 {
-    let Some(rest) = behind(b';', skip_blanks(text)) else {
+    let Some(rest) = after_byte(b';', skip_blanks(text)) else {
         return Err(LineFault::BadDirective);
     };
     match four_digits(skip_blanks(rest)) {

@@ -4,7 +4,7 @@ ghost use Rattle.uca_model.specs.TableText.{words, key_after, entry_key, is_semi
 ghost use Rattle.uca_allkeys.specs.Statements.{Tells, with_rest, said_by, IsSomeEntry, AddsPart};
 
 use crate::bytes::{
-    behind, code_point, four_digits, from_place, next_word, number, place_of, skip_blanks,
+    after_byte, code_point, four_digits, from_place, next_word, number, place_of, skip_blanks,
 };
 use crate::faults::LineFault;
 use crate::statement::{Entry, Statement};
@@ -79,7 +79,7 @@ fn weight_first(text: &[u8]) -> Result<(u16, &[u8]), LineFault>
 fn next_weight(text: &[u8]) -> Result<(u16, &[u8]), LineFault>
     ensures { Tells with_rest (next_weight text.now) result }
 {
-    match behind(b'.', text) {
+    match after_byte(b'.', text) {
         Some(rest) => weight_first(rest),
         None => Err(LineFault::BadElement),
     }
@@ -110,7 +110,7 @@ fn is_old_weight(digits: &[u8]) -> bool
 fn element(text: &[u8]) -> Result<Element, LineFault>
     ensures { Tells (λ e. e) (element text.now) result }
 {
-    let Some(rest) = behind(b'[', text) else {
+    let Some(rest) = after_byte(b'[', text) else {
         return Err(LineFault::BadElement);
     };
     let (starred, rest) = mark(rest)?;

@@ -12,7 +12,7 @@ use Rattle.uca_model.specs.Lines.{line_feed}
 use Rattle.uca_model.specs.Table.{ElementTable}
 use Rattle.uca_model.specs.TableText.{◌>>=◌, is_line_feed}
 use Rattle.uca_model.specs.TestFile.{TestCause, TestEnd, TestFault, at_line, end_within, line_too_long, report_of, stops, too_large, unless_long}
-use Rattle.uca_model.proofs.StepLemmas.{some_parts}
+use Rattle.uca_model.proofs.TextSteps.{some_parts}
 use Rattle.uca_allkeys.specs.Progress.{IsOpen}
 use Rattle.uca_allkeys.proofs.TextLemmas.{FirstPart, first_part, take-room}
 use Rattle.uca_cli.specs.Comparing.{Compared, none_compared, report_part, with_bytes, with_last, with_line, with_lines}

@@ -1,6 +1,6 @@
 use Rattle.std.proofs.Common.{◌<◌, length, sym, arith}
 use Rattle.std.proofs.lemmas.Bool.Decides.{nat_tests}
-use Rattle.uca_model.proofs.LinesLemmas.{without_return-strips, without_return-keeps}
+use Rattle.uca_model.proofs.FirstLines.{without_return-strips, without_return-keeps}
 use Rattle.uca_allkeys.proofs.bytes.without_return.Goals as goal
 
 pub returns-then-line-end-eq13 : goal.returns-then-line-end-eq13

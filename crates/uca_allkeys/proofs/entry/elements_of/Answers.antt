@@ -2,7 +2,7 @@ use Rattle.std.proofs.Common.{List, ℕ, sym, ap, ◌∙◌}
 use Rattle.std.specs.List.{slice_split}
 use Rattle.uca_weights.specs.declared.element.Element.{Element}
 use Rattle.uca_model.specs.TableText.{is_right_bracket, elements_after}
-use Rattle.uca_model.proofs.StepLemmas.{some_parts}
+use Rattle.uca_model.proofs.TextSteps.{some_parts}
 use Rattle.uca_allkeys.proofs.entry.elements_of.Goals as goal
 
 pub loop-part-preserved : goal.loop-part-preserved
