@@ -17,7 +17,7 @@ use Rattle.uca_allkeys.specs.Faults.{told, IsOfText}
 use Rattle.uca_allkeys.specs.Progress.{state_of, fault_at, refusal, to_come, GoesOn, StopsAt, HasRead}
 use Rattle.uca_allkeys.specs.Reading.{GivesTable, IsFaulty, FailsFirst, WantsMemory, RefusedBy, IsRefused}
 use Rattle.uca_io.proofs.ReaderLemmas.{Gives-more, cut_chunk}
-use Rattle.uca_model.proofs.StepLemmas.{read_text-within}
+use Rattle.uca_model.proofs.TextSteps.{read_text-within}
 use Rattle.uca_allkeys.proofs.TextLemmas.{read_text-front, read_text-large}
 use Rattle.uca_allkeys.proofs.ProgressLemmas.{last_line, refusal-change}
 

@@ -11,7 +11,7 @@ use Rattle.uca_model.specs.TableText.{◌>>=◌, Cause, line_too_long, too_large
 use Rattle.uca_io.specs.Lines.{IsOpen}
 use Rattle.uca_allkeys.specs.Progress.{fault_at}
 use Rattle.uca_io.proofs.LineLemmas.{FirstPart, first_part, some_parts, take-room}
-use Rattle.uca_model.proofs.TextLemmas.{lines-more}
+use Rattle.uca_model.proofs.TableTextLines.{lines-more}
 
 -- a line with its LF, and the bytes behind it
 add_bytes-line : (end : TextEnd) (n : ℕ) (s : TextState) (line rest : List ℕ) → IsOpen line

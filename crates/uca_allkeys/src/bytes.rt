@@ -33,10 +33,10 @@ pub(crate) fn four_digits(digits: &[u8]) -> Option<u16>
 }
 
 /// What stands behind a byte that has to stand first.
-pub(crate) fn behind(byte: u8, text: &[u8]) -> Option<&[u8]>
+pub(crate) fn after_byte(byte: u8, text: &[u8]) -> Option<&[u8]>
     ensures { MatchOption result
-        ((c : Cause) → behind c byte text.now ≡ Err c)
-        (λ rest. (c : Cause) → behind c byte text.now ≡ Ok rest.now) }
+        ((c : Cause) → after_byte c byte text.now ≡ Err c)
+        (λ rest. (c : Cause) → after_byte c byte text.now ≡ Ok rest.now) }
 {
     let (first, rest) = text.split_first()?;
     if *first == byte { Some(rest) } else { None }

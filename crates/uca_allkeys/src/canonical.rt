@@ -2,14 +2,14 @@ ghost use Rattle.std.specs.Prelude.{◌≡◌, ◌+◌, ◌*◌, ◌^◌, ◌<�
 ghost use Rattle.uca_weights.specs.declared.limits.TheConstants.{MAX_KEY, MAX_ELEMENTS, MAX_LINE};
 ghost use Rattle.uca_io.specs.OutputBuffer.{accepted, Accepts, FailsPartway};
 ghost use Rattle.uca_io.specs.Writer.{WritesAll, WritesFront};
-ghost use Rattle.uca_model.specs.CanonicalText.{canonical, mark, element_text, ends_text, base_text, entry_line, four_digits, key_text, plane_text, point_text, range_line};
+ghost use Rattle.uca_model.specs.CanonicalText.{canonical, variable_mark, element_text, ends_text, base_text, entry_line, four_digits, key_text, plane_text, point_text, range_line};
 ghost use Rattle.std.specs.FinMap.{entries};
 ghost use Rattle.uca_model.specs.Output.{hex_digit};
 ghost use Rattle.uca_model.specs.Table.{IsEntry};
 
 use arrayvec::ArrayVec;
-use uca_table::Table;
 use uca_io::OutputBuffer;
+use uca_table::Table;
 use uca_weights::{Element, MAX_LINE, Range, WriteFault, Writer};
 
 /// An upper-case hexadecimal digit.
@@ -38,8 +38,8 @@ fn four_digits(n: u16) -> [u8; 4]
 }
 
 /// The mark of an element.
-fn mark(element: &Element) -> u8
-    ensures { result ≡ mark element.now }
+fn variable_mark(element: &Element) -> u8
+    ensures { result ≡ variable_mark element.now }
 {
     if element.starred { b'*' } else { b'.' }
 }
@@ -50,7 +50,7 @@ fn mark(element: &Element) -> u8
 pub fn element_text(element: &Element) -> [u8; 17]
     ensures { result ≡ element_text element.now }
 {
-    let mark = mark(element);
+    let mark = variable_mark(element);
     let [a, b, c, d] = four_digits(element.l1);
     let [e, f, g, h] = four_digits(element.l2);
     let [i, j, k, l] = four_digits(element.l3);

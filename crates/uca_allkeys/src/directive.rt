@@ -3,7 +3,7 @@ ghost use Rattle.std.specs.List.{position_or_len};
 ghost use Rattle.uca_model.specs.TableText.{ends_point, range_end, range_base, two_stops, range_of_text, directive, some_text, skip_blanks, version};
 ghost use Rattle.uca_allkeys.specs.Statements.{Tells, with_rest, said_by, IsSomeEntry};
 
-use crate::bytes::{behind, code_point, four_digits};
+use crate::bytes::{after_byte, code_point, four_digits};
 use crate::faults::LineFault;
 use crate::statement::Statement;
 use uca_io::lines::from_place;
@@ -34,7 +34,7 @@ fn point_len(text: &[u8]) -> usize
     len
 }
 
-/// An end of a range: a code point up to a blank, `;` or `.`, and what stands behind it.
+/// An end of a range: a code point up to a blank, `;` or `.`, and what stands after_byte it.
 #[tactic(auto, unfolding(uca_model::specs::TableText::range_end))]
 fn range_end(text: &[u8]) -> Result<(char, &[u8]), LineFault>
     ensures { Tells with_rest (range_end text.now) result }
@@ -46,26 +46,26 @@ fn range_end(text: &[u8]) -> Result<(char, &[u8]), LineFault>
     }
 }
 
-/// What stands behind the `..` between the ends of a range.
+/// What stands after_byte the `..` between the ends of a range.
 #[tactic(auto, unfolding(uca_model::specs::TableText::two_stops))]
 fn two_stops(text: &[u8]) -> Result<&[u8], LineFault>
     ensures { Tells (λ rest. rest.now) (two_stops text.now) result }
 {
-    let Some(rest) = behind(b'.', skip_blanks(text)) else {
+    let Some(rest) = after_byte(b'.', skip_blanks(text)) else {
         return Err(LineFault::BadDirective);
     };
-    match behind(b'.', rest) {
+    match after_byte(b'.', rest) {
         Some(rest) => Ok(rest),
         None => Err(LineFault::BadDirective),
     }
 }
 
-/// The base behind a `;`, with blanks before both.
+/// The base after_byte a `;`, with blanks before both.
 #[tactic(auto, unfolding(uca_model::specs::TableText::range_base))]
 fn range_base(text: &[u8]) -> Result<u16, LineFault>
     ensures { Tells (λ base. base) (range_base text.now) result }
 {
-    let Some(rest) = behind(b';', skip_blanks(text)) else {
+    let Some(rest) = after_byte(b';', skip_blanks(text)) else {
         return Err(LineFault::BadDirective);
     };
     match four_digits(skip_blanks(rest)) {
@@ -87,7 +87,7 @@ fn range_of_text(text: &[u8]) -> Result<Statement, LineFault>
     Ok(Statement::Range(Range { first, last, base }))
 }
 
-/// The same, behind the word of the directive.
+/// The same, after_byte the word of the directive.
 fn range_directive(rest: &[u8]) -> Result<Statement, LineFault>
     ensures value { Tells said_by (some_text rest.now (range_of_text rest.now)) result }
     ensures some { IfOk result IsSomeEntry }
@@ -99,7 +99,7 @@ fn range_directive(rest: &[u8]) -> Result<Statement, LineFault>
     }
 }
 
-/// A version, whose text isn't kept, behind the word of the directive.
+/// A version, whose text isn't kept, after_byte the word of the directive.
 fn version_directive(rest: &[u8]) -> Result<Statement, LineFault>
     ensures value { Tells said_by (some_text (skip_blanks rest.now) (Ok version)) result }
     ensures some { IfOk result IsSomeEntry }

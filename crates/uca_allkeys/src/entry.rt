@@ -3,7 +3,7 @@ ghost use Rattle.std.specs.List.{slice_split, after_first};
 ghost use Rattle.uca_model.specs.TableText.{words, key_after, entry_key, is_semicolon, is_right_bracket, mark, weight_first, next_weight, element_ends, element, elements_after, is_old_weight, entry_of_text};
 ghost use Rattle.uca_allkeys.specs.Statements.{Tells, with_rest, said_by, IsSomeEntry, AddsPart};
 
-use crate::bytes::{behind, code_point, four_digits};
+use crate::bytes::{after_byte, code_point, four_digits};
 use crate::faults::LineFault;
 use crate::statement::{Entry, Statement};
 use arrayvec::ArrayVec;
@@ -47,7 +47,7 @@ fn entry_key(text: &[u8]) -> Result<ArrayVec<char, MAX_KEY>, LineFault>
     Ok(key)
 }
 
-/// Whether the mark of an element is `*`, and what stands behind it.
+/// Whether the mark of an element is `*`, and what stands after_byte it.
 fn mark(text: &[u8]) -> Result<(bool, &[u8]), LineFault>
     ensures { Tells with_rest (mark text.now) result }
 {
@@ -63,7 +63,7 @@ fn mark(text: &[u8]) -> Result<(bool, &[u8]), LineFault>
     }
 }
 
-/// A weight, and what stands behind it.
+/// A weight, and what stands after_byte it.
 #[tactic(auto, unfolding(uca_model::specs::TableText::weight_first))]
 fn weight_first(text: &[u8]) -> Result<(u16, &[u8]), LineFault>
     ensures { Tells with_rest (weight_first text.now) result }
@@ -75,18 +75,18 @@ fn weight_first(text: &[u8]) -> Result<(u16, &[u8]), LineFault>
     }
 }
 
-/// A weight behind a full stop, and what stands behind it.
+/// A weight after_byte a full stop, and what stands behind it.
 #[tactic(auto, unfolding(uca_model::specs::TableText::next_weight))]
 fn next_weight(text: &[u8]) -> Result<(u16, &[u8]), LineFault>
     ensures { Tells with_rest (next_weight text.now) result }
 {
-    match behind(b'.', text) {
+    match after_byte(b'.', text) {
         Some(rest) => weight_first(rest),
         None => Err(LineFault::BadElement),
     }
 }
 
-/// Whether behind the third weight of an element there is nothing, or a fourth weight, which isn't used.
+/// Whether after_byte the third weight of an element there is nothing, or a fourth weight, which isn't used.
 fn element_ends(text: &[u8]) -> bool
     ensures { result ≡ element_ends text.now }
 {
@@ -111,7 +111,7 @@ fn is_old_weight(digits: &[u8]) -> bool
 fn element(text: &[u8]) -> Result<Element, LineFault>
     ensures { Tells (λ e. e) (element text.now) result }
 {
-    let Some(rest) = behind(b'[', text) else {
+    let Some(rest) = after_byte(b'[', text) else {
         return Err(LineFault::BadElement);
     };
     let (starred, rest) = mark(rest)?;
@@ -130,7 +130,7 @@ fn element(text: &[u8]) -> Result<Element, LineFault>
     }
 }
 
-/// What stands before the first `]`, and what stands behind it.
+/// What stands before the first `]`, and what stands after_byte it.
 fn next_part(text: &[u8]) -> Option<(&[u8], &[u8])>
     ensures { MatchOption result
         (slice_split is_right_bracket text.now ≡ text.now ∷ [])
@@ -159,7 +159,7 @@ fn add_element(elements: &mut ArrayVec<Element, MAX_ELEMENTS>, part: &[u8]) -> R
     }
 }
 
-/// The elements behind a `;`.
+/// The elements after_byte a `;`.
 fn elements_of(text: &[u8]) -> Result<ArrayVec<Element, MAX_ELEMENTS>, LineFault>
     ensures value { Tells (λ es. es.items) (elements_after [] (slice_split is_right_bracket text.now)) result }
     ensures some { IfOk result (λ es. 0 < length es.items) }
@@ -181,7 +181,7 @@ fn elements_of(text: &[u8]) -> Result<ArrayVec<Element, MAX_ELEMENTS>, LineFault
     Ok(elements)
 }
 
-/// What stands behind the first `;`.
+/// What stands after_byte the first `;`.
 fn behind_key(text: &[u8]) -> &[u8]
     ensures { result.now ≡ after_first is_semicolon text.now }
 {

@@ -33,7 +33,7 @@ first_fault : (lines left rest : List (List ℕ)) (line : List ℕ) (n : ℕ) (f
 first_fault lines left rest line n fault h first faulty = record {
   front = h.front;
   line = line;
-  behind = rest;
+  after = rest;
   parts = h.parts ∙ ap (λ ls. h.front ++ ls) first;
   fine = h.fine;
   counted = ap (λ k. k + 1) h.counted;

@@ -9,7 +9,7 @@ use Rattle.std.proofs.lemmas.List.Sorted.{All-permutation, IsPermutation-map}
 use Rattle.std.proofs.lemmas.List.Sums.{sum_by-cons}
 use Rattle.uca_weights.specs.declared.settings.Settings.{Settings}
 use Rattle.uca_model.specs.Lines.{line_feed, lines_of, onto, split_lines, without_return}
-use Rattle.uca_model.specs.Ordered.{line_key, IsInOrder}
+use Rattle.uca_model.specs.OrderOutput.{line_key, IsInOrder}
 use Rattle.uca_model.specs.SortKey.{key_order}
 use Rattle.uca_model.specs.Table.{ElementTable}
 use Rattle.uca_cli.specs.Ordering.{cut_up, AreKeys}

@@ -5,7 +5,7 @@ use Rattle.uca_io.specs.declared.writer.WriteFault.{WriteFault}
 use Rattle.uca_io.specs.WriterState.{WriterState}
 use Rattle.uca_io.specs.Writer.{WritesAll, WritesFront}
 use Rattle.uca_model.specs.Lines.{lines_of}
-use Rattle.uca_model.specs.Ordered.{IsOrderOutput, line_key}
+use Rattle.uca_model.specs.OrderOutput.{IsOrderOutput, line_key}
 use Rattle.uca_model.specs.Table.{ElementTable}
 use Rattle.uca_cli.specs.Performing.{Ends, ReadsLines, RefusesInput}
 use Rattle.uca_cli.specs.declared.faults.CliFault.{CliFault}

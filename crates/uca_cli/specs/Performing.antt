@@ -8,10 +8,10 @@ use Rattle.uca_io.specs.Reader.{ReaderState, GivesAll}
 use Rattle.uca_io.specs.WriterState.{WriterState}
 use Rattle.uca_io.specs.Writer.{WritesAll, WritesFront}
 use Rattle.uca_model.specs.CanonicalText.{canonical}
-use Rattle.uca_model.specs.Compared.{compare_output}
-use Rattle.uca_model.specs.ElementLines.{elements_output}
+use Rattle.uca_model.specs.CompareOutput.{compare_output}
+use Rattle.uca_model.specs.ElementsOutput.{elements_output}
 use Rattle.uca_model.specs.Lines.{lines_of, IsTextLine}
-use Rattle.uca_model.specs.Ordered.{IsOrderOutput}
+use Rattle.uca_model.specs.OrderOutput.{IsOrderOutput}
 use Rattle.uca_model.specs.Output.{key_output}
 use Rattle.uca_model.specs.SortKey.{sort_key}
 use Rattle.uca_model.specs.Table.{ElementTable}

@@ -5,7 +5,7 @@ use Rattle.uca_io.specs.Writer.{WritesFront}
 use Rattle.uca_io.specs.OutputBuffer.{FailsPartway}
 use Rattle.uca_io.specs.BufferState.{BufferState}
 use Rattle.uca_weights.specs.declared.settings.Settings.{Settings}
-use Rattle.uca_model.specs.ElementLines.{elements_line}
+use Rattle.uca_model.specs.ElementsOutput.{elements_line}
 use Rattle.uca_model.specs.Lines.{line_feed, lines_of}
 use Rattle.uca_model.specs.Output.{blank, hex_pair, key_line}
 use Rattle.uca_model.specs.Table.{ElementTable}

@@ -2,7 +2,7 @@ ghost use Rattle.std.specs.Prelude.{◌≡◌, ◌^◌, ◌<◌, ◌≤◌, ◌+
 ghost use Rattle.uca_io.specs.OutputBuffer.{accepted, Accepts, FailsPartway};
 ghost use Rattle.uca_io.specs.Writer.{WritesAll, WritesFront};
 ghost use Rattle.uca_weights.specs.declared.limits.TheConstants.{MAX_INPUT};
-ghost use Rattle.uca_model.specs.Compared.{compare_line, compare_output, order_line};
+ghost use Rattle.uca_model.specs.CompareOutput.{compare_line, compare_output, order_line};
 ghost use Rattle.uca_model.specs.Lines.{lines_of, IsTextLine};
 
 use crate::lines::first_line;

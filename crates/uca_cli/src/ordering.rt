@@ -5,7 +5,7 @@ ghost use Rattle.uca_io.specs.OutputBuffer.{accepted, Accepts, FailsPartway};
 ghost use Rattle.uca_io.specs.Writer.{WritesAll, WritesFront};
 ghost use Rattle.uca_weights.specs.declared.limits.TheConstants.{MAX_INPUT};
 ghost use Rattle.uca_model.specs.Lines.{line_feed, lines_of, IsTextLine};
-ghost use Rattle.uca_model.specs.Ordered.{text_of_lines};
+ghost use Rattle.uca_model.specs.OrderOutput.{text_of_lines};
 ghost use Rattle.uca_model.specs.SortKey.{key_order};
 ghost use Rattle.uca_cli.specs.Ordering.{cut_up, AreKeys, Orders, RefusesOrder, StopsInOrder, WritesInOrder};
 

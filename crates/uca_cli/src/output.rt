@@ -3,7 +3,7 @@ ghost use Rattle.uca_io.specs.OutputBuffer.{accepted, Accepts, FailsPartway};
 ghost use Rattle.uca_io.specs.Writer.{WritesAll, WritesFront};
 ghost use Rattle.uca_weights.specs.declared.limits.TheConstants.{MAX_INPUT};
 ghost use Rattle.uca_model.specs.CanonicalText.{element_text};
-ghost use Rattle.uca_model.specs.ElementLines.{elements_text};
+ghost use Rattle.uca_model.specs.ElementsOutput.{elements_text};
 ghost use Rattle.uca_model.specs.Lines.{lines_of, IsTextLine};
 ghost use Rattle.uca_model.specs.Output.{hex_line};
 ghost use Rattle.uca_window.specs.Passage.{text_of};

@@ -9,19 +9,19 @@ use Rattle.uca_weights.specs.declared.settings.Settings.{Settings}
 use Rattle.uca_model.specs.SortKey.{key_order, sort_key}
 use Rattle.uca_model.specs.Table.{ElementTable}
 use Rattle.uca_model.specs.TableText.{◌>>=◌, is_line_feed}
-use Rattle.uca_model.specs.TestFile.{Report, TestCause, TestEnd, TestFault, TestLine, at_line, end_within, first_below, first_failure, is_compared, line_too_long, report, report_of, reported, test_lines, tests_after, tests_of_last, tests_of_line}
+use Rattle.uca_model.specs.TestFile.{Report, TestCause, TestEnd, TestFault, TestLine, at_line, end_within, first_below, first_failure, is_checked, line_too_long, report, report_of, reported, test_lines, tests_after, tests_of_last, tests_of_line}
 use Rattle.uca_conform.specs.Comparing.{Compared, failure_with, is_below, none_compared, report_part, with_bytes, with_lines, with_more, with_skipped, with_test, with_tests, with_text}
 
-compared : (t : ElementTable) (s : Settings) (sum : Compared) (test : TestLine) → is_compared test ≡ true → with_test t s sum test ≡ with_text t s test.number sum test.points
+compared : (t : ElementTable) (s : Settings) (sum : Compared) (test : TestLine) → is_checked test ≡ true → with_test t s sum test ≡ with_text t s test.number sum test.points
 compared t s sum test is = cond-true _ _ _ is
 
-skipped : (t : ElementTable) (s : Settings) (sum : Compared) (test : TestLine) → is_compared test ≡ false → with_test t s sum test ≡ with_skipped sum
+skipped : (t : ElementTable) (s : Settings) (sum : Compared) (test : TestLine) → is_checked test ≡ false → with_test t s sum test ≡ with_skipped sum
 skipped t s sum test is = cond-false _ _ _ is
 
-kept : (test : TestLine) (more : List TestLine) → is_compared test ≡ true → filter is_compared (test ∷ more) ≡ test ∷ filter is_compared more
+kept : (test : TestLine) (more : List TestLine) → is_checked test ≡ true → filter is_checked (test ∷ more) ≡ test ∷ filter is_checked more
 kept test more is = cond-true _ _ _ is
 
-left_out : (test : TestLine) (more : List TestLine) → is_compared test ≡ false → filter is_compared (test ∷ more) ≡ filter is_compared more
+left_out : (test : TestLine) (more : List TestLine) → is_checked test ≡ false → filter is_checked (test ∷ more) ≡ filter is_checked more
 left_out test more is = cond-false _ _ _ is
 
 -- how many test lines there are
@@ -29,24 +29,24 @@ counts_lines : (t : ElementTable) (s : Settings) (sum : Compared) (tests : List 
 counts_lines t s sum [] = omega arith
 counts_lines t s sum (test ∷ more) =
     let later : (with_tests t s (with_test t s sum test) more).report.lines ≡ (with_test t s sum test).report.lines + length more = counts_lines t s (with_test t s sum test) more in
-    elim (cases_Bool (is_compared test)) [
+    elim (cases_Bool (is_checked test)) [
       | inl e ↦ let one : (with_test t s sum test).report.lines ≡ sum.report.lines + 1 = ap (λ (c : Compared). c.report.lines) (compared t s sum test e) in omega (arith, later, one)
       | inr e ↦ let one : (with_test t s sum test).report.lines ≡ sum.report.lines + 1 = ap (λ (c : Compared). c.report.lines) (skipped t s sum test e) in omega (arith, later, one)
     ]
 
 -- how many of them were not compared
-counts_skipped : (t : ElementTable) (s : Settings) (sum : Compared) (tests : List TestLine) → (with_tests t s sum tests).report.skipped + length (filter is_compared tests) ≡ sum.report.skipped + length tests
+counts_skipped : (t : ElementTable) (s : Settings) (sum : Compared) (tests : List TestLine) → (with_tests t s sum tests).report.skipped + length (filter is_checked tests) ≡ sum.report.skipped + length tests
 counts_skipped t s sum [] = omega arith
 counts_skipped t s sum (test ∷ more) =
-    let later : (with_tests t s (with_test t s sum test) more).report.skipped + length (filter is_compared more) ≡ (with_test t s sum test).report.skipped + length more = counts_skipped t s (with_test t s sum test) more in
-    elim (cases_Bool (is_compared test)) [
+    let later : (with_tests t s (with_test t s sum test) more).report.skipped + length (filter is_checked more) ≡ (with_test t s sum test).report.skipped + length more = counts_skipped t s (with_test t s sum test) more in
+    elim (cases_Bool (is_checked test)) [
       | inl e ↦
           let one : (with_test t s sum test).report.skipped ≡ sum.report.skipped = ap (λ (c : Compared). c.report.skipped) (compared t s sum test e) in
-          let count : length (filter is_compared (test ∷ more)) ≡ length (filter is_compared more) + 1 = ap (length {A = TestLine}) (kept test more e) ∙ omega arith in
+          let count : length (filter is_checked (test ∷ more)) ≡ length (filter is_checked more) + 1 = ap (length {A = TestLine}) (kept test more e) ∙ omega arith in
           omega (arith, later, one, count)
       | inr e ↦
           let one : (with_test t s sum test).report.skipped ≡ sum.report.skipped + 1 = ap (λ (c : Compared). c.report.skipped) (skipped t s sum test e) in
-          let count : length (filter is_compared (test ∷ more)) ≡ length (filter is_compared more) = ap (length {A = TestLine}) (left_out test more e) in
+          let count : length (filter is_checked (test ∷ more)) ≡ length (filter is_checked more) = ap (length {A = TestLine}) (left_out test more e) in
           omega (arith, later, one, count)
     ]
 
@@ -58,21 +58,21 @@ failure sum = sum.report.first_failure
 keeps_failure : (t : ElementTable) (s : Settings) (sum : Compared) (n : ℕ) (tests : List TestLine) → failure sum ≡ Some n → failure (with_tests t s sum tests) ≡ Some n
 keeps_failure t s sum n [] is = is
 keeps_failure t s sum n (test ∷ more) is =
-    keeps_failure t s (with_test t s sum test) n more (elim (cases_Bool (is_compared test)) [
+    keeps_failure t s (with_test t s sum test) n more (elim (cases_Bool (is_checked test)) [
       | inl e ↦ ap failure (compared t s sum test e) ∙ ap (λ (o : Option ℕ). failure_with o (is_below t s sum.last test.points) test.number) is
       | inr e ↦ ap failure (skipped t s sum test e) ∙ is
     ])
 
 -- the first test line that is below the one before it
 fails_below : (t : ElementTable) (s : Settings) (sum : Compared) (before : TestLine) (tests : List TestLine) → sum.last ≡ Some before.points → failure sum ≡ None
-    → failure (with_tests t s sum tests) ≡ first_below t s before (filter is_compared tests)
+    → failure (with_tests t s sum tests) ≡ first_below t s before (filter is_checked tests)
 fails_below t s sum before [] last none = none
 fails_below t s sum before (test ∷ more) last none =
-    elim (cases_Bool (is_compared test)) [
+    elim (cases_Bool (is_checked test)) [
       | inl e ↦
           let next : Compared = with_text t s test.number sum test.points in
           let same : failure (with_tests t s sum (test ∷ more)) ≡ failure (with_tests t s next more) = ap (λ (c : Compared). failure (with_tests t s c more)) (compared t s sum test e) in
-          let wanted : first_below t s before (filter is_compared (test ∷ more)) ≡ first_below t s before (test ∷ filter is_compared more) = ap (first_below t s before) (kept test more e) in
+          let wanted : first_below t s before (filter is_checked (test ∷ more)) ≡ first_below t s before (test ∷ filter is_checked more) = ap (first_below t s before) (kept test more e) in
           let here : failure next ≡ (if is_gt (key_order (sort_key t s before.points) (sort_key t s test.points)) then Some test.number else None) = ap₂ (λ (o : Option ℕ) (l : Option (List ℕ)). failure_with o (is_below t s l test.points) test.number) none last in
           elim (cases_Bool (is_gt (key_order (sort_key t s before.points) (sort_key t s test.points)))) [
             | inl below ↦ same ∙ keeps_failure t s next test.number more (here ∙ cond-true _ _ _ below) ∙ sym (wanted ∙ cond-true _ _ _ below)
@@ -84,10 +84,10 @@ fails_below t s sum before (test ∷ more) last none =
     ]
 
 -- the same, where nothing was compared yet
-fails_first : (t : ElementTable) (s : Settings) (sum : Compared) (tests : List TestLine) → sum.last ≡ None → failure sum ≡ None → failure (with_tests t s sum tests) ≡ first_failure t s (filter is_compared tests)
+fails_first : (t : ElementTable) (s : Settings) (sum : Compared) (tests : List TestLine) → sum.last ≡ None → failure sum ≡ None → failure (with_tests t s sum tests) ≡ first_failure t s (filter is_checked tests)
 fails_first t s sum [] last none = none
 fails_first t s sum (test ∷ more) last none =
-    elim (cases_Bool (is_compared test)) [
+    elim (cases_Bool (is_checked test)) [
       | inl e ↦
           let next : Compared = with_text t s test.number sum test.points in
           let here : failure next ≡ None = ap₂ (λ (o : Option ℕ) (l : Option (List ℕ)). failure_with o (is_below t s l test.points) test.number) none last in

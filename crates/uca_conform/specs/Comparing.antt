@@ -8,7 +8,7 @@ use Rattle.uca_model.specs.SafeText.{is_safe}
 use Rattle.uca_model.specs.SortKey.{key_order, sort_key}
 use Rattle.uca_model.specs.Table.{ElementTable}
 use Rattle.uca_model.specs.TableText.{◌>>=◌, is_line_feed}
-use Rattle.uca_model.specs.TestFile.{Report, TestCause, TestEnd, TestFault, TestLine, at_line, is_compared, tests_of_last, tests_of_line, unless_long}
+use Rattle.uca_model.specs.TestFile.{Report, TestCause, TestEnd, TestFault, TestLine, at_line, is_checked, tests_of_last, tests_of_line, unless_long}
 
 -- what test lines amount to: their report, and the text that was compared last
 pub record Compared : Type 0 where
@@ -47,7 +47,7 @@ with_skipped sum = record {
 }
 
 abbrev pub with_test : ElementTable → Settings → Compared → TestLine → Compared
-with_test t s sum test = if is_compared test then with_text t s test.number sum test.points else with_skipped sum
+with_test t s sum test = if is_checked test then with_text t s test.number sum test.points else with_skipped sum
 
 abbrev pub with_tests : ElementTable → Settings → Compared → List TestLine → Compared
 with_tests t s sum [] = sum

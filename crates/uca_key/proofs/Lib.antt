@@ -1,3 +1,3 @@
-pub mod KeyLemmas
-pub mod RoomLemmas
-pub mod SendingLemmas
+pub mod KeyBytes
+pub mod KeySize
+pub mod KeyPieces

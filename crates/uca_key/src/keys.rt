@@ -21,8 +21,7 @@ fn push_text(alloc: Global, key: &mut Vec<u8>, p: &Passage) -> Result<(), AllocE
 
 /// The sort key of a text: the weights of each level that are not zero, each as two bytes, high byte first, with the
 /// separator 0000 between two levels; and at the strength `Identical` the code points of the text in NFD, each as
-/// three bytes, behind a fourth separator (UTS #10, sections 7.1 to 7.3). Want of memory is told only where a growth
-/// was refused.
+/// three bytes, after a fourth separator (UTS #10, sections 7.1 to 7.3). `AllocError`: an allocation was refused.
 pub fn key_of(alloc: Global, t: &Table, s: Settings, p: &Passage) -> Result<Vec<u8>, AllocError>
     ensures { IfOk result (λ v. v.items ≡ sort_key t.now s (text_of p.now)) }
 {

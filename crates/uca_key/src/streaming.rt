@@ -2,16 +2,16 @@ ghost use Rattle.std.specs.Prelude.{◌≡◌, ◌+◌, ◌<◌, ◌≤◌, ◌^
 ghost use Rattle.uca_io.specs.OutputBuffer.{accepted, Accepts, FailsPartway};
 ghost use Rattle.uca_io.specs.Writer.{WritesAll, WritesFront};
 ghost use Rattle.uca_model.specs.LevelWeights.{level_list};
-ghost use Rattle.uca_model.specs.Reading.{bytes_at};
+ghost use Rattle.uca_model.specs.DecidingLevel.{bytes_at};
 ghost use Rattle.uca_model.specs.SafeText.{IsSafe};
 ghost use Rattle.uca_model.specs.SortKey.{weight_bytes, code_point_bytes, sort_key};
 ghost use Rattle.uca_model.specs.Source.{unread};
 ghost use Rattle.uca_window.specs.Passage.{text_of};
 
+use uca_io::OutputBuffer;
 use uca_levels::Weights;
 use uca_levels::points::next_point;
 use uca_table::Table;
-use uca_io::OutputBuffer;
 use uca_weights::{Settings, Variable, WriteFault, Writer};
 use uca_window::{Passage, PassageSource, Source, Window};
 
@@ -174,7 +174,7 @@ fn show_room(t: &Table, s: Settings, p: &Passage)
     show_bytes(text);
 }
 
-/// Writes the sort key of a text, and answers its length in bytes (UTS #10, section 7.3). On a fault just the first
+/// Writes the sort key of a text, and returns its length in bytes (UTS #10, section 7.3). On a fault exactly the first
 /// `written` bytes of the key went out. It takes no memory, and does not flush the writer.
 pub fn write_key<W: Writer>(
     w: &mut W,

@@ -15,22 +15,22 @@ use Rattle.uca_model.specs.SafeText.{IsSafe}
 use Rattle.uca_weights.specs.declared.settings.Variable.{Variable}
 use Rattle.uca_model.specs.Source.{SourceState, unread, GivesNext, marked}
 use Rattle.uca_model.specs.Window.{WindowState, empty_window, Fits, ReadsOn, credit, is_wanting, after_read}
-use Rattle.uca_model.proofs.KeysLemmas.{longest-some}
+use Rattle.uca_model.proofs.LongestKey.{longest-some}
 use Rattle.uca_model.proofs.SafeCutLemmas.{is_cut-parts, DiffersFirst, common_front-is, last_cut-more}
-use Rattle.uca_match.specs.Pulls.{Pulls}
-use Rattle.uca_match.specs.ToCome.{ElementsState, is_asking, given_held, after_held, first_of, elements_held, window_held}
+use Rattle.uca_match.specs.Yields.{Yields}
+use Rattle.uca_match.specs.RemainingElements.{ElementsState, is_asking, yielded_held, after_held, first_of, elements_held, window_held}
 use Rattle.uca_match.specs.WindowMatch.{key_held, after_match}
-use Rattle.uca_levels.specs.ToCome.{WeightsState, new_weights, all_to_come, window_of_weights, weight_given, weigher_given, read_weights, WeighsHeld}
+use Rattle.uca_levels.specs.RemainingWeights.{WeightsState, new_weights, remaining_with_zeros, window_of_weights, weight_given, weigher_given, read_weights, WeighsHeld}
 use Rattle.uca_levels.specs.Reads.{InStep, ReadsUp}
-use Rattle.uca_levels.specs.InCommon.{AreMarked, IsUnderWay, InCommon, Parted, ReadsOnce, work_left}
+use Rattle.uca_levels.specs.InCommon.{AreMarked, PassUnderWay, InCommon, Parted, ReadsOnce, work_left}
 use Rattle.uca_levels.proofs.ReadsLemmas.{InStep-start, InStep-more, given_some}
 
-pub UnderWay-more : (was before now : SourceState) (w new : WindowState) → IsUnderWay was w before → ReadsOn w before new now → IsUnderWay was new now
-UnderWay-more was before now w new h t = record { text = t.text ∙ h.text; fits = t.fits; taken = omega (arith, h.taken, t.taken); backs = t.backs ∙ h.backs }
+pub UnderWay-more : (was before now : SourceState) (w new : WindowState) → PassUnderWay was w before → ReadsOn w before new now → PassUnderWay was new now
+UnderWay-more was before now w new h t = record { text = t.text ∙ h.text; fits = t.fits; reads = omega (arith, h.reads, t.reads); rewinds = t.rewinds ∙ h.rewinds }
 
 -- ---- one more character
 
--- what is read leaves what is to come
+-- reading leaves what remains
 InStep-same : (xs ys l r l' r' : List ℕ) → InStep xs ys l r → l' ≡ l → r' ≡ r → InStep xs ys l' r'
 InStep-same xs ys l r l' r' h e f = record { front = h.front; first = h.first ∙ ap (λ k. h.front ++ k) (sym e); second = h.second ∙ ap (λ k. h.front ++ k) (sym f) }
 
@@ -42,8 +42,8 @@ pub record ReadsBoth (left right : WeightsState) (a b : SourceState) (x y : Opti
   pub next_b : now_right ≡ read_weights right y
   pub reads_a : ReadsOn left.elements.window a now_left.elements.window now_a
   pub reads_b : ReadsOn right.elements.window b now_right.elements.window now_b
-  pub come_a : all_to_come now_left (unread now_a) ≡ all_to_come left (unread a)
-  pub come_b : all_to_come now_right (unread now_b) ≡ all_to_come right (unread b)
+  pub come_a : remaining_with_zeros now_left (unread now_a) ≡ remaining_with_zeros left (unread a)
+  pub come_b : remaining_with_zeros now_right (unread now_b) ≡ remaining_with_zeros right (unread b)
   pub fewer : credit now_left.elements.window (unread now_a) < credit left.elements.window (unread a)
 
 place-more : (front : List ℕ) (c m n : ℕ) → n ≡ m + 1 → m ≡ length front → n ≡ length (front ++ c ∷ [])
@@ -97,8 +97,8 @@ module _ (t : ElementTable) (was wus : SourceState) (xs ys : List ℕ) (left rig
           first = λ e. (let at : now_a.place - 1 ≡ length h.front = omega (arith, place_a, h.place_a) in at) ∙ sym moves;
           second = λ e. (let at : now_b.place - 1 ≡ length h.front = omega (arith, place_b, h.place_b) in at) ∙ sym moves;
         };
-        reads_a = record { text = more_a.text; fits = more_a.fits; taken = more_a.taken; backs = more_a.backs };
-        reads_b = record { text = more_b.text; fits = more_b.fits; taken = more_b.taken; backs = more_b.backs };
+        reads_a = record { text = more_a.text; fits = more_a.fits; reads = more_a.reads; rewinds = more_a.rewinds };
+        reads_b = record { text = more_b.text; fits = more_b.fits; reads = more_b.reads; rewinds = more_b.rewinds };
         lists = InStep-same xs ys _ _ _ _ h.lists r.come_a r.come_b;
       }
 
@@ -161,7 +161,7 @@ some_of t key valid e = by_entry (elements_at t key) refl e
     by_entry (Some es) f e = nothing es (IsEntry-elements_at t key es valid f).some_elements e
 
 -- a window that runs and wants no more has closed points, so there is an element
-some_held : (e : ElementsState) → IsTable e.table → e.window.longest ≡ longest e.table → e.window.ended ≡ false → is_asking e ≡ false → given_held e ≡ None → ⊥
+some_held : (e : ElementsState) → IsTable e.table → e.window.longest ≡ longest e.table → e.window.ended ≡ false → is_asking e ≡ false → yielded_held e ≡ None → ⊥
 some_held e valid size runs idle none = by_waiting e.waiting idle none
   where
     not_wanting : (b d : Bool) → d ≡ false → (b && not d) ≡ false → b ≡ false
@@ -191,23 +191,23 @@ running-held e = by_waiting e.waiting
 module _ (t : ElementTable) (was wus : SourceState) (xs ys : List ℕ) (left right : WeightsState) (flag : Bool) (a b : SourceState) (h : InCommon t was wus xs ys left right flag a b) (valid : IsTable t) (idle : is_asking left.elements ≡ false) where
   -- both gave a weight, and the same
   pub common-weight : (x y : Option ℕ) (now_left now_right : WeightsState) (now_a now_b : SourceState) → WeighsHeld left a x now_left now_a → WeighsHeld right b y now_right now_b
-      → Pulls all_to_come window_of_weights left a x now_left now_a → Pulls all_to_come window_of_weights right b y now_right now_b
+      → Yields remaining_with_zeros window_of_weights left a x now_left now_a → Yields remaining_with_zeros window_of_weights right b y now_right now_b
       → InCommon t was wus xs ys now_left now_right flag now_a now_b × (work_left now_left now_a < work_left left a)
-  common-weight x y now_left now_right now_a now_b p q u v = by_given (given_held left.elements) refl
+  common-weight x y now_left now_right now_a now_b p q u v = by_given (yielded_held left.elements) refl
     where
       next : WeightsState → WeightsState
-      next w = record { elements = after_held w.elements; weigher = weigher_given w.weigher (given_held w.elements); level = w.level }
+      next w = record { elements = after_held w.elements; weigher = weigher_given w.weigher (yielded_held w.elements); level = w.level }
 
-      by_given : (o : Option Element) → given_held left.elements ≡ o → InCommon t was wus xs ys now_left now_right flag now_a now_b × (work_left now_left now_a < work_left left a)
+      by_given : (o : Option Element) → yielded_held left.elements ≡ o → InCommon t was wus xs ys now_left now_right flag now_a now_b × (work_left now_left now_a < work_left left a)
       by_given None none = absurd (some_held left.elements (subst IsTable (sym h.table) valid) (h.size ∙ ap longest (sym h.table)) h.running idle none)
       by_given (Some e) some =
           let weight : ℕ = weight_of e in
           let first : x ≡ Some weight = p.answers ∙ ap (weight_given left) some in
-          let second : y ≡ Some weight = q.answers ∙ ap (λ w. weight_given w (given_held w.elements)) (sym h.same) ∙ ap (weight_given left) some in
-          let come_a : all_to_come left (unread a) ≡ weight ∷ all_to_come now_left (unread now_a) = given_some _ _ x weight u.first first in
-          let come_b : all_to_come right (unread b) ≡ weight ∷ all_to_come now_right (unread now_b) = given_some _ _ y weight v.first second in
-          let less : length (all_to_come left (unread a)) ≡ suc (length (all_to_come now_left (unread now_a))) = ap length come_a in
-          let taken : now_a.taken ≡ a.taken = ap (λ (s : SourceState). s.taken) p.source in (
+          let second : y ≡ Some weight = q.answers ∙ ap (λ w. weight_given w (yielded_held w.elements)) (sym h.same) ∙ ap (weight_given left) some in
+          let come_a : remaining_with_zeros left (unread a) ≡ weight ∷ remaining_with_zeros now_left (unread now_a) = given_some _ _ x weight u.first first in
+          let come_b : remaining_with_zeros right (unread b) ≡ weight ∷ remaining_with_zeros now_right (unread now_b) = given_some _ _ y weight v.first second in
+          let less : length (remaining_with_zeros left (unread a)) ≡ suc (length (remaining_with_zeros now_left (unread now_a))) = ap length come_a in
+          let reads : now_a.reads ≡ a.reads = ap (λ (s : SourceState). s.reads) p.source in (
             record {
               same = p.becomes ∙ ap next h.same ∙ sym q.becomes;
               level = ap (λ (w : WeightsState). w.level) p.becomes ∙ h.level;
@@ -224,7 +224,7 @@ module _ (t : ElementTable) (was wus : SourceState) (xs ys : List ℕ) (left rig
               reads_b = UnderWay-more wus b now_b _ _ h.reads_b v.reads;
               lists = InStep-more xs ys _ _ weight weight _ _ h.lists come_a come_b refl;
             },
-            omega (arith, less, u.reads.taken, taken),
+            omega (arith, less, u.reads.reads, reads),
           )
         where
           weight_of : Element → ℕ
@@ -239,20 +239,20 @@ first_apart t (d ∷ ds) x some is = ap (is_safe_starter t) is
 pub cut-first : (t : ElementTable) (c x : ℕ) (ds : List ℕ) (tested : Bool) → ds ≡ decompose_canonical c → (length ds ≡ 0 → ⊥) → x ≡ get_or ds 0 x → tested ≡ is_safe_starter t x → tested ≡ is_cut t c
 cut-first t c x ds tested parts some is test = test ∙ first_apart t ds x some is ∙ ap (begins_apart t) parts ∙ sym (is_cut-parts t c)
 
--- the reading of both, by what the code names
+-- both were read on, by what the code names
 pub ReadsBoth-char : (left right : WeightsState) (a b : SourceState) (x y : Option ℕ) (c : ℕ) (now_left now_right : WeightsState) (now_a now_b : SourceState) → ReadsBoth left right a b x y now_left now_right now_a now_b → x ≡ Some c → x ≡ y
     → ReadsBoth left right a b (Some c) (Some c) now_left now_right now_a now_b
 ReadsBoth-char left right a b x y c now_left now_right now_a now_b r e f =
     subst (λ u. ReadsBoth left right a b u (Some c) now_left now_right now_a now_b) e
     (subst (λ u. ReadsBoth left right a b x u now_left now_right now_a now_b) (sym f ∙ e) r)
 
-pub work-fewer : (left now : WeightsState) (a now_a : SourceState) → credit now.elements.window (unread now_a) < credit left.elements.window (unread a) → all_to_come now (unread now_a) ≡ all_to_come left (unread a) → work_left now now_a < work_left left a
+pub work-fewer : (left now : WeightsState) (a now_a : SourceState) → credit now.elements.window (unread now_a) < credit left.elements.window (unread a) → remaining_with_zeros now (unread now_a) ≡ remaining_with_zeros left (unread a) → work_left now now_a < work_left left a
 work-fewer left now a now_a fewer same = omega (arith, fewer, ap length same)
 
 -- ---- the start, and the end
 
 pub InCommon-start : (t : ElementTable) (v : Variable) (was wus : SourceState) (left right : WeightsState) → was.place ≡ 0 → wus.place ≡ 0 → IsSafe was.text → IsSafe wus.text → left ≡ new_weights t v 1 → right ≡ new_weights t v 1
-    → InCommon t was wus (all_to_come (new_weights t v 1) was.text) (all_to_come (new_weights t v 1) wus.text) left right false was wus
+    → InCommon t was wus (remaining_with_zeros (new_weights t v 1) was.text) (remaining_with_zeros (new_weights t v 1) wus.text) left right false was wus
 InCommon-start t v was wus left right at_a at_b safe_a safe_b l r =
     let whole_a : unread was ≡ was.text = ap (λ n. drop n was.text) at_a in
     let whole_b : unread wus ≡ wus.text = ap (λ n. drop n wus.text) at_b in
@@ -268,18 +268,18 @@ InCommon-start t v was wus left right at_a at_b safe_a safe_b l r =
       place_a = at_a;
       place_b = at_b;
       marks = record { none = λ _. refl; first = λ e. cc; second = λ e. cc };
-      reads_a = subst (λ (w : WeightsState). IsUnderWay was w.elements.window was) (sym l) (starts was whole_a safe_a);
-      reads_b = subst (λ (w : WeightsState). IsUnderWay wus w.elements.window wus) (sym r) (starts wus whole_b safe_b);
-      lists = InStep-start _ _ _ _ (ap₂ all_to_come l whole_a) (ap₂ all_to_come r whole_b);
+      reads_a = subst (λ (w : WeightsState). PassUnderWay was w.elements.window was) (sym l) (starts was whole_a safe_a);
+      reads_b = subst (λ (w : WeightsState). PassUnderWay wus w.elements.window wus) (sym r) (starts wus whole_b safe_b);
+      lists = InStep-start _ _ _ _ (ap₂ remaining_with_zeros l whole_a) (ap₂ remaining_with_zeros r whole_b);
     }
   where
-    starts : (s : SourceState) → unread s ≡ s.text → IsSafe s.text → IsUnderWay s (empty_window (longest t)) s
+    starts : (s : SourceState) → unread s ≡ s.text → IsSafe s.text → PassUnderWay s (empty_window (longest t)) s
     starts s whole safe = record {
       text = refl;
       fits = record { safe = subst IsSafe (sym whole) safe; ended = λ e. cc };
-      taken = omega (arith, ap length whole);
-      backs = refl;
+      reads = omega (arith, ap length whole);
+      rewinds = refl;
     }
 
-pub ReadsOnce-up : (was a after : SourceState) (w : WindowState) → IsUnderWay was w a → ReadsUp w a after → ReadsOnce was after
-ReadsOnce-up was a after w h r = record { text = r.text ∙ h.text; taken = omega (arith, h.taken, r.taken); backs = r.backs ∙ h.backs }
+pub ReadsOnce-up : (was a after : SourceState) (w : WindowState) → PassUnderWay was w a → ReadsUp w a after → ReadsOnce was after
+ReadsOnce-up was a after w h r = record { text = r.text ∙ h.text; reads = omega (arith, h.reads, r.reads); rewinds = r.rewinds ∙ h.rewinds }

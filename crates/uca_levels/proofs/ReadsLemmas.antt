@@ -1,5 +1,5 @@
--- Weights to come, and texts that are read in step.
-use Rattle.std.proofs.Common.{◌≡◌, ℕ, ◌+◌, ◌-◌, ◌*◌, ◌≤◌, true, false, not, ◌==◌, List, [], ◌∷◌, ◌++◌, length, filter, Option, Some, None, IfSome, refl, sym, ap, subst, ◌∙◌, arith, append_assoc, eq-eqb, ne_eqb}
+-- Remaining weights, how often texts are read, and texts that are read in step.
+use Rattle.std.proofs.Common.{◌≡◌, ℕ, ◌+◌, ◌-◌, ◌≤◌, true, false, not, ◌==◌, List, [], ◌∷◌, ◌++◌, length, filter, Option, Some, None, IfSome, refl, sym, ap, subst, ◌∙◌, arith, append_assoc, eq-eqb, ne_eqb}
 use Rattle.std.proofs.lemmas.Bool.{cond-true, cond-false}
 use Rattle.std.specs.declared.cmp.Ordering.{Ordering}
 use Rattle.std.specs.declared.cmp.Ordering.TheVariants.{Less, Equal, Greater}
@@ -10,78 +10,69 @@ use Rattle.uca_model.specs.SafeText.{IsSafe}
 use Rattle.uca_model.specs.Table.{ElementTable, longest}
 use Rattle.uca_model.specs.CollationElements.{elements}
 use Rattle.uca_model.specs.LevelWeights.{level_weights, level_list}
-use Rattle.uca_model.specs.Reading.{OrdersLevel}
+use Rattle.uca_model.specs.DecidingLevel.{OrdersLevel}
 use Rattle.uca_model.proofs.LevelLemmas.{OrdersLevel-front}
-use Rattle.uca_model.specs.Source.{SourceState, unread, restarted}
+use Rattle.uca_model.specs.Source.{SourceState, unread}
 use Rattle.uca_model.specs.Window.{WindowState, empty_window, Fits, ReadsOn}
-use Rattle.uca_match.specs.Pulls.{Pulls, GivesFirst}
-use Rattle.uca_levels.specs.ToCome.{WeightsState, new_weights, all_to_come, weights_to_come, window_of_weights}
+use Rattle.uca_match.specs.Yields.{Yields, YieldsFirst}
+use Rattle.uca_levels.specs.RemainingWeights.{WeightsState, new_weights, remaining_with_zeros, remaining_weights, window_of_weights}
 use Rattle.uca_levels.proofs.WeighingLemmas.{weighted-from}
-use Rattle.uca_levels.specs.Reads.{ReadsTimes, ReadsRest, IsReading, InStep}
+use Rattle.uca_levels.specs.Reads.{ReadsRest, RestUnderWay, InStep}
 
 -- ---- weights that are not zero
 
 pub ReadsOn-none : (w : WindowState) (s : SourceState) → Fits w (unread s) → ReadsOn w s w s
-ReadsOn-none w s fits = record { text = refl; mark = refl; fits = fits; longest = refl; taken = omega arith; backs = refl }
+ReadsOn-none w s fits = record { text = refl; mark = refl; fits = fits; longest = refl; reads = omega arith; rewinds = refl }
 
 pub ReadsOn-more : (w v u : WindowState) (s t r : SourceState) → ReadsOn w s v t → ReadsOn v t u r → ReadsOn w s u r
-ReadsOn-more w v u s t r h k = record { text = k.text ∙ h.text; mark = k.mark ∙ h.mark; fits = k.fits; longest = k.longest ∙ h.longest; taken = omega (arith, h.taken, k.taken); backs = k.backs ∙ h.backs }
+ReadsOn-more w v u s t r h k = record { text = k.text ∙ h.text; mark = k.mark ∙ h.mark; fits = k.fits; longest = k.longest ∙ h.longest; reads = omega (arith, h.reads, k.reads); rewinds = k.rewinds ∙ h.rewinds }
 
 -- zeros were passed over
 pub record Passes (old : WeightsState) (before : SourceState) (new : WeightsState) (now : SourceState) : Type 0 where
   pub reads : ReadsOn old.elements.window before new.elements.window now
-  pub same : weights_to_come old (unread before) ≡ weights_to_come new (unread now)
+  pub same : remaining_weights old (unread before) ≡ remaining_weights new (unread now)
 
 pub Passes-none : (w : WeightsState) (s : SourceState) → Fits w.elements.window (unread s) → Passes w s w s
 Passes-none w s fits = record { reads = ReadsOn-none w.elements.window s fits; same = refl }
 
 module _ (old mid new : WeightsState) (before then now : SourceState) (p : Passes old before mid then) where
-  pub Passes-zero : (weight : ℕ) → Pulls all_to_come window_of_weights mid then (Some weight) new now → weight ≡ 0 → Passes old before new now
+  pub Passes-zero : (weight : ℕ) → Yields remaining_with_zeros window_of_weights mid then (Some weight) new now → weight ≡ 0 → Passes old before new now
   Passes-zero weight h zero_is =
       record {
         reads = ReadsOn-more _ _ _ before then now p.reads h.reads;
         same = p.same ∙ ap (filter (λ weight. not (weight == 0))) h.first ∙ cond-false (not (weight == 0)) _ _ (ap not (eq-eqb weight 0 zero_is));
       }
 
-  pub Passes-some : (weight : ℕ) → Pulls all_to_come window_of_weights mid then (Some weight) new now → (weight ≡ 0 → ⊥) → Pulls weights_to_come window_of_weights old before (Some weight) new now
+  pub Passes-some : (weight : ℕ) → Yields remaining_with_zeros window_of_weights mid then (Some weight) new now → (weight ≡ 0 → ⊥) → Yields remaining_weights window_of_weights old before (Some weight) new now
   Passes-some weight h other =
       record {
         reads = ReadsOn-more _ _ _ before then now p.reads h.reads;
         first = p.same ∙ ap (filter (λ weight. not (weight == 0))) h.first ∙ cond-true (not (weight == 0)) _ _ (ap not (ne_eqb weight 0 other));
       }
 
-  pub Passes-end : Pulls all_to_come window_of_weights mid then None new now → Pulls weights_to_come window_of_weights old before None new now
+  pub Passes-end : Yields remaining_with_zeros window_of_weights mid then None new now → Yields remaining_weights window_of_weights old before None new now
   Passes-end h =
       record {
         reads = ReadsOn-more _ _ _ before then now p.reads h.reads;
         first = (p.same ∙ ap (filter (λ weight. not (weight == 0))) h.first.0, ap (filter (λ weight. not (weight == 0))) h.first.1);
       }
 
--- what is to come of nothing that was read is the list of the level
-pub new_weights-to_come : (t : ElementTable) (v : Variable) (level : ℕ) (left : List ℕ) → level ≤ 4 → weights_to_come (new_weights t v level) left ≡ level_list t v left level
-new_weights-to_come t v level left low =
+-- what remains when nothing was read is the list of the level
+pub new_weights-remaining : (t : ElementTable) (v : Variable) (level : ℕ) (left : List ℕ) → level ≤ 4 → remaining_weights (new_weights t v level) left ≡ level_list t v left level
+new_weights-remaining t v level left low =
     ap (level_weights level) (sym (weighted-from v (elements t (nfd left)))) ∙ sym (cond-false (level == 5) _ _ (ne_eqb level 5 (λ five. absurd (omega arith))))
 
--- ---- a reading from the start
+-- ---- one pass
 
-empty-reading : (old : SourceState) (longest : ℕ) → IsSafe (unread old) → IsReading old (empty_window longest) old
-empty-reading old longest safe = record { text = refl; mark = refl; fits = record { safe = safe; ended = λ e. cc }; taken = omega arith; backs = refl }
+empty-under_way : (old : SourceState) (longest : ℕ) → IsSafe (unread old) → RestUnderWay old (empty_window longest) old
+empty-under_way old longest safe = record { text = refl; mark = refl; fits = record { safe = safe; ended = λ e. cc }; reads = omega arith; rewinds = refl }
 
-pub IsReading-start : (old : SourceState) (w : WindowState) (longest : ℕ) → IsSafe (unread old) → w ≡ empty_window longest → IsReading old w old
-IsReading-start old w longest safe new = subst (λ v. IsReading old v old) (sym new) (empty-reading old longest safe)
+pub RestUnderWay-start : (old : SourceState) (w : WindowState) (longest : ℕ) → IsSafe (unread old) → w ≡ empty_window longest → RestUnderWay old w old
+RestUnderWay-start old w longest safe new = subst (λ v. RestUnderWay old v old) (sym new) (empty-under_way old longest safe)
 
-pub IsReading-more : (old before now : SourceState) (w new : WindowState) → IsReading old w before → ReadsOn w before new now → IsReading old new now
-IsReading-more old before now w new h t =
-    record { text = t.text ∙ h.text; mark = t.mark ∙ h.mark; fits = t.fits; taken = omega (arith, h.taken, t.taken); backs = t.backs ∙ h.backs }
-
--- a way back, and one reading
-pub ReadsTimes-one : (old start now : SourceState) → start ≡ restarted old → ReadsRest start now → ReadsTimes 1 old now
-ReadsTimes-one old start now e h =
-    record {
-      text = h.text ∙ ap (λ s. s.text) e;
-      taken = omega (arith, h.taken, ap (λ s. s.taken) e, ap (λ s. length (unread s)) e);
-      backs = omega (arith, h.backs, ap (λ s. s.backs) e);
-    }
+pub RestUnderWay-more : (old before now : SourceState) (w new : WindowState) → RestUnderWay old w before → ReadsOn w before new now → RestUnderWay old new now
+RestUnderWay-more old before now w new h t =
+    record { text = t.text ∙ h.text; mark = t.mark ∙ h.mark; fits = t.fits; reads = omega (arith, h.reads, t.reads); rewinds = t.rewinds ∙ h.rewinds }
 
 -- ---- two texts in step
 
@@ -102,28 +93,13 @@ InStep-orders level xs ys left right now other o h a b orders =
     let same : OrdersLevel level left right o = subst (λ l. OrdersLevel level l right o) (sym a) (subst (λ r. OrdersLevel level now r o) (sym b) orders) in
     subst (λ l. OrdersLevel level l ys o) (sym h.first) (subst (λ r. OrdersLevel level (h.front ++ left) r o) (sym h.second) (OrdersLevel-front level h.front left right o same))
 
--- ---- several levels
-
-pub ReadsTimes-none : (old : SourceState) → ReadsTimes 0 old old
-ReadsTimes-none old = record { text = refl; taken = omega arith; backs = omega arith }
-
-pub ReadsTimes-more : (n m : ℕ) (old mid now : SourceState) → ReadsTimes n old mid → ReadsTimes 1 mid now → m ≡ n + 1 → ReadsTimes m old now
-ReadsTimes-more n m old mid now h k same =
-    let size : length mid.text ≡ length old.text = ap length h.text in
-    let more : (n + 1) * (length old.text + 1) ≡ n * (length old.text + 1) + (length old.text + 1) = one_more n (length old.text + 1) in
-    let times : m * (length old.text + 1) ≡ (n + 1) * (length old.text + 1) = ap (λ i. i * (length old.text + 1)) same in
-    record { text = k.text ∙ h.text; taken = omega (arith, h.taken, k.taken); backs = omega (arith, h.backs, k.backs) }
-  where
-    one_more : (n k : ℕ) → (n + 1) * k ≡ n * k + k
-    one_more n k = grind arith
-
 -- ---- what a call gave
 
-pub given_some : {A : Type 0} (xs ys : List A) (o : Option A) (x : A) → GivesFirst xs o ys → o ≡ Some x → xs ≡ x ∷ ys
-given_some xs ys o x h e = let P : Option _ → Type 0 = λ r. GivesFirst xs r ys in subst P e h
+pub given_some : {A : Type 0} (xs ys : List A) (o : Option A) (x : A) → YieldsFirst xs o ys → o ≡ Some x → xs ≡ x ∷ ys
+given_some xs ys o x h e = let P : Option _ → Type 0 = λ r. YieldsFirst xs r ys in subst P e h
 
-pub given_none : {A : Type 0} (xs ys : List A) (o : Option A) → GivesFirst xs o ys → o ≡ None → (xs ≡ []) × (ys ≡ [])
-given_none xs ys o h e = let P : Option _ → Type 0 = λ r. GivesFirst xs r ys in subst P e h
+pub given_none : {A : Type 0} (xs ys : List A) (o : Option A) → YieldsFirst xs o ys → o ≡ None → (xs ≡ []) × (ys ≡ [])
+given_none xs ys o h e = let P : Option _ → Type 0 = λ r. YieldsFirst xs r ys in subst P e h
 
 pub if_some : {A : Type 0} (P : A → Type 0) (o : Option A) (x : A) → IfSome o P → o ≡ Some x → P x
 if_some P o x h e = let Q : Option _ → Type 0 = λ r. IfSome r P in subst Q e h
@@ -132,9 +108,6 @@ if_some P o x h e = let Q : Option _ → Type 0 = λ r. IfSome r P in subst Q e 
 pub orders-text : (t : ElementTable) (v : Variable) (level : ℕ) (a b ta tb : List ℕ) (o : Ordering) → ta ≡ a → tb ≡ b → OrdersLevel level (level_list t v ta level) (level_list t v tb level) o → OrdersLevel level (level_list t v a level) (level_list t v b level) o
 orders-text t v level a b ta tb o x y h =
     subst (λ u. OrdersLevel level (level_list t v u level) (level_list t v b level) o) x (subst (λ u. OrdersLevel level (level_list t v ta level) (level_list t v u level) o) y h)
-
-pub ReadsTimes-at : (d level n : ℕ) (old mid now : SourceState) → d ≡ level → 1 ≤ level → ReadsTimes (level - 1) old mid → ReadsTimes 1 mid now → ReadsTimes d old now
-ReadsTimes-at d level n old mid now same first h k = ReadsTimes-more (level - 1) d old mid now h k (omega arith)
 
 pub from_ne : (o : Ordering) → is_ne o ≡ true → o ≡ Equal → ⊥
 from_ne Less h e = cc

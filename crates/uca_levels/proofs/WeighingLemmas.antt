@@ -1,4 +1,4 @@
--- A weigher that was accepted the elements of a list gives the weights of those behind them.
+-- A weigher that was given the elements of a list gives the weights of those after them.
 use Rattle.std.proofs.Common.{◌≡◌, false, List, [], ◌∷◌, ◌++◌, find, refl, sym, ap, ◌∙◌, inl, inr}
 use Rattle.std.proofs.lemmas.Bool.{cases_Bool, cond-true, cond-false}
 use Rattle.std.proofs.lemmas.List.{reverse-append}
@@ -8,7 +8,7 @@ use Rattle.uca_weights.specs.declared.settings.Variable.{Variable}
 use Rattle.uca_weights.specs.Element.{has_primary, is_variable}
 use Rattle.uca_weights.specs.VariableWeighting.{is_after_variable, weights, weighted_after, weighted}
 use Rattle.uca_weights.specs.Weigher.{after_element}
-use Rattle.uca_levels.specs.ToCome.{weighted_from}
+use Rattle.uca_levels.specs.RemainingWeights.{weighted_from}
 
 after_one_more : (before : List Element) (e : Element) → is_after_variable (before ++ e ∷ []) ≡ after_element (is_after_variable before) e
 after_one_more before e =

@@ -4,7 +4,7 @@ use Rattle.std.specs.declared.cmp.Ordering.TheVariants.{Equal}
 use Rattle.uca_weights.specs.declared.settings.Settings.{Settings}
 use Rattle.uca_weights.specs.Settings.{levels}
 use Rattle.uca_model.specs.LevelWeights.{level_list}
-use Rattle.uca_model.specs.Reading.{key_from, deciding_from, deciding_level}
+use Rattle.uca_model.specs.DecidingLevel.{key_from, deciding_from, deciding_level}
 use Rattle.uca_model.specs.SortKey.{key_order, sort_key}
 use Rattle.uca_model.specs.Source.{SourceState, restarted, rewound}
 use Rattle.uca_model.specs.Table.{ElementTable}
@@ -12,8 +12,8 @@ use Rattle.uca_model.specs.Table.{ElementTable}
 -- the text was read once as a whole at most, and each further time from the cut on, the end counted as a character, each time begun by one way back
 pub record ReadsFromCut (times cut : ℕ) (old new : SourceState) : Type 0 where
   pub text : new.text ≡ old.text
-  pub taken : new.taken ≤ old.taken + ((length old.text + 1) + (times - 1) * (length old.text - cut + 1))
-  pub backs : new.backs ≤ old.backs + times
+  pub reads : new.reads ≤ old.reads + ((length old.text + 1) + (times - 1) * (length old.text - cut + 1))
+  pub rewinds : new.rewinds ≤ old.rewinds + times
 
 -- the source at its mark, where this comparison set one, else at its start
 abbrev pub goes_back : Bool → SourceState → SourceState

@@ -4,7 +4,7 @@ use Rattle.uca_model.specs.Table.{ElementTable, IsTable, longest}
 use Rattle.uca_model.specs.SafeCut.{last_cut, cut_of}
 use Rattle.uca_model.specs.Source.{SourceState, unread}
 use Rattle.uca_model.specs.Window.{WindowState, Fits, credit}
-use Rattle.uca_levels.specs.ToCome.{WeightsState, all_to_come}
+use Rattle.uca_levels.specs.RemainingWeights.{WeightsState, remaining_with_zeros}
 use Rattle.uca_levels.specs.Reads.{InStep}
 
 -- both marks stand at a place, where they were set, and else it is the start
@@ -13,12 +13,12 @@ pub record AreMarked (marked : Bool) (place : ℕ) (a b : SourceState) : Type 0 
   pub first : marked ≡ true → a.mark ≡ place
   pub second : marked ≡ true → b.mark ≡ place
 
--- a reading from the start is under way, in a window, and the mark may have moved
-pub record IsUnderWay (old : SourceState) (w : WindowState) (now : SourceState) : Type 0 where
+-- one pass over the text is under way, in a window, and the mark may have moved
+pub record PassUnderWay (old : SourceState) (w : WindowState) (now : SourceState) : Type 0 where
   pub text : now.text ≡ old.text
   pub fits : Fits w (unread now)
-  pub taken : now.taken + credit w (unread now) ≤ old.taken + (length old.text + 1)
-  pub backs : now.backs ≡ old.backs
+  pub reads : now.reads + credit w (unread now) ≤ old.reads + (length old.text + 1)
+  pub rewinds : now.rewinds ≡ old.rewinds
 
 -- all characters so far were the same, and the two hold the same
 pub record InCommon (t : ElementTable) (was wus : SourceState) (xs ys : List ℕ) (left right : WeightsState) (marked : Bool) (a b : SourceState) : Type 0 where
@@ -33,25 +33,25 @@ pub record InCommon (t : ElementTable) (was wus : SourceState) (xs ys : List ℕ
   pub place_a : a.place ≡ length front
   pub place_b : b.place ≡ length front
   pub marks : AreMarked marked (last_cut t front) a b
-  pub reads_a : IsUnderWay was left.elements.window a
-  pub reads_b : IsUnderWay wus right.elements.window b
-  pub lists : InStep xs ys (all_to_come left (unread a)) (all_to_come right (unread b))
+  pub reads_a : PassUnderWay was left.elements.window a
+  pub reads_b : PassUnderWay wus right.elements.window b
+  pub lists : InStep xs ys (remaining_with_zeros left (unread a)) (remaining_with_zeros right (unread b))
 
 -- the first characters that differ were read, or an end
 pub record Parted (t : ElementTable) (was wus : SourceState) (xs ys : List ℕ) (left right : WeightsState) (marked : Bool) (a b : SourceState) : Type 0 where
   pub marks : AreMarked marked (cut_of t was.text wus.text) a b
-  pub reads_a : IsUnderWay was left.elements.window a
-  pub reads_b : IsUnderWay wus right.elements.window b
-  pub lists : InStep xs ys (all_to_come left (unread a)) (all_to_come right (unread b))
+  pub reads_a : PassUnderWay was left.elements.window a
+  pub reads_b : PassUnderWay wus right.elements.window b
+  pub lists : InStep xs ys (remaining_with_zeros left (unread a)) (remaining_with_zeros right (unread b))
   pub level_a : left.level ≡ 1
   pub level_b : right.level ≡ 1
 
--- what is left to do of a reading: characters to read, and weights to give
+-- what is left to do of a pass: characters to read, and weights to give
 abbrev pub work_left : WeightsState → SourceState → ℕ
-work_left w s = credit w.elements.window (unread s) + length (all_to_come w (unread s))
+work_left w s = credit w.elements.window (unread s) + length (remaining_with_zeros w (unread s))
 
 -- the text was read once, the end counted as a character, with no way back
 pub record ReadsOnce (old new : SourceState) : Type 0 where
   pub text : new.text ≡ old.text
-  pub taken : new.taken ≤ old.taken + (length old.text + 1)
-  pub backs : new.backs ≡ old.backs
+  pub reads : new.reads ≤ old.reads + (length old.text + 1)
+  pub rewinds : new.rewinds ≡ old.rewinds

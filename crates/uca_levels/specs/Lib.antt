@@ -1,4 +1,4 @@
-pub mod ToCome
+pub mod RemainingWeights
 pub mod Reads
 pub mod InCommon
 pub mod FromCut

@@ -6,23 +6,23 @@ use Rattle.uca_model.specs.Window.{WindowState, Fits, credit}
 -- the text was read so many times at most, the end counted as a character, and each time begun by one way back
 pub record ReadsTimes (times : ℕ) (old new : SourceState) : Type 0 where
   pub text : new.text ≡ old.text
-  pub taken : new.taken ≤ old.taken + times * (length old.text + 1)
-  pub backs : new.backs ≤ old.backs + times
+  pub reads : new.reads ≤ old.reads + times * (length old.text + 1)
+  pub rewinds : new.rewinds ≤ old.rewinds + times
 
 -- what was unread was read once at most, the end counted as a character, with no way back
 pub record ReadsRest (old new : SourceState) : Type 0 where
   pub text : new.text ≡ old.text
   pub mark : new.mark ≡ old.mark
-  pub taken : new.taken ≤ old.taken + (length (unread old) + 1)
-  pub backs : new.backs ≡ old.backs
+  pub reads : new.reads ≤ old.reads + (length (unread old) + 1)
+  pub rewinds : new.rewinds ≡ old.rewinds
 
--- such a reading under way, in a window
-pub record IsReading (old : SourceState) (w : WindowState) (now : SourceState) : Type 0 where
+-- one pass over the unread characters is under way, in a window
+pub record RestUnderWay (old : SourceState) (w : WindowState) (now : SourceState) : Type 0 where
   pub text : now.text ≡ old.text
   pub mark : now.mark ≡ old.mark
   pub fits : Fits w (unread now)
-  pub taken : now.taken + credit w (unread now) ≤ old.taken + (length (unread old) + 1)
-  pub backs : now.backs ≡ old.backs
+  pub reads : now.reads + credit w (unread now) ≤ old.reads + (length (unread old) + 1)
+  pub rewinds : now.rewinds ≡ old.rewinds
 
 -- two lists have a front in common, and these are left of them
 pub record InStep (xs ys left right : List ℕ) : Type 0 where
@@ -34,5 +34,5 @@ pub record InStep (xs ys left right : List ℕ) : Type 0 where
 pub record ReadsUp (w : WindowState) (old new : SourceState) : Type 0 where
   pub text : new.text ≡ old.text
   pub mark : new.mark ≡ old.mark
-  pub taken : new.taken ≤ old.taken + credit w (unread old)
-  pub backs : new.backs ≡ old.backs
+  pub reads : new.reads ≤ old.reads + credit w (unread old)
+  pub rewinds : new.rewinds ≡ old.rewinds

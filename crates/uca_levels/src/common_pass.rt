@@ -2,23 +2,23 @@ ghost use Rattle.std.specs.Prelude.{◌≡◌, ℕ, List, ◌<◌, Bool, true, f
 ghost use Rattle.uca_model.specs.Source.{SourceState, unread};
 ghost use Rattle.uca_model.specs.Table.{IsTable};
 ghost use Rattle.uca_model.specs.Window.{Fits};
-ghost use Rattle.uca_match.specs.ToCome.{is_asking};
+ghost use Rattle.uca_match.specs.RemainingElements.{is_asking};
 ghost use Rattle.uca_levels.specs.InCommon.{AreMarked, InCommon, Parted, ReadsOnce, work_left};
 ghost use Rattle.uca_model.specs.LevelWeights.{level_list};
-ghost use Rattle.uca_model.specs.Reading.{OrdersLevel};
+ghost use Rattle.uca_model.specs.DecidingLevel.{OrdersLevel};
 ghost use Rattle.uca_model.specs.SafeCut.{cut_of};
 ghost use Rattle.uca_model.specs.SafeText.{IsSafe};
 
 use crate::cut::may_cut;
-use crate::level_order::order_to_come;
+use crate::level_order::order_of_remaining;
 use crate::weights::Weights;
 use std::cmp::Ordering;
 use uca_table::Table;
 use uca_weights::Variable;
 use uca_window::Source;
 
-// Goes one step on in two texts that agree so far: reads a character of each, or gives a weight of each where none is
-// wanted. It marks the sources at each character before which they may be cut. Whether they still agree.
+// Goes one step on in two texts that agree so far: reads a character of each, or, where none has to be read, gives a
+// weight of each. It marks the sources at each character before which they may be cut. Returns whether they still agree.
 fn goes_on<'t, S: Source, T: Source>(
     t: &Table,
     left: &mut Weights<'t>,
@@ -61,7 +61,7 @@ fn goes_on<'t, S: Source, T: Source>(
 }
 
 /// The order of two texts at the first level. Their sources stand at the start. Each is read once, and has its mark at
-/// the safe cut of the texts, if the second answer says that marks were set. Where none were, the cut is the start.
+/// the safe cut of the texts, if the second result says that marks were set. Where none were, the cut is the start.
 pub(crate) fn first_order<S: Source, T: Source>(
     t: &Table,
     v: Variable,
@@ -83,6 +83,6 @@ pub(crate) fn first_order<S: Source, T: Source>(
     let mut right = Weights::new(t, v, 1);
     let mut marked = false;
     while goes_on(t, &mut left, &mut right, &mut marked, a, b) {}
-    let order = order_to_come(&mut left, &mut right, a, b);
+    let order = order_of_remaining(&mut left, &mut right, a, b);
     (order, marked)
 }

@@ -1,5 +1,5 @@
 ghost use Rattle.std.specs.Prelude.{◌≡◌};
-ghost use Rattle.uca_model.specs.Reading.{deciding_level};
+ghost use Rattle.uca_model.specs.DecidingLevel.{deciding_level};
 ghost use Rattle.uca_model.specs.SafeText.{IsSafe};
 ghost use Rattle.uca_model.specs.SortKey.{key_order, sort_key};
 ghost use Rattle.uca_window.specs.Passage.{text_of};
@@ -63,7 +63,7 @@ fn go_back<S: Source>(marked: bool, source: &mut S)
     }
 }
 
-/// The order of the sort keys of two texts (UTS #10, section 7.4, step S4), by the same reading.
+/// The order of the sort keys of two texts (UTS #10, section 7.4, step S4), without their keys. It takes no memory.
 pub fn compare(t: &Table, s: Settings, a: &Passage, b: &Passage) -> Ordering
     ensures { result ≡ key_order (sort_key t.now s (text_of a.now)) (sort_key t.now s (text_of b.now)) }
 {

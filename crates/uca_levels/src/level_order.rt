@@ -1,10 +1,10 @@
 ghost use Rattle.std.specs.Prelude.{◌≤◌};
 ghost use Rattle.uca_model.specs.LevelWeights.{level_list};
-ghost use Rattle.uca_model.specs.Reading.{OrdersLevel};
+ghost use Rattle.uca_model.specs.DecidingLevel.{OrdersLevel};
 ghost use Rattle.uca_model.specs.SafeText.{IsSafe};
 ghost use Rattle.uca_model.specs.Source.{unread};
 ghost use Rattle.uca_model.specs.Window.{Fits};
-ghost use Rattle.uca_levels.specs.ToCome.{weights_to_come};
+ghost use Rattle.uca_levels.specs.RemainingWeights.{remaining_weights};
 ghost use Rattle.uca_levels.specs.Reads.{ReadsRest, ReadsUp};
 
 use crate::points::next_point;
@@ -14,8 +14,8 @@ use uca_table::Table;
 use uca_weights::Variable;
 use uca_window::{Source, Window};
 
-// The order of the weights that are still to come of two texts.
-pub(crate) fn order_to_come<'t, S: Source, T: Source>(
+// The order of the remaining weights of two texts.
+pub(crate) fn order_of_remaining<'t, S: Source, T: Source>(
     left: &mut Weights<'t>,
     right: &mut Weights<'t>,
     a: &mut S,
@@ -24,7 +24,7 @@ pub(crate) fn order_to_come<'t, S: Source, T: Source>(
     requires last { left.old.level ≤ 4 }
     requires fits_a { Fits left.old.elements.window (unread (S.state a.old)) }
     requires fits_b { Fits right.old.elements.window (unread (T.state b.old)) }
-    ensures order { OrdersLevel left.old.level (weights_to_come left.old (unread (S.state a.old))) (weights_to_come right.old (unread (T.state b.old))) result }
+    ensures order { OrdersLevel left.old.level (remaining_weights left.old (unread (S.state a.old))) (remaining_weights right.old (unread (T.state b.old))) result }
     ensures reads_a { ReadsUp left.old.elements.window (S.state a.old) (S.state a.new) }
     ensures reads_b { ReadsUp right.old.elements.window (T.state b.old) (T.state b.new) }
 {
@@ -62,7 +62,7 @@ fn order_of_weights<S: Source, T: Source>(
 {
     let mut left = Weights::new(t, v, level);
     let mut right = Weights::new(t, v, level);
-    order_to_come(&mut left, &mut right, a, b)
+    order_of_remaining(&mut left, &mut right, a, b)
 }
 
 // The order of what two sources have not given yet by code points in NFD.

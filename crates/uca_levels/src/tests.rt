@@ -78,20 +78,20 @@ fn table(rt: &impl Abort, alloc: Global) -> Table {
 #[derive(Drop)]
 struct Counted<'t> {
     source: PassageSource<'t>,
-    taken: usize,
-    backs: usize,
+    reads: usize,
+    rewinds: usize,
 }
 
 impl<'t> Source for Counted<'t> {
     ghost state = { λ s. s.source };
 
     fn next(&mut self) -> Option<char> {
-        self.taken = self.taken.saturating_add(1);
+        self.reads = self.reads.saturating_add(1);
         self.source.next()
     }
 
     fn restart(&mut self) {
-        self.backs = self.backs.saturating_add(1);
+        self.rewinds = self.rewinds.saturating_add(1);
         self.source.restart();
     }
 
@@ -100,7 +100,7 @@ impl<'t> Source for Counted<'t> {
     }
 
     fn rewind(&mut self) {
-        self.backs = self.backs.saturating_add(1);
+        self.rewinds = self.rewinds.saturating_add(1);
         self.source.rewind();
     }
 }
@@ -111,8 +111,8 @@ fn source_of<'t>(p: &Passage<'t>) -> Counted<'t>
 {
     Counted {
         source: PassageSource::new(p),
-        taken: 0,
-        backs: 0,
+        reads: 0,
+        rewinds: 0,
     }
 }
 
@@ -166,13 +166,16 @@ fn a_text_is_read_once_for_each_level(rt: HostRuntime) {
         ("", "", Ordering::Equal, [5, 5]),
     ];
     let s = settings(Strength::Identical, Variable::NonIgnorable);
-    for (a, b, wanted, [taken, backs]) in cases {
+    for (a, b, wanted, [reads, rewinds]) in cases {
         let (p, q) = (passage(&rt, a), passage(&rt, b));
         let (mut left, mut right) = (source_of(&p), source_of(&q));
         let order = compare_sources(&t, s, &mut left, &mut right);
         assert_eq!(rt; order, wanted, "{a:?} {b:?}");
-        assert!(rt; left.taken <= taken && right.taken <= taken, "{a:?} {b:?}");
-        assert!(rt; left.backs <= backs && right.backs <= backs, "{a:?} {b:?}");
+        assert!(rt; left.reads <= reads && right.reads <= reads, "{a:?} {b:?}");
+        assert!(rt;
+            left.rewinds <= rewinds && right.rewinds <= rewinds,
+            "{a:?} {b:?}"
+        );
     }
 }
 
@@ -270,7 +273,7 @@ fn no_weight_comes_after_the_end(rt: HostRuntime) {
     assert_eq!(rt; weights.next(&mut source), Some(0x1001));
     assert_eq!(rt; weights.next(&mut source), None);
     assert_eq!(rt; weights.next(&mut source), None);
-    assert_eq!(rt; (source.taken, source.backs), (3, 0));
+    assert_eq!(rt; (source.reads, source.rewinds), (3, 0));
 }
 
 #[test]
@@ -288,7 +291,7 @@ fn later_levels_begin_at_the_cut(rt: HostRuntime) {
     let (mut left, mut right) = (source_of(&p), source_of(&q));
     let order = compare_sources(&t, s, &mut left, &mut right);
     assert_eq!(rt; order, Ordering::Less);
-    assert!(rt; left.taken <= 11 && right.taken <= 11);
+    assert!(rt; left.reads <= 11 && right.reads <= 11);
 }
 
 #[test]

@@ -3,9 +3,9 @@ ghost use Rattle.uca_model.specs.LevelWeights.{level_list};
 ghost use Rattle.uca_model.specs.SafeText.{IsSafe};
 ghost use Rattle.uca_model.specs.Source.{GivesNext, unread};
 ghost use Rattle.uca_model.specs.Window.{Fits, ReadsOn, credit};
-ghost use Rattle.uca_match.specs.Pulls.{Pulls};
-ghost use Rattle.uca_match.specs.ToCome.{is_asking};
-ghost use Rattle.uca_levels.specs.ToCome.{new_weights, all_to_come, weights_to_come, window_of_weights, WeighsHeld, read_weights};
+ghost use Rattle.uca_match.specs.Yields.{Yields};
+ghost use Rattle.uca_match.specs.RemainingElements.{is_asking};
+ghost use Rattle.uca_levels.specs.RemainingWeights.{new_weights, remaining_with_zeros, remaining_weights, window_of_weights, WeighsHeld, read_weights};
 
 use std::marker::Model;
 use uca_match::Elements;
@@ -14,7 +14,7 @@ use uca_weights::{Variable, Weigher};
 use uca_window::Source;
 
 /// The weights of one level of a text that are not zero, one by one (UTS #10, section 7.3, Form Sort Keys, step S3). It
-/// is lent a source at each call that reads. It takes no memory.
+/// borrows a source at each call that reads. It takes no memory.
 #[derive(Drop)]
 pub struct Weights<'t> {
     elements: Elements<'t>,
@@ -24,7 +24,7 @@ pub struct Weights<'t> {
 
 impl<'t> Model for Weights<'t> {
     ghost use Rattle.std.specs.Prelude.{◌≤◌};
-    ghost use Rattle.uca_levels.specs.ToCome.{WeightsState, coded_weights};
+    ghost use Rattle.uca_levels.specs.RemainingWeights.{WeightsState, coded_weights};
 
     ghost Value = { WeightsState };
 
@@ -47,13 +47,13 @@ fn at_level(weights: &[u16; 4], level: u8) -> u16
 
 impl<'t> Weights<'t> {
     /// The weights by a table at a level from 1 to 4, of which none was given yet. It fits each source whose unread
-    /// characters are a safe text, and to come are then the weights of their level.
+    /// characters are a safe text, and what remains is then the weights of their level.
     pub fn new(t: &'t Table, v: Variable, level: u8) -> Weights<'t>
         requires first { 1 ≤ level }
         requires last { level ≤ 4 }
         ensures value { result ≡ new_weights t.now v level }
         ensures fits { (left : List ℕ) → IsSafe left → Fits result.elements.window left }
-        ensures to_come { (left : List ℕ) → weights_to_come result left ≡ level_list t.now v left level }
+        ensures remaining { (left : List ℕ) → remaining_weights result left ≡ level_list t.now v left level }
     {
         Weights {
             elements: Elements::new(t),
@@ -69,14 +69,14 @@ impl<'t> Weights<'t> {
         self.elements.wants()
     }
 
-    // Reads one character, or the end, and answers it. The weights to come stay.
+    // Reads one character, or the end, and returns it. The remaining weights stay.
     pub(crate) fn read<S: Source>(&mut self, source: &mut S) -> Option<char>
         requires wants { is_asking self.old.elements ≡ true }
         requires fits { Fits self.old.elements.window (unread (S.state source.old)) }
         ensures reads { ReadsOn self.old.elements.window (S.state source.old) self.new.elements.window (S.state source.new) }
         ensures given { GivesNext (S.state source.old) result (S.state source.new) }
         ensures next { self.new ≡ read_weights self.old result }
-        ensures to_come { all_to_come self.new (unread (S.state source.new)) ≡ all_to_come self.old (unread (S.state source.old)) }
+        ensures remaining { remaining_with_zeros self.new (unread (S.state source.new)) ≡ remaining_with_zeros self.old (unread (S.state source.old)) }
         ensures fewer { credit self.new.elements.window (unread (S.state source.new)) < credit self.old.elements.window (unread (S.state source.old)) }
     {
         self.elements.read(source)
@@ -85,7 +85,7 @@ impl<'t> Weights<'t> {
     // The weight of the next element, which may be zero.
     pub(crate) fn next_of_all<S: Source>(&mut self, source: &mut S) -> Option<u16>
         requires { Fits self.old.elements.window (unread (S.state source.old)) }
-        ensures pulls { Pulls all_to_come window_of_weights self.old (S.state source.old) result self.new (S.state source.new) }
+        ensures yields { Yields remaining_with_zeros window_of_weights self.old (S.state source.old) result self.new (S.state source.new) }
         ensures small { IfSome result (λ weight. weight < 2 ^ 16) }
         ensures held { is_asking self.old.elements ≡ false → WeighsHeld self.old (S.state source.old) result self.new (S.state source.new) }
         ensures level { self.new.level ≡ self.old.level }
@@ -98,7 +98,7 @@ impl<'t> Weights<'t> {
     /// The next weight, which is not zero. `None` at the end, and from then on.
     pub fn next<S: Source>(&mut self, source: &mut S) -> Option<u16>
         requires { Fits self.old.elements.window (unread (S.state source.old)) }
-        ensures pulls { Pulls weights_to_come window_of_weights self.old (S.state source.old) result self.new (S.state source.new) }
+        ensures yields { Yields remaining_weights window_of_weights self.old (S.state source.old) result self.new (S.state source.new) }
         ensures weight { IfSome result (λ weight. (0 < weight) × (weight < 2 ^ 16)) }
         ensures level { self.new.level ≡ self.old.level }
     {

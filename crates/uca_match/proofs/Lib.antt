@@ -1,2 +1,2 @@
-pub mod WindowLemmas
-pub mod ToComeLemmas
+pub mod WindowMatches
+pub mod RemainingLemmas

@@ -1,3 +1,3 @@
 pub mod WindowMatch
-pub mod Pulls
-pub mod ToCome
+pub mod Yields
+pub mod RemainingElements

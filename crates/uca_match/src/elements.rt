@@ -5,8 +5,8 @@ ghost use Rattle.uca_model.specs.SafeText.{IsSafe};
 ghost use Rattle.uca_model.specs.Source.{GivesNext, unread};
 ghost use Rattle.uca_model.specs.Window.{Fits, ReadsOn, after_read, credit};
 ghost use Rattle.uca_window.specs.Passage.{text_of};
-ghost use Rattle.uca_match.specs.Pulls.{Pulls};
-ghost use Rattle.uca_match.specs.ToCome.{new_elements, elements_to_come, window_of, waiting_of, is_asking, GivesHeld};
+ghost use Rattle.uca_match.specs.Yields.{Yields};
+ghost use Rattle.uca_match.specs.RemainingElements.{new_elements, remaining_elements, window_of, waiting_of, is_asking, YieldsHeld};
 
 use crate::window_match::next_match;
 use std::alloc::{AllocError, Global};
@@ -49,9 +49,9 @@ pub fn elements_of_points(
     Ok(elements)
 }
 
-// The elements of a match: the first, and those behind it. An implicit pair does not stand in the table.
+// The elements of a match: the first, and the others. Those of a key are borrowed from the table; an implicit pair is made.
 #[derive(Drop)]
-struct Given<'t> {
+struct MatchElements<'t> {
     first: Element,
     others: &'t [Element],
     second: Option<Element>,
@@ -59,19 +59,19 @@ struct Given<'t> {
 
 // The elements of a match: those of the key, or else the implicit ones of its first code point (UTS #10, 7.2, step
 // S2.2).
-fn given_by<'t>(t: &'t Table, code_points: &[char]) -> Given<'t>
+fn elements_of_match<'t>(t: &'t Table, code_points: &[char]) -> MatchElements<'t>
     requires { 0 < length code_points.now }
     ensures { elements_or_implicit t.now code_points.now ≡ result.first ∷ waiting_of result.others.now result.second }
 {
     match t.get(code_points) {
-        Some(elements) => Given {
+        Some(elements) => MatchElements {
             first: elements[0],
             others: &elements[1..],
             second: None,
         },
         None => {
             let [first, second] = t.implicit(code_points[0]);
-            Given {
+            MatchElements {
                 first,
                 others: &[],
                 second: Some(second),
@@ -81,7 +81,7 @@ fn given_by<'t>(t: &'t Table, code_points: &[char]) -> Given<'t>
 }
 
 /// The collation elements of a text one by one, over a window of the text in NFD (UTS #10, section 7.2, step S2). It
-/// is lent a source at each call that reads, and lent the elements by the table. It takes no memory.
+/// borrows a source at each call that reads, and the elements from the table. It takes no memory.
 #[derive(Drop)]
 pub struct Elements<'t> {
     table: &'t Table,
@@ -93,7 +93,7 @@ pub struct Elements<'t> {
 
 impl<'t> Model for Elements<'t> {
     ghost use Rattle.std.specs.Prelude.{◌≡◌};
-    ghost use Rattle.uca_match.specs.ToCome.{ElementsState, coded_elements, waiting_of};
+    ghost use Rattle.uca_match.specs.RemainingElements.{ElementsState, coded_elements, waiting_of};
     ghost use Rattle.uca_model.specs.Table.{longest};
 
     ghost Value = { ElementsState };
@@ -107,11 +107,11 @@ impl<'t> Model for Elements<'t> {
 
 impl<'t> Elements<'t> {
     /// The elements by a table, of which none was given yet. It fits each source whose unread characters are a safe
-    /// text, and to come are then the elements of their NFD.
+    /// text, and what remains is then the elements of their NFD.
     pub fn new(t: &'t Table) -> Elements<'t>
         ensures value { result ≡ new_elements t.now }
         ensures fits { (left : List ℕ) → IsSafe left → Fits result.window left }
-        ensures to_come { (left : List ℕ) → elements_to_come result left ≡ elements t.now (nfd left) }
+        ensures remaining { (left : List ℕ) → remaining_elements result left ≡ elements t.now (nfd left) }
     {
         Elements {
             table: t,
@@ -124,9 +124,9 @@ impl<'t> Elements<'t> {
     /// The next element. `None` at the end, and from then on.
     pub fn next<S: Source>(&mut self, source: &mut S) -> Option<Element>
         requires { Fits self.old.window (unread (S.state source.old)) }
-        ensures pulls { Pulls elements_to_come window_of self.old (S.state source.old) result self.new (S.state source.new) }
+        ensures yields { Yields remaining_elements window_of self.old (S.state source.old) result self.new (S.state source.new) }
         ensures table { self.new.table ≡ self.old.table }
-        ensures held { is_asking self.old ≡ false → GivesHeld self.old (S.state source.old) result self.new (S.state source.new) }
+        ensures held { is_asking self.old ≡ false → YieldsHeld self.old (S.state source.old) result self.new (S.state source.new) }
     {
         if !self.waiting.is_empty() {
             let first = self.waiting[0];
@@ -138,7 +138,7 @@ impl<'t> Elements<'t> {
             return Some(second);
         }
         let matched = next_match(self.table, &mut self.window, source)?;
-        let given = given_by(self.table, matched.as_slice());
+        let given = elements_of_match(self.table, matched.as_slice());
         self.waiting = given.others;
         self.second = given.second;
         Some(given.first)
@@ -151,14 +151,14 @@ impl<'t> Elements<'t> {
         self.waiting.is_empty() && self.second.is_none() && self.window.wants()
     }
 
-    /// Reads one character, or the end, and answers it. The elements to come stay.
+    /// Reads one character, or the end, and returns it. The remaining elements stay.
     pub fn read<S: Source>(&mut self, source: &mut S) -> Option<char>
         requires wants { is_asking self.old ≡ true }
         requires fits { Fits self.old.window (unread (S.state source.old)) }
         ensures reads { ReadsOn self.old.window (S.state source.old) self.new.window (S.state source.new) }
         ensures given { GivesNext (S.state source.old) result (S.state source.new) }
         ensures next { self.new ≡ record self.old { window = after_read self.old.window result } }
-        ensures to_come { elements_to_come self.new (unread (S.state source.new)) ≡ elements_to_come self.old (unread (S.state source.old)) }
+        ensures remaining { remaining_elements self.new (unread (S.state source.new)) ≡ remaining_elements self.old (unread (S.state source.old)) }
         ensures fewer { credit self.new.window (unread (S.state source.new)) < credit self.old.window (unread (S.state source.old)) }
     {
         self.window.read(source)

@@ -278,8 +278,8 @@ fn a_changed_table_gives_its_new_elements(rt: HostRuntime) {
         elements.as_slice(),
         [changed, plain(0x1002, 0x20)].as_slice()
     );
-    assert!(rt; !t.has_stuck(1, 0x1002));
-    t.shift(1, 0x1002);
+    assert!(rt; !t.lacks_room(1, 0x1002));
+    t.make_room(1, 0x1002);
     let elements = elements_again(&rt, rt.alloc(), &t, "cze");
     assert_eq!(rt;
         elements.as_slice(),

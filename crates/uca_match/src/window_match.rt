@@ -2,11 +2,11 @@ ghost use Rattle.std.specs.Prelude.{◌≡◌, ◌<◌, ◌≤◌, ◌&&◌, ◌
 ghost use Rattle.uca_weights.specs.declared.limits.TheConstants.{MAX_KEY};
 ghost use Rattle.uca_model.specs.Source.{unread};
 ghost use Rattle.uca_model.specs.Window.{Fits, ReadsOn, is_wanting, rest_of};
-ghost use Rattle.uca_model.specs.Match.{start_len};
+ghost use Rattle.uca_model.specs.Match.{longest_match_len};
 ghost use Rattle.uca_model.specs.Table.{is_key, longest};
 ghost use Rattle.unicode.specs.CanonicalCombiningClass.{canonical_combining_class};
 ghost use Rattle.uca_model.specs.CollationElements.{step};
-ghost use Rattle.uca_match.specs.WindowMatch.{TakesMarks, TakesMatch, TakesHeld, EndsHeld};
+ghost use Rattle.uca_match.specs.WindowMatch.{TakesNonstarters, TakesMatch, TakesHeld, EndsHeld};
 
 use arrayvec::ArrayVec;
 use uca_table::matching::higher;
@@ -16,40 +16,40 @@ use uca_window::{Source, Window};
 use unicode_normalization::char::canonical_combining_class;
 
 // The length of the longest initial substring that is a key of a table, 0 where none is.
-fn start_len(t: &Table, text: &[char]) -> usize
-    ensures value { result ≡ start_len (is_key t.now) text.now }
+fn longest_match_len(t: &Table, text: &[char]) -> usize
+    ensures value { result ≡ longest_match_len (is_key t.now) text.now }
     ensures within { result ≤ length text.now }
     ensures few { result ≤ MAX_KEY }
 {
-    matching::start_len(t.stored(), text)
+    matching::longest_match_len(t.stored(), text)
 }
 
-// Whether a start takes a mark, by the keys of a table.
-fn is_taken(t: &Table, start: &[char], high: u8, mark: char) -> bool
-    ensures value { result ≡ (nat_lt high (canonical_combining_class mark) && is_key t.now (start.now ++ mark ∷ [])) }
+// Whether a start takes a nonstarter, by the keys of a table.
+fn is_taken(t: &Table, start: &[char], high: u8, nonstarter: char) -> bool
+    ensures value { result ≡ (nat_lt high (canonical_combining_class nonstarter) && is_key t.now (start.now ++ nonstarter ∷ [])) }
     ensures few { IsTrue result → length start.now < MAX_KEY }
 {
-    matching::is_taken(t.stored(), start, high, mark)
+    matching::is_taken(t.stored(), start, high, nonstarter)
 }
 
-// Takes those nonstarters out of a window that make longer keys with its first `start` points, and puts them behind
-// the key (UTS #10, 7.2, steps S2.1.1 to S2.1.3). The start stands in the window all along.
-fn take_marks(t: &Table, key: &mut ArrayVec<char, MAX_KEY>, window: &mut Window, start: usize)
+// Takes those nonstarters out of a window that make longer keys with its first `start` points, and appends them
+// to the key (UTS #10, 7.2, steps S2.1.1 to S2.1.3). The start stands in the window all along.
+fn take_nonstarters(t: &Table, key: &mut ArrayVec<char, MAX_KEY>, window: &mut Window, start: usize)
     requires some { 0 < start }
     requires within { start ≤ window.old.closed }
-    ensures { TakesMarks (is_key t.now) start key.old.items window.old key.new.items window.new }
+    ensures { TakesNonstarters (is_key t.now) start key.old.items window.old key.new.items window.new }
 {
     let mut at = start;
     let mut high = 0;
     while at < window.closed() {
-        let mark = window.points()[at];
-        let class = canonical_combining_class(mark);
+        let nonstarter = window.points()[at];
+        let class = canonical_combining_class(nonstarter);
         if class == 0 {
             return;
         }
-        if is_taken(t, key.as_slice(), high, mark) {
+        if is_taken(t, key.as_slice(), high, nonstarter) {
             window.remove(at);
-            key.push(mark);
+            key.push(nonstarter);
         } else {
             high = higher(high, class);
             at += 1;
@@ -76,14 +76,14 @@ fn take_match(t: &Table, window: &mut Window) -> ArrayVec<char, MAX_KEY>
 {
     let closed = window.closed();
     let points = window.points();
-    let start = start_len(t, &points[..closed]);
+    let start = longest_match_len(t, &points[..closed]);
     if start == 0 {
         let key = key_of(&points[..1]);
         window.drop_front(1);
         return key;
     }
     let mut key = key_of(&points[..start]);
-    take_marks(t, &mut key, window, start);
+    take_nonstarters(t, &mut key, window, start);
     window.drop_front(start);
     key
 }

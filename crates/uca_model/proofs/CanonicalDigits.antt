@@ -16,13 +16,13 @@ use Rattle.uca_io.proofs.WordLemmas.{skip-other}
 
 -- Numbers
 
--- one digit behind a number
+-- one digit after a number
 one_digit : (n d : ℕ) (bytes : List ℕ) → d < 16 → number_after n (hex_digit d ∷ bytes) ≡ number_after (n * 16 + d) bytes
 one_digit n d bytes h =
     ap (λ (b : Bool). if b then number_after (n * 16 + digit_value (hex_digit d)) bytes else None) (is_digit-hex_digit d h)
     ∙ ap (λ (v : ℕ). number_after (n * 16 + v) bytes) (digit_value-hex_digit d h)
 
--- four digits behind a number
+-- four digits after a number
 four_more : (m n : ℕ) → n < 0x10000 → number_after m (four_digits n) ≡ Some (m * 0x10000 + n)
 four_more m n h =
     let value : (((m * 16 + n / 0x1000) * 16 + n / 0x100 % 16) * 16 + n / 0x10 % 16) * 16 + n % 16 ≡ m * 0x10000 + n = omega arith in

@@ -14,12 +14,12 @@ use Rattle.uca_weights.specs.declared.limits.TheConstants.{MAX_KEY, MAX_ELEMENTS
 use Rattle.uca_model.specs.Table.{IsElement, IsEntry}
 use Rattle.uca_model.specs.TableText as text
 use Rattle.uca_model.specs.TableText.{◌>>=◌, Cause, commercial_at, bad_code_point, key_too_long, no_semicolon, bad_element, entry, code_point, words, is_blank, is_semicolon, is_right_bracket, skip_blanks, key_after, entry_key, element, weight_first, next_weight, elements_after, entry_of_text, statement_of, statement}
-use Rattle.uca_model.specs.CanonicalText.{four_digits, point_text, mark, element_text, key_text}
-use Rattle.uca_model.proofs.CanonicalLemmas.{points_behind, key_text-cons}
+use Rattle.uca_model.specs.CanonicalText.{four_digits, point_text, variable_mark, element_text, key_text}
+use Rattle.uca_model.proofs.CanonicalLemmas.{more_points, key_text-cons}
 use Rattle.uca_model.proofs.CanonicalLines.{entry_said, plain-entry, length-point_text, statement-plain}
 use Rattle.uca_model.proofs.CanonicalDigits.{no_hex, hex_no_blank, hex_no_semicolon, hex_no_bracket, hex-four, hex-point, code_point-said, four_digits-said, scalar-below, BeginsHex, begins-append, begins-point, skip-hex}
-use Rattle.uca_model.proofs.CutLemmas.{none-append, position_at, before_at, after_at, EndsVisible, ends-append}
-use Rattle.uca_model.proofs.StepLemmas.{step_done}
+use Rattle.uca_model.proofs.ByteCuts.{none-append, position_at, before_at, after_at, EndsVisible, ends-append}
+use Rattle.uca_model.proofs.TextSteps.{step_done}
 use Rattle.uca_model.proofs.PartLemmas.{part-added}
 
 -- The key
@@ -28,7 +28,7 @@ use Rattle.uca_model.proofs.PartLemmas.{part-added}
 first_point : (c : ℕ) (rest : List ℕ) → c < 0x110000 → slice_split is_blank (point_text c ++ 32 ∷ rest) ≡ point_text c ∷ slice_split is_blank rest
 first_point c rest h = slice_split_at is_blank (point_text c) 32 rest (All-from_recursion (λ b. is_blank b ≡ false) (point_text c) (no_hex is_blank hex_no_blank (point_text c) (hex-point c h))) refl
 
--- the words before the `;` of an entry are the texts of its code points, and an empty word behind the last blank
+-- the words before the `;` of an entry are the texts of its code points, and an empty word after the last blank
 cut_key : (c : ℕ) (key : List ℕ) → AllByRecursion IsScalar (c ∷ key) → slice_split is_blank (key_text (c ∷ key) ++ 32 ∷ []) ≡ map point_text (c ∷ key) ++ [] ∷ []
 cut_key c [] all = first_point c [] (scalar-below c all.0)
 cut_key c (d ∷ key) all =
@@ -52,12 +52,12 @@ key_of_points done (c ∷ key) few all =
     ∙ key_of_points (done ++ c ∷ []) key (omega (arith, length-append done (c ∷ []))) all.1
     ∙ ap Ok (append_assoc done (c ∷ []) key)
 
-open_points : (key : List ℕ) → AllByRecursion IsScalar key → AllByRecursion (λ b. is_semicolon b ≡ false) (points_behind key)
+open_points : (key : List ℕ) → AllByRecursion IsScalar key → AllByRecursion (λ b. is_semicolon b ≡ false) (more_points key)
 open_points [] all = tt
-open_points (c ∷ key) all = (refl, none-append is_semicolon (point_text c) (points_behind key) (no_hex is_semicolon hex_no_semicolon (point_text c) (hex-point c (scalar-below c all.0))) (open_points key all.1))
+open_points (c ∷ key) all = (refl, none-append is_semicolon (point_text c) (more_points key) (no_hex is_semicolon hex_no_semicolon (point_text c) (hex-point c (scalar-below c all.0))) (open_points key all.1))
 
 open_key : (c : ℕ) (key : List ℕ) → AllByRecursion IsScalar (c ∷ key) → AllByRecursion (λ b. is_semicolon b ≡ false) (key_text (c ∷ key))
-open_key c key all = rw (key_text-cons c key) (none-append is_semicolon (point_text c) (points_behind key) (no_hex is_semicolon hex_no_semicolon (point_text c) (hex-point c (scalar-below c all.0))) (open_points key all.1))
+open_key c key all = rw (key_text-cons c key) (none-append is_semicolon (point_text c) (more_points key) (no_hex is_semicolon hex_no_semicolon (point_text c) (hex-point c (scalar-below c all.0))) (open_points key all.1))
 
 -- before the first `;` stand the code points
 pub entry_key-said : (c : ℕ) (key rest : List ℕ) → AllByRecursion IsScalar (c ∷ key) → length (c ∷ key) ≤ MAX_KEY → entry_key ((key_text (c ∷ key) ++ 32 ∷ []) ++ 59 ∷ rest) ≡ Ok (c ∷ key)
@@ -77,13 +77,13 @@ entry_key-said c key rest all few =
 
 -- an element up to its `]`
 abbrev pub element_front : Element → List ℕ
-element_front e = codes "[" ++ mark e ∷ four_digits e.l1 ++ codes "." ++ four_digits e.l2 ++ codes "." ++ four_digits e.l3
+element_front e = codes "[" ++ variable_mark e ∷ four_digits e.l1 ++ codes "." ++ four_digits e.l2 ++ codes "." ++ four_digits e.l3
 
 element_text-front : (e : Element) → element_text e ≡ element_front e ++ 93 ∷ []
 unfolding element_text
 element_text-front e = refl
 
-mark_no_bracket : (e : Element) → is_right_bracket (mark e) ≡ false
+mark_no_bracket : (e : Element) → is_right_bracket (variable_mark e) ≡ false
 mark_no_bracket e = grind (arith, nat_tests)
 
 front_open : (e : Element) → IsElement e → AllByRecursion (λ b. is_right_bracket b ≡ false) (element_front e)
@@ -92,7 +92,7 @@ front_open e is =
     let a = four e.l1 is.l1 in let b = four e.l2 is.l2 in let d = four e.l3 is.l3 in
     (refl, (mark_no_bracket e, (a.0, (a.1.0, (a.1.1.0, (a.1.1.1.0, (refl, (b.0, (b.1.0, (b.1.1.0, (b.1.1.1.0, (refl, d))))))))))))
 
--- elements, cut at each `]`; behind the last one stands no byte
+-- elements, cut at each `]`; after the last one stands no byte
 cut_elements : (es : List Element) → AllByRecursion IsElement es → slice_split is_right_bracket (flat_map element_text es) ≡ map element_front es ++ [] ∷ []
 cut_elements [] all = refl
 cut_elements (e ∷ es) all =
@@ -128,7 +128,7 @@ elements_of_fronts done (e ∷ es) some few all =
     ∙ elements_of_fronts (done ++ e ∷ []) es (omega (arith, length-append done (e ∷ []))) (omega (arith, length-append done (e ∷ []))) all.1
     ∙ ap Ok (append_assoc done (e ∷ []) es)
 
--- behind the `;` and a blank stand the elements
+-- after the `;` and a blank stand the elements
 elements-said : (es : List Element) → 0 < length es → length es ≤ MAX_ELEMENTS → AllByRecursion IsElement es → elements_after [] (slice_split is_right_bracket (32 ∷ flat_map element_text es)) ≡ Ok es
 elements-said [] some few all = absurd (omega arith)
 elements-said (e ∷ es) some few all =
@@ -146,7 +146,7 @@ entry_line-cut key es =
 
 begins-entry : (c : ℕ) (key rest : List ℕ) → IsScalar c → BeginsHex ((key_text (c ∷ key) ++ 32 ∷ []) ++ rest)
 begins-entry c key rest is =
-    begins-append (key_text (c ∷ key) ++ 32 ∷ []) rest (begins-append (key_text (c ∷ key)) (32 ∷ []) (rw (key_text-cons c key) (begins-append (point_text c) (points_behind key) (begins-point c (scalar-below c is)))))
+    begins-append (key_text (c ∷ key) ++ 32 ∷ []) rest (begins-append (key_text (c ∷ key)) (32 ∷ []) (rw (key_text-cons c key) (begins-append (point_text c) (more_points key) (begins-point c (scalar-below c is)))))
 
 -- what begins with a digit is no directive
 statement_of-hex : (line : List ℕ) → BeginsHex line → statement_of (skip_blanks line) ≡ entry_of_text line

@@ -7,11 +7,11 @@ use Rattle.uca_model.specs.Output.{blank}
 use Rattle.uca_model.specs.CanonicalText.{point_text, key_text}
 
 -- the text of code points that are not the first of a key: a blank before each
-abbrev pub points_behind : List ℕ → List ℕ
-points_behind [] = []
-points_behind (c ∷ key) = blank ∷ point_text c ++ points_behind key
+abbrev pub more_points : List ℕ → List ℕ
+more_points [] = []
+more_points (c ∷ key) = blank ∷ point_text c ++ more_points key
 
-pub key_text-cons : (c : ℕ) (key : List ℕ) → key_text (c ∷ key) ≡ point_text c ++ points_behind key
+pub key_text-cons : (c : ℕ) (key : List ℕ) → key_text (c ∷ key) ≡ point_text c ++ more_points key
 key_text-cons c [] = sym (append-nil (point_text c))
 key_text-cons c (d ∷ key) = ap (λ t. point_text c ++ blank ∷ t) (key_text-cons d key)
 

@@ -15,9 +15,9 @@ use Rattle.uca_model.specs.Table.{ElementTable, IsEntry}
 use Rattle.uca_model.specs.Lines.{line_feed, carriage_return, without_return}
 use Rattle.uca_model.specs.TableText.{number_sign, skip_blanks, trim_end, said, statement_of, statement}
 use Rattle.uca_model.specs.Output.{hex_digit}
-use Rattle.uca_model.specs.CanonicalText.{four_digits, plane_text, point_text, mark, element_text, key_text, ends_text, entry_line, range_line, canonical}
-use Rattle.uca_model.proofs.CanonicalLemmas.{points_behind, key_text-cons}
-use Rattle.uca_model.proofs.CutLemmas.{before_none, EndsVisible, trim_end-visible}
+use Rattle.uca_model.specs.CanonicalText.{four_digits, plane_text, point_text, variable_mark, element_text, key_text, ends_text, entry_line, range_line, canonical}
+use Rattle.uca_model.proofs.CanonicalLemmas.{more_points, key_text-cons}
+use Rattle.uca_model.proofs.ByteCuts.{before_none, EndsVisible, trim_end-visible}
 
 -- Digits
 
@@ -65,16 +65,16 @@ plain_blank = record { visible = lit≤ tt; no_comment = omega arith }
 plain_stop : IsPlain 46
 plain_stop = plain_letter 46 (lit≤ tt)
 
-plain-points_behind : (key : List ℕ) → AllByRecursion IsPlain (points_behind key)
-plain-points_behind [] = tt
-plain-points_behind (c ∷ key) = (plain_blank, plain-append (point_text c) (points_behind key) (plain-point_text c) (plain-points_behind key))
+plain-more_points : (key : List ℕ) → AllByRecursion IsPlain (more_points key)
+plain-more_points [] = tt
+plain-more_points (c ∷ key) = (plain_blank, plain-append (point_text c) (more_points key) (plain-point_text c) (plain-more_points key))
 
 pub plain-key_text : (key : List ℕ) → AllByRecursion IsPlain (key_text key)
 plain-key_text [] = tt
-plain-key_text (c ∷ key) = rw (key_text-cons c key) (plain-append (point_text c) (points_behind key) (plain-point_text c) (plain-points_behind key))
+plain-key_text (c ∷ key) = rw (key_text-cons c key) (plain-append (point_text c) (more_points key) (plain-point_text c) (plain-more_points key))
 
-plain_mark : (e : Element) → IsPlain (mark e)
-plain_mark e = plain_letter (mark e) (grind (arith, nat_tests))
+plain_mark : (e : Element) → IsPlain (variable_mark e)
+plain_mark e = plain_letter (variable_mark e) (grind (arith, nat_tests))
 
 pub plain-element_text : (e : Element) → AllByRecursion IsPlain (element_text e)
 unfolding element_text
@@ -119,13 +119,13 @@ length-point_text c =
     let few : length (plane_text (c / 0x10000)) ≤ 2 = length-plane_text (c / 0x10000) in
     (omega (arith, whole), omega (arith, whole, few))
 
-length-points_behind : (key : List ℕ) → length (points_behind key) ≤ 7 * length key
-length-points_behind [] = omega arith
-length-points_behind (c ∷ key) = omega (arith, length-append (point_text c) (points_behind key), (length-point_text c).1, length-points_behind key)
+length-more_points : (key : List ℕ) → length (more_points key) ≤ 7 * length key
+length-more_points [] = omega arith
+length-more_points (c ∷ key) = omega (arith, length-append (point_text c) (more_points key), (length-point_text c).1, length-more_points key)
 
 pub length-key_text : (key : List ℕ) → length (key_text key) ≤ 7 * length key
 length-key_text [] = omega arith
-length-key_text (c ∷ key) = omega (arith, ap length (key_text-cons c key), length-append (point_text c) (points_behind key), (length-point_text c).1, length-points_behind key)
+length-key_text (c ∷ key) = omega (arith, ap length (key_text-cons c key), length-append (point_text c) (more_points key), (length-point_text c).1, length-more_points key)
 
 pub length-element_text : (e : Element) → length (element_text e) ≡ 17
 unfolding element_text
@@ -166,7 +166,7 @@ no_feeds (x ∷ xs) plain = (not_feed x plain.0, no_feeds xs plain.1)
 pub first_line : (xs rest : List ℕ) → AllByRecursion IsPlain xs → slice_split (λ b. b == line_feed) (xs ++ line_feed ∷ rest) ≡ xs ∷ slice_split (λ b. b == line_feed) rest
 first_line xs rest plain = slice_split_at (λ b. b == line_feed) xs line_feed rest (All-from_recursion (λ b. (b == line_feed) ≡ false) xs (no_feeds xs plain)) refl
 
--- the lines of the entries, and what stands behind them
+-- the lines of the entries, and what stands after them
 pub lines_of_entries : (es : List (List ℕ × List Element)) (rest : List ℕ) → slice_split (λ b. b == line_feed) (flat_map entry_line es ++ rest) ≡ map entry_said es ++ slice_split (λ b. b == line_feed) rest
 lines_of_entries [] rest = refl
 lines_of_entries (e ∷ es) rest =
@@ -184,7 +184,7 @@ plain-range r =
     (plain-append (point_text r.first ++ codes "..") (point_text r.last) (plain-append (point_text r.first) (codes "..") (plain-point_text r.first) (plain_stop, (plain_stop, tt))) (plain-point_text r.last)))
     (plain_letter 59 (lit≤ tt), (plain_blank, plain-four_digits r.base))
 
--- the lines of the ranges, and what stands behind them
+-- the lines of the ranges, and what stands after them
 pub lines_of_ranges : (rs : List Range) (rest : List ℕ) → slice_split (λ b. b == line_feed) (flat_map range_line rs ++ rest) ≡ map range_said rs ++ slice_split (λ b. b == line_feed) rest
 lines_of_ranges [] rest = refl
 lines_of_ranges (r ∷ rs) rest =
@@ -192,7 +192,7 @@ lines_of_ranges (r ∷ rs) rest =
     = append_assoc (range_line r) (flat_map range_line rs) rest ∙ ap (λ l. l ++ (flat_map range_line rs ++ rest)) (range_line-said r) ∙ append_assoc (range_said r) (line_feed ∷ []) (flat_map range_line rs ++ rest) in
     ap (slice_split (λ b. b == line_feed)) whole ∙ first_line (range_said r) (flat_map range_line rs ++ rest) (plain-range r) ∙ ap (λ l. range_said r ∷ l) (lines_of_ranges rs rest)
 
--- the lines of a canonical text; behind its last LF stands no byte
+-- the lines of a canonical text; after its last LF stands no byte
 pub lines_of_canonical : (t : ElementTable) → slice_split (λ b. b == line_feed) (canonical t) ≡ map range_said t.ranges ++ (map entry_said (entries t.entries) ++ [] ∷ [])
 lines_of_canonical t =
     lines_of_ranges t.ranges (flat_map entry_line (entries t.entries))
@@ -212,7 +212,7 @@ no_signs : (xs : List ℕ) → AllByRecursion IsPlain xs → AllByRecursion (λ 
 no_signs [] plain = tt
 no_signs (x ∷ xs) plain = (not_sign x plain.0, no_signs xs plain.1)
 
--- a line with neither a comment nor blanks behind
+-- a line with neither a comment nor blanks at the end
 pub statement-plain : (line : List ℕ) → AllByRecursion IsPlain line → EndsVisible line → statement line ≡ statement_of (skip_blanks line)
 unfolding statement said
 statement-plain line plain visible =

@@ -13,8 +13,8 @@ use Rattle.uca_model.specs.TableText.{◌>>=◌, Cause, Statement, version, rang
 use Rattle.uca_model.specs.CanonicalText.{four_digits, point_text, ends_text}
 use Rattle.uca_model.proofs.CanonicalLines.{range_said, plain-range, statement-plain}
 use Rattle.uca_model.proofs.CanonicalDigits.{is_hex, no_hex, hex_no_blank, hex_ends_no_point, hex-point, code_point-said, four_digits-said, scalar-below, begins-append, begins-point, skip-hex}
-use Rattle.uca_model.proofs.CutLemmas.{before_at, from_at, ends-append}
-use Rattle.uca_model.proofs.StepLemmas.{step_done}
+use Rattle.uca_model.proofs.ByteCuts.{before_at, from_at, ends-append}
+use Rattle.uca_model.proofs.TextSteps.{step_done}
 
 -- a code point before what ends it
 end_said : (c b : ℕ) (rest : List ℕ) → IsScalar c → ends_point b ≡ true → range_end (point_text c ++ b ∷ rest) ≡ Ok (c, b ∷ rest)
@@ -33,7 +33,7 @@ unfolding range_base
 base_said base h =
     ap (λ (l : List ℕ). ok_or (text.four_digits l) bad_directive) (skip-hex (four_digits base) (is_hex _ (omega arith))) ∙ ap (λ (o : Option ℕ). ok_or o bad_directive) (four_digits-said base h)
 
--- behind the word and its blank
+-- after the word and its blank
 range_of_text-said : (r : Range) → IsRange r → range_of_text (32 ∷ point_text r.first ++ 46 ∷ 46 ∷ (point_text r.last ++ 59 ∷ 32 ∷ four_digits r.base)) ≡ Ok (range r)
 unfolding range_of_text
 range_of_text-said r is =
@@ -47,7 +47,7 @@ range_of_text-said r is =
     ∙ step_done _ _ _ (ap range_end skip_last ∙ end_said r.last 59 (32 ∷ four_digits r.base) is.last refl)
     ∙ step_done _ _ _ (base_said r.base is.base)
 
--- a directive, by its word and what stands behind
+-- a directive, by its word and what stands after it
 directive_by : List ℕ → List ℕ → Result Statement Cause
 directive_by word rest = if bytes_eq word version_word then some_text (skip_blanks rest) (Ok version) else if bytes_eq word range_word then some_text rest (range_of_text rest) else Err bad_directive
 

@@ -18,11 +18,11 @@ use Rattle.uca_model.specs.CollationElements.{elements}
 use Rattle.uca_model.specs.SortKey.{weight_bytes, code_point_bytes, joined, all_levels, key_order, sort_key}
 use Rattle.uca_model.specs.Laws.{AreWeights, AreCodePoints}
 use Rattle.uca_model.specs.LevelWeights.{level_list}
-use Rattle.uca_model.specs.Reading.{list_order, bytes_at, key_from, deciding_from, deciding_level, OrdersLevel}
+use Rattle.uca_model.specs.DecidingLevel.{list_order, bytes_at, key_from, deciding_from, deciding_level, OrdersLevel}
 use Rattle.uca_model.proofs.WeightLemmas.{HasWeights}
 use Rattle.uca_model.proofs.OrderLemmas.{two_bytes, then_assoc, level_order, last_order, ends_first, ends_last, high}
 
--- ---- a key as its levels, one behind the other
+-- ---- a key as its levels, one after the other
 
 pub sort_key-levels : (t : ElementTable) (s : Settings) (text : List ℕ) → sort_key t s text ≡ key_from (levels s.strength - 1) 1 (level_list t s.weighting text)
 unfolding sort_key

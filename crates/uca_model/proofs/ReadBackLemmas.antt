@@ -18,9 +18,9 @@ use Rattle.uca_model.proofs.CanonicalLemmas.{no_entries}
 use Rattle.uca_model.proofs.CanonicalLines.{entry_said, range_said, length-entry, length-range, lines_of_canonical}
 use Rattle.uca_model.proofs.CanonicalEntries.{statement-entry}
 use Rattle.uca_model.proofs.CanonicalRanges.{statement-range}
-use Rattle.uca_model.proofs.RangeLemmas.{behind_front, good_range, put_range-last}
+use Rattle.uca_model.proofs.AddedRanges.{after_front, good_range, put_range-last}
 use Rattle.uca_model.proofs.SortedLemmas.{IsAbove, above_front, find-above, put-above}
-use Rattle.uca_model.proofs.StepLemmas.{step_done, line_read, read_text-within}
+use Rattle.uca_model.proofs.TextSteps.{step_done, line_read, read_text-within}
 
 -- what some lines have said, with no version among them
 abbrev so_far : FinMap key_cmp (List Element) → List Range → TextState
@@ -28,7 +28,7 @@ so_far m rs = record { table = record { entries = m; ranges = rs }; has_version 
 
 range_added : (m : FinMap key_cmp (List Element)) (front : List Range) (r : Range) (rest : List Range) → AreRanges (front ++ r ∷ rest) → AreByFirst (front ++ r ∷ rest) → add_line (so_far m front) (range_said r) ≡ Ok (so_far m (front ++ r ∷ []))
 range_added m front r rest are by_first =
-    step_done _ _ (add_statement (so_far m front)) (statement-range r (behind_front IsRange front r rest are.each))
+    step_done _ _ (add_statement (so_far m front)) (statement-range r (after_front IsRange front r rest are.each))
     ∙ cond-false _ _ _ (good_range front r rest are) ∙ ap (λ (rs : List Range). Ok (so_far m rs)) (put_range-last front r rest by_first)
 
 entry_added : (m : FinMap key_cmp (List Element)) (rs : List Range) (key : List ℕ) (es : List Element) → IsEntry (key, es) → IsAbove key (entries m) → add_line (so_far m rs) (entry_said (key, es)) ≡ Ok (so_far (insert m key es) rs)

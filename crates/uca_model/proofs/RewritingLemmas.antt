@@ -4,7 +4,7 @@ use Rattle.std.proofs.lemmas.Bool.{cases_Bool, eqb-false}
 use Rattle.std.proofs.lemmas.List.{length-drop, length-take}
 use Rattle.unicode_normalization.specs.Order.{is_starter}
 use Rattle.uca_model.specs.Table.{ElementTable, is_key}
-use Rattle.uca_model.specs.Match.{Step, start_len, is_blocked, extension_of}
+use Rattle.uca_model.specs.Match.{Step, longest_match_len, is_blocked, discontiguous_match}
 use Rattle.uca_model.specs.CollationElements.{step, matches_within, matches}
 use Rattle.uca_model.specs.CollationElements.{elements, elements_or_implicit}
 
@@ -12,23 +12,23 @@ either : (b : Bool) (x y : Step) (n : ℕ) → length x.rest ≤ n → length y.
 either true x y n h g = h
 either false x y n h g = g
 
-extension_of-shorter : (is_key : List ℕ → Bool) (s passed cs : List ℕ) → length (extension_of is_key s passed cs).rest ≤ length passed + length cs
-unfolding extension_of
-extension_of-shorter is_key s passed [] = omega arith
-extension_of-shorter is_key s passed (c ∷ cs) =
+discontiguous_match-shorter : (is_key : List ℕ → Bool) (s passed cs : List ℕ) → length (discontiguous_match is_key s passed cs).rest ≤ length passed + length cs
+unfolding discontiguous_match
+discontiguous_match-shorter is_key s passed [] = omega arith
+discontiguous_match-shorter is_key s passed (c ∷ cs) =
     let grown : length (passed ++ c ∷ []) ≡ length passed + 1 = length-append passed (c ∷ []) in
     let whole : length (passed ++ c ∷ cs) ≡ length passed + suc (length cs) = length-append passed (c ∷ cs) in
-    let taken : length (extension_of is_key (s ++ c ∷ []) passed cs).rest ≤ length passed + length cs = extension_of-shorter is_key (s ++ c ∷ []) passed cs in
-    let kept : length (extension_of is_key s (passed ++ c ∷ []) cs).rest ≤ length (passed ++ c ∷ []) + length cs = extension_of-shorter is_key s (passed ++ c ∷ []) cs in
+    let taken : length (discontiguous_match is_key (s ++ c ∷ []) passed cs).rest ≤ length passed + length cs = discontiguous_match-shorter is_key (s ++ c ∷ []) passed cs in
+    let kept : length (discontiguous_match is_key s (passed ++ c ∷ []) cs).rest ≤ length (passed ++ c ∷ []) + length cs = discontiguous_match-shorter is_key s (passed ++ c ∷ []) cs in
     either (is_starter c) _ _ _ (omega arith) (either (not (is_blocked passed c) && is_key (s ++ c ∷ [])) _ _ _ (omega arith) (omega arith))
 
 -- a step leaves less than it was given
 pub step_shorter_cons : (is_key : List ℕ → Bool) (x : ℕ) (xs : List ℕ) → length (step is_key (x ∷ xs)).rest ≤ length xs
-step_shorter_cons is_key x xs = elim (cases_Bool (nat_eq (start_len is_key (x ∷ xs)) 0)) [
+step_shorter_cons is_key x xs = elim (cases_Bool (nat_eq (longest_match_len is_key (x ∷ xs)) 0)) [
   | inl none ↦ rw none (omega arith)
   | inr some ↦ rw some (
-      let n = start_len is_key (x ∷ xs) in
-      let h : length (extension_of is_key (take n (x ∷ xs)) [] (drop n (x ∷ xs))).rest ≤ 0 + length (drop n (x ∷ xs)) = extension_of-shorter is_key (take n (x ∷ xs)) [] (drop n (x ∷ xs)) in
+      let n = longest_match_len is_key (x ∷ xs) in
+      let h : length (discontiguous_match is_key (take n (x ∷ xs)) [] (drop n (x ∷ xs))).rest ≤ 0 + length (drop n (x ∷ xs)) = discontiguous_match-shorter is_key (take n (x ∷ xs)) [] (drop n (x ∷ xs)) in
       let g : length (drop n (x ∷ xs)) ≡ suc (length xs) - n = length-drop n (x ∷ xs) in
       let k : n ≡ 0 → ⊥ = eqb-false n 0 some in
       omega arith)
@@ -68,23 +68,23 @@ longer : (b : Bool) (x y : Step) (n : ℕ) → n ≤ length x.matched.code_point
 longer true x y n h g = h
 longer false x y n h g = g
 
-extended_longer : (is_key : List ℕ → Bool) (s passed cs : List ℕ) → length s ≤ length (extension_of is_key s passed cs).matched.code_points
-unfolding extension_of
+extended_longer : (is_key : List ℕ → Bool) (s passed cs : List ℕ) → length s ≤ length (discontiguous_match is_key s passed cs).matched.code_points
+unfolding discontiguous_match
 extended_longer is_key s passed [] = omega arith
 extended_longer is_key s passed (c ∷ cs) =
     let grown : length (s ++ c ∷ []) ≡ length s + 1 = length-append s (c ∷ []) in
-    let taken : length (s ++ c ∷ []) ≤ length (extension_of is_key (s ++ c ∷ []) passed cs).matched.code_points = extended_longer is_key (s ++ c ∷ []) passed cs in
-    let kept : length s ≤ length (extension_of is_key s (passed ++ c ∷ []) cs).matched.code_points = extended_longer is_key s (passed ++ c ∷ []) cs in
+    let taken : length (s ++ c ∷ []) ≤ length (discontiguous_match is_key (s ++ c ∷ []) passed cs).matched.code_points = extended_longer is_key (s ++ c ∷ []) passed cs in
+    let kept : length s ≤ length (discontiguous_match is_key s (passed ++ c ∷ []) cs).matched.code_points = extended_longer is_key s (passed ++ c ∷ []) cs in
     longer (is_starter c) _ _ _ (omega arith) (longer (not (is_blocked passed c) && is_key (s ++ c ∷ [])) _ _ _ (omega arith) (omega arith))
 
 -- a match has a code point
 pub step_some : (is_key : List ℕ → Bool) (xs : List ℕ) → 0 < length xs → 0 < length (step is_key xs).matched.code_points
 step_some is_key [] h = absurd (omega arith)
-step_some is_key (x ∷ xs) h = elim (cases_Bool (nat_eq (start_len is_key (x ∷ xs)) 0)) [
+step_some is_key (x ∷ xs) h = elim (cases_Bool (nat_eq (longest_match_len is_key (x ∷ xs)) 0)) [
   | inl none ↦ rw none (omega arith)
   | inr some ↦ rw some (
-      let n = start_len is_key (x ∷ xs) in
-      let g : length (take n (x ∷ xs)) ≤ length (extension_of is_key (take n (x ∷ xs)) [] (drop n (x ∷ xs))).matched.code_points = extended_longer is_key (take n (x ∷ xs)) [] (drop n (x ∷ xs)) in
+      let n = longest_match_len is_key (x ∷ xs) in
+      let g : length (take n (x ∷ xs)) ≤ length (discontiguous_match is_key (take n (x ∷ xs)) [] (drop n (x ∷ xs))).matched.code_points = extended_longer is_key (take n (x ∷ xs)) [] (drop n (x ∷ xs)) in
       let l : length (take n (x ∷ xs)) ≡ min n (suc (length xs)) = length-take n (x ∷ xs) in
       let k : n ≡ 0 → ⊥ = eqb-false n 0 some in
       omega arith)

@@ -1,4 +1,4 @@
--- A text that is cut before a safe starter: its level lists are those of the two parts, one behind the other.
+-- A text that is cut before a safe starter: its level lists are those of the two parts, one after the other.
 use Rattle.std.proofs.Common.{◌⊎◌, ◌≡◌, ℕ, zero, suc, ◌+◌, ◌-◌, ◌/◌, ◌%◌, ◌≤◌, ◌<◌, max, Bool, true, false, cond, not, ◌&&◌, ◌==◌, ◌||◌, nat_eq, List, [], ◌∷◌, ◌++◌, length, take, drop, map, filter, flat_map, slice_index, find, Option, Some, None, unwrap_or, All, refl, sym, ap, ap₂, subst, ◌∙◌, arith, inl, inr, append_assoc, append-nil, length-append, eqb-true, eq-eqb, ne_eqb}
 use Rattle.std.proofs.lemmas.Bool.{cases_Bool, and_parts, cond-true, cond-false, eqb-false}
 use Rattle.std.proofs.lemmas.List.{map-append, take-append-le, drop-append-le, drop_at, reverse-append, take-append-drop, length-take}
@@ -23,14 +23,14 @@ use Rattle.uca_weights.specs.Element.{has_primary, is_variable, is_completely_ig
 use Rattle.uca_weights.specs.VariableWeighting.{is_after_variable, weights, weighted_after, weighted, ignored, unchanged}
 use Rattle.uca_weights.specs.declared.limits.TheConstants.{MAX_DECOMPOSITION}
 use Rattle.uca_model.specs.Table.{ElementTable, is_key, elements_at, IsTable, IsRange, AreRanges}
-use Rattle.uca_model.specs.Match.{Step, greatest, start_len, is_blocked, extension_of, took}
+use Rattle.uca_model.specs.Match.{Step, greatest, longest_match_len, is_blocked, discontiguous_match, took}
 use Rattle.uca_model.specs.CollationElements.{step, matches_within, matches, elements, elements_or_implicit}
 use Rattle.uca_model.specs.ImplicitWeights.{pair, implicit_over, is_assigned, is_unified_ideograph, in_some, core_blocks, in_two_parts, two_parts_base, in_range, range_of, is_between, lowest_first}
 use Rattle.uca_model.specs.LevelWeights.{level_weights, level_list}
 use Rattle.uca_model.specs.SafeText.{IsSafe, longest_run, longest_run_after}
 use Rattle.uca_model.specs.SafeCut.{begins_with, begins_with_primary, keeps_apart, is_safe_starter, begins_apart, is_cut, common_front, last_cut}
 use Rattle.uca_model.specs.Laws.{IsCutApart, TextsAreCutApart}
-use Rattle.uca_model.specs.Reading.{OrdersLevel}
+use Rattle.uca_model.specs.DecidingLevel.{OrdersLevel}
 use Rattle.uca_model.proofs.ImplicitLemmas.{found}
 use Rattle.uca_model.proofs.LevelLemmas.{OrdersLevel-front}
 use Rattle.uca_model.proofs.RewritingLemmas.{matches-step, elements_nil, elements_step, step_shorter}
@@ -132,50 +132,50 @@ take_some : (s : ℕ) (ys : List ℕ) (n : ℕ) → 0 < n → take n (s ∷ ys) 
 take_some s ys zero h = absurd (omega arith)
 take_some s ys (suc n) h = let e : n ≡ suc n - 1 = omega arith in ap (λ k. s ∷ take k ys) e
 
--- what stands behind a rest
-abbrev behind : List ℕ → Step → Step
-behind ys r = record r { rest = r.rest ++ ys }
+-- what stands after a rest
+abbrev with_more : List ℕ → Step → Step
+with_more ys r = record r { rest = r.rest ++ ys }
 
 module _ (key : List ℕ → Bool) (s : ℕ) (ys : List ℕ) (starter : is_starter s ≡ true) (across : (before after : List ℕ) → 0 < length before → key (before ++ s ∷ after) ≡ false) where
-  start_len-cut : (xs : List ℕ) → 0 < length xs → start_len key (xs ++ s ∷ ys) ≡ start_len key xs
-  start_len-cut xs some =
+  longest_match_len-cut : (xs : List ℕ) → 0 < length xs → longest_match_len key (xs ++ s ∷ ys) ≡ longest_match_len key xs
+  longest_match_len-cut xs some =
       (let e : length (xs ++ s ∷ ys) ≡ suc (length ys) + length xs = omega (arith, length-append xs (s ∷ ys)) in ap (greatest (λ n. key (take n (xs ++ s ∷ ys)))) e)
       ∙ greatest-more (λ n. key (take n (xs ++ s ∷ ys))) (λ n. key (take n xs)) (length xs) (suc (length ys)) (λ k le. ap key (take-append-le k xs (s ∷ ys) le))
       (λ k more. ap key (take_past xs (s ∷ ys) k (omega arith) ∙ ap (λ l. xs ++ l) (take_some s ys (k - length xs) (omega arith))) ∙ across xs (take (k - length xs - 1) ys) some)
 
-  extension_of-cut : (front passed cs : List ℕ) → extension_of key front passed (cs ++ s ∷ ys) ≡ behind (s ∷ ys) (extension_of key front passed cs)
-  unfolding extension_of
-  extension_of-cut front passed [] = cond-true _ _ _ starter
-  extension_of-cut front passed (c ∷ cs) =
+  discontiguous_match-cut : (front passed cs : List ℕ) → discontiguous_match key front passed (cs ++ s ∷ ys) ≡ with_more (s ∷ ys) (discontiguous_match key front passed cs)
+  unfolding discontiguous_match
+  discontiguous_match-cut front passed [] = cond-true _ _ _ starter
+  discontiguous_match-cut front passed (c ∷ cs) =
       elim (cases_Bool (is_starter c)) [
-        | inl stops ↦ cond-true _ _ _ stops ∙ ap (took front) (sym (append_assoc passed (c ∷ cs) (s ∷ ys))) ∙ sym (ap (behind (s ∷ ys)) (cond-true _ _ _ stops))
+        | inl stops ↦ cond-true _ _ _ stops ∙ ap (took front) (sym (append_assoc passed (c ∷ cs) (s ∷ ys))) ∙ sym (ap (with_more (s ∷ ys)) (cond-true _ _ _ stops))
         | inr mark ↦
             let test = not (is_blocked passed c) && key (front ++ c ∷ []) in
             elim (cases_Bool test) [
-              | inl takes ↦ cond-false _ _ _ mark ∙ cond-true _ _ _ takes ∙ extension_of-cut (front ++ c ∷ []) passed cs ∙ sym (ap (behind (s ∷ ys)) (cond-false _ _ _ mark ∙ cond-true _ _ _ takes))
-              | inr leaves ↦ cond-false _ _ _ mark ∙ cond-false _ _ _ leaves ∙ extension_of-cut front (passed ++ c ∷ []) cs ∙ sym (ap (behind (s ∷ ys)) (cond-false _ _ _ mark ∙ cond-false _ _ _ leaves))
+              | inl takes ↦ cond-false _ _ _ mark ∙ cond-true _ _ _ takes ∙ discontiguous_match-cut (front ++ c ∷ []) passed cs ∙ sym (ap (with_more (s ∷ ys)) (cond-false _ _ _ mark ∙ cond-true _ _ _ takes))
+              | inr leaves ↦ cond-false _ _ _ mark ∙ cond-false _ _ _ leaves ∙ discontiguous_match-cut front (passed ++ c ∷ []) cs ∙ sym (ap (with_more (s ∷ ys)) (cond-false _ _ _ mark ∙ cond-false _ _ _ leaves))
             ]
       ]
 
-  -- a step before the cut does not see what stands behind it
-  step-cut : (xs : List ℕ) → 0 < length xs → step key (xs ++ s ∷ ys) ≡ behind (s ∷ ys) (step key xs)
+  -- a step before the cut does not see what stands after it
+  step-cut : (xs : List ℕ) → 0 < length xs → step key (xs ++ s ∷ ys) ≡ with_more (s ∷ ys) (step key xs)
   step-cut [] some = absurd (omega arith)
   step-cut (x ∷ xs) some =
       let all = x ∷ xs in
-      let n = start_len key all in
-      let same = start_len-cut all some in
+      let n = longest_match_len key all in
+      let same = longest_match_len-cut all some in
       let within : n ≤ length all = greatest-within (λ k. key (take k all)) (length all) in
       elim (cases_Bool (nat_eq n 0)) [
-        | inl none ↦ cond-true _ _ _ (ap (λ k. nat_eq k 0) same ∙ none) ∙ sym (ap (behind (s ∷ ys)) (cond-true _ _ _ none))
+        | inl none ↦ cond-true _ _ _ (ap (λ k. nat_eq k 0) same ∙ none) ∙ sym (ap (with_more (s ∷ ys)) (cond-true _ _ _ none))
         | inr found ↦
             cond-false _ _ _ (ap (λ k. nat_eq k 0) same ∙ found)
-            ∙ ap (λ k. extension_of key (take k (all ++ s ∷ ys)) [] (drop k (all ++ s ∷ ys))) same
-            ∙ ap₂ (λ f r. extension_of key f [] r) (take-append-le n all (s ∷ ys) within) (drop-append-le n all (s ∷ ys) within)
-            ∙ extension_of-cut (take n all) [] (drop n all)
-            ∙ sym (ap (behind (s ∷ ys)) (cond-false _ _ _ found))
+            ∙ ap (λ k. discontiguous_match key (take k (all ++ s ∷ ys)) [] (drop k (all ++ s ∷ ys))) same
+            ∙ ap₂ (λ f r. discontiguous_match key f [] r) (take-append-le n all (s ∷ ys) within) (drop-append-le n all (s ∷ ys) within)
+            ∙ discontiguous_match-cut (take n all) [] (drop n all)
+            ∙ sym (ap (with_more (s ∷ ys)) (cond-false _ _ _ found))
       ]
 
-  -- the matches of a text are those before the cut, and those behind it
+  -- the matches of a text are those before the cut, and those after it
   matches-cut : (fuel : ℕ) (xs : List ℕ) → length xs ≤ fuel → matches key (xs ++ s ∷ ys) ≡ matches key xs ++ matches key (s ∷ ys)
   unfolding matches_within
   matches-cut fuel [] h = refl
@@ -197,7 +197,7 @@ elements-cut t xs s ys safe =
 
 -- ---- the weights
 
--- whether the place behind an element is after a variable, by whether the place of the element is
+-- whether the place after an element is after a variable, by whether the place of the element is
 abbrev moved_on : Bool → Element → Bool
 moved_on after e = cond (has_primary e) (is_variable e) after
 
@@ -254,7 +254,7 @@ level_weights-append level us vs =
     ap (filter (λ w. not (w == 0))) (map-append (λ (w : List ℕ). slice_index w (level - 1)) us vs)
     ∙ filter-append (λ w. not (w == 0)) (map (λ (w : List ℕ). slice_index w (level - 1)) us) (map (λ (w : List ℕ). slice_index w (level - 1)) vs)
 
--- ---- the first element behind the cut
+-- ---- the first element after the cut
 
 -- elements of which the first has a primary weight
 record BeginsPrimary (es : List Element) : Type 0 where
@@ -300,23 +300,23 @@ with_cond : (b : Bool) (front : List ℕ) (x y : Step) → BeginsLike front x.ma
 with_cond true front x y h g = h
 with_cond false front x y h g = g
 
-extension_of-begins : (key : List ℕ → Bool) (front passed cs : List ℕ) → BeginsLike front (extension_of key front passed cs).matched.code_points
-unfolding extension_of
-extension_of-begins key front passed [] = record { after = []; same = sym (append-nil front) }
-extension_of-begins key front passed (c ∷ cs) =
-    let taken = extension_of-begins key (front ++ c ∷ []) passed cs in
+discontiguous_match-begins : (key : List ℕ → Bool) (front passed cs : List ℕ) → BeginsLike front (discontiguous_match key front passed cs).matched.code_points
+unfolding discontiguous_match
+discontiguous_match-begins key front passed [] = record { after = []; same = sym (append-nil front) }
+discontiguous_match-begins key front passed (c ∷ cs) =
+    let taken = discontiguous_match-begins key (front ++ c ∷ []) passed cs in
     with_cond (is_starter c) front _ _ (record { after = []; same = sym (append-nil front) })
     (with_cond (not (is_blocked passed c) && key (front ++ c ∷ [])) front _ _
     (record { after = c ∷ taken.after; same = taken.same ∙ append_assoc front (c ∷ []) taken.after })
-    (extension_of-begins key front (passed ++ c ∷ []) cs))
+    (discontiguous_match-begins key front (passed ++ c ∷ []) cs))
 
 step-begins : (key : List ℕ → Bool) (s : ℕ) (ys : List ℕ) → BeginsLike (s ∷ []) (step key (s ∷ ys)).matched.code_points
 step-begins key s ys =
-    let n = start_len key (s ∷ ys) in
+    let n = longest_match_len key (s ∷ ys) in
     elim (cases_Bool (nat_eq n 0)) [
       | inl none ↦ record { after = []; same = ap (λ (r : Step). r.matched.code_points) (cond-true _ _ _ none) }
       | inr some ↦
-          let whole = extension_of-begins key (take n (s ∷ ys)) [] (drop n (s ∷ ys)) in
+          let whole = discontiguous_match-begins key (take n (s ∷ ys)) [] (drop n (s ∷ ys)) in
           let other : n ≡ 0 → ⊥ = eqb-false n 0 some in
           record {
             after = take (n - 1) ys ++ whole.after;
@@ -382,7 +382,7 @@ level_list-cut t v p x c valid cut level =
           ∙ sym (ap₂ (λ a b. a ++ b) (cond-false _ _ _ weights) (cond-false _ _ _ weights))
     ]
 
--- what decides the lists behind a common front up to a cut decides those of the texts
+-- what decides the lists after a common front up to a cut decides those of the texts
 pub OrdersLevel-cut : (t : ElementTable) (v : Variable) (p x y : List ℕ) (c : ℕ) (level : ℕ) (o : Ordering) → IsTable t → IsCut t c
     → OrdersLevel level (level_list t v (c ∷ x) level) (level_list t v (c ∷ y) level) o → OrdersLevel level (level_list t v (p ++ c ∷ x) level) (level_list t v (p ++ c ∷ y) level) o
 OrdersLevel-cut t v p x y c level o valid cut h =
@@ -497,7 +497,7 @@ common_front-first (x ∷ xs) (y ∷ ys) = by_test (common_front-first xs ys) (x
         record { left = later.left; right = later.right; first = ap (λ l. x ∷ l) later.first; second = ap₂ (λ c l. c ∷ l) (sym (eqb-true x y e)) later.second }
     by_test later false e = record { left = x ∷ xs; right = y ∷ ys; first = refl; second = refl }
 
--- ---- what stands behind the last cut
+-- ---- what stands after the last cut
 
 -- it begins with a character before which it may be cut
 pub record BeginsAtCut (t : ElementTable) (xs : List ℕ) : Type 0 where
@@ -581,8 +581,8 @@ apart-cut t v p x c valid cut =
       lists = level_list-cut t v p x c valid cut;
     }
 
-pub apart-behind : (t : ElementTable) (v : Variable) (front left : List ℕ) (m : ℕ) → IsTable t → (ends : EndsAtCut t front m) → IsCutApart t v ends.before (ends.after ++ left)
-apart-behind t v front left m valid ends =
+pub apart-after : (t : ElementTable) (v : Variable) (front left : List ℕ) (m : ℕ) → IsTable t → (ends : EndsAtCut t front m) → IsCutApart t v ends.before (ends.after ++ left)
+apart-after t v front left m valid ends =
     elim ends.begins [
       | inl none ↦ subst (λ p. IsCutApart t v p (ends.after ++ left)) (sym none) (nothing-cut t v (ends.after ++ left))
       | inr some ↦ subst (λ l. IsCutApart t v ends.before (l ++ left)) (sym some.same) (apart-cut t v ends.before (some.later ++ left) some.c valid some.cut)
@@ -604,6 +604,6 @@ texts-cut t v a b valid =
     let of_b = split_at t front inside.right b m ends inside.second in
     record {
       same = of_a.0 ∙ sym of_b.0;
-      first = subst (λ p. IsCutApart t v p (drop m a)) (sym of_a.0) (subst (λ l. IsCutApart t v ends.before l) (sym of_a.1) (apart-behind t v front inside.left m valid ends));
-      second = subst (λ p. IsCutApart t v p (drop m b)) (sym of_b.0) (subst (λ l. IsCutApart t v ends.before l) (sym of_b.1) (apart-behind t v front inside.right m valid ends));
+      first = subst (λ p. IsCutApart t v p (drop m a)) (sym of_a.0) (subst (λ l. IsCutApart t v ends.before l) (sym of_a.1) (apart-after t v front inside.left m valid ends));
+      second = subst (λ p. IsCutApart t v p (drop m b)) (sym of_b.0) (subst (λ l. IsCutApart t v ends.before l) (sym of_b.1) (apart-after t v front inside.right m valid ends));
     }

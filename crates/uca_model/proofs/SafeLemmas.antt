@@ -73,16 +73,16 @@ runs-sink n c (d ∷ ds) =
           ∙ sym (at_mark n c (d ∷ ds) mark_c)
     ]
 
--- two texts with the same runs have the same runs behind a code point
-same_behind : (n c : ℕ) (xs ys : List ℕ) → ((k : ℕ) → longest_run_after k xs ≡ longest_run_after k ys) → longest_run_after n (c ∷ xs) ≡ longest_run_after n (c ∷ ys)
-same_behind n c xs ys h = ap₂ (λ a b. cond (is_nonstarter c) a (max n b)) (h (n + 1)) (h 0)
+-- two texts with the same runs have the same runs after a code point
+same_after : (n c : ℕ) (xs ys : List ℕ) → ((k : ℕ) → longest_run_after k xs ≡ longest_run_after k ys) → longest_run_after n (c ∷ xs) ≡ longest_run_after n (c ∷ ys)
+same_after n c xs ys h = ap₂ (λ a b. cond (is_nonstarter c) a (max n b)) (h (n + 1)) (h 0)
 
 -- a whole text in canonical order
 pub runs-canonical_order : (cs : List ℕ) (n : ℕ) → longest_run_after n (canonical_order cs) ≡ longest_run_after n cs
 runs-canonical_order [] n = ap (longest_run_after n) canonical_order-nil
 runs-canonical_order (c ∷ cs) n =
     ap (longest_run_after n) (canonical_order-cons c cs) ∙ runs-sink n c (canonical_order cs)
-    ∙ same_behind n c (canonical_order cs) cs (runs-canonical_order cs)
+    ∙ same_after n c (canonical_order cs) cs (runs-canonical_order cs)
 
 -- the NFD is the decompositions in canonical order
 pub nfd-is : (cs : List ℕ) → nfd cs ≡ canonical_order (flat_map decompose_canonical cs)

@@ -42,7 +42,7 @@ pub find-above : (key : List ℕ) (front : List (List ℕ × List Element)) → 
 find-above key [] above = refl
 find-above key (f ∷ front) above = ap (λ (o : Ordering). cond (is_eq o) (Some f.1) (find key_cmp key front)) above.0 ∙ find-above key front above.1
 
--- and is put behind the others
+-- and is put after the others
 pub put-above : (key : List ℕ) (es : List Element) (front : List (List ℕ × List Element)) → IsAbove key front → put key_cmp key es front ≡ front ++ (key, es) ∷ []
 put-above key es [] above = refl
 put-above key es (f ∷ front) above =

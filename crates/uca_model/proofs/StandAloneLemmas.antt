@@ -19,7 +19,7 @@ use Rattle.unicode_normalization.proofs.ComposeLemmas.{is_starter-true, flat_map
 use Rattle.unicode_normalization.proofs.OrderLemmas.{canonical_order-at_starter, canonical_order-nil, list_all-canonical_order, canonical_order-ordered, is_ordered-one}
 use Rattle.uca_model.specs.Table.{ElementTable, key_cmp, elements_at, is_key}
 use Rattle.uca_model.specs.ImplicitWeights.{implicit}
-use Rattle.uca_model.specs.Match.{Step, took, greatest, start_len, is_blocked, extension_of}
+use Rattle.uca_model.specs.Match.{Step, took, greatest, longest_match_len, is_blocked, discontiguous_match}
 use Rattle.uca_model.specs.CollationElements.{step, took_alone, matches_within, matches, elements, elements_or_implicit}
 use Rattle.uca_model.specs.StandAlone.{is_first, is_longer_from, is_inside, begins, leads, continues, ends_in_starter, joining_of, bearing_of, joining, bearing, stands_alone}
 use Rattle.uca_model.proofs.SafeLemmas.{nfd-is}
@@ -77,9 +77,9 @@ continues-no_key t s (x ∷ before) after none some = no_key t (is_inside s) ((x
 
 -- ---- steps
 
--- what stands behind a rest
-abbrev behind : List ℕ → Step → Step
-behind ys r = record r { rest = r.rest ++ ys }
+-- what stands after a rest
+abbrev with_more : List ℕ → Step → Step
+with_more ys r = record r { rest = r.rest ++ ys }
 
 greatest-same : (p q : ℕ → Bool) (m : ℕ) → ((k : ℕ) → k ≤ m → p k ≡ q k) → greatest p m ≡ greatest q m
 greatest-same p q zero h = refl
@@ -108,8 +108,8 @@ take_some s ys zero h = absurd (omega arith)
 take_some s ys (suc n) h = let e : n ≡ suc n - 1 = omega arith in ap (λ k. s ∷ take k ys) e
 
 -- no more than `xs` is looked at where nothing longer is a key
-start_len-front : (key : List ℕ → Bool) (xs : List ℕ) (s : ℕ) (ys : List ℕ) → ((after : List ℕ) → key (xs ++ s ∷ after) ≡ false) → start_len key (xs ++ s ∷ ys) ≡ start_len key xs
-start_len-front key xs s ys across =
+longest_match_len-front : (key : List ℕ → Bool) (xs : List ℕ) (s : ℕ) (ys : List ℕ) → ((after : List ℕ) → key (xs ++ s ∷ after) ≡ false) → longest_match_len key (xs ++ s ∷ ys) ≡ longest_match_len key xs
+longest_match_len-front key xs s ys across =
     (let e : length (xs ++ s ∷ ys) ≡ suc (length ys) + length xs = omega (arith, length-append xs (s ∷ ys)) in ap (greatest (λ n. key (take n (xs ++ s ∷ ys)))) e)
     ∙ greatest-more (λ n. key (take n (xs ++ s ∷ ys))) (λ n. key (take n xs)) (length xs) (suc (length ys)) (λ k le. ap key (take-append-le k xs (s ∷ ys) le))
     (λ k more. ap key (take_past xs (s ∷ ys) k (omega arith) ∙ ap (λ l. xs ++ l) (take_some s ys (k - length xs) (omega arith))) ∙ across (take (k - length xs - 1) ys))
@@ -117,8 +117,8 @@ start_len-front key xs s ys across =
 -- ---- a code point that begins no longer key
 
 module _ (key : List ℕ → Bool) (p : ℕ) (single : (q : ℕ) (after : List ℕ) → key (p ∷ q ∷ after) ≡ false) where
-  extension-none : (passed ys : List ℕ) → extension_of key (p ∷ []) passed ys ≡ took (p ∷ []) (passed ++ ys)
-  unfolding extension_of
+  extension-none : (passed ys : List ℕ) → discontiguous_match key (p ∷ []) passed ys ≡ took (p ∷ []) (passed ++ ys)
+  unfolding discontiguous_match
   extension-none passed [] = ap (took (p ∷ [])) (sym (append-nil passed))
   extension-none passed (y ∷ ys) = elim (cases_Bool (is_starter y)) [
     | inl stops ↦ cond-true _ _ _ stops
@@ -130,21 +130,21 @@ module _ (key : List ℕ → Bool) (p : ℕ) (single : (q : ℕ) (after : List �
     never true b h = h
     never false b h = refl
 
-  start_len-single : (ys : List ℕ) → start_len key (p ∷ ys) ≡ start_len key (p ∷ [])
-  start_len-single [] = refl
-  start_len-single (y ∷ ys) = start_len-front key (p ∷ []) y ys (λ after. single y after)
+  longest_match_len-single : (ys : List ℕ) → longest_match_len key (p ∷ ys) ≡ longest_match_len key (p ∷ [])
+  longest_match_len-single [] = refl
+  longest_match_len-single (y ∷ ys) = longest_match_len-front key (p ∷ []) y ys (λ after. single y after)
 
-  step-single : (ys : List ℕ) → step key (p ∷ ys) ≡ behind ys (step key (p ∷ []))
+  step-single : (ys : List ℕ) → step key (p ∷ ys) ≡ with_more ys (step key (p ∷ []))
   step-single ys = elim (cases_Bool (key (p ∷ []))) [
     | inl found ↦
-        let one : start_len key (p ∷ []) ≡ 1 = cond-true _ _ _ found in
-        here ys 1 (start_len-single ys ∙ one) (λ z. extension-none [] z) ∙ sym (ap (behind ys) (here [] 1 one (λ z. extension-none [] z)))
+        let one : longest_match_len key (p ∷ []) ≡ 1 = cond-true _ _ _ found in
+        here ys 1 (longest_match_len-single ys ∙ one) (λ z. extension-none [] z) ∙ sym (ap (with_more ys) (here [] 1 one (λ z. extension-none [] z)))
     | inr none ↦
-        let zero : start_len key (p ∷ []) ≡ 0 = cond-false _ _ _ none in
-        cond-true _ _ _ (ap (λ k. nat_eq k 0) (start_len-single ys ∙ zero)) ∙ sym (ap (behind ys) (cond-true _ _ _ (ap (λ k. nat_eq k 0) zero)))
+        let zero : longest_match_len key (p ∷ []) ≡ 0 = cond-false _ _ _ none in
+        cond-true _ _ _ (ap (λ k. nat_eq k 0) (longest_match_len-single ys ∙ zero)) ∙ sym (ap (with_more ys) (cond-true _ _ _ (ap (λ k. nat_eq k 0) zero)))
   ] where
-    here : (z : List ℕ) (n : ℕ) → start_len key (p ∷ z) ≡ 1 → ((w : List ℕ) → extension_of key (p ∷ []) [] w ≡ took (p ∷ []) w) → step key (p ∷ z) ≡ took (p ∷ []) z
-    here z n one e = cond-false _ _ _ (ap (λ k. nat_eq k 0) one) ∙ ap (λ k. extension_of key (take k (p ∷ z)) [] (drop k (p ∷ z))) one ∙ e z
+    here : (z : List ℕ) (n : ℕ) → longest_match_len key (p ∷ z) ≡ 1 → ((w : List ℕ) → discontiguous_match key (p ∷ []) [] w ≡ took (p ∷ []) w) → step key (p ∷ z) ≡ took (p ∷ []) z
+    here z n one e = cond-false _ _ _ (ap (λ k. nat_eq k 0) one) ∙ ap (λ k. discontiguous_match key (take k (p ∷ z)) [] (drop k (p ∷ z))) one ∙ e z
 
   matches-single : (ys : List ℕ) → matches key (p ∷ ys) ≡ matches key (p ∷ []) ++ matches key ys
   unfolding matches_within
@@ -159,35 +159,35 @@ module _ (key : List ℕ → Bool) (p : ℕ) (single : (q : ℕ) (after : List �
         empty [] h = refl
         empty (x ∷ xs) h = absurd (omega arith)
 
--- ---- a starter that stands in no key behind the first place
+-- ---- a starter that stands in no key after the first place
 
 module _ (key : List ℕ → Bool) (s : ℕ) (ys : List ℕ) (starter : is_starter s ≡ true) (across : (before after : List ℕ) → 0 < length before → key (before ++ s ∷ after) ≡ false) where
-  extension-cut : (front passed cs : List ℕ) → extension_of key front passed (cs ++ s ∷ ys) ≡ behind (s ∷ ys) (extension_of key front passed cs)
-  unfolding extension_of
+  extension-cut : (front passed cs : List ℕ) → discontiguous_match key front passed (cs ++ s ∷ ys) ≡ with_more (s ∷ ys) (discontiguous_match key front passed cs)
+  unfolding discontiguous_match
   extension-cut front passed [] = cond-true _ _ _ starter
   extension-cut front passed (c ∷ cs) = elim (cases_Bool (is_starter c)) [
-    | inl stops ↦ cond-true _ _ _ stops ∙ ap (took front) (sym (append_assoc passed (c ∷ cs) (s ∷ ys))) ∙ sym (ap (behind (s ∷ ys)) (cond-true _ _ _ stops))
+    | inl stops ↦ cond-true _ _ _ stops ∙ ap (took front) (sym (append_assoc passed (c ∷ cs) (s ∷ ys))) ∙ sym (ap (with_more (s ∷ ys)) (cond-true _ _ _ stops))
     | inr mark ↦ elim (cases_Bool (not (is_blocked passed c) && key (front ++ c ∷ []))) [
-      | inl takes ↦ cond-false _ _ _ mark ∙ cond-true _ _ _ takes ∙ extension-cut (front ++ c ∷ []) passed cs ∙ sym (ap (behind (s ∷ ys)) (cond-false _ _ _ mark ∙ cond-true _ _ _ takes))
-      | inr leaves ↦ cond-false _ _ _ mark ∙ cond-false _ _ _ leaves ∙ extension-cut front (passed ++ c ∷ []) cs ∙ sym (ap (behind (s ∷ ys)) (cond-false _ _ _ mark ∙ cond-false _ _ _ leaves))
+      | inl takes ↦ cond-false _ _ _ mark ∙ cond-true _ _ _ takes ∙ extension-cut (front ++ c ∷ []) passed cs ∙ sym (ap (with_more (s ∷ ys)) (cond-false _ _ _ mark ∙ cond-true _ _ _ takes))
+      | inr leaves ↦ cond-false _ _ _ mark ∙ cond-false _ _ _ leaves ∙ extension-cut front (passed ++ c ∷ []) cs ∙ sym (ap (with_more (s ∷ ys)) (cond-false _ _ _ mark ∙ cond-false _ _ _ leaves))
     ]
   ]
 
-  step-cut : (xs : List ℕ) → 0 < length xs → step key (xs ++ s ∷ ys) ≡ behind (s ∷ ys) (step key xs)
+  step-cut : (xs : List ℕ) → 0 < length xs → step key (xs ++ s ∷ ys) ≡ with_more (s ∷ ys) (step key xs)
   step-cut [] some = absurd (omega arith)
   step-cut (x ∷ xs) some =
       let all = x ∷ xs in
-      let n = start_len key all in
-      let same : start_len key (all ++ s ∷ ys) ≡ n = start_len-front key all s ys (λ after. across all after some) in
+      let n = longest_match_len key all in
+      let same : longest_match_len key (all ++ s ∷ ys) ≡ n = longest_match_len-front key all s ys (λ after. across all after some) in
       let within : n ≤ length all = greatest-within (λ k. key (take k all)) (length all) in
       elim (cases_Bool (nat_eq n 0)) [
-        | inl none ↦ cond-true _ _ _ (ap (λ k. nat_eq k 0) same ∙ none) ∙ sym (ap (behind (s ∷ ys)) (cond-true _ _ _ none))
+        | inl none ↦ cond-true _ _ _ (ap (λ k. nat_eq k 0) same ∙ none) ∙ sym (ap (with_more (s ∷ ys)) (cond-true _ _ _ none))
         | inr found ↦
             cond-false _ _ _ (ap (λ k. nat_eq k 0) same ∙ found)
-            ∙ ap (λ k. extension_of key (take k (all ++ s ∷ ys)) [] (drop k (all ++ s ∷ ys))) same
-            ∙ ap₂ (λ f r. extension_of key f [] r) (take-append-le n all (s ∷ ys) within) (drop-append-le n all (s ∷ ys) within)
+            ∙ ap (λ k. discontiguous_match key (take k (all ++ s ∷ ys)) [] (drop k (all ++ s ∷ ys))) same
+            ∙ ap₂ (λ f r. discontiguous_match key f [] r) (take-append-le n all (s ∷ ys) within) (drop-append-le n all (s ∷ ys) within)
             ∙ extension-cut (take n all) [] (drop n all)
-            ∙ sym (ap (behind (s ∷ ys)) (cond-false _ _ _ found))
+            ∙ sym (ap (with_more (s ∷ ys)) (cond-false _ _ _ found))
       ]
 
   matches-cut : (fuel : ℕ) (xs : List ℕ) → length xs ≤ fuel → matches key (xs ++ s ∷ ys) ≡ matches key xs ++ matches key (s ∷ ys)
@@ -209,11 +209,11 @@ elements-parts t xs ys zs h =
     ap (flat_map (λ m. elements_or_implicit t m.code_points)) h
     ∙ flat_map-append (λ m. elements_or_implicit t m.code_points) (matches (is_key t) xs) (matches (is_key t) ys)
 
--- behind a code point that leads no key the others go on by themselves
+-- after a code point that leads no key the others go on by themselves
 elements-single : (t : ElementTable) (p : ℕ) (ys : List ℕ) → leads t p ≡ false → elements t (p ∷ ys) ≡ elements t (p ∷ []) ++ elements t ys
 elements-single t p ys none = elements-parts t (p ∷ []) ys (p ∷ ys) (matches-single (is_key t) p (λ q after. leads-no_key t p q after none) ys)
 
--- and so they do behind some
+-- and so they do after some
 elements-plain : (t : ElementTable) (xs ys : List ℕ) → list_all (λ p. not (leads t p)) xs ≡ true → elements t (xs ++ ys) ≡ elements t xs ++ elements t ys
 elements-plain t [] ys plain = ap (λ l. l ++ elements t ys) (sym (elements_nil t))
 elements-plain t (x ∷ xs) ys plain =
@@ -225,7 +225,7 @@ elements-plain t (x ∷ xs) ys plain =
       not_true true h = cc
       not_true false h = refl
 
--- before a starter that stands in no key behind the first place the text may be cut
+-- before a starter that stands in no key after the first place the text may be cut
 elements-cut : (t : ElementTable) (xs : List ℕ) (s : ℕ) (ys : List ℕ) → is_starter s ≡ true → continues t s ≡ false → elements t (xs ++ s ∷ ys) ≡ elements t xs ++ elements t (s ∷ ys)
 elements-cut t xs s ys starter none =
     elements-parts t xs (s ∷ ys) (xs ++ s ∷ ys) (matches-cut (is_key t) s ys starter (λ before after some. continues-no_key t s before after none some) (length xs) xs (omega arith))
@@ -247,21 +247,21 @@ nfd-cut p x c s others parts starter =
     ∙ canonical_order-at_starter (flat_map decompose_canonical p) s back (is_starter-true s starter)
     ∙ ap₂ (λ u v. u ++ v) (sym (nfd-is p)) (sym (nfd-first x c s others parts starter))
 
--- behind one whose decomposition ends with a starter
-order-behind : (front ds later : List ℕ) → ends_in_starter ds ≡ true → canonical_order (front ++ (ds ++ later)) ≡ canonical_order (front ++ ds) ++ canonical_order later
-order-behind front [] later h = cc
-order-behind front (s ∷ []) later h =
+-- after one whose decomposition ends with a starter
+order-after : (front ds later : List ℕ) → ends_in_starter ds ≡ true → canonical_order (front ++ (ds ++ later)) ≡ canonical_order (front ++ ds) ++ canonical_order later
+order-after front [] later h = cc
+order-after front (s ∷ []) later h =
     canonical_order-at_starter front s later (is_starter-true s h)
     ∙ sym (append_assoc (canonical_order front) (s ∷ []) (canonical_order later))
     ∙ ap (λ l. l ++ canonical_order later) (sym (canonical_order-at_starter front s [] (is_starter-true s h) ∙ ap (λ l. canonical_order front ++ s ∷ l) canonical_order-nil))
-order-behind front (d ∷ e ∷ ds) later h =
+order-after front (d ∷ e ∷ ds) later h =
     ap canonical_order (sym (append_assoc front (d ∷ []) ((e ∷ ds) ++ later)))
-    ∙ order-behind (front ++ d ∷ []) (e ∷ ds) later h
+    ∙ order-after (front ++ d ∷ []) (e ∷ ds) later h
     ∙ ap (λ l. canonical_order l ++ canonical_order later) (append_assoc front (d ∷ []) (e ∷ ds))
 
-nfd-behind : (c : ℕ) (x : List ℕ) → ends_in_starter (decompose_canonical c) ≡ true → nfd (c ∷ x) ≡ nfd (c ∷ []) ++ nfd x
-nfd-behind c x h =
-    nfd-is (c ∷ x) ∙ order-behind [] (decompose_canonical c) (flat_map decompose_canonical x) h
+nfd-after : (c : ℕ) (x : List ℕ) → ends_in_starter (decompose_canonical c) ≡ true → nfd (c ∷ x) ≡ nfd (c ∷ []) ++ nfd x
+nfd-after c x h =
+    nfd-is (c ∷ x) ∙ order-after [] (decompose_canonical c) (flat_map decompose_canonical x) h
     ∙ ap₂ (λ u v. u ++ v) (ap canonical_order (sym (append-nil (decompose_canonical c))) ∙ sym (nfd-is (c ∷ []))) (sym (nfd-is x))
 
 -- ---- characters that stand alone
@@ -286,7 +286,7 @@ plain-nfd t c h =
     ap (list_all (λ p. not (leads t p))) (nfd-is (c ∷ []) ∙ ap canonical_order (append-nil (decompose_canonical c)))
     ∙ list_all-canonical_order (λ p. not (leads t p)) (decompose_canonical c) h
 
--- the elements of two texts, one behind the other, are those of each
+-- the elements of two texts, one after the other, are those of each
 abbrev pub IsApart : ElementTable → List ℕ → List ℕ → Type 0
 IsApart t p x = elements t (nfd (p ++ x)) ≡ elements t (nfd p) ++ elements t (nfd x)
 
@@ -340,7 +340,7 @@ apart-alone t c (n ∷ x) h =
     elim (how_begins t (decompose_canonical n)) [
       | freshly s others is starter none ↦ apart-freshly t (c ∷ []) x n s others is starter none
       | in_key s others is starter some ↦ apart-plain t c (n ∷ x) (nfd-cut (c ∷ []) x n s others is starter) (omega arith)
-      | as_mark some ↦ apart-plain t c (n ∷ x) (nfd-behind c (n ∷ x) (bearing-closed t (decompose_canonical c) (omega arith))) (omega arith)
+      | as_mark some ↦ apart-plain t c (n ∷ x) (nfd-after c (n ∷ x) (bearing-closed t (decompose_canonical c) (omega arith))) (omega arith)
     ]
 
 -- what a cell may say where nothing is known
@@ -360,7 +360,7 @@ ends_in_starter-last (x ∷ y ∷ ds) h =
     let last : suc (suc (length ds)) - 1 ≡ suc (suc (length ds) - 1) = omega arith in
     ends_in_starter-last (y ∷ ds) (omega arith) ∙ sym (ap (λ (n : ℕ). is_starter (get_or (x ∷ y ∷ ds) n 0)) last)
 
--- a short key marks nothing
+-- a short key sets no flag
 pub longer-short : (p : ℕ) (key : List ℕ) → length key < 2 → is_longer_from p key ≡ false
 longer-short p [] h = refl
 longer-short p (x ∷ []) h = refl
@@ -379,14 +379,14 @@ longer-first p (x ∷ y ∷ key) h = refl
 -- ---- a single code point
 
 one_point : (key : List ℕ → Bool) (p : ℕ) → (step key (p ∷ [])).matched.code_points ≡ p ∷ []
-unfolding extension_of
+unfolding discontiguous_match
 one_point key p = elim (cases_Bool (key (p ∷ []))) [
   | inl found ↦
-      let one : start_len key (p ∷ []) ≡ 1 = cond-true _ _ _ found in
-      ap (λ (s : Step). s.matched.code_points) (cond-false _ _ _ (ap (λ k. nat_eq k 0) one) ∙ ap (λ k. extension_of key (take k (p ∷ [])) [] (drop k (p ∷ []))) one)
+      let one : longest_match_len key (p ∷ []) ≡ 1 = cond-true _ _ _ found in
+      ap (λ (s : Step). s.matched.code_points) (cond-false _ _ _ (ap (λ k. nat_eq k 0) one) ∙ ap (λ k. discontiguous_match key (take k (p ∷ [])) [] (drop k (p ∷ []))) one)
   | inr none ↦
-      let zero : start_len key (p ∷ []) ≡ 0 = cond-false _ _ _ none in
-      ap (λ (s : Step). s.matched.code_points) (cond-true (nat_eq (start_len key (p ∷ [])) 0) (took_alone (p ∷ [])) _ (ap (λ k. nat_eq k 0) zero))
+      let zero : longest_match_len key (p ∷ []) ≡ 0 = cond-false _ _ _ none in
+      ap (λ (s : Step). s.matched.code_points) (cond-true (nat_eq (longest_match_len key (p ∷ [])) 0) (took_alone (p ∷ [])) _ (ap (λ k. nat_eq k 0) zero))
 ]
 
 pub elements-one : (t : ElementTable) (p : ℕ) → elements t (p ∷ []) ≡ elements_or_implicit t (p ∷ [])

@@ -15,7 +15,7 @@ use Rattle.uca_weights.specs.declared.settings.Variable.TheVariants.{NonIgnorabl
 use Rattle.uca_weights.specs.Element.{is_variable, is_completely_ignorable}
 use Rattle.uca_weights.specs.VariableWeighting.{is_after_variable, unchanged, ignored, weights, weighted_after, weighted}
 use Rattle.uca_model.specs.Table.{ElementTable, elements_at, is_key, IsElement, IsRange, AreRanges, IsTable}
-use Rattle.uca_model.specs.Match.{Step, start_len, is_blocked, extension_of}
+use Rattle.uca_model.specs.Match.{Step, longest_match_len, is_blocked, discontiguous_match}
 use Rattle.uca_model.specs.ImplicitWeights.{is_assigned, is_between, is_unified_ideograph, in_some, core_blocks, range_of, lowest_first, in_range, in_two_parts, two_parts_base, implicit_over}
 use Rattle.uca_model.specs.CollationElements.{step, elements, elements_or_implicit}
 use Rattle.uca_model.specs.LevelWeights.{level_weights, level_list}
@@ -77,21 +77,21 @@ module _ (P : ℕ → Type 0) (is_key : List ℕ → Bool) where
   one_of false x y h g = g
 
   -- an extension has no code points but those of the start, those passed over and those left
-  extension_of-such : (s passed cs : List ℕ) → AllByRecursion P s → AllByRecursion P passed → AllByRecursion P cs → OfSuch P (extension_of is_key s passed cs)
-  unfolding extension_of
-  extension_of-such s passed [] a b c = (a, b)
-  extension_of-such s passed (x ∷ xs) a b c =
+  discontiguous_match-such : (s passed cs : List ℕ) → AllByRecursion P s → AllByRecursion P passed → AllByRecursion P cs → OfSuch P (discontiguous_match is_key s passed cs)
+  unfolding discontiguous_match
+  discontiguous_match-such s passed [] a b c = (a, b)
+  discontiguous_match-such s passed (x ∷ xs) a b c =
       let one : AllByRecursion P (x ∷ []) = (c.0, tt) in
       one_of (is_starter x) _ _ (a, each-append P passed (x ∷ xs) b c)
       (one_of (not (is_blocked passed x) && is_key (s ++ x ∷ [])) _ _
-      (extension_of-such (s ++ x ∷ []) passed xs (each-append P s (x ∷ []) a one) b c.1)
-      (extension_of-such s (passed ++ x ∷ []) xs a (each-append P passed (x ∷ []) b one) c.1))
+      (discontiguous_match-such (s ++ x ∷ []) passed xs (each-append P s (x ∷ []) a one) b c.1)
+      (discontiguous_match-such s (passed ++ x ∷ []) xs a (each-append P passed (x ∷ []) b one) c.1))
 
   -- a step has no code points but those of the text
   pub step-such : (xs : List ℕ) → AllByRecursion P xs → OfSuch P (step is_key xs)
   step-such xs all =
-      let n = start_len is_key xs in
-      one_of (nat_eq n 0) _ _ (each-take P 1 xs all, each-drop P 1 xs all) (extension_of-such (take n xs) [] (drop n xs) (each-take P n xs all) tt (each-drop P n xs all))
+      let n = longest_match_len is_key xs in
+      one_of (nat_eq n 0) _ _ (each-take P 1 xs all, each-drop P 1 xs all) (discontiguous_match-such (take n xs) [] (drop n xs) (each-take P n xs all) tt (each-drop P n xs all))
 
 -- ---- elements
 

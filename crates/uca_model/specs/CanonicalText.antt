@@ -20,13 +20,13 @@ plane_text plane = if plane == 0 then [] else if nat_lt plane 16 then hex_digit 
 unfoldable pub point_text : ℕ → List ℕ
 point_text c = plane_text (c / 0x10000) ++ four_digits (c % 0x10000)
 
--- the mark of an element, `*` or `.`
-abbrev pub mark : Element → ℕ
-mark e = if e.starred then 42 else 46
+-- what stands before the weights of an element: `*` where it is starred, else `.`
+abbrev pub variable_mark : Element → ℕ
+variable_mark e = if e.starred then 42 else 46
 
 -- an element as `[.1000.0020.0002]`, or with `*` in place of the first `.`
 unfoldable pub element_text : Element → List ℕ
-element_text e = codes "[" ++ mark e ∷ four_digits e.l1 ++ codes "." ++ four_digits e.l2 ++ codes "." ++ four_digits e.l3 ++ codes "]"
+element_text e = codes "[" ++ variable_mark e ∷ four_digits e.l1 ++ codes "." ++ four_digits e.l2 ++ codes "." ++ four_digits e.l3 ++ codes "]"
 
 -- the code points of a key with one blank between
 abbrev pub key_text : List ℕ → List ℕ
@@ -40,7 +40,7 @@ entry_line e = key_text e.0 ++ codes " ; " ++ flat_map element_text e.1 ++ line_
 abbrev pub ends_text : Range → List ℕ
 ends_text r = point_text r.first ++ codes ".." ++ point_text r.last
 
--- the base of a range, as `; FB00`, and the LF behind it
+-- the base of a range, as `; FB00`, and the LF after it
 abbrev pub base_text : ℕ → List ℕ
 base_text base = codes "; " ++ four_digits base ++ line_feed ∷ []
 

@@ -3,15 +3,15 @@ use Rattle.std.specs.Prelude.{ℕ, zero, suc, Bool, false, nat_eq, List, [], ◌
 use Rattle.uca_weights.specs.declared.element.Element.{Element}
 use Rattle.uca_model.specs.Table.{ElementTable, elements_at, is_key}
 use Rattle.uca_model.specs.ImplicitWeights.{implicit}
-use Rattle.uca_model.specs.Match.{Match, Step, start_len, start_of, extension_of}
+use Rattle.uca_model.specs.Match.{Match, Step, longest_match_len, longest_match, discontiguous_match}
 
--- a code point that begins no key was taken alone; that no mark is tried with it is this project's own rule
+-- a code point that begins no key was taken alone; that no nonstarter is tried with it is this project's own rule
 abbrev pub took_alone : List ℕ → Step
 took_alone xs = record { matched = record { code_points = take 1 xs; found = false }; rest = drop 1 xs }
 
--- S2.1: the match at the front of a text, and what is left; a code point that begins no key stands alone, and no mark is tried with it
+-- S2.1: the match at the front of a text, and what is left; a code point that begins no key stands alone, and no nonstarter is tried with it
 abbrev pub step : (List ℕ → Bool) → List ℕ → Step
-step is_key xs = if nat_eq (start_len is_key xs) 0 then took_alone xs else extension_of is_key (start_of is_key xs) [] (drop (start_len is_key xs) xs)
+step is_key xs = if nat_eq (longest_match_len is_key xs) 0 then took_alone xs else discontiguous_match is_key (longest_match is_key xs) [] (drop (longest_match_len is_key xs) xs)
 
 -- S2: the matches of a text, in at most n steps
 unfoldable pub matches_within : ℕ → (List ℕ → Bool) → List ℕ → List Match

@@ -15,7 +15,7 @@ use Rattle.uca_model.specs.CollationElements.{elements}
 use Rattle.uca_model.specs.SafeCut.{cut_of}
 use Rattle.unicode_normalization.specs.Forms.{nfd}
 use Rattle.uca_model.specs.SortKey.{weight_bytes, joined, key_order, sort_key}
-use Rattle.uca_model.specs.Reading.{list_order, deciding_level}
+use Rattle.uca_model.specs.DecidingLevel.{list_order, deciding_level}
 use Rattle.uca_model.specs.Ranges.{AreByFirst}
 use Rattle.uca_model.specs.TableText.{ends, table_of_text}
 use Rattle.uca_model.specs.CanonicalText.{canonical}

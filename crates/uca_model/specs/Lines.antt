@@ -9,7 +9,7 @@ abbrev pub onto : ℕ → List (List ℕ) → List (List ℕ)
 onto b [] = (b ∷ []) ∷ []
 onto b (line ∷ lines) = (b ∷ line) ∷ lines
 
--- the bytes up to each LF, and those behind the last one, where there are any
+-- the bytes up to each LF, and those after the last one, where there are any
 abbrev pub split_lines : List ℕ → List (List ℕ)
 split_lines [] = []
 split_lines (b ∷ bytes) = if b == line_feed then [] ∷ split_lines bytes else onto b (split_lines bytes)
@@ -28,7 +28,7 @@ pub data LineFault : Type 0 where
   not_utf8 : ℕ → LineFault
   long_run : ℕ → LineFault
 
--- a line that is no UTF-8 is so behind its longest valid prefix; a text that is not safe is so at its long run
+-- a line that is no UTF-8 is so after its longest valid prefix; a text that is not safe is so at its long run
 abbrev pub HasFault : List ℕ → LineFault → Type 0
 HasFault line (not_utf8 at) = (¬ IsUtf8 line) × (at ≡ utf8_valid_len line)
 HasFault line (long_run at) = IsUtf8 line × IsLongRunAt (chars line) at
@@ -37,8 +37,8 @@ HasFault line (long_run at) = IsUtf8 line × IsLongRunAt (chars line) at
 pub record IsFirstFault (lines : List (List ℕ)) (number : ℕ) (fault : LineFault) : Type 0 where
   pub front : List (List ℕ)
   pub line : List ℕ
-  pub behind : List (List ℕ)
-  pub parts : lines ≡ front ++ line ∷ behind
+  pub after : List (List ℕ)
+  pub parts : lines ≡ front ++ line ∷ after
   pub fine : All IsTextLine front
   pub counted : number ≡ length front + 1
   pub faulty : HasFault line fault

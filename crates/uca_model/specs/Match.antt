@@ -24,23 +24,23 @@ greatest p zero = 0
 greatest p (suc n) = if p (suc n) then suc n else greatest p n
 
 -- the length of the longest initial substring that is a key, 0 where none is
-abbrev pub start_len : (List ℕ → Bool) → List ℕ → ℕ
-start_len is_key xs = greatest (λ n. is_key (take n xs)) (length xs)
+abbrev pub longest_match_len : (List ℕ → Bool) → List ℕ → ℕ
+longest_match_len is_key xs = greatest (λ n. is_key (take n xs)) (length xs)
 
 -- S2.1: the longest initial substring that is a key
-abbrev pub start_of : (List ℕ → Bool) → List ℕ → List ℕ
-start_of is_key xs = take (start_len is_key xs) xs
+abbrev pub longest_match : (List ℕ → Bool) → List ℕ → List ℕ
+longest_match is_key xs = take (longest_match_len is_key xs) xs
 
 -- S2.1.2: between S and C stands a nonstarter whose combining class is not below that of C
 abbrev pub is_blocked : List ℕ → ℕ → Bool
 is_blocked between c = list_any (λ b. nat_le (ccc c) (ccc b)) between
 
--- S2.1.1 to S2.1.3: each nonstarter behind S in turn is taken where no mark that was passed over blocks it, and it makes a key with S
-unfoldable pub extension_of : (List ℕ → Bool) → List ℕ → List ℕ → List ℕ → Step
-extension_of is_key s passed [] = took s passed
-extension_of is_key s passed (c ∷ cs) =
-    let taken = extension_of is_key (s ++ c ∷ []) passed cs in
-    let kept = extension_of is_key s (passed ++ c ∷ []) cs in
+-- S2.1.1 to S2.1.3: each nonstarter after S in turn is taken where no nonstarter that was passed over blocks it, and it makes a key with S
+unfoldable pub discontiguous_match : (List ℕ → Bool) → List ℕ → List ℕ → List ℕ → Step
+discontiguous_match is_key s passed [] = took s passed
+discontiguous_match is_key s passed (c ∷ cs) =
+    let taken = discontiguous_match is_key (s ++ c ∷ []) passed cs in
+    let kept = discontiguous_match is_key s (passed ++ c ∷ []) cs in
     if is_starter c then took s (passed ++ c ∷ cs)
     else if not (is_blocked passed c) && is_key (s ++ c ∷ []) then taken
     else kept

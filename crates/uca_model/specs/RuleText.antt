@@ -105,21 +105,21 @@ begins_with c (x ∷ xs) = x == c
 
 -- the operator before these characters, which is left out before a `*`
 abbrev pub operator : Operator → ℕ → List ℕ → Piece
-operator op size behind = if begins_with asterisk behind then piece left_out_relation size else piece (relates op) size
+operator op size after = if begins_with asterisk after then piece left_out_relation size else piece (relates op) size
 
 -- `<` so many times in a row
 abbrev pub less_signs : ℕ → List ℕ → Piece
-less_signs n behind =
-    if n == 1 then operator first 1 behind
-    else if n == 2 then operator second 2 behind
-    else if n == 3 then operator third 3 behind
+less_signs n after =
+    if n == 1 then operator first 1 after
+    else if n == 2 then operator second 2 after
+    else if n == 3 then operator third 3 after
     else piece left_out_relation n
 
 -- how many `<` stand in front
 abbrev pub less_run : List ℕ → ℕ
 less_run cs = length (take_while (λ c. c == less_than) cs)
 
--- the value of n hexadecimal digits in front, behind those of another value
+-- the value of n hexadecimal digits in front, after those of another value
 abbrev pub hex_value : ℕ → ℕ → List ℕ → Option ℕ
 hex_value zero value cs = Some value
 hex_value (suc n) value [] = None
@@ -143,15 +143,15 @@ pub record Quoted : Type 0 where
   pub text : List ℕ
   pub size : ℕ
 
-abbrev pub behind_quoted : ℕ → ℕ → Quoted → Quoted
-behind_quoted c n q = record { text = c ∷ q.text; size = q.size + n }
+abbrev pub after_quoted : ℕ → ℕ → Quoted → Quoted
+after_quoted c n q = record { text = c ∷ q.text; size = q.size + n }
 
 unfoldable pub quoted : List ℕ → Option Quoted
 quoted [] = None
 quoted (c ∷ []) = if c == apostrophe then Some (record { text = []; size = 1 }) else None
 quoted (c ∷ d ∷ cs) =
-    let doubled = option_map (behind_quoted apostrophe 2) (quoted cs) in
-    let other = option_map (behind_quoted c 1) (quoted (d ∷ cs)) in
+    let doubled = option_map (after_quoted apostrophe 2) (quoted cs) in
+    let other = option_map (after_quoted c 1) (quoted (d ∷ cs)) in
     if not (c == apostrophe) then other else if d == apostrophe then doubled else Some (record { text = []; size = 1 })
 
 -- a quote before these characters: `''` is an apostrophe, else all up to the quote that ends it
@@ -173,7 +173,7 @@ piece_of c cs =
     else if is_plain c then piece (gives (c ∷ [])) 1
     else piece (refused syntax) 1
 
--- a piece at its byte, and the byte behind it
+-- a piece at its byte, and the byte after it
 pub record Part : Type 0 where
   pub kind : Kind
   pub at : ℕ
@@ -208,7 +208,7 @@ is_operator skipped = false
 is_operator (gives cs) = false
 is_operator (refused cause) = false
 
--- an operator, and the pieces of the string behind it
+-- an operator, and the pieces of the string after it
 pub record Segment : Type 0 where
   pub operator : Part
   pub pieces : List Part
@@ -274,7 +274,7 @@ leading_kind_faults at expands = []
 abbrev pub leading_faults : Part → List RuleFault
 leading_faults p = leading_kind_faults p.at p.kind
 
--- at the end of a string, with the byte behind its operator: it is empty, or its NFD has a long run or too many code points
+-- at the end of a string, with the byte after its operator: it is empty, or its NFD has a long run or too many code points
 abbrev pub end_faults : ℕ → List ℕ → List RuleFault
 end_faults at [] = fault empty_string at
 end_faults at (c ∷ cs) = fault_if (nat_lt MAX_RUN (longest_run (nfd (c ∷ cs)))) long_run at ++ fault_if (nat_lt MAX_KEY (length (nfd (c ∷ cs)))) key_too_long at
@@ -315,7 +315,7 @@ counted skipped = 0
 counted (gives cs) = 0
 counted (refused cause) = 0
 
--- of the operator of a relation, behind so many relations: before the first reset, left out, one too many
+-- of the operator of a relation, after so many relations: before the first reset, left out, one too many
 abbrev pub relation_faults : Before → ℕ → ℕ → Bool → List RuleFault
 relation_faults before count at is_left = fault_if (is_nothing before) syntax at ++ fault_if is_left left_out at ++ fault_if (count == MAX_RELATIONS) too_many_relations at
 

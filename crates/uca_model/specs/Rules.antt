@@ -1,4 +1,4 @@
--- The rules of a tailoring (UTS #35, Part 5, Collation, 3, Rules): chains of relations, each chain behind a reset.
+-- The rules of a tailoring (UTS #35, Part 5, Collation, 3, Rules): chains of relations, each chain after a reset.
 use Rattle.std.specs.Prelude.{ℕ, ◌≤◌, List, length, map, flat_map, All}
 use Rattle.uca_weights.specs.declared.limits.TheConstants.{MAX_KEY, MAX_RELATIONS}
 
@@ -9,13 +9,13 @@ pub data Operator : Type 0 where
   third : Operator
   same : Operator
 
--- an item that is placed by what stands before it, with the string behind its `/` (UTS #35, 3.6, Expansions); no code point stands for none
+-- an item that is placed by what stands before it, with the string after its `/` (UTS #35, 3.6, Expansions); no code point stands for none
 pub record Relation : Type 0 where
   pub op : Operator
   pub item : List ℕ
   pub expansion : List ℕ
 
--- a reset (UTS #35, 3.5, Orderings) and the relations behind it
+-- a reset (UTS #35, 3.5, Orderings) and the relations after it
 pub record Chain : Type 0 where
   pub reset : List ℕ
   pub relations : List Relation

@@ -7,12 +7,12 @@ pub record SourceState : Type 0 where
   pub text : List ℕ
   pub place : ℕ
   pub mark : ℕ
-  pub taken : ℕ
-  pub backs : ℕ
+  pub reads : ℕ
+  pub rewinds : ℕ
 
 -- a source of a text that was never called
 abbrev pub source_of : List ℕ → SourceState
-source_of text = record { text = text; place = 0; mark = 0; taken = 0; backs = 0 }
+source_of text = record { text = text; place = 0; mark = 0; reads = 0; rewinds = 0 }
 
 -- the characters from the place on
 abbrev pub unread : SourceState → List ℕ
@@ -23,12 +23,12 @@ pub record GivesNext (old : SourceState) (given : Option ℕ) (new : SourceState
   pub text : new.text ≡ old.text
   pub value : MatchOption given ((unread old ≡ []) × (new.place ≡ old.place)) (λ c. (unread old ≡ c ∷ unread new) × (new.place ≡ old.place + 1))
   pub mark : new.mark ≡ old.mark
-  pub taken : new.taken ≡ one_more old.taken
-  pub backs : new.backs ≡ old.backs
+  pub reads : new.reads ≡ one_more old.reads
+  pub rewinds : new.rewinds ≡ old.rewinds
 
 -- the source with its place at the start, which is one way back more
 abbrev pub restarted : SourceState → SourceState
-restarted s = record s { place = 0; backs = one_more s.backs }
+restarted s = record s { place = 0; rewinds = one_more s.rewinds }
 
 -- the source with its mark at the character before the place
 abbrev pub marked : SourceState → SourceState
@@ -36,4 +36,4 @@ marked s = record s { mark = s.place - 1 }
 
 -- the source with its place at the mark, or at the start where there is none, which is one way back more
 abbrev pub rewound : SourceState → SourceState
-rewound s = record s { place = s.mark; backs = one_more s.backs }
+rewound s = record s { place = s.mark; rewinds = one_more s.rewinds }

@@ -70,10 +70,10 @@ right_bracket = 93
 abbrev pub from_first : (ℕ → Bool) → List ℕ → List ℕ
 from_first p bytes = drop (position_or_len p bytes) bytes
 
--- what stands behind a byte that has to stand first
-abbrev pub behind : Cause → ℕ → List ℕ → Result (List ℕ) Cause
-behind cause b [] = Err cause
-behind cause b (c ∷ bytes) = if c == b then Ok bytes else Err cause
+-- what stands after a byte that has to stand first
+abbrev pub after_byte : Cause → ℕ → List ℕ → Result (List ℕ) Cause
+after_byte cause b [] = Err cause
+after_byte cause b (c ∷ bytes) = if c == b then Ok bytes else Err cause
 
 -- Numbers and code points
 
@@ -105,7 +105,7 @@ range_word = 64 ∷ 105 ∷ 109 ∷ 112 ∷ 108 ∷ 105 ∷ 99 ∷ 105 ∷ 116 �
 abbrev pub ends_point : ℕ → Bool
 ends_point b = is_blank b || (b == semicolon || b == full_stop)
 
--- an end of a range: a code point up to a blank, `;` or `.`, and what stands behind it
+-- an end of a range: a code point up to a blank, `;` or `.`, and what stands after it
 unfoldable pub range_end : List ℕ → Result (ℕ × List ℕ) Cause
 range_end text = do
   c ← ok_or (code_point (before_first ends_point text)) bad_code_point
@@ -114,14 +114,14 @@ range_end text = do
 -- blanks, `;`, blanks, and the base up to the end
 unfoldable pub range_base : List ℕ → Result ℕ Cause
 range_base text = do
-  rest ← behind bad_directive semicolon (skip_blanks text)
+  rest ← after_byte bad_directive semicolon (skip_blanks text)
   ok_or (four_digits (skip_blanks rest)) bad_directive
 
 -- `..` between the ends of a range
 unfoldable pub two_stops : List ℕ → Result (List ℕ) Cause
 two_stops text = do
-  rest ← behind bad_directive full_stop (skip_blanks text)
-  behind bad_directive full_stop rest
+  rest ← after_byte bad_directive full_stop (skip_blanks text)
+  after_byte bad_directive full_stop rest
 
 -- `@implicitweights`: the ends of the range, and the base
 unfoldable pub range_of_text : List ℕ → Result Statement Cause
@@ -166,28 +166,28 @@ entry_key text = do
   key ← key_after [] (words (before_first is_semicolon text))
   if position_or_len is_semicolon text == length text then Err no_semicolon else if length key == 0 then Err bad_code_point else Ok key
 
--- whether the mark is `*`, and what stands behind it
+-- whether the mark is `*`, and what stands after it
 abbrev pub mark : List ℕ → Result (Bool × List ℕ) Cause
 mark [] = Err bad_element
 mark (b ∷ bytes) = if b == full_stop then Ok (false, bytes) else if b == asterisk then Ok (true, bytes) else Err bad_element
 
--- a weight, and what stands behind it
+-- a weight, and what stands after it
 unfoldable pub weight_first : List ℕ → Result (ℕ × List ℕ) Cause
 weight_first text = do
   w ← ok_or (four_digits (take 4 text)) bad_element
   Ok (w, drop 4 text)
 
--- a weight behind a full stop
+-- a weight after a full stop
 unfoldable pub next_weight : List ℕ → Result (ℕ × List ℕ) Cause
 next_weight text = do
-  rest ← behind bad_element full_stop text
+  rest ← after_byte bad_element full_stop text
   weight_first rest
 
 -- a fourth weight, of four to six digits, which isn't used
 abbrev pub is_old_weight : List ℕ → Bool
 is_old_weight digits = is_four_to_six (length digits) && is_some (number digits)
 
--- behind the third weight: nothing, or a fourth weight
+-- after the third weight: nothing, or a fourth weight
 abbrev pub element_ends : List ℕ → Bool
 element_ends [] = true
 element_ends (b ∷ digits) = b == full_stop && is_old_weight digits
@@ -195,19 +195,19 @@ element_ends (b ∷ digits) = b == full_stop && is_old_weight digits
 -- an element up to its `]`: `[`, its mark, and three weights with full stops between
 unfoldable pub element : List ℕ → Result Element Cause
 element text = do
-  rest ← behind bad_element left_bracket text
+  rest ← after_byte bad_element left_bracket text
   starred ← mark rest
   l1 ← weight_first starred.1
   l2 ← next_weight l1.1
   l3 ← next_weight l2.1
   if element_ends l3.1 then Ok (record { starred = starred.0; l1 = l1.0; l2 = l2.0; l3 = l3.0 }) else Err bad_element
 
--- behind the last `]` of an entry stand blanks only
+-- after the last `]` of an entry stand blanks only
 abbrev pub no_more_elements : List Element → List ℕ → Result (List Element) Cause
 no_more_elements es [] = if length es == 0 then Err no_element else Ok es
 no_more_elements es (b ∷ bytes) = Err bad_element
 
--- some elements and the texts behind them, each but the last up to a `]`
+-- some elements and the texts after them, each but the last up to a `]`
 abbrev pub elements_after : List Element → List (List ℕ) → Result (List Element) Cause
 elements_after es [] = Ok es
 elements_after es (last ∷ []) = no_more_elements es (skip_blanks last)
@@ -239,7 +239,7 @@ statement line = statement_of (said (without_return line))
 
 -- The text
 
--- what the lines so far have said: the table, and whether one of them told a version
+-- what the lines so far have said: the table, and whether one of them stated a version
 pub record TextState : Type 0 where
   pub table : ElementTable
   pub has_version : Bool
@@ -277,7 +277,7 @@ pub data TextEnd : Type 0 where
   ends : TextEnd
   stops : Cause → TextEnd
 
--- the bytes behind the last LF: they are a line if the text ends there, and there are any
+-- the bytes after the last LF: they are a line if the text ends there, and there are any
 abbrev pub add_last : TextEnd → TextState → List ℕ → Result TextState Cause
 add_last (stops cause) s line = Err cause
 add_last ends s [] = Ok s
@@ -299,7 +299,7 @@ add_lines end n s (line ∷ next ∷ more) = do
 unfoldable pub add_bytes : TextEnd → ℕ → TextState → List ℕ → Result TextState TextFault
 add_bytes end n s bytes = add_lines end n s (slice_split is_line_feed bytes)
 
--- what follows the first MAX_INPUT bytes of a text: the byte behind them is one too many
+-- what follows the first MAX_INPUT bytes of a text: the byte after them is one too many
 abbrev pub end_within : TextEnd → List ℕ → TextEnd
 end_within end bytes = if nat_lt MAX_INPUT (length bytes) then stops too_large else end
 

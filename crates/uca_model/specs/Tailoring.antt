@@ -1,4 +1,4 @@
--- A table that is tailored by rules: relation after relation, each item goes directly behind its anchor (UTS #35, Part 5, 3.5, Orderings).
+-- A table that is tailored by rules: relation after relation, each item goes directly after its anchor (UTS #35, Part 5, 3.5, Orderings).
 -- How weights are assigned is this project's own.
 use Rattle.std.specs.Prelude.{◌≡◌, ℕ, ◌+◌, Bool, false, ◌==◌, ◌||◌, nat_lt, nat_le, List, [], ◌∷◌, ◌++◌, length, map, Option, Some, None, Result, Ok, Err, if◌then◌else◌}
 use Rattle.std.specs.List.{list_any, AllByRecursion}
@@ -13,7 +13,7 @@ use Rattle.uca_model.specs.Table.{ElementTable, key_cmp, with_entry, is_key}
 use Rattle.uca_model.specs.CollationElements.{elements, matches}
 use Rattle.uca_model.specs.TableText.{◌>>=◌}
 use Rattle.uca_model.specs.Rules.{Operator, first, second, third, same, Relation, Chain, items}
-use Rattle.uca_model.specs.Shift.{shifted, is_stuck, shifted_table, top}
+use Rattle.uca_model.specs.Room.{with_room, has_no_room, table_with_room, max_weight}
 
 -- why a relation is refused
 pub data TailorCause : Type 0 where
@@ -32,13 +32,13 @@ pub record Anchor : Type 0 where
 abbrev pub alone : Element → Anchor
 alone e = record { before = []; last = e }
 
-abbrev pub behind : Element → Anchor → Anchor
-behind e a = record { before = e ∷ a.before; last = a.last }
+abbrev pub preceded_by : Element → Anchor → Anchor
+preceded_by e a = record { before = e ∷ a.before; last = a.last }
 
 -- elements without those at their end that have no weight at the level; none where no element has one
 abbrev pub anchor_of : ℕ → List Element → Option Anchor
 anchor_of level [] = None
-anchor_of level (e ∷ es) = option_map_or (λ a. Some (behind e a)) (anchor_of level es) (if weight level e == 0 then None else Some (alone e))
+anchor_of level (e ∷ es) = option_map_or (λ a. Some (preceded_by e a)) (anchor_of level es) (if weight level e == 0 then None else Some (alone e))
 
 -- the least last weight of an anchor: at the second and third level that of implicit elements, so that these never move
 abbrev pub least : ℕ → ℕ
@@ -50,9 +50,9 @@ is_high e = nat_le 0x8000 e.l1
 
 -- no room above w at a level: some weight that moves has none, or w itself
 abbrev pub is_full : ℕ → ℕ → ElementTable → List Element → Bool
-is_full level w t anchor = w == top level || list_any (is_stuck level w) anchor || list_any (list_any (is_stuck level w)) (values t.entries)
+is_full level w t anchor = w == max_weight level || list_any (has_no_room level w) anchor || list_any (list_any (has_no_room level w)) (values t.entries)
 
--- the first fault of a relation at a level, behind elements whose last weight at that level is w
+-- the first fault of a relation at a level, after elements whose last weight at that level is w
 abbrev pub fault_at : ℕ → ℕ → ElementTable → List Element → Option TailorCause
 fault_at level w t anchor =
     if nat_lt w (least level) then Some small_weight
@@ -76,15 +76,15 @@ pub record Placed : Type 0 where
   pub base : List Element
   pub table : ElementTable
 
--- directly behind an anchor
-abbrev pub placed_behind : ℕ → ElementTable → Anchor → Placed
-placed_behind level t a = let w = weight level a.last in record { base = map (shifted level w) a.before ++ raised level a.last ∷ []; table = shifted_table level w t }
+-- directly after an anchor
+abbrev pub placed_next_to : ℕ → ElementTable → Anchor → Placed
+placed_next_to level t a = let w = weight level a.last in record { base = map (with_room level w) a.before ++ raised level a.last ∷ []; table = table_with_room level w t }
 
 -- the same, or its first fault
 abbrev pub placed_at : ℕ → ElementTable → List Element → Anchor → Result Placed TailorCause
-placed_at level t anchor a = option_map_or (λ cause. Err cause) (fault_at level (weight level a.last) t anchor) (Ok (placed_behind level t a))
+placed_at level t anchor a = option_map_or (λ cause. Err cause) (fault_at level (weight level a.last) t anchor) (Ok (placed_next_to level t a))
 
--- behind elements at a level, or the first fault: elements without a weight at the level have none small enough
+-- after elements at a level, or the first fault: elements without a weight at the level have none small enough
 abbrev pub placed_after : ℕ → ElementTable → List Element → Result Placed TailorCause
 placed_after level t anchor = option_map_or (placed_at level t anchor) (anchor_of level anchor) (Err small_weight)
 
@@ -102,7 +102,7 @@ pub record Related : Type 0 where
   pub table : ElementTable
   pub anchor : List Element
 
--- an item is entered with all its elements; the next relation goes behind them without the expansion
+-- an item is entered with all its elements; the next relation goes after them without the expansion
 abbrev pub entered : List ℕ → Placed → List Element → Result Related TailorCause
 entered item p whole = if nat_lt MAX_ELEMENTS (length whole) then Err too_many_elements else Ok (record { table = with_entry p.table item whole; anchor = p.base })
 
@@ -119,12 +119,12 @@ abbrev pub at_relation : {A : Type 0} → ℕ → Result A TailorCause → Resul
 at_relation n (Ok a) = Ok a
 at_relation n (Err cause) = Err (record { relation = n; cause = cause })
 
--- the relations of a chain, behind n others
+-- the relations of a chain, after n others
 unfoldable pub related_all : ℕ → ElementTable → List Element → List Relation → Result ElementTable TailorFault
 related_all n t anchor [] = Ok t
 related_all n t anchor (r ∷ rs) = at_relation (n + 1) (related t anchor r) >>= λ next. related_all (n + 1) next.table next.anchor rs
 
--- chains, behind n relations: at a reset the anchor is the elements of its string under the table so far
+-- chains, after n relations: at a reset the anchor is the elements of its string under the table so far
 unfoldable pub tailored_from : ℕ → ElementTable → List Chain → Result ElementTable TailorFault
 tailored_from n t [] = Ok t
 tailored_from n t (c ∷ cs) = related_all n t (elements t c.reset) c.relations >>= λ next. tailored_from (n + length c.relations) next cs

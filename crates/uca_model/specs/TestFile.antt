@@ -1,4 +1,4 @@
--- Test files in the manner of the Unicode Consortium's CollationTest files: what a table makes of their lines, each of which
+-- Test files like the Unicode Consortium's CollationTest files: what a table makes of their lines, each of which
 -- should not be below the one before it.
 use Rattle.std.specs.Prelude.{ℕ, ◌+◌, ◌-◌, Bool, false, not, ◌&&◌, ◌||◌, ◌==◌, nat_le, nat_lt, List, [], ◌∷◌, ◌++◌, length, take, filter, Option, Some, None, option_and_then, Result, Ok, Err, codes, if◌then◌else◌}
 use Rattle.std.specs.Fmt.{decimal}
@@ -75,7 +75,7 @@ tests_of_line n line =
       Ok (record { number = n; points = points } ∷ []))
     else Ok []
 
--- the bytes behind the last LF: they are a line if the file ends there, and there are any
+-- the bytes after the last LF: they are a line if the file ends there, and there are any
 abbrev pub tests_of_last : TestEnd → ℕ → List ℕ → Result (List TestLine) TestCause
 tests_of_last (stops cause) n line = Err cause
 tests_of_last ends n [] = Ok []
@@ -99,7 +99,7 @@ tests_after end n tests (line ∷ next ∷ others) = do
   more ← at_line n (unless_long line (tests_of_line n line))
   tests_after end (n + 1) (tests ++ more) (next ∷ others)
 
--- what follows the first MAX_INPUT bytes of a file: the byte behind them is one too many
+-- what follows the first MAX_INPUT bytes of a file: the byte after them is one too many
 abbrev pub end_within : TestEnd → List ℕ → TestEnd
 end_within end bytes = if nat_lt MAX_INPUT (length bytes) then stops too_large else end
 
@@ -109,9 +109,9 @@ test_lines end bytes = tests_after (end_within end bytes) 1 [] (slice_split is_l
 
 -- Report
 
--- a test line is compared if it is a safe text; one with a surrogate is none
-abbrev pub is_compared : TestLine → Bool
-is_compared test = list_all scalar test.points && is_safe test.points
+-- a test line is checked if it is a safe text; one with a surrogate is none
+abbrev pub is_checked : TestLine → Bool
+is_checked test = list_all scalar test.points && is_safe test.points
 
 -- the number of the first of some test lines that is below the one before it
 abbrev pub first_below : ElementTable → Settings → TestLine → List TestLine → Option ℕ
@@ -123,7 +123,7 @@ abbrev pub first_failure : ElementTable → Settings → List TestLine → Optio
 first_failure t s [] = None
 first_failure t s (first ∷ more) = first_below t s first more
 
--- how many test lines there are, how many of them were not compared, and the number of the first line that fails
+-- how many test lines there are, how many of them were not checked, and the number of the first line that fails
 pub record Report : Type 0 where
   pub lines : ℕ
   pub skipped : ℕ
@@ -132,8 +132,8 @@ pub record Report : Type 0 where
 abbrev pub report : ElementTable → Settings → List TestLine → Report
 report t s tests = record {
   lines = length tests;
-  skipped = length tests - length (filter is_compared tests);
-  first_failure = first_failure t s (filter is_compared tests);
+  skipped = length tests - length (filter is_checked tests);
+  first_failure = first_failure t s (filter is_checked tests);
 }
 
 abbrev pub reported : ElementTable → Settings → Result (List TestLine) TestFault → Result Report TestFault

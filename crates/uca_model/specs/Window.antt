@@ -8,7 +8,7 @@ use Rattle.uca_weights.specs.declared.limits.TheConstants.{MAX_KEY, MAX_LOOKAHEA
 use Rattle.uca_model.specs.SafeText.{IsSafe}
 use Rattle.uca_model.specs.Source.{SourceState, unread}
 
--- its points, how many of them stand in closed segments, the length of the longest key, and whether a source told it the end
+-- its points, how many of them stand in closed segments, the length of the longest key, and whether a source has reported its end
 pub record WindowState : Type 0 where
   pub points : List ℕ
   pub closed : ℕ
@@ -25,7 +25,7 @@ empty_window longest = record { points = []; closed = 0; longest = longest; ende
 abbrev pub rest_of : WindowState → List ℕ → List ℕ
 rest_of w left = nfd (w.points ++ left)
 
--- it may read these characters: together with its points they are safe, and none are left once it was told the end
+-- it may read these characters: together with its points they are safe, and none are left once the end was reported
 pub record Fits (w : WindowState) (left : List ℕ) : Type 0 where
   pub safe : IsSafe (w.points ++ left)
   pub ended : w.ended ≡ true → left ≡ []
@@ -52,8 +52,8 @@ pub record ReadsOn (old : WindowState) (before : SourceState) (new : WindowState
   pub mark : after.mark ≡ before.mark
   pub fits : Fits new (unread after)
   pub longest : new.longest ≡ old.longest
-  pub taken : after.taken + credit new (unread after) ≤ before.taken + credit old (unread before)
-  pub backs : after.backs ≡ before.backs
+  pub reads : after.reads + credit new (unread after) ≤ before.reads + credit old (unread before)
+  pub rewinds : after.rewinds ≡ before.rewinds
 
 -- over all characters that the old window fits, the new one fits them too, and its rest is the old rest so changed
 abbrev pub ChangesRest : (List ℕ → List ℕ) → WindowState → WindowState → Type 0
@@ -70,7 +70,7 @@ abbrev pub last_starter : List ℕ → ℕ
 last_starter [] = 0
 last_starter (p ∷ ps) = if list_all is_nonstarter ps then 0 else last_starter ps + 1
 
--- it holds one character more, in NFD, or was told the end: the segment of the last starter stays open until then
+-- it holds one character more, in NFD, or the end was reported: the segment of the last starter stays open until then
 abbrev pub after_read : WindowState → Option ℕ → WindowState
 after_read w None = record w { closed = length w.points; ended = true }
 after_read w (Some c) =
@@ -78,12 +78,12 @@ after_read w (Some c) =
 
 -- ---- what is true of every window
 
--- the closed points are whole segments, each a starter with the marks behind it, or marks at the start. The others are
--- one segment to which marks may still come, and there are none once the end was told
+-- the closed points are whole segments, each a starter with the nonstarters after it, or nonstarters at the start. The others are
+-- one segment to which nonstarters may still come, and there are none once the end was reported
 pub record HasSegments (w : WindowState) : Type 0 where
   pub within : w.closed ≤ length w.points
   pub begins : 0 < w.closed → begins_segment (drop w.closed w.points) ≡ true
-  pub marks : list_all is_nonstarter (drop 1 (drop w.closed w.points)) ≡ true
+  pub nonstarters : list_all is_nonstarter (drop 1 (drop w.closed w.points)) ≡ true
   pub running : w.ended ≡ false → 0 < w.closed → w.closed < length w.points
   pub ended : w.ended ≡ true → w.closed ≡ length w.points
 

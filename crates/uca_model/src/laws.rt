@@ -1,18 +1,18 @@
 ghost use Rattle.uca_model.specs.Laws.{KeysFollowLevels, KeyOrderIsDecided, CanonicalTextIsReadBack, KeysGrowByLevels, TextsAreCutApart};
 
-/// Keys of weights are in the byte order in which their level lists are (UTS #10, 7.4).
+/// Keys of weights are in the byte order in which their level lists are (UTS #10, section 7.4).
 pub fn keys_follow_levels()
     ensures { KeysFollowLevels }
 {}
 
 /// Under every table, the byte order of two keys is the order of the first level lists that differ, and Equal
-/// where none do (UTS #10, 7.4, step S4). So a comparison may go level after level, with no key.
+/// where none do (UTS #10, section 7.4, step S4). So a comparison may go level after level, with no key.
 pub fn key_order_is_decided()
     ensures { KeyOrderIsDecided }
 {}
 
-/// The key of a text at a strength is the beginning of its key at each higher strength (UTS #10, 7.3, step S3). So a
-/// stored key serves for every lower strength, too.
+/// The key of a text at a strength is the beginning of its key at each higher strength (UTS #10, section 7.3, step S3).
+/// So a stored key can be used for every lower strength, too.
 pub fn keys_grow_by_levels()
     ensures { KeysGrowByLevels }
 {}

@@ -53,8 +53,8 @@ or_assoc true b c = refl
 or_assoc false b c = refl
 
 -- the elements of an entry that pass no test are left out
-pub any_behind : (f : Element → Bool) (e : List ℕ × List Element) (rest : List (List ℕ × List Element)) → list_any f e.1 ≡ false → list_any f (flat_map (λ e. e.1) (e ∷ rest)) ≡ list_any f (flat_map (λ e. e.1) rest)
-any_behind f e rest none = ap (list_any f) (flat_map-cons (λ e. e.1) e rest) ∙ list_any-append f e.1 (flat_map (λ e. e.1) rest) ∙ ap (λ a. a || list_any f (flat_map (λ e. e.1) rest)) none
+pub any_after : (f : Element → Bool) (e : List ℕ × List Element) (rest : List (List ℕ × List Element)) → list_any f e.1 ≡ false → list_any f (flat_map (λ e. e.1) (e ∷ rest)) ≡ list_any f (flat_map (λ e. e.1) rest)
+any_after f e rest none = ap (list_any f) (flat_map-cons (λ e. e.1) e rest) ∙ list_any-append f e.1 (flat_map (λ e. e.1) rest) ∙ ap (λ a. a || list_any f (flat_map (λ e. e.1) rest)) none
 
 -- the elements of an entry are among all
 pub any_within : (f : Element → Bool) (e : List ℕ × List Element) (rest : List (List ℕ × List Element)) → list_any f e.1 ≡ true → list_any f (flat_map (λ e. e.1) (e ∷ rest)) ≡ true

@@ -17,11 +17,11 @@ use Rattle.uca_table.specs.Cells.{IsCell, AreCells, Grows}
 
 -- ---- cells
 
-pub behind : (old more new : List Element) → new ≡ old ++ more → drop (length old) new ≡ more
-behind old more new e = ap (drop (length old)) e ∙ drop_at old more (length old) refl
+pub drop-old : (old more new : List Element) → new ≡ old ++ more → drop (length old) new ≡ more
+drop-old old more new e = ap (drop (length old)) e ∙ drop_at old more (length old) refl
 
 pub Grows-from : (old more new : List Element) → new ≡ old ++ more → Grows old new
-Grows-from old more new e = e ∙ ap (λ l. old ++ l) (sym (behind old more new e))
+Grows-from old more new e = e ∙ ap (λ l. old ++ l) (sym (drop-old old more new e))
 
 pub Grows-same : (old : List Element) → Grows old old
 Grows-same old = Grows-from old [] old (sym (append-nil old))
@@ -89,7 +89,7 @@ text-done t text at out whole past same =
       none : elements t (nfd (drop at text)) ≡ []
       none = ap (λ l. elements t (nfd l)) (drop_all at text past) ∙ elements_none t
 
--- ---- marks
+-- ---- the flags of keys
 
 pub flag-none : (a b : Bool) → a ≡ false → (a || b) ≡ b
 flag-none a b e = ap (λ x. x || b) e

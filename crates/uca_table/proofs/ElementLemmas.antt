@@ -6,7 +6,7 @@ use Rattle.uca_weights.specs.declared.element.Element.{Element}
 use Rattle.uca_model.specs.Table.{ElementTable, is_key}
 use Rattle.uca_model.specs.CollationElements.{step, elements, elements_or_implicit}
 use Rattle.uca_model.proofs.RewritingLemmas.{elements_parts, elements_empty}
-use Rattle.uca_table.proofs.PlaceLemmas.{rewritten-rest}
+use Rattle.uca_table.proofs.MovedForward.{rewritten-rest}
 
 -- one match further
 pub elements-further : (t : ElementTable) (text new : List ℕ) (at n : ℕ) (out whole : List Element) → at < length text → out ++ elements t (drop at text) ≡ whole

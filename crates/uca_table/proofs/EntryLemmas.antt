@@ -109,7 +109,7 @@ found_entry P (e ∷ es) q f all =
       | false ↦ found_entry P es q f all.1
     ]
 
--- a fact of a list that stands behind a reference
+-- a fact of a list that is reached through a reference
 pub if_found : (P : List Element → Type 0) (r : Option (Bor (List Element))) (o : Option (List Element)) → option_copied r ≡ o → IfSome o P → IfSome r (λ es. P es.now)
 if_found P None o same h = tt
 if_found P (Some es) o same h = subst (λ p. IfSome p P) (sym same) h

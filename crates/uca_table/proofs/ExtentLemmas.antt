@@ -34,7 +34,7 @@ over_one-swap f end r s base start either =
       | false ↦ refl
     ]
 
--- so it is one whether the range is put behind others or taken first
+-- so it is one whether the range is put after others or taken first
 over_base-put : (f : ℕ → ℕ → ℕ) (end : Range → ℕ) (r : Range) (rs : List Range) (base start : ℕ) → ((x y z : ℕ) → f (f x y) z ≡ f (f x z) y) → over_base f end (put_range r rs) base start ≡ over_base f end rs base (over_one f end r base start)
 over_base-put f end r [] base start either = over_base-head f end r [] base start
 over_base-put f end r (s ∷ ss) base start either = elim (nat_lt r.first s.first) as (λ b. over_base f end (cond b (r ∷ s ∷ ss) (s ∷ put_range r ss)) base start ≡ over_base f end (s ∷ ss) base (over_one f end r base start)) [

@@ -1,14 +1,14 @@
 pub mod EntryLemmas
 pub mod SearchLemmas
 pub mod BuilderLemmas
-pub mod RangeLemmas
+pub mod RangeInsertion
 pub mod ExtentLemmas
 pub mod RangeMapLemmas
 pub mod RangeSearchLemmas
 pub mod PutLemmas
-pub mod ShiftLemmas
+pub mod RoomInTables
 pub mod BoundsLemmas
 pub mod MatchLemmas
-pub mod PlaceLemmas
+pub mod MovedForward
 pub mod ElementLemmas
 pub mod CellLemmas

@@ -1,15 +1,15 @@
--- The extension of a match mark after mark, and the keys that are looked up.
+-- The discontiguous match nonstarter after nonstarter, and the keys that are looked up.
 use Rattle.std.proofs.Common.{◌≡◌, ℕ, suc, zero, ◌+◌, ◌-◌, ◌≤◌, ◌<◌, max, Bool, true, false, cond, not, ◌&&◌, ◌||◌, nat_le, nat_lt, List, [], ◌∷◌, ◌++◌, length, take, drop, get_or, sym, ap, ap₂, subst, ◌∙◌, arith, inl, inr, append-nil}
 use Rattle.std.proofs.lemmas.Bool.{cases_Bool, cases_lt, lt-ltb, le-ltb, le-leb, lt-leb}
 use Rattle.std.proofs.lemmas.List.{length-take-le, drop_all, get_or_read}
 use Rattle.std.proofs.Math.Nat.{pos_of_ne-zero}
 use Rattle.unicode.specs.CanonicalCombiningClass.{canonical_combining_class as ccc}
 use Rattle.uca_model.specs.Table.{ElementTable, is_key, longest}
-use Rattle.uca_model.specs.Match.{took, greatest, start_len, is_blocked, extension_of}
-use Rattle.uca_model.proofs.KeysLemmas.{longest-covers}
+use Rattle.uca_model.specs.Match.{took, greatest, longest_match_len, is_blocked, discontiguous_match}
+use Rattle.uca_model.proofs.LongestKey.{longest-covers}
 use Rattle.uca_model.proofs.MatchingLemmas.{extended_ends, extended_takes, extended_passes, extended_done}
 use Rattle.uca_table.specs.Running.{brought_forward, highest_class, passed_over, IsExtending}
-use Rattle.uca_table.proofs.PlaceLemmas.{brought-front, brought-between, brought-rest, passed_over-more, passed_over-rest, passed_over-none}
+use Rattle.uca_table.proofs.MovedForward.{brought-front, brought-between, brought-rest, passed_over-more, passed_over-rest, passed_over-none}
 
 -- no code points that are more than those of each key are a key
 pub longer_than_keys : (t : ElementTable) (key : List ℕ) → longest t < length key → is_key t key ≡ false
@@ -27,8 +27,8 @@ greatest-below p n (suc d) fails =
     ap (greatest p) next ∙ ap (λ b. cond b (suc (n + d)) (greatest p (n + d))) here ∙ greatest-below p n d (λ k above upto. fails k above (omega arith))
 
 -- it is enough to look up what is no longer than the longest key
-pub start_len-short : (t : ElementTable) (text : List ℕ) (n : ℕ) → n ≤ length text → (n < length text → longest t ≤ n) → greatest (λ k. is_key t (take k text)) n ≡ start_len (is_key t) text
-start_len-short t text n within short =
+pub longest_match_len-short : (t : ElementTable) (text : List ℕ) (n : ℕ) → n ≤ length text → (n < length text → longest t ≤ n) → greatest (λ k. is_key t (take k text)) n ≡ longest_match_len (is_key t) text
+longest_match_len-short t text n within short =
     let whole : n + (length text - n) ≡ length text = omega arith in
     sym (greatest-below (λ k. is_key t (take k text)) n (length text - n) (λ k above upto.
     let size : length (take k text) ≡ k = length-take-le k text (omega arith) in
@@ -40,7 +40,7 @@ pub highest_class-more : (cs : List ℕ) (c : ℕ) → highest_class (cs ++ c �
 highest_class-more [] c = omega arith
 highest_class-more (d ∷ cs) c = let e : highest_class (cs ++ c ∷ []) ≡ max (highest_class cs) (ccc c) = highest_class-more cs c in omega arith
 
--- a mark is blocked exactly where its class is not above the highest of those that were passed over
+-- a nonstarter is blocked exactly where its class is not above the highest of those that were passed over
 pub not_blocked : (passed : List ℕ) (c : ℕ) → 0 < ccc c → not (is_blocked passed c) ≡ nat_lt (highest_class passed) (ccc c)
 not_blocked [] c mark = sym (lt-ltb 0 (ccc c) mark)
 not_blocked (b ∷ passed) c mark = elim (cases_lt (ccc b) (ccc c)) [
@@ -55,7 +55,7 @@ not_blocked (b ∷ passed) c mark = elim (cases_lt (ccc b) (ccc c)) [
       ap (λ x. not (x || is_blocked passed c)) first ∙ sym (le-ltb (max (ccc b) (highest_class passed)) (ccc c) (omega arith))
 ]
 
--- whether a mark is taken, by the highest class or by the marks that were passed over
+-- whether a nonstarter is taken, by the highest class or by the nonstarters that were passed over
 pub taken_as : (is_key : List ℕ → Bool) (s passed : List ℕ) (high x class : ℕ) (taken : Bool) → high ≡ highest_class passed → class ≡ ccc x → (class ≡ 0 → ⊥) → taken ≡ (nat_lt high (ccc x) && is_key (s ++ x ∷ []))
     → taken ≡ (not (is_blocked passed x) && is_key (s ++ x ∷ []))
 taken_as is_key s passed high x class taken highest e mark t =
@@ -69,10 +69,10 @@ module _ (is_key : List ℕ → Bool) (start : ℕ) (old : List ℕ) where
     some = omega arith;
     upto = omega arith;
     highest = sym (ap highest_class (passed_over-none old start));
-    same = ap (λ p. extension_of is_key (take start old) p (drop start old)) (passed_over-none old start);
+    same = ap (λ p. discontiguous_match is_key (take start old) p (drop start old)) (passed_over-none old start);
   }
 
-  -- a mark was taken, and moved to the end of the match
+  -- a nonstarter was taken, and moved to the end of the match
   pub IsExtending-takes : (text new : List ℕ) (end at high x class : ℕ) (taken : Bool) → IsExtending is_key start old text end at high → at < length text → x ≡ get_or text at x → class ≡ ccc x → (class ≡ 0 → ⊥)
       → taken ≡ (nat_lt high (ccc x) && is_key (take end text ++ x ∷ [])) → taken ≡ true → new ≡ brought_forward text end at → IsExtending is_key start old new (end + 1) (at + 1) high
   IsExtending-takes text new end at high x class taken so within is e mark t holds moved =
@@ -86,13 +86,13 @@ module _ (is_key : List ℕ → Bool) (start : ℕ) (old : List ℕ) where
         upto = omega (arith, so.upto);
         highest = so.highest ∙ ap highest_class (sym between);
         same =
-            ap (λ s. extension_of is_key s (passed_over (brought_forward text end at) (end + 1) (at + 1)) (drop (at + 1) (brought_forward text end at))) front
-            ∙ ap₂ (λ p r. extension_of is_key (take end text ++ x ∷ []) p r) between rest
+            ap (λ s. discontiguous_match is_key s (passed_over (brought_forward text end at) (end + 1) (at + 1)) (drop (at + 1) (brought_forward text end at))) front
+            ∙ ap₂ (λ p r. discontiguous_match is_key (take end text ++ x ∷ []) p r) between rest
             ∙ sym (extended_takes is_key (take end text) (passed_over text end at) text at x class taken within is e mark (taken_as is_key (take end text) (passed_over text end at) high x class taken so.highest e mark t) holds)
             ∙ so.same;
       })
 
-  -- a mark was passed over
+  -- a nonstarter was passed over
   pub IsExtending-passes : (text : List ℕ) (end at high x class next : ℕ) (taken : Bool) → IsExtending is_key start old text end at high → at < length text → x ≡ get_or text at x → class ≡ ccc x → (class ≡ 0 → ⊥)
       → taken ≡ (nat_lt high (ccc x) && is_key (take end text ++ x ∷ [])) → taken ≡ false → next ≡ max high class → IsExtending is_key start old text end (at + 1) next
   IsExtending-passes text end at high x class next taken so within is e mark t fails more =
@@ -103,19 +103,19 @@ module _ (is_key : List ℕ → Bool) (start : ℕ) (old : List ℕ) where
         upto = omega (arith, so.upto);
         highest = more ∙ ap₂ max so.highest e ∙ sym (ap highest_class passed ∙ highest_class-more (passed_over text end at) x);
         same =
-            ap (λ p. extension_of is_key (take end text) p (drop (at + 1) text)) passed
+            ap (λ p. discontiguous_match is_key (take end text) p (drop (at + 1) text)) passed
             ∙ sym (extended_passes is_key (take end text) (passed_over text end at) text at x class taken within is e mark (taken_as is_key (take end text) (passed_over text end at) high x class taken so.highest e mark t) fails)
             ∙ so.same;
       }
 
   -- a starter ends the run
   pub IsExtending-stops : (text : List ℕ) (end at high x class : ℕ) → IsExtending is_key start old text end at high → at < length text → x ≡ get_or text at x → class ≡ ccc x → class ≡ 0
-      → extension_of is_key (take start old) [] (drop start old) ≡ took (take end text) (drop end text)
+      → discontiguous_match is_key (take start old) [] (drop start old) ≡ took (take end text) (drop end text)
   IsExtending-stops text end at high x class so within is e none =
       sym so.same ∙ extended_ends is_key (take end text) (passed_over text end at) text at x class within is e none ∙ ap (took (take end text)) (passed_over-rest text end at so.upto)
 
   -- so does the end of the text
-  pub IsExtending-ends : (text : List ℕ) (end at high : ℕ) → IsExtending is_key start old text end at high → length text ≤ at → extension_of is_key (take start old) [] (drop start old) ≡ took (take end text) (drop end text)
+  pub IsExtending-ends : (text : List ℕ) (end at high : ℕ) → IsExtending is_key start old text end at high → length text ≤ at → discontiguous_match is_key (take start old) [] (drop start old) ≡ took (take end text) (drop end text)
   IsExtending-ends text end at high so whole =
       let none : drop at text ≡ [] = drop_all at text whole in
       sym so.same ∙ extended_done is_key (take end text) (passed_over text end at) text at whole

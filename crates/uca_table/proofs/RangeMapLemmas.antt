@@ -13,9 +13,9 @@ use Rattle.uca_weights.specs.declared.range.Range.{Range}
 use Rattle.uca_model.specs.Table.{IsRange, AreDisjoint, AreRanges}
 use Rattle.uca_model.specs.Ranges.{shares, is_bad_range, put_range, AreByFirst}
 use Rattle.uca_table.specs.Extents.{AreByLast}
-use Rattle.uca_table.proofs.RangeLemmas.{all-apart, all-map}
+use Rattle.uca_table.proofs.RangeInsertion.{all-apart, all-map}
 
--- where one range lies before or behind another, both of its ends tell
+-- where one range lies before or after another, both of its ends decide
 order_by_last : (r s : Range) → r.first ≤ r.last → s.first ≤ s.last → AreDisjoint r s → nat_cmp r.last s.last ≡ cond (nat_lt r.first s.first) Less Greater
 order_by_last r s ordered other (inl before) = grind (arith, nat_tests)
 order_by_last r s ordered other (inr behind) = grind (arith, nat_tests)
@@ -62,7 +62,7 @@ first_begins r (e ∷ es) = nat_le e.1.first r.last
 starts_at : (a b : ℕ) → range_contains nat_cmp (Included a) Unbounded b ≡ nat_le a b
 starts_at a b = grind (arith, nat_tests)
 
--- the first range that doesn't end below a range tells whether it shares a code point with any
+-- the first range that doesn't end below a range decides whether it shares a code point with any
 pub shares_first : (es : List (ℕ × Range)) (r : Range) → AreByLast es → AreByFirst (values_of es) → list_any (shares r) (values_of es) ≡ first_begins r (entries_between nat_cmp (Included r.first) Unbounded es)
 shares_first [] r by_last rising = refl
 shares_first (e ∷ es) r by_last rising =

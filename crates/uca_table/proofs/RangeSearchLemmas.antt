@@ -8,7 +8,7 @@ use Rattle.uca_weights.specs.declared.range.Range.{Range}
 use Rattle.uca_model.specs.Table.{IsRange, AreDisjoint, AllDisjoint}
 use Rattle.uca_model.specs.ImplicitWeights.{is_between, range_of}
 use Rattle.uca_model.specs.Ranges.{AreByFirst}
-use Rattle.uca_table.proofs.RangeLemmas.{all-map}
+use Rattle.uca_table.proofs.RangeInsertion.{all-map}
 
 -- what holds of each range holds of that at a place
 all-at : (P : Range → Type 0) (rs : List Range) (i : ℕ) (d : Range) → AllByRecursion P rs → i < length rs → P (get_or rs i d)
@@ -71,7 +71,7 @@ found_nowhere (r ∷ rs) c d below =
     let h : is_between r.first r.last c ≡ false = (let g : nat_lt r.last c ≡ true = below 0 (omega arith) in grind (arith, nat_tests, g)) in
     rw h (found_nowhere rs c d (λ k within. below (suc k) (omega arith)))
 
--- the ranges before a place end below a code point, those behind it don't
+-- the ranges before a place end below a code point, those after it don't
 abbrev pub IsParted : List Range → ℕ → ℕ → Type 0
 IsParted rs c i = IsPartitionPoint (λ r. nat_lt r.last c ≡ true) (λ r. nat_lt r.last c ≡ false) rs i
 

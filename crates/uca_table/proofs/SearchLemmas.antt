@@ -53,7 +53,7 @@ found_not : (es : List Entry) (q : List ℕ) → ((k : ℕ) (d : Entry) → k < 
 found_not [] q h = refl
 found_not (e ∷ es) q h = ap (λ b. cond b (Some e.elements.items) (find key_cmp q (map pair_of es))) (h 0 e (omega arith)) ∙ found_not es q (λ k d within. h (suc k) d (omega arith))
 
--- a key that stands before or behind another doesn't tie with it
+-- a key that stands before or after another doesn't tie with it
 apart : (x q : List ℕ) (o : Ordering) → key_cmp x q ≡ o → is_eq (ordering_reverse o) ≡ false → eq_by_cmp key_cmp q x ≡ false
 apart x q o e h = ap is_eq (nat_list_cmp_total.antisymm q x ∙ ap ordering_reverse e) ∙ h
 
@@ -82,9 +82,9 @@ lower_before es i j q d f sorted within lower before = elim (cases_lt i j) [
   | inr here ↦ ap (λ (e : Entry). key_cmp e.key.items q) (same_at es i j d f (omega arith) within) ∙ lower
 ]
 
--- what stands behind a higher key is higher
-pub higher_behind : (es : List Entry) (i j : ℕ) (q : List ℕ) (d f : Entry) → T (is_sorted key_cmp (map pair_of es)) → key_cmp (get_or es i d).key.items q ≡ Greater → i ≤ j → j < length es → key_cmp (get_or es j f).key.items q ≡ Greater
-higher_behind es i j q d f sorted higher behind within = elim (cases_lt i j) [
+-- what stands after a higher key is higher
+pub higher_after : (es : List Entry) (i j : ℕ) (q : List ℕ) (d f : Entry) → T (is_sorted key_cmp (map pair_of es)) → key_cmp (get_or es i d).key.items q ≡ Greater → i ≤ j → j < length es → key_cmp (get_or es j f).key.items q ≡ Greater
+higher_after es i j q d f sorted higher behind within = elim (cases_lt i j) [
   | inl later ↦
       let x = (get_or es i d).key.items in let y = (get_or es j f).key.items in
       let before : key_cmp q x ≡ Less = nat_list_cmp_total.antisymm q x ∙ ap ordering_reverse higher in

@@ -20,14 +20,14 @@ insert_fault t key elements =
     else if is_key t key then Some Repeated
     else None
 
--- the fault of the arguments that a call told; want of memory is none of theirs
-abbrev pub told : InsertFault → Option InsertFault
-told EmptyKey = Some EmptyKey
-told KeyTooLong = Some KeyTooLong
-told NoElement = Some NoElement
-told TooManyElements = Some TooManyElements
-told Repeated = Some Repeated
-told OutOfMemory = None
+-- the fault of the arguments that a call reported; an allocation failure is none of theirs
+abbrev pub reported_fault : InsertFault → Option InsertFault
+reported_fault EmptyKey = Some EmptyKey
+reported_fault KeyTooLong = Some KeyTooLong
+reported_fault NoElement = Some NoElement
+reported_fault TooManyElements = Some TooManyElements
+reported_fault Repeated = Some Repeated
+reported_fault OutOfMemory = None
 
 -- the table with one more range, by its first code point
 abbrev pub with_range : ElementTable → Range → ElementTable
@@ -37,7 +37,7 @@ with_range t r = record { entries = t.entries; ranges = put_range r t.ranges }
 abbrev pub range_fault : ElementTable → Range → Option RangeFault
 range_fault t r = if is_bad_range t.ranges r then Some range.BadRange else None
 
--- the fault of the range that a call told; want of memory is none of its
-abbrev pub told_of_range : RangeFault → Option RangeFault
-told_of_range range.BadRange = Some range.BadRange
-told_of_range range.OutOfMemory = None
+-- the fault of the range that a call reported; an allocation failure is none of its
+abbrev pub reported_range_fault : RangeFault → Option RangeFault
+reported_range_fault range.BadRange = Some range.BadRange
+reported_range_fault range.OutOfMemory = None

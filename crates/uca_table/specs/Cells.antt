@@ -9,7 +9,7 @@ use Rattle.uca_table.specs.declared.cells.Cell.{Cell}
 use Rattle.uca_table.specs.declared.cells.Cells.{Cells}
 
 -- the flags say which code points begin a key, which begin one of two or more, and which stand after the first place of one; code points without a flag count as all three
-pub record AreMarks (t : ElementTable) (ls cs bs : List Bool) : Type 0 where
+pub record AreKeyFlags (t : ElementTable) (ls cs bs : List Bool) : Type 0 where
   pub begins : (p : ℕ) → p < length bs → get_or bs p true ≡ begins t p
   pub leads : (p : ℕ) → p < length ls → get_or ls p true ≡ leads t p
   pub continues : (p : ℕ) → p < length cs → get_or cs p true ≡ continues t p

@@ -1,4 +1,4 @@
--- A table as data, by which a proof tells two of them apart.
+-- A table as data, by which a proof distinguishes two of them.
 use Rattle.std.specs.Prelude.{ℕ, Bool, List, refl}
 use Rattle.std.specs.Coded.{Coded, code_by, coded×, coded_list, coded_ℕ, coded_bool}
 use Rattle.std.specs.FinMap.{FinMap, code}

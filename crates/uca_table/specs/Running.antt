@@ -1,7 +1,7 @@
--- A match that goes over the marks behind it, and moves those that it takes to its end.
+-- A match that goes over the nonstarters after it, and moves those that it takes to its end.
 use Rattle.std.specs.Prelude.{◌≡◌, ℕ, ◌+◌, ◌-◌, ◌≤◌, max, Bool, List, [], ◌∷◌, ◌++◌, take, drop, slice_index}
 use Rattle.unicode.specs.CanonicalCombiningClass.{canonical_combining_class as ccc}
-use Rattle.uca_model.specs.Match.{extension_of}
+use Rattle.uca_model.specs.Match.{discontiguous_match}
 
 -- the text with the code point at `from` moved to `to`
 abbrev pub brought_forward : List ℕ → ℕ → ℕ → List ℕ
@@ -21,4 +21,4 @@ pub record IsExtending (is_key : List ℕ → Bool) (start : ℕ) (old text : Li
   pub some : start ≤ end
   pub upto : end ≤ at
   pub highest : high ≡ highest_class (passed_over text end at)
-  pub same : extension_of is_key (take end text) (passed_over text end at) (drop at text) ≡ extension_of is_key (take start old) [] (drop start old)
+  pub same : discontiguous_match is_key (take end text) (passed_over text end at) (drop at text) ≡ discontiguous_match is_key (take start old) [] (drop start old)

@@ -39,7 +39,7 @@ impl Model for TableBuilder {
 
 impl TableBuilder {
     ghost use Rattle.uca_model.specs.Table.{ElementTable, with_entry};
-    ghost use Rattle.uca_table.specs.Builder.{insert_fault, told, with_range, range_fault, told_of_range};
+    ghost use Rattle.uca_table.specs.Builder.{insert_fault, reported_fault, with_range, range_fault, reported_range_fault};
 
     /// A builder without entries and ranges.
     pub fn new(alloc: Global) -> TableBuilder
@@ -57,7 +57,7 @@ impl TableBuilder {
     pub fn insert(&mut self, key: &[char], elements: &[Element]) -> Result<(), InsertFault>
         ensures ok { OnOk result (self.new ≡ with_entry self.old key.now elements.now) }
         ensures err { OnErr result (self.new ≡ self.old) }
-        ensures fault { MatchResult result (λ _. insert_fault self.old key.now elements.now ≡ None) (λ f. insert_fault self.old key.now elements.now ≡ told f) }
+        ensures fault { MatchResult result (λ _. insert_fault self.old key.now elements.now ≡ None) (λ f. insert_fault self.old key.now elements.now ≡ reported_fault f) }
     {
         if key.is_empty() {
             return Err(InsertFault::EmptyKey);
@@ -84,7 +84,7 @@ impl TableBuilder {
     pub fn add_implicit(&mut self, first: char, last: char, base: u16) -> Result<(), RangeFault>
         ensures ok { OnOk result (self.new ≡ with_range self.old (record { first = first; last = last; base = base })) }
         ensures err { OnErr result (self.new ≡ self.old) }
-        ensures fault { let fault = range_fault self.old (record { first = first; last = last; base = base }) in MatchResult result (λ _. fault ≡ None) (λ f. fault ≡ told_of_range f) }
+        ensures fault { let fault = range_fault self.old (record { first = first; last = last; base = base }) in MatchResult result (λ _. fault ≡ None) (λ f. fault ≡ reported_range_fault f) }
     {
         let range = Range { first, last, base };
         if self.ranges.is_bad(range) {

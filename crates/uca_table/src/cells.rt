@@ -5,10 +5,10 @@ ghost use Rattle.unicode_normalization.specs.Forms.{nfd};
 ghost use Rattle.unicode_normalization.specs.Order.{is_starter};
 ghost use Rattle.uca_model.specs.CollationElements.{elements};
 ghost use Rattle.uca_model.specs.StandAlone.{begins, leads, continues, joining_of, bearing_of, joining, bearing, ends_in_starter, stands_alone};
-ghost use Rattle.uca_table.specs.Cells.{AreMarks, IsCell, AreCells, HoldsCells, Grows};
+ghost use Rattle.uca_table.specs.Cells.{AreKeyFlags, IsCell, AreCells, HoldsCells, Grows};
 
 use crate::collation::{push_elements, push_matches};
-use crate::marks::{LIMIT, Marks, marks_of};
+use crate::key_flags::{LIMIT, KeyFlags, key_flags_of};
 use crate::stored::Stored;
 use std::alloc::{AllocError, Global};
 use uca_weights::Element;
@@ -44,10 +44,10 @@ pub struct Cells {
     elements: Vec<Element>,
 }
 
-impl Marks {
+impl KeyFlags {
     // Whether a key of two code points or more begins with a code point.
     fn leads(&self, p: char) -> bool
-        ensures { (t : _) → AreMarks t self.now.leads.items self.now.continues.items self.now.begins.items → IsFalse result → leads t p ≡ false }
+        ensures { (t : _) → AreKeyFlags t self.now.leads.items self.now.continues.items self.now.begins.items → IsFalse result → leads t p ≡ false }
     {
         match self.leads.get(p as usize) {
             Some(flag) => *flag,
@@ -57,7 +57,7 @@ impl Marks {
 
     // Whether a code point stands in a key at the second place or later.
     fn continues(&self, p: char) -> bool
-        ensures { (t : _) → AreMarks t self.now.leads.items self.now.continues.items self.now.begins.items → IsFalse result → continues t p ≡ false }
+        ensures { (t : _) → AreKeyFlags t self.now.leads.items self.now.continues.items self.now.begins.items → IsFalse result → continues t p ≡ false }
     {
         match self.continues.get(p as usize) {
             Some(flag) => *flag,
@@ -66,10 +66,10 @@ impl Marks {
     }
 }
 
-impl Marks {
+impl KeyFlags {
     // Whether a key begins with a code point.
     fn begins(&self, p: char) -> bool
-        ensures { (t : _) → AreMarks t self.now.leads.items self.now.continues.items self.now.begins.items → IsFalse result → begins t p ≡ false }
+        ensures { (t : _) → AreKeyFlags t self.now.leads.items self.now.continues.items self.now.begins.items → IsFalse result → begins t p ≡ false }
     {
         match self.begins.get(p as usize) {
             Some(flag) => *flag,
@@ -85,23 +85,23 @@ fn is_starter(c: char) -> bool
 }
 
 // How code points may join the text before them, at most.
-fn joining_of(t: &Stored, marks: &Marks, points: &[char]) -> u8
-    requires { AreMarks t.now marks.now.leads.items marks.now.continues.items marks.now.begins.items }
+fn joining_of(t: &Stored, key_flags: &KeyFlags, points: &[char]) -> u8
+    requires { AreKeyFlags t.now key_flags.now.leads.items key_flags.now.continues.items key_flags.now.begins.items }
     ensures value { joining_of t.now points.now ≤ result }
 {
     if points.is_empty() || !is_starter(points[0]) {
         return 2;
     }
-    if marks.continues(points[0]) { 1 } else { 0 }
+    if key_flags.continues(points[0]) { 1 } else { 0 }
 }
 
 // Whether no code point begins a key of two or more.
-fn is_plain(t: &Stored, marks: &Marks, points: &[char]) -> bool
-    requires { AreMarks t.now marks.now.leads.items marks.now.continues.items marks.now.begins.items }
+fn is_plain(t: &Stored, key_flags: &KeyFlags, points: &[char]) -> bool
+    requires { AreKeyFlags t.now key_flags.now.leads.items key_flags.now.continues.items key_flags.now.begins.items }
     ensures { IsTrue result → list_all (λ p. not (leads t.now p)) points.now ≡ true }
 {
     for p in points {
-        if marks.leads(*p) {
+        if key_flags.leads(*p) {
             return false;
         }
     }
@@ -118,11 +118,11 @@ fn ends_in_starter(points: &[char]) -> bool
 }
 
 // Which joining code points bear after them, at least.
-fn bearing_of(t: &Stored, marks: &Marks, points: &[char]) -> u8
-    requires { AreMarks t.now marks.now.leads.items marks.now.continues.items marks.now.begins.items }
+fn bearing_of(t: &Stored, key_flags: &KeyFlags, points: &[char]) -> u8
+    requires { AreKeyFlags t.now key_flags.now.leads.items key_flags.now.continues.items key_flags.now.begins.items }
     ensures { result ≤ bearing_of t.now points.now }
 {
-    if !is_plain(t, marks, points) {
+    if !is_plain(t, key_flags, points) {
         return 0;
     }
     if ends_in_starter(points) { 2 } else { 1 }
@@ -141,11 +141,11 @@ fn extent(start: usize, end: usize) -> (u32, u8)
 }
 
 // Appends the elements of a single code point.
-fn push_single(out: &mut Vec<Element>, t: &Stored, marks: &Marks, p: char) -> Result<(), AllocError>
-    requires { AreMarks t.now marks.now.leads.items marks.now.continues.items marks.now.begins.items }
+fn push_single(out: &mut Vec<Element>, t: &Stored, key_flags: &KeyFlags, p: char) -> Result<(), AllocError>
+    requires { AreKeyFlags t.now key_flags.now.leads.items key_flags.now.continues.items key_flags.now.begins.items }
     ensures { OnOk result (out.new.items ≡ out.old.items ++ elements t.now (p ∷ [])) }
 {
-    if !marks.begins(p) {
+    if !key_flags.begins(p) {
         return out.extend_from_slice(&t.implicit(p));
     }
     push_elements(out, t, &[p])
@@ -157,18 +157,18 @@ impl Cells {
         &mut self,
         alloc: Global,
         t: &Stored,
-        marks: &Marks,
+        key_flags: &KeyFlags,
         c: char,
         points: &[char],
     ) -> Result<(), AllocError>
         requires cells { HoldsCells t.now self.old }
-        requires marks { AreMarks t.now marks.now.leads.items marks.now.continues.items marks.now.begins.items }
+        requires key_flags { AreKeyFlags t.now key_flags.now.leads.items key_flags.now.continues.items key_flags.now.begins.items }
         requires points { points.now ≡ decompose_canonical c }
         ensures elements { OnOk result (self.new.elements.items ≡ self.old.elements.items ++ elements t.now (nfd (c ∷ []))) }
         ensures cells { OnOk result (self.new.cells.items ≡ self.old.cells.items) }
     {
         if points.len() == 1 {
-            return push_single(&mut self.elements, t, marks, points[0]);
+            return push_single(&mut self.elements, t, key_flags, points[0]);
         }
         let mut fresh = Vec::new(alloc);
         push_text(alloc, &mut fresh, t, self, points)?;
@@ -180,21 +180,21 @@ impl Cells {
         &mut self,
         alloc: Global,
         t: &Stored,
-        marks: &Marks,
+        key_flags: &KeyFlags,
         c: char,
     ) -> Result<Cell, AllocError>
         requires cells { HoldsCells t.now self.old }
-        requires marks { AreMarks t.now marks.now.leads.items marks.now.continues.items marks.now.begins.items }
+        requires key_flags { AreKeyFlags t.now key_flags.now.leads.items key_flags.now.continues.items key_flags.now.begins.items }
         ensures cell { IfOk result (λ cell. IsCell t.now self.new.elements.items c cell) }
         ensures cells { OnOk result (self.new.cells.items ≡ self.old.cells.items) }
         ensures grows { OnOk result (Grows self.old.elements.items self.new.elements.items) }
     {
         let mut room = ['\0'; 3];
         let points = decomposition(c, Form::Nfd, &mut room);
-        let joining = joining_of(t, marks, points);
-        let bearing = bearing_of(t, marks, points);
+        let joining = joining_of(t, key_flags, points);
+        let bearing = bearing_of(t, key_flags, points);
         let before = self.elements.len();
-        self.push_elements(alloc, t, marks, c, points)?;
+        self.push_elements(alloc, t, key_flags, c, points)?;
         let (start, count) = extent(before, self.elements.len());
         Ok(Cell {
             start,
@@ -209,17 +209,17 @@ impl Cells {
         &mut self,
         alloc: Global,
         t: &Stored,
-        marks: &Marks,
+        key_flags: &KeyFlags,
         point: u32,
     ) -> Result<Cell, AllocError>
         requires cells { HoldsCells t.now self.old }
-        requires marks { AreMarks t.now marks.now.leads.items marks.now.continues.items marks.now.begins.items }
+        requires key_flags { AreKeyFlags t.now key_flags.now.leads.items key_flags.now.continues.items key_flags.now.begins.items }
         ensures cell { IfOk result (λ cell. IsCell t.now self.new.elements.items point cell) }
         ensures cells { OnOk result (self.new.cells.items ≡ self.old.cells.items) }
         ensures grows { OnOk result (Grows self.old.elements.items self.new.elements.items) }
     {
         match char::from_u32(point) {
-            Some(c) => self.cell_of(alloc, t, marks, c),
+            Some(c) => self.cell_of(alloc, t, key_flags, c),
             None => Ok(UNKNOWN),
         }
     }
@@ -229,16 +229,16 @@ impl Cells {
         &mut self,
         alloc: Global,
         t: &Stored,
-        marks: &Marks,
+        key_flags: &KeyFlags,
         point: u32,
     ) -> Result<(), AllocError>
         requires cells { HoldsCells t.now self.old }
         requires next { length self.old.cells.items ≡ point }
-        requires marks { AreMarks t.now marks.now.leads.items marks.now.continues.items marks.now.begins.items }
+        requires key_flags { AreKeyFlags t.now key_flags.now.leads.items key_flags.now.continues.items key_flags.now.begins.items }
         ensures cells { OnOk result (HoldsCells t.now self.new) }
         ensures more { OnOk result (length self.new.cells.items ≡ point + 1) }
     {
-        let cell = self.cell_at(alloc, t, marks, point)?;
+        let cell = self.cell_at(alloc, t, key_flags, point)?;
         self.cells.push(cell)?;
         Ok(())
     }
@@ -247,10 +247,10 @@ impl Cells {
     pub fn new(alloc: Global, t: &Stored) -> Result<Cells, AllocError>
         ensures { IfOk result (λ cells. HoldsCells t.now cells) }
     {
-        let marks = marks_of(alloc, t)?;
+        let key_flags = key_flags_of(alloc, t)?;
         let mut made = Cells::none(alloc);
         for point in 0..LIMIT as u32 {
-            made.push_point(alloc, t, &marks, point)?;
+            made.push_point(alloc, t, &key_flags, point)?;
         }
         Ok(made)
     }

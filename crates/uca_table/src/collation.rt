@@ -20,7 +20,7 @@ pub fn push_elements(out: &mut Vec<Element>, t: &Stored, matched: &[char]) -> Re
 }
 
 // Appends the elements of a text in NFD, match after match (UTS #10, 7.2, step S2). Each match is put in order
-// within the text, and nothing behind its marks is moved.
+// within the text, and nothing after its nonstarters is moved.
 pub fn push_matches(out: &mut Vec<Element>, t: &Stored, text: &mut [char]) -> Result<(), AllocError>
     ensures elements { OnOk result (out.new.items ≡ out.old.items ++ elements t.now text.old) }
     ensures some { OnOk result (0 < length text.old → length out.old.items < length out.new.items) }

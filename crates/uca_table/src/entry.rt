@@ -2,12 +2,12 @@ ghost use Rattle.std.specs.Prelude.{◌≡◌, ◌≤◌, T, false, map, length,
 ghost use Rattle.std.specs.BTreeMap.{btree_map_len};
 ghost use Rattle.std.specs.FinMap.{find, put, is_sorted};
 ghost use Rattle.std.specs.List.{insert, list_any};
-ghost use Rattle.uca_model.specs.Shift.{is_stuck, shifted_entry};
+ghost use Rattle.uca_model.specs.Room.{has_no_room, entry_with_room};
 ghost use Rattle.uca_model.specs.Table.{key_cmp};
 ghost use Rattle.uca_table.specs.Place.{IsAt, BelongsAt};
 ghost use Rattle.uca_table.specs.Stored.{pair_of, pair_in, longest_of};
 
-use crate::shift::{any_stuck, shift_elements};
+use crate::room::{any_has_no_room, make_room};
 use std::alloc::{AllocError, Global};
 use std::cmp::Ordering;
 use std::collections::BTreeMap;
@@ -98,25 +98,25 @@ fn insert(
 }
 
 /// Whether some element of some entry has a weight at a level that would move above `w`, and can't.
-pub(crate) fn has_stuck(level: u8, w: u16, entries: &[Entry]) -> bool
+pub(crate) fn lacks_room(level: u8, w: u16, entries: &[Entry]) -> bool
     requires first { 1 ≤ level }
     requires last { level ≤ 3 }
-    ensures { result ≡ list_any (λ e. list_any (is_stuck level w) e.elements.items) entries.now }
+    ensures { result ≡ list_any (λ e. list_any (has_no_room level w) e.elements.items) entries.now }
 {
     entries
         .iter()
-        .any(|e| any_stuck(level, w, e.elements.as_slice()))
+        .any(|e| any_has_no_room(level, w, e.elements.as_slice()))
 }
 
 /// Moves the weights of a level that stand above `w` up by one, in each entry.
-pub(crate) fn shift_entries(level: u8, w: u16, entries: &mut [Entry])
+pub(crate) fn make_room_in_entries(level: u8, w: u16, entries: &mut [Entry])
     requires first { 1 ≤ level }
     requires last { level ≤ 3 }
-    requires room { list_any (λ e. list_any (is_stuck level w) e.elements.items) entries.old ≡ false }
-    ensures { map pair_of entries.new ≡ map (shifted_entry level w) (map pair_of entries.old) }
+    requires room { list_any (λ e. list_any (has_no_room level w) e.elements.items) entries.old ≡ false }
+    ensures { map pair_of entries.new ≡ map (entry_with_room level w) (map pair_of entries.old) }
 {
     for entry in entries.iter_mut() {
-        shift_elements(level, w, &mut entry.elements);
+        make_room(level, w, &mut entry.elements);
     }
 }
 
@@ -133,7 +133,7 @@ pub(crate) fn copies(alloc: Global, entries: &[Entry]) -> Result<Vec<Entry>, All
     Ok(copies)
 }
 
-/// Moves the entries of a map into a vector that has room for them, and tells the length of the longest key.
+/// Moves the entries of a map into a vector that has room for them, and returns the length of the longest key.
 pub(crate) fn move_entries(
     from: BTreeMap<Vec<char>, Vec<Element>>,
     mut room: Vec<Entry>,

@@ -30,7 +30,7 @@ pub(crate) fn widened(extents: &BTreeMap<u16, Extent>, range: Range) -> Extent
     }
 }
 
-/// Widens the extent of a range's base, and tells what it was.
+/// Widens the extent of a range's base, and returns what it was.
 pub(crate) fn widen(
     extents: &mut BTreeMap<u16, Extent>,
     range: Range,

@@ -1,7 +1,7 @@
 use crate::builder::TableBuilder;
 use thiserror::Error;
 
-/// Why an entry wasn't inserted. The first cause that holds, in the order here, is told.
+/// Why an entry wasn't inserted. The first cause that holds, in the order here, is reported.
 #[derive(Clone, Copy, Debug, PartialEq, Eq, Error)]
 pub enum InsertFault {
     /// The key has no code point.
@@ -19,7 +19,7 @@ pub enum InsertFault {
     /// The table has the key already.
     #[error("Repeated")]
     Repeated,
-    /// Memory was wanted and refused.
+    /// An allocation failed.
     #[error("OutOfMemory")]
     OutOfMemory,
 }
@@ -31,7 +31,7 @@ pub enum RangeFault {
     /// the other ranges of its base it spans more than 8000h code points.
     #[error("BadRange")]
     BadRange,
-    /// Memory was wanted and refused.
+    /// An allocation failed.
     #[error("OutOfMemory")]
     OutOfMemory,
 }

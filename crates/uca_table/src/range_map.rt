@@ -73,7 +73,7 @@ impl RangeMap {
         self.span_with(range) > 0x7FFF
     }
 
-    /// Whether a range shares a code point with one of these. The first that doesn't end below it tells.
+    /// Whether a range shares a code point with one of these. The first that doesn't end below it decides.
     fn shares_with_any(&self, range: Range) -> bool
         requires { AreByFirst self.now }
         ensures { result ≡ list_any (shares range) self.now }
@@ -84,7 +84,7 @@ impl RangeMap {
         }
     }
 
-    /// How far the last code point of a range and of all of its base lies behind the first one.
+    /// How far the last code point of a range and of all of its base lies after the first one.
     fn span_with(&self, range: Range) -> u32
         ensures { result ≡ highest_last self.now range.base range.last - lowest_first self.now range.base range.first }
     {

@@ -2,7 +2,7 @@ ghost use Rattle.std.specs.Prelude.{◌≡◌, ◌≤◌, ◌<◌, ◌^◌, fals
 
 use crate::builder::{read_elements, read_key};
 use crate::entries::Entries;
-use crate::entry::{Entry, copies, elements_of, has_stuck, put, shift_entries};
+use crate::entry::{Entry, copies, elements_of, lacks_room, put, make_room_in_entries};
 use crate::implicit_weights;
 use crate::ranges::Ranges;
 use std::alloc::{AllocError, Global};
@@ -37,7 +37,7 @@ impl Stored {
     ghost use Rattle.uca_weights.specs.declared.limits.TheConstants.{MAX_KEY, MAX_ELEMENTS};
     ghost use Rattle.uca_model.specs.Table.{ElementTable, IsElement, IsTable, elements_at, longest, with_entry};
     ghost use Rattle.uca_model.specs.ImplicitWeights.{implicit};
-    ghost use Rattle.uca_model.specs.Shift.{is_stuck, shifted_table};
+    ghost use Rattle.uca_model.specs.Room.{has_no_room, table_with_room};
     ghost use Rattle.std.specs.List.{list_any};
     ghost use Rattle.std.specs.FinMap.{entries, values};
     ghost use Rattle.uca_model.specs.Ranges.{AreByFirst};
@@ -115,23 +115,23 @@ impl Stored {
     }
 
     /// Whether some weight of the entries at a level, 1 to 3, would move if room were made above `w`, and can't.
-    pub fn has_stuck(&self, level: u8, w: u16) -> bool
+    pub fn lacks_room(&self, level: u8, w: u16) -> bool
         requires first { 1 ≤ level }
         requires last { level ≤ 3 }
-        ensures { result ≡ list_any (list_any (is_stuck level w)) (values self.now.entries) }
+        ensures { result ≡ list_any (list_any (has_no_room level w)) (values self.now.entries) }
     {
-        has_stuck(level, w, &self.entries)
+        lacks_room(level, w, &self.entries)
     }
 
     /// Makes room above `w` at a level, 1 to 3: all weights of the entries above it go up by one, but at level 1 not the
     /// implicit ones, from 8000 on. It takes no memory.
-    pub fn shift(&mut self, level: u8, w: u16)
+    pub fn make_room(&mut self, level: u8, w: u16)
         requires first { 1 ≤ level }
         requires last { level ≤ 3 }
-        requires room { list_any (list_any (is_stuck level w)) (values self.old.entries) ≡ false }
-        ensures { self.new ≡ shifted_table level w self.old }
+        requires room { list_any (list_any (has_no_room level w)) (values self.old.entries) ≡ false }
+        ensures { self.new ≡ table_with_room level w self.old }
     {
-        shift_entries(level, w, &mut self.entries);
+        make_room_in_entries(level, w, &mut self.entries);
     }
 
     /// The ranges of implicit weights by their first code points.

@@ -40,7 +40,7 @@ impl Table {
     ghost use Rattle.uca_model.specs.Table.{ElementTable, IsElement, IsTable, elements_at, longest, with_entry};
     ghost use Rattle.uca_model.specs.ImplicitWeights.{implicit};
     ghost use Rattle.uca_model.specs.SafeCut.{is_safe_starter};
-    ghost use Rattle.uca_model.specs.Shift.{is_stuck, shifted_table};
+    ghost use Rattle.uca_model.specs.Room.{has_no_room, table_with_room};
     ghost use Rattle.std.specs.List.{list_any};
     ghost use Rattle.std.specs.FinMap.{entries, values};
     ghost use Rattle.uca_model.specs.Ranges.{AreByFirst};
@@ -113,25 +113,25 @@ impl Table {
     }
 
     /// Whether some weight of the entries at a level, 1 to 3, would move if room were made above `w`, and can't.
-    pub fn has_stuck(&self, level: u8, w: u16) -> bool
+    pub fn lacks_room(&self, level: u8, w: u16) -> bool
         requires first { 1 ≤ level }
         requires last { level ≤ 3 }
-        ensures { result ≡ list_any (list_any (is_stuck level w)) (values self.now.entries) }
+        ensures { result ≡ list_any (list_any (has_no_room level w)) (values self.now.entries) }
     {
-        self.stored.has_stuck(level, w)
+        self.stored.lacks_room(level, w)
     }
 
     /// Makes room above `w` at a level, 1 to 3: all weights of the entries above it go up by one, but at level 1 not the
     /// implicit ones, from 8000 on. It takes no memory.
-    pub fn shift(&mut self, level: u8, w: u16)
+    pub fn make_room(&mut self, level: u8, w: u16)
         requires first { 1 ≤ level }
         requires last { level ≤ 3 }
-        requires room { list_any (list_any (is_stuck level w)) (values self.old.entries) ≡ false }
-        ensures { self.new ≡ shifted_table level w self.old }
+        requires room { list_any (list_any (has_no_room level w)) (values self.old.entries) ≡ false }
+        ensures { self.new ≡ table_with_room level w self.old }
     {
         self.cells.clear();
         self.starters.clear();
-        self.stored.shift(level, w);
+        self.stored.make_room(level, w);
     }
 
     /// The ranges of implicit weights by their first code points.
@@ -150,7 +150,7 @@ impl Table {
         self.starters.is_safe(&self.stored, c)
     }
 
-    /// Makes anew what quick look-ups use, which `put` and `shift` drop and a copy has not. Call it after the last change
+    /// Makes anew what quick look-ups use, which `put` and `make_room` drop and a copy has not. Call it after the last change
     /// of a table. The table is the same before and after, and also where memory is refused.
     pub fn prepare(&mut self, alloc: Global) -> Result<(), AllocError>
         ensures { self.new ≡ self.old }

@@ -5,21 +5,21 @@ use Rattle.std.specs.List.{list_any}
 use Rattle.std.specs.Option.{option_map_or}
 use Rattle.uca_weights.specs.declared.element.Element.{Element}
 use Rattle.uca_weights.specs.Element.{weight}
-use Rattle.uca_model.specs.Shift.{shifted, shifted_table, is_stuck}
+use Rattle.uca_model.specs.Room.{with_room, table_with_room, has_no_room}
 use Rattle.uca_model.specs.Table.{ElementTable}
-use Rattle.uca_model.specs.Tailoring.{TailorCause, small_weight, Anchor, alone, behind, anchor_of, is_high, fault_at, raised, placed_behind, placed_at, placed_after}
-use Rattle.uca_model.proofs.PlaceLemmas.{is_free, any_anchor, below_top}
+use Rattle.uca_model.specs.Tailoring.{TailorCause, small_weight, Anchor, alone, preceded_by, anchor_of, is_high, fault_at, raised, placed_next_to, placed_at, placed_after}
+use Rattle.uca_model.proofs.AnchorElements.{is_free, any_anchor, below_top}
 use Rattle.uca_tailor.specs.declared.faults.TailorCause.{TailorCause as Cause}
-use Rattle.uca_tailor.specs.Faults.{told}
+use Rattle.uca_tailor.specs.Faults.{reported_cause}
 use Rattle.uca_tailor.specs.Steps.{anchor_as, placed_as, IsToldAs, Refuses}
 
 anchor_of-append_zero : (level : ℕ) (xs : List Element) (e : Element) → (weight level e == 0) ≡ true → anchor_of level (xs ++ e ∷ []) ≡ anchor_of level xs
 anchor_of-append_zero level [] e h = rw h refl
-anchor_of-append_zero level (x ∷ xs) e h = ap (λ o. option_map_or (λ a. Some (behind x a)) o (cond (weight level x == 0) None (Some (alone x)))) (anchor_of-append_zero level xs e h)
+anchor_of-append_zero level (x ∷ xs) e h = ap (λ o. option_map_or (λ a. Some (preceded_by x a)) o (cond (weight level x == 0) None (Some (alone x)))) (anchor_of-append_zero level xs e h)
 
 anchor_of-append : (level : ℕ) (xs : List Element) (e : Element) → (weight level e == 0) ≡ false → anchor_of level (xs ++ e ∷ []) ≡ Some (anchor_as xs e)
 anchor_of-append level [] e h = rw h refl
-anchor_of-append level (x ∷ xs) e h = ap (λ o. option_map_or (λ a. Some (behind x a)) o (cond (weight level x == 0) None (Some (alone x)))) (anchor_of-append level xs e h)
+anchor_of-append level (x ∷ xs) e h = ap (λ o. option_map_or (λ a. Some (preceded_by x a)) o (cond (weight level x == 0) None (Some (alone x)))) (anchor_of-append level xs e h)
 
 take_suc : (es : List Element) (n : ℕ) (d : Element) → n < length es → take (suc n) es ≡ take n es ++ get_or es n d ∷ []
 take_suc es n d h = let f : n + 1 ≡ suc n = omega arith in ap (λ k. take k es) (sym f) ∙ take_more es n d h
@@ -48,8 +48,8 @@ next_fits level w t es before last p q f a is e =
     subst (λ x. x < 65535) is (below_top level w last p q is f high.1 free.below_top)
 
 -- each element before the last has room
-pub before_moves : (level w : ℕ) (t : ElementTable) (es before : List Element) (last : Element) → anchor_of level es ≡ Some (anchor_as before last) → w ≡ weight level last → fault_at level w t es ≡ None → list_any (is_stuck level (weight level last)) before ≡ false
-before_moves level w t es before last a is e = subst (λ x. list_any (is_stuck level x) before ≡ false) is (any_anchor (is_stuck level w) level es _ a (is_free level w t es e).anchor_room).0
+pub before_moves : (level w : ℕ) (t : ElementTable) (es before : List Element) (last : Element) → anchor_of level es ≡ Some (anchor_as before last) → w ≡ weight level last → fault_at level w t es ≡ None → list_any (has_no_room level (weight level last)) before ≡ false
+before_moves level w t es before last a is e = subst (λ x. list_any (has_no_room level x) before ≡ false) is (any_anchor (has_no_room level w) level es _ a (is_free level w t es e).anchor_room).0
 
 -- Where an item is placed
 
@@ -57,15 +57,15 @@ pub placed_nowhere : (level : ℕ) (t : ElementTable) (es : List Element) → an
 placed_nowhere level t es a = ap (λ o. option_map_or (placed_at level t es) o (Err small_weight)) a
 
 pub placed_there : (level w : ℕ) (t u : ElementTable) (es before base : List Element) (last : Element) → anchor_of level es ≡ Some (anchor_as before last) → w ≡ weight level last → fault_at level w t es ≡ None
-    → base ≡ map (shifted level (weight level last)) before ++ raised level last ∷ [] → u ≡ shifted_table level w t → placed_after level t es ≡ Ok (placed_as base u)
+    → base ≡ map (with_room level (weight level last)) before ++ raised level last ∷ [] → u ≡ table_with_room level w t → placed_after level t es ≡ Ok (placed_as base u)
 placed_there level w t u es before base last a is e b moved =
     let none : fault_at level (weight level last) t es ≡ None = subst (λ x. fault_at level x t es ≡ None) is e in
-    ap (λ o. option_map_or (placed_at level t es) o (Err small_weight)) a ∙ ap (λ o. option_map_or (λ cause. Err cause) o (Ok (placed_behind level t (anchor_as before last)))) none
-    ∙ ap₂ (λ x y. Ok (placed_as x y)) (sym b) (sym (moved ∙ ap (λ x. shifted_table level x t) is))
+    ap (λ o. option_map_or (placed_at level t es) o (Err small_weight)) a ∙ ap (λ o. option_map_or (λ cause. Err cause) o (Ok (placed_next_to level t (anchor_as before last)))) none
+    ∙ ap₂ (λ x y. Ok (placed_as x y)) (sym b) (sym (moved ∙ ap (λ x. table_with_room level x t) is))
 
 refused : (level : ℕ) (t : ElementTable) (es : List Element) (a : Anchor) (cause : Option TailorCause) → anchor_of level es ≡ Some a → fault_at level (weight level a.last) t es ≡ cause → IsSome cause → MatchOption cause (Unit {0}) (λ c. placed_after level t es ≡ Err c)
 refused level t es a None is fault some = tt
-refused level t es a (Some c) is fault some = ap (λ o. option_map_or (placed_at level t es) o (Err small_weight)) is ∙ ap (λ o. option_map_or (λ d. Err d) o (Ok (placed_behind level t a))) fault
+refused level t es a (Some c) is fault some = ap (λ o. option_map_or (placed_at level t es) o (Err small_weight)) is ∙ ap (λ o. option_map_or (λ d. Err d) o (Ok (placed_next_to level t a))) fault
 
 pub placed_refused : (level w : ℕ) (t : ElementTable) (es before : List Element) (last : Element) (cause : Cause) → anchor_of level es ≡ Some (anchor_as before last) → w ≡ weight level last → IsToldAs (fault_at level w t es) cause → Refuses (placed_after level t es) cause
-placed_refused level w t es before last cause a is told_as = refused level t es (anchor_as before last) (told cause) a (ap (λ x. fault_at level x t es) (sym is) ∙ told_as.is) (subst IsSome told_as.is told_as.some)
+placed_refused level w t es before last cause a is stated_as = refused level t es (anchor_as before last) (reported_cause cause) a (ap (λ x. fault_at level x t es) (sym is) ∙ stated_as.is) (subst IsSome stated_as.is stated_as.some)

@@ -7,12 +7,12 @@ use Rattle.std.specs.Option.{option_map_or}
 use Rattle.uca_weights.specs.declared.element.Element.{Element}
 use Rattle.uca_weights.specs.Element.{weight}
 use Rattle.uca_model.specs.WellFormed.{skips_a_level}
-use Rattle.uca_model.specs.Shift.{shift, shifted}
-use Rattle.uca_model.specs.Tailoring.{Anchor, alone, behind, anchor_of, is_high, raised}
-use Rattle.uca_model.proofs.PlaceLemmas.{or_false}
-use Rattle.uca_model.proofs.ShiftedWeights.{shift-is_zero}
+use Rattle.uca_model.specs.Room.{weight_with_room, with_room}
+use Rattle.uca_model.specs.Tailoring.{Anchor, alone, preceded_by, anchor_of, is_high, raised}
+use Rattle.uca_model.proofs.AnchorElements.{or_false}
+use Rattle.uca_model.proofs.RoomAtWeights.{weight_with_room-is_zero}
 use Rattle.uca_tailor.specs.TailoringLaws.{weights_at}
-use Rattle.uca_tailor.proofs.Levels.{IsLevel, IsBelow, first_of_second, first_of_third, second_of_third, weight-shifted, weight-raised, weight-shifted_above, weight-raised_above}
+use Rattle.uca_tailor.proofs.Levels.{IsLevel, IsBelow, first_of_second, first_of_third, second_of_third, weight-with_room, weight-raised, weight-shifted_above, weight-raised_above}
 
 -- an element that is well-formed: where a weight is zero, those at the levels below it are
 abbrev pub IsFull : Element → Type 0
@@ -29,7 +29,7 @@ zero_of : (b : Bool) (x : ℕ) (y : Anchor) → eqb x 0 ≡ b → cond b None (S
 zero_of true x y is e = eqb-true x 0 is
 zero_of false x y is e = absurd (cc)
 
-none_step : (level : ℕ) (e : Element) (o : Option Anchor) → option_map_or (λ z. Some (behind e z)) o (cond (weight level e == 0) None (Some (alone e))) ≡ None → (o ≡ None) × (weight level e ≡ 0)
+none_step : (level : ℕ) (e : Element) (o : Option Anchor) → option_map_or (λ z. Some (preceded_by e z)) o (cond (weight level e == 0) None (Some (alone e))) ≡ None → (o ≡ None) × (weight level e ≡ 0)
 none_step level e None h = (refl, zero_of (weight level e == 0) (weight level e) (alone e) refl h)
 none_step level e (Some b) h = absurd (cc)
 
@@ -41,11 +41,11 @@ split_here : (level : ℕ) (e : Element) (es : List Element) (b : Bool) (a : Anc
 split_here level e es true a is n h = absurd (cc)
 split_here level e es false a is n h = let same : alone e ≡ a = cc in subst (λ z. IsSplit level (e ∷ es) z) same (record { rest = es; are = refl; none = n; some = eqb-false (weight level e) 0 is })
 
-split_step : (level : ℕ) (e : Element) (es : List Element) (o : Option Anchor) (a : Anchor) → anchor_of level es ≡ o → option_map_or (λ z. Some (behind e z)) o (cond (weight level e == 0) None (Some (alone e))) ≡ Some a
+split_step : (level : ℕ) (e : Element) (es : List Element) (o : Option Anchor) (a : Anchor) → anchor_of level es ≡ o → option_map_or (λ z. Some (preceded_by e z)) o (cond (weight level e == 0) None (Some (alone e))) ≡ Some a
     → ((b : Anchor) → o ≡ Some b → IsSplit level es b) → IsSplit level (e ∷ es) a
 split_step level e es None a is h more = split_here level e es (weight level e == 0) a refl (all_none level es is) h
 split_step level e es (Some b) a is h more =
-    let same : behind e b ≡ a = cc in
+    let same : preceded_by e b ≡ a = cc in
     let s = more b refl in
     subst (λ z. IsSplit level (e ∷ es) z) same (record { rest = s.rest; are = ap (λ x. e ∷ x) s.are; none = s.none; some = s.some })
 
@@ -88,11 +88,11 @@ zeros j m (e ∷ es) b h n = (zero_above j m e b h.0 n.0, zeros j m es b h.1 n.1
 
 -- below the level of a relation the base has the weights of the anchor
 pub placed_below : (j m w : ℕ) (es : List Element) (a : Anchor) → anchor_of m es ≡ Some a → IsBelow j m → AllByRecursion IsFull es
-    → weights_at j (map (shifted m w) a.before ++ raised m a.last ∷ []) ≡ weights_at j es
+    → weights_at j (map (with_room m w) a.before ++ raised m a.last ∷ []) ≡ weights_at j es
 placed_below j m w es a h b full =
     let s = anchor_split m es a h in
     let rest : AllByRecursion IsFull (a.last ∷ s.rest) = (parts_of IsFull a.before (a.last ∷ s.rest) (subst (AllByRecursion IsFull) s.are full)).1 in
-    weights_at-append j (map (shifted m w) a.before) (raised m a.last ∷ []) ∙ ap₂ (λ x y. x ++ y) (weights_at-same j (shifted m w) (λ e. weight-shifted_above j m w e b) a.before)
+    weights_at-append j (map (with_room m w) a.before) (raised m a.last ∷ []) ∙ ap₂ (λ x y. x ++ y) (weights_at-same j (with_room m w) (λ e. weight-shifted_above j m w e b) a.before)
     (weights_at-cons j (raised m a.last) [] s.rest a.last (weight-raised_above j m a.last b) (sym (weights_at-none j s.rest (zeros j m s.rest b rest.1 s.none))))
     ∙ sym (ap (weights_at j) s.are ∙ weights_at-append j a.before (a.last ∷ s.rest))
 
@@ -106,18 +106,18 @@ placed_anchor m es a h =
     ap (weights_at m) s.are ∙ weights_at-append m a.before (a.last ∷ s.rest)
     ∙ ap (λ x. weights_at m a.before ++ x) (weights_at-cons m a.last s.rest [] a.last refl (weights_at-none m s.rest s.none) ∙ some_weight m a.last s.some)
 
-pub weights_at-shift : (m w : ℕ) → IsLevel m → (es : List Element) → weights_at m (map (shifted m w) es) ≡ map (shift m w) (weights_at m es)
-weights_at-shift m w l [] = refl
-weights_at-shift m w l (e ∷ es) = ap₂ (λ x xs. cond (not (x == 0)) (x ∷ xs) xs) (weight-shifted m w e l) (weights_at-shift m w l es) ∙ by_zero (eqb (weight m e) 0) (shift-is_zero m w (weight m e)) where
-  by_zero : (b : Bool) → eqb (shift m w (weight m e)) 0 ≡ b → cond (not (eqb (shift m w (weight m e)) 0)) (shift m w (weight m e) ∷ map (shift m w) (weights_at m es)) (map (shift m w) (weights_at m es)) ≡ map (shift m w) (cond (not b) (weight m e ∷ weights_at m es) (weights_at m es))
-  by_zero true z = ap (λ b. cond (not b) (shift m w (weight m e) ∷ map (shift m w) (weights_at m es)) (map (shift m w) (weights_at m es))) z
-  by_zero false z = ap (λ b. cond (not b) (shift m w (weight m e) ∷ map (shift m w) (weights_at m es)) (map (shift m w) (weights_at m es))) z
+pub weights_at-weight_with_room : (m w : ℕ) → IsLevel m → (es : List Element) → weights_at m (map (with_room m w) es) ≡ map (weight_with_room m w) (weights_at m es)
+weights_at-weight_with_room m w l [] = refl
+weights_at-weight_with_room m w l (e ∷ es) = ap₂ (λ x xs. cond (not (x == 0)) (x ∷ xs) xs) (weight-with_room m w e l) (weights_at-weight_with_room m w l es) ∙ by_zero (eqb (weight m e) 0) (weight_with_room-is_zero m w (weight m e)) where
+  by_zero : (b : Bool) → eqb (weight_with_room m w (weight m e)) 0 ≡ b → cond (not (eqb (weight_with_room m w (weight m e)) 0)) (weight_with_room m w (weight m e) ∷ map (weight_with_room m w) (weights_at m es)) (map (weight_with_room m w) (weights_at m es)) ≡ map (weight_with_room m w) (cond (not b) (weight m e ∷ weights_at m es) (weights_at m es))
+  by_zero true z = ap (λ b. cond (not b) (weight_with_room m w (weight m e) ∷ map (weight_with_room m w) (weights_at m es)) (map (weight_with_room m w) (weights_at m es))) z
+  by_zero false z = ap (λ b. cond (not b) (weight_with_room m w (weight m e) ∷ map (weight_with_room m w) (weights_at m es)) (map (weight_with_room m w) (weights_at m es))) z
 
--- and the base in the next one, after the shifted weights of what stands before
-pub placed_base : (m w : ℕ) (a : Anchor) → IsLevel m → weights_at m (map (shifted m w) a.before ++ raised m a.last ∷ []) ≡ map (shift m w) (weights_at m a.before) ++ (weight m a.last + 1) ∷ []
+-- and the base in the next one, after the weights with room of what stands before
+pub placed_base : (m w : ℕ) (a : Anchor) → IsLevel m → weights_at m (map (with_room m w) a.before ++ raised m a.last ∷ []) ≡ map (weight_with_room m w) (weights_at m a.before) ++ (weight m a.last + 1) ∷ []
 placed_base m w a l =
-    weights_at-append m (map (shifted m w) a.before) (raised m a.last ∷ [])
-    ∙ ap₂ (λ x y. x ++ y) (weights_at-shift m w l a.before) (some_weight m (raised m a.last) above ∙ ap (λ x. x ∷ []) (weight-raised m a.last l)) where
+    weights_at-append m (map (with_room m w) a.before) (raised m a.last ∷ [])
+    ∙ ap₂ (λ x y. x ++ y) (weights_at-weight_with_room m w l a.before) (some_weight m (raised m a.last) above ∙ ap (λ x. x ∷ []) (weight-raised m a.last l)) where
       above : weight m (raised m a.last) ≡ 0 → ⊥
       above e = let more : weight m a.last + 1 ≡ 0 = sym (weight-raised m a.last l) ∙ e in absurd (omega arith)
 

@@ -1,4 +1,4 @@
--- What a table that was shifted, or that got an entry, has for a key.
+-- What a table with room, or that got an entry, has for a key.
 use Rattle.std.proofs.Common.{◌≡◌, ℕ, ◌≤◌, Bool, true, false, cond, List, [], ◌∷◌, ◌++◌, map, flat_map, slice_index, Option, Some, None, unwrap_or, refl, sym, ap, ap₂, subst, ◌∙◌}
 use mathlib.Core.List.{map-append}
 use Rattle.std.specs.Option.{option_map}
@@ -14,14 +14,14 @@ use Rattle.uca_model.specs.ImplicitWeights.{implicit_over}
 use Rattle.uca_model.specs.Match.{Match}
 use Rattle.uca_model.specs.CollationElements.{elements_or_implicit}
 use Rattle.uca_model.specs.Table.{with_entry}
-use Rattle.uca_model.specs.Shift.{shifted, shifted_table, is_stuck}
+use Rattle.uca_model.specs.Room.{with_room, table_with_room, has_no_room}
 use Rattle.uca_model.specs.Tailoring.{least}
-use Rattle.uca_model.proofs.PlaceLemmas.{or_false}
-use Rattle.uca_model.proofs.ShiftLemmas.{elements_at-shifted}
+use Rattle.uca_model.proofs.AnchorElements.{or_false}
+use Rattle.uca_model.proofs.RoomLookups.{elements_at-with_room}
 use Rattle.uca_model.proofs.WeightLemmas.{each-append}
 use Rattle.uca_tailor.proofs.Levels.{IsLevel}
 use Rattle.uca_tailor.proofs.LevelOrders.{AllHaveRoom}
-use Rattle.uca_tailor.proofs.ImplicitElements.{implicit-shifted, implicit_room}
+use Rattle.uca_tailor.proofs.ImplicitElements.{implicit-with_room, implicit_room}
 
 -- the elements of matches, by their keys
 abbrev pub elements_of_keys : ElementTable → List (List ℕ) → List Element
@@ -30,30 +30,30 @@ elements_of_keys t keys = flat_map (elements_or_implicit t) keys
 pub elements_of_matches : (t : ElementTable) (ms : List Match) → flat_map (λ m. elements_or_implicit t m.code_points) ms ≡ elements_of_keys t (map (λ m. m.code_points) ms)
 elements_of_matches t ms = sym (flat_map-map (elements_or_implicit t) (λ m. m.code_points) ms)
 
--- the elements of a match in the shifted table
-by_entry : (m w : ℕ) (o : Option (List Element)) (is : List Element) → map (shifted m w) is ≡ is → unwrap_or (option_map (map (shifted m w)) o) is ≡ map (shifted m w) (unwrap_or o is)
+-- the elements of a match in the table with room
+by_entry : (m w : ℕ) (o : Option (List Element)) (is : List Element) → map (with_room m w) is ≡ is → unwrap_or (option_map (map (with_room m w)) o) is ≡ map (with_room m w) (unwrap_or o is)
 by_entry m w None is e = sym e
 by_entry m w (Some x) is e = refl
 
-pub elements_or_implicit-shifted : (m w : ℕ) (t : ElementTable) (q : List ℕ) → AreRanges t.ranges → least m ≤ w → elements_or_implicit (shifted_table m w t) q ≡ map (shifted m w) (elements_or_implicit t q)
-elements_or_implicit-shifted m w t q r h =
-    ap (λ o. unwrap_or o (implicit_over t.ranges (slice_index q 0))) (elements_at-shifted m w t q) ∙ by_entry m w (elements_at t q) _ (implicit-shifted m w t.ranges (slice_index q 0) r h)
+pub elements_or_implicit-with_room : (m w : ℕ) (t : ElementTable) (q : List ℕ) → AreRanges t.ranges → least m ≤ w → elements_or_implicit (table_with_room m w t) q ≡ map (with_room m w) (elements_or_implicit t q)
+elements_or_implicit-with_room m w t q r h =
+    ap (λ o. unwrap_or o (implicit_over t.ranges (slice_index q 0))) (elements_at-with_room m w t q) ∙ by_entry m w (elements_at t q) _ (implicit-with_room m w t.ranges (slice_index q 0) r h)
 
 -- where no entry is stuck, the elements of each match have room
 pub all_of_none : {A : Type 0} (p : A → Bool) (xs : List A) → list_any p xs ≡ false → AllByRecursion (λ x. p x ≡ false) xs
 all_of_none p [] e = tt
 all_of_none p (x ∷ xs) e = let b = or_false (p x) (list_any p xs) e in (b.0, all_of_none p xs b.1)
 
-pub found_room : (m w : ℕ) (q : List ℕ) (es : List (List ℕ × List Element)) → list_any (list_any (is_stuck m w)) (map (λ e. e.1) es) ≡ false → (is : List Element) → AllHaveRoom m w is → AllHaveRoom m w (unwrap_or (find key_cmp q es) is)
+pub found_room : (m w : ℕ) (q : List ℕ) (es : List (List ℕ × List Element)) → list_any (list_any (has_no_room m w)) (map (λ e. e.1) es) ≡ false → (is : List Element) → AllHaveRoom m w is → AllHaveRoom m w (unwrap_or (find key_cmp q es) is)
 found_room m w q [] e is h = h
 found_room m w q (x ∷ es) e is h =
-    let b = or_false (list_any (is_stuck m w) x.1) (list_any (list_any (is_stuck m w)) (map (λ y. y.1) es)) e in
+    let b = or_false (list_any (has_no_room m w) x.1) (list_any (list_any (has_no_room m w)) (map (λ y. y.1) es)) e in
     elim (eq_by_cmp key_cmp q x.0) as (λ b. AllHaveRoom m w (unwrap_or (cond b (Some x.1) (find key_cmp q es)) is)) [
-      | true ↦ all_of_none (is_stuck m w) x.1 b.0
+      | true ↦ all_of_none (has_no_room m w) x.1 b.0
       | false ↦ found_room m w q es b.1 is h
     ]
 
-pub elements_or_implicit_room : (m w : ℕ) (t : ElementTable) (q : List ℕ) → IsLevel m → AreRanges t.ranges → least m ≤ w → list_any (list_any (is_stuck m w)) (values t.entries) ≡ false → AllHaveRoom m w (elements_or_implicit t q)
+pub elements_or_implicit_room : (m w : ℕ) (t : ElementTable) (q : List ℕ) → IsLevel m → AreRanges t.ranges → least m ≤ w → list_any (list_any (has_no_room m w)) (values t.entries) ≡ false → AllHaveRoom m w (elements_or_implicit t q)
 elements_or_implicit_room m w t q l r h e =
     subst (λ o. AllHaveRoom m w (unwrap_or o (implicit_over t.ranges (slice_index q 0)))) (sym (get-entries t.entries q)) (found_room m w q (entries t.entries) e _ (implicit_room m w t.ranges (slice_index q 0) l r h))
 
@@ -71,12 +71,12 @@ pub elements_or_implicit-with_entry : (t : ElementTable) (k : List ℕ) (es : Li
 elements_or_implicit-with_entry t k es q other = ap (λ o. unwrap_or o (implicit_over t.ranges (slice_index q 0))) (elements_at-other t k es q other)
 
 -- the elements of many matches
-pub elements_of_keys-shifted : (m w : ℕ) (t : ElementTable) (ks : List (List ℕ)) → AreRanges t.ranges → least m ≤ w → elements_of_keys (shifted_table m w t) ks ≡ map (shifted m w) (elements_of_keys t ks)
-elements_of_keys-shifted m w t [] r h = refl
-elements_of_keys-shifted m w t (k ∷ ks) r h =
-    ap₂ (λ x y. x ++ y) (elements_or_implicit-shifted m w t k r h) (elements_of_keys-shifted m w t ks r h) ∙ sym (map-append (shifted m w) (elements_or_implicit t k) (elements_of_keys t ks))
+pub elements_of_keys-with_room : (m w : ℕ) (t : ElementTable) (ks : List (List ℕ)) → AreRanges t.ranges → least m ≤ w → elements_of_keys (table_with_room m w t) ks ≡ map (with_room m w) (elements_of_keys t ks)
+elements_of_keys-with_room m w t [] r h = refl
+elements_of_keys-with_room m w t (k ∷ ks) r h =
+    ap₂ (λ x y. x ++ y) (elements_or_implicit-with_room m w t k r h) (elements_of_keys-with_room m w t ks r h) ∙ sym (map-append (with_room m w) (elements_or_implicit t k) (elements_of_keys t ks))
 
-pub elements_of_keys_room : (m w : ℕ) (t : ElementTable) (ks : List (List ℕ)) → IsLevel m → AreRanges t.ranges → least m ≤ w → list_any (list_any (is_stuck m w)) (values t.entries) ≡ false → AllHaveRoom m w (elements_of_keys t ks)
+pub elements_of_keys_room : (m w : ℕ) (t : ElementTable) (ks : List (List ℕ)) → IsLevel m → AreRanges t.ranges → least m ≤ w → list_any (list_any (has_no_room m w)) (values t.entries) ≡ false → AllHaveRoom m w (elements_of_keys t ks)
 elements_of_keys_room m w t [] l r h e = tt
 elements_of_keys_room m w t (k ∷ ks) l r h e = each-append _ (elements_or_implicit t k) _ (elements_or_implicit_room m w t k l r h e) (elements_of_keys_room m w t ks l r h e)
 

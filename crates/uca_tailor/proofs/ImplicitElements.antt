@@ -1,4 +1,4 @@
--- The implicit elements: no shift of a relation moves them, and they always have room.
+-- The implicit elements: no relation moves them, and they always have room.
 use Rattle.std.proofs.Common.{◌≡◌, ℕ, ◌+◌, ◌-◌, ◌/◌, ◌%◌, ◌≤◌, Bool, true, false, cond, eqb, eqb-true, List, [], ◌∷◌, map, Option, Some, None, refl, sym, ap, ap₂, subst, ◌∙◌, arith, lit≤}
 use Rattle.std.proofs.lemmas.Bool.Decides.{nat_tests}
 use Rattle.std.specs.Option.{option_map_or}
@@ -6,12 +6,12 @@ use Rattle.uca_weights.specs.declared.element.Element.{Element}
 use Rattle.uca_weights.specs.declared.range.Range.{Range}
 use Rattle.uca_model.specs.Table.{IsRange, AreRanges}
 use Rattle.uca_model.specs.ImplicitWeights.{pair, implicit_over, is_assigned, is_between, is_unified_ideograph, in_some, core_blocks, in_range, in_two_parts, range_of, lowest_first}
-use Rattle.uca_model.specs.Shift.{shift, shift_at, shifted}
+use Rattle.uca_model.specs.Room.{weight_with_room, weight_with_room_at, with_room}
 use Rattle.uca_model.specs.Tailoring.{least}
 use Rattle.uca_model.proofs.ImplicitLemmas.{found}
-use Rattle.uca_model.proofs.ShiftedWeights.{has_no_room, shift-low}
+use Rattle.uca_model.proofs.RoomAtWeights.{weight_has_no_room, weight_with_room-low}
 use Rattle.uca_tailor.proofs.Levels.{IsLevel, level_one, level_two, level_three}
-use Rattle.uca_tailor.proofs.ShiftedWeighting.{shift_at-zero, shift_at-high}
+use Rattle.uca_tailor.proofs.RoomAndWeighting.{weight_with_room_at-zero, weight_with_room_at-high}
 use Rattle.uca_tailor.proofs.LevelOrders.{AllHaveRoom}
 
 -- two elements of implicit weights: the first weights are from 8000 on
@@ -50,8 +50,8 @@ implicit_pair rs c h =
     let parts : ArePair (in_two_parts (cond (is_unified_ideograph c) (cond (in_some core_blocks c) 0xFB40 0xFB80) 0xFBC0) c) = two_parts _ c (base_high (is_unified_ideograph c) (in_some core_blocks c)) in
     either (is_assigned c) _ _ (by_range rs c (range_of rs c) h refl _ parts) parts
 
-low_at : (m w j x : ℕ) (b : Bool) → eqb m j ≡ b → (m ≡ j → x ≤ w) → cond b (shift m w x) x ≡ x
-low_at m w j x true is h = shift-low m w x (h (eqb-true m j is))
+low_at : (m w j x : ℕ) (b : Bool) → eqb m j ≡ b → (m ≡ j → x ≤ w) → cond b (weight_with_room m w x) x ≡ x
+low_at m w j x true is h = weight_with_room-low m w x (h (eqb-true m j is))
 low_at m w j x false is h = refl
 
 least_second : (m w : ℕ) → least m ≤ w → m ≡ 2 → 32 ≤ w
@@ -64,22 +64,22 @@ abbrev element : ℕ → ℕ → ℕ → Element
 element a b c = record { starred = false; l1 = a; l2 = b; l3 = c }
 
 -- implicit elements stay
-pub pair-shifted : (m w a b : ℕ) → least m ≤ w → 32768 ≤ a → 32768 ≤ b → map (shifted m w) (pair a b) ≡ pair a b
-pair-shifted m w a b h p q =
-    let second : shift_at m w 2 32 ≡ 32 = low_at m w 2 32 (eqb m 2) refl (least_second m w h) in
-    let third : shift_at m w 3 2 ≡ 2 = low_at m w 3 2 (eqb m 3) refl (least_third m w h) in
+pub pair-with_room : (m w a b : ℕ) → least m ≤ w → 32768 ≤ a → 32768 ≤ b → map (with_room m w) (pair a b) ≡ pair a b
+pair-with_room m w a b h p q =
+    let second : weight_with_room_at m w 2 32 ≡ 32 = low_at m w 2 32 (eqb m 2) refl (least_second m w h) in
+    let third : weight_with_room_at m w 3 2 ≡ 2 = low_at m w 3 2 (eqb m 3) refl (least_third m w h) in
     ap₂ (λ x y. x ∷ y ∷ [])
-    (ap (λ k. element k (shift_at m w 2 32) (shift_at m w 3 2)) (shift_at-high m w a p) ∙ ap₂ (element a) second third)
-    (ap (λ k. element k (shift_at m w 2 0) (shift_at m w 3 0)) (shift_at-high m w b q) ∙ ap₂ (element b) (shift_at-zero m w 2) (shift_at-zero m w 3))
+    (ap (λ k. element k (weight_with_room_at m w 2 32) (weight_with_room_at m w 3 2)) (weight_with_room_at-high m w a p) ∙ ap₂ (element a) second third)
+    (ap (λ k. element k (weight_with_room_at m w 2 0) (weight_with_room_at m w 3 0)) (weight_with_room_at-high m w b q) ∙ ap₂ (element b) (weight_with_room_at-zero m w 2) (weight_with_room_at-zero m w 3))
 
-pub implicit-shifted : (m w : ℕ) (rs : List Range) (c : ℕ) → AreRanges rs → least m ≤ w → map (shifted m w) (implicit_over rs c) ≡ implicit_over rs c
-implicit-shifted m w rs c h g = let p = implicit_pair rs c h in ap (map (shifted m w)) p.are ∙ pair-shifted m w p.first p.second g p.first_high p.second_high ∙ sym p.are
+pub implicit-with_room : (m w : ℕ) (rs : List Range) (c : ℕ) → AreRanges rs → least m ≤ w → map (with_room m w) (implicit_over rs c) ≡ implicit_over rs c
+implicit-with_room m w rs c h g = let p = implicit_pair rs c h in ap (map (with_room m w)) p.are ∙ pair-with_room m w p.first p.second g p.first_high p.second_high ∙ sym p.are
 
 -- implicit elements have room
-high_has_room : (w x : ℕ) → 32768 ≤ x → has_no_room 1 w x ≡ false
+high_has_room : (w x : ℕ) → 32768 ≤ x → weight_has_no_room 1 w x ≡ false
 high_has_room w x h = grind (arith, nat_tests)
 
-low_has_room : (m w x : ℕ) → x ≤ w → has_no_room m w x ≡ false
+low_has_room : (m w x : ℕ) → x ≤ w → weight_has_no_room m w x ≡ false
 low_has_room m w x h = grind (arith, nat_tests)
 
 pub pair_room : (m w a b : ℕ) → IsLevel m → least m ≤ w → 32768 ≤ a → 32768 ≤ b → AllHaveRoom m w (pair a b)

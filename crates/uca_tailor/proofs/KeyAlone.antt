@@ -6,18 +6,18 @@ use mathlib.Core.List.{append-nil}
 use Rattle.uca_weights.specs.declared.element.Element.{Element}
 use Rattle.uca_model.specs.Table.{ElementTable, elements_at, is_key}
 use Rattle.uca_model.specs.ImplicitWeights.{implicit}
-use Rattle.uca_model.specs.Match.{Step, took, greatest, start_len, extension_of}
+use Rattle.uca_model.specs.Match.{Step, took, greatest, longest_match_len, discontiguous_match}
 use Rattle.uca_model.specs.CollationElements.{took_alone, step, elements, elements_or_implicit}
 use Rattle.uca_model.proofs.RewritingLemmas.{elements_step, elements_nil}
 use Rattle.uca_tailor.specs.TailoringLaws.{EachItemIsAnAnchor}
 use Rattle.uca_tailor.proofs.ChangedTables.{elements_at-here}
 use Rattle.uca_tailor.proofs.RelationFacts.{is_entered}
 
-extension_of_nil : (k : List ℕ → Bool) (s p : List ℕ) → extension_of k s p [] ≡ took s p
-unfolding extension_of
+extension_of_nil : (k : List ℕ → Bool) (s p : List ℕ) → discontiguous_match k s p [] ≡ took s p
+unfolding discontiguous_match
 extension_of_nil k s p = refl
 
-starts_whole : (k : List ℕ → Bool) (x : ℕ) (xs : List ℕ) → k (x ∷ xs) ≡ true → start_len k (x ∷ xs) ≡ suc (length xs)
+starts_whole : (k : List ℕ → Bool) (x : ℕ) (xs : List ℕ) → k (x ∷ xs) ≡ true → longest_match_len k (x ∷ xs) ≡ suc (length xs)
 starts_whole k x xs h =
     let e : take (suc (length xs)) (x ∷ xs) ≡ x ∷ xs = take-length (x ∷ xs) in
     ap (λ b. cond b (suc (length xs)) (greatest (λ n. k (take n (x ∷ xs))) (length xs))) (ap k e ∙ h)
@@ -30,9 +30,9 @@ step_own : (k : List ℕ → Bool) (x : ℕ) (xs : List ℕ) → k (x ∷ xs) �
 step_own k x xs h =
     let t : take (suc (length xs)) (x ∷ xs) ≡ x ∷ xs = take-length (x ∷ xs) in
     let d : drop (suc (length xs)) (x ∷ xs) ≡ [] = (let l : length (x ∷ xs) ≤ suc (length xs) = omega arith in drop_of_length-le (x ∷ xs) l) in
-    ap (λ n. cond (nat_eq n 0) (took_alone (x ∷ xs)) (extension_of k (take n (x ∷ xs)) [] (drop n (x ∷ xs)))) (starts_whole k x xs h)
-    ∙ not_zero (length xs) (took_alone (x ∷ xs)) (extension_of k (take (suc (length xs)) (x ∷ xs)) [] (drop (suc (length xs)) (x ∷ xs)))
-    ∙ ap₂ (λ s r. extension_of k s [] r) t d ∙ extension_of_nil k (x ∷ xs) []
+    ap (λ n. cond (nat_eq n 0) (took_alone (x ∷ xs)) (discontiguous_match k (take n (x ∷ xs)) [] (drop n (x ∷ xs)))) (starts_whole k x xs h)
+    ∙ not_zero (length xs) (took_alone (x ∷ xs)) (discontiguous_match k (take (suc (length xs)) (x ∷ xs)) [] (drop (suc (length xs)) (x ∷ xs)))
+    ∙ ap₂ (λ s r. discontiguous_match k s [] r) t d ∙ extension_of_nil k (x ∷ xs) []
 
 -- and has the elements of that key
 elements_own : (t : ElementTable) (x : ℕ) (xs : List ℕ) → is_key t (x ∷ xs) ≡ true → elements t (x ∷ xs) ≡ elements_or_implicit t (x ∷ xs)

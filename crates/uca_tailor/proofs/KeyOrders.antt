@@ -13,7 +13,7 @@ use Rattle.uca_weights.specs.Settings.{levels}
 use Rattle.uca_model.specs.Table.{ElementTable}
 use Rattle.uca_model.specs.LevelWeights.{level_list}
 use Rattle.uca_model.specs.SortKey.{key_order, sort_key}
-use Rattle.uca_model.specs.Reading.{list_order, bytes_at, key_from, OrdersLevel}
+use Rattle.uca_model.specs.DecidingLevel.{list_order, bytes_at, key_from, OrdersLevel}
 use Rattle.uca_model.proofs.WeightLemmas.{HasWeights}
 use Rattle.uca_model.proofs.LevelLemmas.{levels-within, sort_key-levels, OrdersLevel-weights, OrdersLevel-points}
 

@@ -1,4 +1,4 @@
--- Where there is room the shift keeps the order of two lists of elements at each level.
+-- Where there is room, making it keeps the order of two lists of elements at each level.
 use Rattle.std.proofs.Common.{◌≡◌, ℕ, suc, zero, ◌-◌, ◌≤◌, Bool, true, false, cond, not, ◌&&◌, ◌||◌, ◌==◌, eqb, eqb-true, List, [], ◌∷◌, ◌++◌, map, filter, slice_index, refl, sym, ap, ap₂, ◌∙◌, arith, lit≤}
 use Rattle.std.proofs.lemmas.Bool.Decides.{nat_tests}
 use Rattle.std.specs.declared.cmp.Ordering.{Ordering}
@@ -10,30 +10,30 @@ use Rattle.uca_weights.specs.declared.settings.Variable.{Variable}
 use Rattle.uca_weights.specs.declared.settings.Variable.TheVariants.{NonIgnorable, Blanked, Shifted}
 use Rattle.uca_weights.specs.Element.{weight, is_variable, is_completely_ignorable}
 use Rattle.uca_weights.specs.VariableWeighting.{is_after_variable, weights, weighted_after, weighted, unchanged, ignored}
-use Rattle.uca_model.specs.Shift.{shift, shift_at, shifted, is_stuck}
+use Rattle.uca_model.specs.Room.{weight_with_room, weight_with_room_at, with_room, has_no_room}
 use Rattle.uca_model.specs.LevelWeights.{level_weights}
-use Rattle.uca_model.proofs.ShiftedWeights.{has_no_room, nat_cmp-shift}
-use Rattle.uca_tailor.proofs.ShiftedWeighting.{source, level_weights-shifted}
+use Rattle.uca_model.proofs.RoomAtWeights.{weight_has_no_room, nat_cmp-weight_with_room}
+use Rattle.uca_tailor.proofs.RoomAndWeighting.{source, level_weights-with_room}
 
 -- the order of two lists of elements at one level
 abbrev pub level_order : Variable → ℕ → List Element → List Element → Ordering
 level_order v level es fs = slice_cmp nat_cmp (level_weights level (weighted v es)) (level_weights level (weighted v fs))
 
--- a weight of level j has room when level m is shifted
+-- a weight of level j has room when room is made at level m
 abbrev pub HasRoom : ℕ → ℕ → ℕ → ℕ → Type 0
-HasRoom m w j x = (eqb m j && has_no_room m w x) ≡ false
+HasRoom m w j x = (eqb m j && weight_has_no_room m w x) ≡ false
 
 -- no element of a list is stuck
 abbrev pub AllHaveRoom : ℕ → ℕ → List Element → Type 0
-AllHaveRoom m w es = AllByRecursion (λ e. is_stuck m w e ≡ false) es
+AllHaveRoom m w es = AllByRecursion (λ e. has_no_room m w e ≡ false) es
 
-by_level : (m w x y : ℕ) (b : Bool) → (b && has_no_room m w x) ≡ false → (b && has_no_room m w y) ≡ false → nat_cmp (cond b (shift m w x) x) (cond b (shift m w y) y) ≡ nat_cmp x y
-by_level m w x y true p q = nat_cmp-shift m w x y p q
+by_level : (m w x y : ℕ) (b : Bool) → (b && weight_has_no_room m w x) ≡ false → (b && weight_has_no_room m w y) ≡ false → nat_cmp (cond b (weight_with_room m w x) x) (cond b (weight_with_room m w y) y) ≡ nat_cmp x y
+by_level m w x y true p q = nat_cmp-weight_with_room m w x y p q
 by_level m w x y false p q = refl
 
--- where there is room the shift keeps the order, both ways
-pub nat_cmp-shift_at : (m w j x y : ℕ) → HasRoom m w j x → HasRoom m w j y → nat_cmp (shift_at m w j x) (shift_at m w j y) ≡ nat_cmp x y
-nat_cmp-shift_at m w j x y p q = by_level m w x y (eqb m j) p q
+-- where there is room, making it keeps the order, both ways
+pub nat_cmp-weight_with_room_at : (m w j x y : ℕ) → HasRoom m w j x → HasRoom m w j y → nat_cmp (weight_with_room_at m w j x) (weight_with_room_at m w j y) ≡ nat_cmp x y
+nat_cmp-weight_with_room_at m w j x y p q = by_level m w x y (eqb m j) p q
 
 pub slice_cmp-map : (P : ℕ → Type 0) (f : ℕ → ℕ) → ((x y : ℕ) → P x → P y → nat_cmp (f x) (f y) ≡ nat_cmp x y) → (xs ys : List ℕ) → AllByRecursion P xs → AllByRecursion P ys → slice_cmp nat_cmp (map f xs) (map f ys) ≡ slice_cmp nat_cmp xs ys
 slice_cmp-map P f kept [] [] p q = refl
@@ -42,13 +42,13 @@ slice_cmp-map P f kept (x ∷ xs) [] p q = refl
 slice_cmp-map P f kept (x ∷ xs) (y ∷ ys) p q = ap₂ ordering_then (kept x y p.0 q.0) (slice_cmp-map P f kept xs ys p.1 q.1)
 
 HasRoom-zero : (m w j : ℕ) → HasRoom m w j 0
-HasRoom-zero m w j = elim (eqb m j) as (λ b. (b && has_no_room m w 0) ≡ false) [ true ↦ none m w | false ↦ refl ] where
-  none : (m w : ℕ) → has_no_room m w 0 ≡ false
+HasRoom-zero m w j = elim (eqb m j) as (λ b. (b && weight_has_no_room m w 0) ≡ false) [ true ↦ none m w | false ↦ refl ] where
+  none : (m w : ℕ) → weight_has_no_room m w 0 ≡ false
   none m w = grind (arith, nat_tests)
 
-high_room : (m w x : ℕ) (b : Bool) → eqb m 1 ≡ b → 32768 ≤ x → (b && has_no_room m w x) ≡ false
-high_room m w x true is h = ap (λ k. has_no_room k w x) (eqb-true m 1 is) ∙ first w x h where
-  first : (w x : ℕ) → 32768 ≤ x → has_no_room 1 w x ≡ false
+high_room : (m w x : ℕ) (b : Bool) → eqb m 1 ≡ b → 32768 ≤ x → (b && weight_has_no_room m w x) ≡ false
+high_room m w x true is h = ap (λ k. weight_has_no_room k w x) (eqb-true m 1 is) ∙ first w x h where
+  first : (w x : ℕ) → 32768 ≤ x → weight_has_no_room 1 w x ≡ false
   first w x h = grind (arith, nat_tests)
 high_room m w x false is h = refl
 
@@ -56,11 +56,11 @@ pub HasRoom-high : (m w x : ℕ) → 32768 ≤ x → HasRoom m w 1 x
 HasRoom-high m w x h = high_room m w x (eqb m 1) refl h
 
 -- an element with room has room at each level
-room_at : (m w j : ℕ) (e : Element) (b : Bool) → eqb m j ≡ b → is_stuck m w e ≡ false → (b && has_no_room m w (weight j e)) ≡ false
-room_at m w j e true is h = ap (λ k. has_no_room m w (weight k e)) (sym (eqb-true m j is)) ∙ h
+room_at : (m w j : ℕ) (e : Element) (b : Bool) → eqb m j ≡ b → has_no_room m w e ≡ false → (b && weight_has_no_room m w (weight j e)) ≡ false
+room_at m w j e true is h = ap (λ k. weight_has_no_room m w (weight k e)) (sym (eqb-true m j is)) ∙ h
 room_at m w j e false is h = refl
 
-pub HasRoom-weight : (m w j : ℕ) (e : Element) → is_stuck m w e ≡ false → HasRoom m w j (weight j e)
+pub HasRoom-weight : (m w j : ℕ) (e : Element) → has_no_room m w e ≡ false → HasRoom m w j (weight j e)
 HasRoom-weight m w j e h = room_at m w j e (eqb m j) refl h
 
 -- four weights that have room
@@ -70,14 +70,14 @@ FourHaveRoom m w ws = HasRoom m w 1 (slice_index ws 0) × HasRoom m w 2 (slice_i
 ignored_room : (m w f : ℕ) → HasRoom m w 1 f → FourHaveRoom m w (ignored f)
 ignored_room m w f h = (HasRoom-zero m w 1, HasRoom-zero m w 2, HasRoom-zero m w 3, h)
 
-unchanged_room : (m w f : ℕ) (e : Element) → is_stuck m w e ≡ false → HasRoom m w 1 f → FourHaveRoom m w (unchanged e f)
+unchanged_room : (m w f : ℕ) (e : Element) → has_no_room m w e ≡ false → HasRoom m w 1 f → FourHaveRoom m w (unchanged e f)
 unchanged_room m w f e h g = (HasRoom-weight m w 1 e h, HasRoom-weight m w 2 e h, HasRoom-weight m w 3 e h, g)
 
 either_room : (m w : ℕ) (b : Bool) (x y : List ℕ) → FourHaveRoom m w x → FourHaveRoom m w y → FourHaveRoom m w (cond b x y)
 either_room m w true x y p q = p
 either_room m w false x y p q = q
 
-pub weights_room : (v : Variable) (m w : ℕ) (after : Bool) (e : Element) → is_stuck m w e ≡ false → FourHaveRoom m w (weights v after e)
+pub weights_room : (v : Variable) (m w : ℕ) (after : Bool) (e : Element) → has_no_room m w e ≡ false → FourHaveRoom m w (weights v after e)
 weights_room NonIgnorable m w after e h = unchanged_room m w 0 e h (HasRoom-zero m w 1)
 weights_room Blanked m w after e h = either_room m w (is_variable e || e.l1 == 0 && after) _ _ (ignored_room m w 0 (HasRoom-zero m w 1)) (unchanged_room m w 0 e h (HasRoom-zero m w 1))
 weights_room Shifted m w after e h =
@@ -107,9 +107,9 @@ room_of m w (suc (suc (suc (suc (suc n))))) ws low most h = absurd (omega arith)
 list_room : (v : Variable) (m w level : ℕ) (es : List Element) → 1 ≤ level → level ≤ 4 → AllHaveRoom m w es → AllByRecursion (HasRoom m w (source level)) (level_weights level (weighted v es))
 list_room v m w level es low most h = column_room (FourHaveRoom m w) (HasRoom m w (source level)) (level - 1) (λ x r. room_of m w level x low most r) (weighted v es) (weighted_room v m w [] es h)
 
--- the order of two lists, before and after the shift
-pub level_order-shifted : (v : Variable) (m w level : ℕ) (es fs : List Element) → 1 ≤ level → level ≤ 4 → AllHaveRoom m w es → AllHaveRoom m w fs
-    → level_order v level (map (shifted m w) es) (map (shifted m w) fs) ≡ level_order v level es fs
-level_order-shifted v m w level es fs low most p q =
-    ap₂ (slice_cmp nat_cmp) (level_weights-shifted v m w level es low most) (level_weights-shifted v m w level fs low most)
-    ∙ slice_cmp-map (HasRoom m w (source level)) (shift_at m w (source level)) (nat_cmp-shift_at m w (source level)) _ _ (list_room v m w level es low most p) (list_room v m w level fs low most q)
+-- the order of two lists, before and after room was made
+pub level_order-with_room : (v : Variable) (m w level : ℕ) (es fs : List Element) → 1 ≤ level → level ≤ 4 → AllHaveRoom m w es → AllHaveRoom m w fs
+    → level_order v level (map (with_room m w) es) (map (with_room m w) fs) ≡ level_order v level es fs
+level_order-with_room v m w level es fs low most p q =
+    ap₂ (slice_cmp nat_cmp) (level_weights-with_room v m w level es low most) (level_weights-with_room v m w level fs low most)
+    ∙ slice_cmp-map (HasRoom m w (source level)) (weight_with_room_at m w (source level)) (nat_cmp-weight_with_room_at m w (source level)) _ _ (list_room v m w level es low most p) (list_room v m w level fs low most q)

@@ -1,12 +1,12 @@
--- The levels at which a relation orders, and what the shift and the raise do to the weights of an element at each.
+-- The levels at which a relation orders, and what room and the raise do to the weights of an element at each.
 use Rattle.std.proofs.Common.{◌≡◌, ℕ, suc, zero, ◌+◌, ◌≤◌, ◌<◌, List, refl, subst, arith}
 use Rattle.uca_weights.specs.declared.element.Element.{Element}
 use Rattle.uca_weights.specs.Element.{weight}
 use Rattle.uca_model.specs.Table.{ElementTable}
 use Rattle.uca_model.specs.Rules.{Operator, first, second, third, same}
-use Rattle.uca_model.specs.Shift.{shift, shifted}
+use Rattle.uca_model.specs.Room.{weight_with_room, with_room}
 use Rattle.uca_model.specs.Tailoring.{raised, placed_after, placed}
-use Rattle.uca_model.proofs.ShiftedWeights.{raised-first, raised-second, raised-third}
+use Rattle.uca_model.proofs.RoomAtWeights.{raised-first, raised-second, raised-third}
 use Rattle.uca_tailor.specs.TailoringLaws.{op_level}
 
 -- levels 1 to 3
@@ -55,11 +55,11 @@ places_at level same is some = let none : 0 ≡ level = is in absurd (omega arit
 
 -- ## The weights of an element
 
--- at the level: shifted, and one more
-pub weight-shifted : (m w : ℕ) (e : Element) → IsLevel m → weight m (shifted m w e) ≡ shift m w (weight m e)
-weight-shifted m w e level_one = refl
-weight-shifted m w e level_two = refl
-weight-shifted m w e level_three = refl
+-- at the level: with room, and one more
+pub weight-with_room : (m w : ℕ) (e : Element) → IsLevel m → weight m (with_room m w e) ≡ weight_with_room m w (weight m e)
+weight-with_room m w e level_one = refl
+weight-with_room m w e level_two = refl
+weight-with_room m w e level_three = refl
 
 pub weight-raised : (m : ℕ) (e : Element) → IsLevel m → weight m (raised m e) ≡ weight m e + 1
 weight-raised m e level_one = raised-first e
@@ -67,7 +67,7 @@ weight-raised m e level_two = raised-second e
 weight-raised m e level_three = raised-third e
 
 -- below the level: as they were
-pub weight-shifted_above : (j m w : ℕ) (e : Element) → IsBelow j m → weight j (shifted m w e) ≡ weight j e
+pub weight-shifted_above : (j m w : ℕ) (e : Element) → IsBelow j m → weight j (with_room m w e) ≡ weight j e
 weight-shifted_above j m w e first_of_second = refl
 weight-shifted_above j m w e first_of_third = refl
 weight-shifted_above j m w e second_of_third = refl

@@ -1,12 +1,12 @@
 pub mod AnchorLemmas
-pub mod StepLemmas
+pub mod RelationSteps
 pub mod CheckedLemmas
-pub mod ScanLemmas
+pub mod ScanSteps
 pub mod PieceLemmas
 pub mod StringLemmas
 pub mod ParsingLemmas
 pub mod Levels
-pub mod ShiftedWeighting
+pub mod RoomAndWeighting
 pub mod LevelOrders
 pub mod ImplicitElements
 pub mod ChangedTables

@@ -9,11 +9,11 @@ use Rattle.uca_weights.specs.Element.{weight}
 use Rattle.uca_model.specs.Table.{ElementTable, AreRanges, IsElement, key_cmp, with_entry}
 use Rattle.uca_model.specs.CollationElements.{elements}
 use Rattle.uca_model.specs.Rules.{Operator, first, second, third, same, Relation, Chain}
-use Rattle.uca_model.specs.Shift.{shifted_table, is_stuck}
+use Rattle.uca_model.specs.Room.{table_with_room, has_no_room}
 use Rattle.uca_model.specs.Tailoring.{TailorCause, TailorFault, least, Placed, placed, Related, related, at_relation, related_all, tailored_from}
 use Rattle.uca_tailor.proofs.Levels.{IsLevel, level_one, level_two, level_three}
-use Rattle.uca_tailor.proofs.LevelOrders.{level_order, level_order-shifted}
-use Rattle.uca_tailor.proofs.ChangedTables.{elements_of_keys, elements_of_keys-shifted, elements_of_keys_room, elements_of_keys-with_entry}
+use Rattle.uca_tailor.proofs.LevelOrders.{level_order, level_order-with_room}
+use Rattle.uca_tailor.proofs.ChangedTables.{elements_of_keys, elements_of_keys-with_room, elements_of_keys_room, elements_of_keys-with_entry}
 use Rattle.uca_tailor.proofs.RelationFacts.{same_ok, bind_ok, IsPlacedAt, is_placed_at, is_entered}
 use Rattle.uca_tailor.proofs.FittingWeights.{shifted_fit}
 
@@ -52,20 +52,20 @@ KeepsOrders-with_entry t k es q apart = record {
   kept : (xs : List (List ℕ)) → AllByRecursion (λ x. q x ≡ false) xs → elements_of_keys (with_entry t k es) xs ≡ elements_of_keys t xs
   kept xs h = elements_of_keys-with_entry t k es xs (each xs h)
 
--- a shift for which there is room keeps all orders
-KeepsOrders-shifted : (m w : ℕ) (t : ElementTable) (q : List ℕ → Bool) → IsLevel m → AreRanges t.ranges → least m ≤ w → list_any (list_any (is_stuck m w)) (values t.entries) ≡ false → KeepsOrders t (shifted_table m w t) q
-KeepsOrders-shifted m w t q l r h e = record {
+-- making room where there is some keeps all orders
+KeepsOrders-with_room : (m w : ℕ) (t : ElementTable) (q : List ℕ → Bool) → IsLevel m → AreRanges t.ranges → least m ≤ w → list_any (list_any (has_no_room m w)) (values t.entries) ≡ false → KeepsOrders t (table_with_room m w t) q
+KeepsOrders-with_room m w t q l r h e = record {
   ranges = refl;
   orders = λ ks ls a b v level low most.
-      ap₂ (level_order v level) (elements_of_keys-shifted m w t ks r h) (elements_of_keys-shifted m w t ls r h)
-      ∙ level_order-shifted v m w level (elements_of_keys t ks) (elements_of_keys t ls) low most (elements_of_keys_room m w t ks l r h e) (elements_of_keys_room m w t ls l r h e);
-  fits = λ ks a g. subst (AllByRecursion IsElement) (sym (elements_of_keys-shifted m w t ks r h)) (shifted_fit m w (elements_of_keys t ks) l (elements_of_keys_room m w t ks l r h e) g);
+      ap₂ (level_order v level) (elements_of_keys-with_room m w t ks r h) (elements_of_keys-with_room m w t ls r h)
+      ∙ level_order-with_room v m w level (elements_of_keys t ks) (elements_of_keys t ls) low most (elements_of_keys_room m w t ks l r h e) (elements_of_keys_room m w t ls l r h e);
+  fits = λ ks a g. subst (AllByRecursion IsElement) (sym (elements_of_keys-with_room m w t ks r h)) (shifted_fit m w (elements_of_keys t ks) l (elements_of_keys_room m w t ks l r h e) g);
 }
 
 -- ## One relation
 
 at_level : (level : ℕ) (t : ElementTable) (anchor : List Element) (p : Placed) (q : List ℕ → Bool) → IsLevel level → AreRanges t.ranges → IsPlacedAt level t anchor p → KeepsOrders t p.table q
-at_level level t anchor p q l r h = subst (λ z. KeepsOrders t z.table q) (sym h.are) (KeepsOrders-shifted level (weight level h.split.last) t q l r h.free.large h.free.table_room)
+at_level level t anchor p q l r h = subst (λ z. KeepsOrders t z.table q) (sym h.are) (KeepsOrders-with_room level (weight level h.split.last) t q l r h.free.large h.free.table_room)
 
 keeps_placed : (t : ElementTable) (anchor : List Element) (op : Operator) (p : Placed) (q : List ℕ → Bool) → AreRanges t.ranges → placed t anchor op ≡ Ok p → KeepsOrders t p.table q
 keeps_placed t anchor first p q r e = at_level 1 t anchor p q level_one r (is_placed_at 1 t anchor p e)

@@ -12,13 +12,13 @@ use Rattle.uca_model.specs.RuleText as text
 use Rattle.uca_model.specs.RuleText.{RuleFault, Kind, string_of, part_faults, leading_faults, end_faults, segment_faults, before_next, counted, no_item, item, nothing, resets, relates, expands, grouped, with_segment, fault_if, too_many_relations, first_or, rules_of, faults, segments, parts}
 use Rattle.uca_tailor.proofs.StringLemmas.{some_faults}
 use Rattle.uca_tailor.specs.Chains.{operator_of, relation_of, chain_of}
-use Rattle.uca_tailor.specs.Faults.{told_of_text, RefusesText}
+use Rattle.uca_tailor.specs.Faults.{reported_text_cause, RefusesText}
 use Rattle.uca_tailor.specs.Scan.{ScanState, scan_of}
 use Rattle.uca_tailor.specs.Strings.{left_of, segments_from, FindsNext, ReadsString, string_faults, BeginsWith, BeginsAt}
-use Rattle.uca_tailor.specs.Parsed.{expands_here, is_expansion, left_out_here, is_left_out_next, resets_here, EndsChain, IsRelationNext, behind_faults, with_relation, ReadsRelation, ReadsChain}
+use Rattle.uca_tailor.specs.Parsed.{expands_here, is_expansion, left_out_here, is_left_out_next, resets_here, EndsChain, IsRelationNext, after_faults, with_relation, ReadsRelation, ReadsChain}
 use Rattle.uca_tailor.specs.declared.faults.RuleCause.{RuleCause}
 use Rattle.uca_tailor.specs.declared.faults.RuleCause.TheVariants as fault_cause
-use Rattle.uca_tailor.specs.declared.faults.RuleFault as told
+use Rattle.uca_tailor.specs.declared.faults.RuleFault as declared
 use Rattle.uca_tailor.specs.declared.rules.Chain.{Chain}
 use Rattle.uca_tailor.specs.declared.rules.Op.{Op}
 use Rattle.uca_tailor.specs.declared.rules.Relation.{Relation}
@@ -28,29 +28,29 @@ use Rattle.uca_tailor.specs.declared.pieces.Operator.TheVariants as operator
 
 -- Faults
 
--- more faults behind the first
-pub begins-more : (f : told.RuleFault) (xs ys : List RuleFault) → BeginsWith f xs → BeginsWith f (xs ++ ys)
-begins-more f xs ys begins = go (told_of_text f.cause) begins
+-- more faults after the first
+pub begins-more : (f : declared.RuleFault) (xs ys : List RuleFault) → BeginsWith f xs → BeginsWith f (xs ++ ys)
+begins-more f xs ys begins = go (reported_text_cause f.cause) begins
   where
     go : (o : Option text.RuleCause) → MatchOption o (f.at ≡ 0) (λ cause. (rest : List RuleFault) × (xs ≡ record { at = f.at; cause = cause } ∷ rest)) → MatchOption o (f.at ≡ 0) (λ cause. (rest : List RuleFault) × (xs ++ ys ≡ record { at = f.at; cause = cause } ∷ rest))
     go None e = e
     go (Some cause) (rest, e) = (rest ++ ys, ap (λ zs. zs ++ ys) e)
 
 -- a fault at its byte
-pub begins-at : (f : told.RuleFault) (at : ℕ) (cause : RuleCause) (xs : List RuleFault) → f.cause ≡ cause → MatchOption (told_of_text cause) (f.at ≡ 0) (λ _. f.at ≡ at) → BeginsAt at cause xs → BeginsWith f xs
-begins-at f at cause xs is place begins = subst (λ c. MatchOption (told_of_text c) (f.at ≡ 0) (λ cause. (rest : List RuleFault) × (xs ≡ record { at = f.at; cause = cause } ∷ rest))) (sym is) (go (told_of_text cause) place begins)
+pub begins-at : (f : declared.RuleFault) (at : ℕ) (cause : RuleCause) (xs : List RuleFault) → f.cause ≡ cause → MatchOption (reported_text_cause cause) (f.at ≡ 0) (λ _. f.at ≡ at) → BeginsAt at cause xs → BeginsWith f xs
+begins-at f at cause xs is place begins = subst (λ c. MatchOption (reported_text_cause c) (f.at ≡ 0) (λ cause. (rest : List RuleFault) × (xs ≡ record { at = f.at; cause = cause } ∷ rest))) (sym is) (go (reported_text_cause cause) place begins)
   where
-    go : (o : Option text.RuleCause) → MatchOption o (f.at ≡ 0) (λ _. f.at ≡ at) → MatchOption o (Unit {0}) (λ told. (rest : List RuleFault) × (xs ≡ record { at = at; cause = told } ∷ rest)) → MatchOption o (f.at ≡ 0) (λ cause. (rest : List RuleFault) × (xs ≡ record { at = f.at; cause = cause } ∷ rest))
+    go : (o : Option text.RuleCause) → MatchOption o (f.at ≡ 0) (λ _. f.at ≡ at) → MatchOption o (Unit {0}) (λ stated. (rest : List RuleFault) × (xs ≡ record { at = at; cause = stated } ∷ rest)) → MatchOption o (f.at ≡ 0) (λ cause. (rest : List RuleFault) × (xs ≡ record { at = f.at; cause = cause } ∷ rest))
     go None e u = e
     go (Some cause) e (rest, is) = (rest, is ∙ ap (λ n. let g : RuleFault = record { at = n; cause = cause } in g ∷ rest) (sym e))
 
-pub begins-same : (f : told.RuleFault) (xs ys : List RuleFault) → xs ≡ ys → BeginsWith f ys → BeginsWith f xs
+pub begins-same : (f : declared.RuleFault) (xs ys : List RuleFault) → xs ≡ ys → BeginsWith f ys → BeginsWith f xs
 begins-same f xs ys e begins = subst (BeginsWith f) (sym e) begins
 
 -- the text is refused for the fault that is met first
-pub refuses_text : (f : told.RuleFault) (cs : List ℕ) → BeginsWith f (faults (segments (parts cs))) → RefusesText (rules_of cs) f
+pub refuses_text : (f : declared.RuleFault) (cs : List ℕ) → BeginsWith f (faults (segments (parts cs))) → RefusesText (rules_of cs) f
 unfolding rules_of
-refuses_text f cs begins = go (told_of_text f.cause) begins
+refuses_text f cs begins = go (reported_text_cause f.cause) begins
   where
     go : (o : Option text.RuleCause) → MatchOption o (f.at ≡ 0) (λ cause. (rest : List RuleFault) × (faults (segments (parts cs)) ≡ record { at = f.at; cause = cause } ∷ rest)) → MatchOption o (f.at ≡ 0) (λ cause. rules_of cs ≡ Err (record { at = f.at; cause = cause }))
     go None e = e
@@ -58,15 +58,15 @@ refuses_text f cs begins = go (told_of_text f.cause) begins
 
 -- Strings
 
--- behind a string without fault stand the faults of what follows
-string-behind : (s t : ScanState) (string : List ℕ) (found : Option Found) → ReadsString s string found t → (kind : Kind) (n : ℕ) → behind_faults kind n s ≡ segment_faults (before_next kind) (n + counted kind) (segments_from found t)
-string-behind s t string found reads kind n =
+-- after a string without fault stand the faults of what follows
+string-after : (s t : ScanState) (string : List ℕ) (found : Option Found) → ReadsString s string found t → (kind : Kind) (n : ℕ) → after_faults kind n s ≡ segment_faults (before_next kind) (n + counted kind) (segments_from found t)
+string-after s t string found reads kind n =
     sym (append_assoc (flat_map part_faults (left_of s).leading) (end_faults s.at (string_of (left_of s).leading)) (segment_faults (before_next kind) (n + counted kind) (left_of s).all))
     ∙ ap (λ fs. fs ++ segment_faults (before_next kind) (n + counted kind) (left_of s).all) reads.fine
     ∙ ap (segment_faults (before_next kind) (n + counted kind)) reads.rest
 
 -- a fault of the string is the first
-pub string-begins : (f : told.RuleFault) (s : ScanState) (kind : Kind) (n : ℕ) → BeginsWith f (string_faults s) → BeginsWith f (behind_faults kind n s)
+pub string-begins : (f : declared.RuleFault) (s : ScanState) (kind : Kind) (n : ℕ) → BeginsWith f (string_faults s) → BeginsWith f (after_faults kind n s)
 string-begins f s kind n begins =
     begins-same f _ _ (sym (append_assoc (flat_map part_faults (left_of s).leading) (end_faults s.at (string_of (left_of s).leading)) (segment_faults (before_next kind) (n + counted kind) (left_of s).all)))
     (begins-more f (string_faults s) (segment_faults (before_next kind) (n + counted kind) (left_of s).all) begins)
@@ -95,14 +95,14 @@ no_expansion : (found : Option Found) (t : ScanState) → is_expansion found ≡
 no_expansion None t is other = refl
 no_expansion (Some f) t is other = no_expansion-at f.operator f.at t is other
 
--- behind an item an expansion may stand
-expansion_next-at : (o : Operator) (at : ℕ) (t : ScanState) (n : ℕ) → expands_here o ≡ true → segment_faults item n (segments_from (Some (record { operator = o; at = at })) t) ≡ behind_faults expands n t
+-- after an item an expansion may stand
+expansion_next-at : (o : Operator) (at : ℕ) (t : ScanState) (n : ℕ) → expands_here o ≡ true → segment_faults item n (segments_from (Some (record { operator = o; at = at })) t) ≡ after_faults expands n t
 expansion_next-at operator.Reset at t n is = cc
 expansion_next-at (operator.Relation op) at t n is = cc
 expansion_next-at operator.LeftOut at t n is = cc
 expansion_next-at operator.Expansion at t n is = refl
 
-expansion_next : (found : Option Found) (t : ScanState) (n : ℕ) → is_expansion found ≡ true → segment_faults item n (segments_from found t) ≡ behind_faults expands n t
+expansion_next : (found : Option Found) (t : ScanState) (n : ℕ) → is_expansion found ≡ true → segment_faults item n (segments_from found t) ≡ after_faults expands n t
 expansion_next None t n is = cc
 expansion_next (Some f) t n is = expansion_next-at f.operator f.at t n is
 
@@ -127,7 +127,7 @@ relation-same o i j e g same_item same_expansion = ap₂ (λ x y. let r : rules.
 pub relation_alone : (s t : ScanState) (op : Op) (r : Relation) (found : Option Found) → ReadsString s r.item.items found t → is_expansion found ≡ false → r.op ≡ op → r.expansion.items ≡ [] → ReadsRelation s op r found t
 relation_alone s t op r found reads alone same_op none = record {
   is_relation = record { item = reads.is_string; expansion = omega (arith, ap length none) };
-  faults = λ n. string-behind s t r.item.items found reads (relates (operator_of op)) n ∙ same_before found t (n + 1) alone;
+  faults = λ n. string-after s t r.item.items found reads (relates (operator_of op)) n ∙ same_before found t (n + 1) alone;
   says = λ at other.
       ap (λ g. with_segment (relates (operator_of op)) (nfd (string_of (left_of s).leading)) (grouped g)) reads.rest
       ∙ ap (λ q. with_relation q (grouped (segments_from found t)))
@@ -141,8 +141,8 @@ pub relation_expanded : (s t u : ScanState) (op : Op) (r : Relation) (found next
 relation_expanded s t u op r found next reads expanded more same_op = record {
   is_relation = record { item = reads.is_string; expansion = more.is_string.few };
   faults = λ n.
-      string-behind s t r.item.items found reads (relates (operator_of op)) n ∙ expansion_next found t (n + 1) expanded
-      ∙ string-behind t u r.expansion.items next more expands (n + 1)
+      string-after s t r.item.items found reads (relates (operator_of op)) n ∙ expansion_next found t (n + 1) expanded
+      ∙ string-after t u r.expansion.items next more expands (n + 1)
       ∙ ap (λ m. segment_faults no_item m (segments_from next u)) (let e : n + 1 + 0 ≡ n + 1 = omega arith in e);
   says = λ at other.
       ap (λ g. with_segment (relates (operator_of op)) (nfd (string_of (left_of s).leading)) (grouped g)) reads.rest
@@ -155,9 +155,9 @@ relation_expanded s t u op r found next reads expanded more same_op = record {
 }
 
 -- a fault of the expansion
-pub expansion_begins : (f : told.RuleFault) (s t : ScanState) (op : Op) (string : List ℕ) (found : Option Found) (n : ℕ) → ReadsString s string found t → is_expansion found ≡ true → BeginsWith f (string_faults t) → BeginsWith f (behind_faults (relates (operator_of op)) n s)
+pub expansion_begins : (f : declared.RuleFault) (s t : ScanState) (op : Op) (string : List ℕ) (found : Option Found) (n : ℕ) → ReadsString s string found t → is_expansion found ≡ true → BeginsWith f (string_faults t) → BeginsWith f (after_faults (relates (operator_of op)) n s)
 expansion_begins f s t op string found n reads expanded begins =
-    begins-same f _ _ (string-behind s t string found reads (relates (operator_of op)) n ∙ expansion_next found t (n + 1) expanded) (string-begins f t expands (n + 1) begins)
+    begins-same f _ _ (string-after s t string found reads (relates (operator_of op)) n ∙ expansion_next found t (n + 1) expanded) (string-begins f t expands (n + 1) begins)
 
 -- Chains
 
@@ -195,7 +195,7 @@ ends_left (Some f) is = ends_left-at f.operator f.at is
 -- the relations of a chain so far, whose reset stands before s
 pub record InChain (s : ScanState) (count : ℕ) (relations : List Relation) (next : Option Found) (t : ScanState) : Type 0 where
   pub are_relations : All IsRelation (map relation_of relations)
-  pub faults : behind_faults resets count s ≡ segment_faults no_item (count + length relations) (segments_from next t)
+  pub faults : after_faults resets count s ≡ segment_faults no_item (count + length relations) (segments_from next t)
   pub says : is_left_out_next next ≡ false → (grouped (left_of s).all).relations ≡ map relation_of relations ++ (grouped (segments_from next t)).relations
   pub chains : is_left_out_next next ≡ false → (grouped (left_of s).all).chains ≡ (grouped (segments_from next t)).chains
   pub room : count + length relations ≤ MAX_RELATIONS
@@ -204,7 +204,7 @@ pub record InChain (s : ScanState) (count : ℕ) (relations : List Relation) (ne
 pub chain_begins : (s t : ScanState) (count : ℕ) (reset : List ℕ) (next : Option Found) → ReadsString s reset next t → count ≤ MAX_RELATIONS → InChain s count [] next t
 chain_begins s t count reset next reads room = record {
   are_relations = λ k d h. absurd (omega arith);
-  faults = string-behind s t reset next reads resets count;
+  faults = string-after s t reset next reads resets count;
   says = λ _. ap (λ g. (grouped g).relations) reads.rest;
   chains = λ _. ap (λ g. (grouped g).chains) reads.rest;
   room = omega arith;
@@ -212,10 +212,10 @@ chain_begins s t count reset next reads room = record {
 }
 
 -- the faults at a relation's operator that has none
-relation_fine : (next : Option Found) (n : ℕ) (op : Op) (t : ScanState) → IsRelationNext next n op → segment_faults no_item n (segments_from next t) ≡ behind_faults (relates (operator_of op)) n t
+relation_fine : (next : Option Found) (n : ℕ) (op : Op) (t : ScanState) → IsRelationNext next n op → segment_faults no_item n (segments_from next t) ≡ after_faults (relates (operator_of op)) n t
 relation_fine next n op t is =
     ap (λ f. segment_faults no_item n (segments_from f t)) is.is
-    ∙ ap (λ b. fault_if b too_many_relations is.at ++ behind_faults (relates (operator_of op)) n t) is.room
+    ∙ ap (λ b. fault_if b too_many_relations is.at ++ after_faults (relates (operator_of op)) n t) is.room
 
 pub chain_more : (s t u : ScanState) (count : ℕ) (relations : List Relation) (next found : Option Found) (op : Op) (r : Relation) → InChain s count relations next t → IsRelationNext next (count + length relations) op → ReadsRelation t op r found u → InChain s count (relations ++ r ∷ []) found u
 chain_more s t u count relations next found op r is here reads =
@@ -241,18 +241,18 @@ chain_more s t u count relations next found op r is here reads =
     not_full : (n : ℕ) → n ≤ MAX_RELATIONS → (n == MAX_RELATIONS) ≡ false → n < MAX_RELATIONS
     not_full n low other = grind (arith, nat_tests)
 
--- fewer segments are left behind a relation
+-- fewer segments are left after a relation
 pub chain_smaller : (t u : ScanState) (count : ℕ) (next found : Option Found) (op : Op) (r : Relation) → IsRelationNext next count op → ReadsRelation t op r found u → length (segments_from found u) < length (segments_from next t)
 chain_smaller t u count next found op r here reads =
     let counts : length (segments_from next t) ≡ length (left_of t).all + 1 = ap (λ f. length (segments_from f t)) here.is ∙ (let e : length (segments_from (Some (record { operator = operator.Relation op; at = here.at })) t) ≡ length (left_of t).all + 1 = omega arith in e) in
     omega (arith, reads.fewer, counts)
 
 -- a relation's fault is the first of its chain
-pub chain_refused : (f : told.RuleFault) (s t : ScanState) (count : ℕ) (relations : List Relation) (next : Option Found) (op : Op) → InChain s count relations next t → IsRelationNext next (count + length relations) op → ((n : ℕ) → BeginsWith f (behind_faults (relates (operator_of op)) n t)) → BeginsWith f (behind_faults resets count s)
+pub chain_refused : (f : declared.RuleFault) (s t : ScanState) (count : ℕ) (relations : List Relation) (next : Option Found) (op : Op) → InChain s count relations next t → IsRelationNext next (count + length relations) op → ((n : ℕ) → BeginsWith f (after_faults (relates (operator_of op)) n t)) → BeginsWith f (after_faults resets count s)
 chain_refused f s t count relations next op is here begins =
     begins-same f _ _ (is.faults ∙ relation_fine next (count + length relations) op t here) (begins (count + length relations))
 
-pub chain_stopped : (f : told.RuleFault) (s t : ScanState) (count : ℕ) (relations : List Relation) (next : Option Found) → InChain s count relations next t → BeginsWith f (segment_faults no_item (count + length relations) (segments_from next t)) → BeginsWith f (behind_faults resets count s)
+pub chain_stopped : (f : declared.RuleFault) (s t : ScanState) (count : ℕ) (relations : List Relation) (next : Option Found) → InChain s count relations next t → BeginsWith f (segment_faults no_item (count + length relations) (segments_from next t)) → BeginsWith f (after_faults resets count s)
 chain_stopped f s t count relations next is begins = begins-same f _ _ is.faults begins
 
 -- the whole chain
@@ -288,7 +288,7 @@ rules_begin cs next t finds = record {
 }
 
 -- a reset is next
-reset_fine : (next : Option Found) (f : Found) (t : ScanState) (count : ℕ) → next ≡ Some f → f.operator ≡ operator.Reset → segment_faults nothing count (segments_from next t) ≡ behind_faults resets count t
+reset_fine : (next : Option Found) (f : Found) (t : ScanState) (count : ℕ) → next ≡ Some f → f.operator ≡ operator.Reset → segment_faults nothing count (segments_from next t) ≡ after_faults resets count t
 reset_fine next f t count is resets_now =
     ap (λ g. segment_faults nothing count (segments_from g t)) is
     ∙ ap (λ o. let g : Found = record { operator = o; at = f.at } in segment_faults nothing count (segments_from (Some g) t)) resets_now
@@ -318,11 +318,11 @@ rules_smaller count next found f t u c here reads =
     omega (arith, reads.fewer, counts)
 
 -- a fault of a chain is the first of the text
-pub rules_refused : (f : told.RuleFault) (cs : List ℕ) (chains : List Chain) (count : ℕ) (next : Option Found) (g : Found) (t : ScanState) → InRules cs chains count next t → next ≡ Some g → g.operator ≡ operator.Reset → BeginsWith f (behind_faults resets count t) → RefusesText (rules_of cs) f
+pub rules_refused : (f : declared.RuleFault) (cs : List ℕ) (chains : List Chain) (count : ℕ) (next : Option Found) (g : Found) (t : ScanState) → InRules cs chains count next t → next ≡ Some g → g.operator ≡ operator.Reset → BeginsWith f (after_faults resets count t) → RefusesText (rules_of cs) f
 rules_refused f cs chains count next g t is here resets_now begins = refuses_text f cs (begins-same f _ _ (is.fine ∙ reset_fine next g t count here resets_now) begins)
 
 -- an operator before the first reset
-pub rules_stopped : (f : told.RuleFault) (cs : List ℕ) (chains : List Chain) (count : ℕ) (next : Option Found) (t : ScanState) → InRules cs chains count next t → BeginsWith f (segment_faults nothing count (segments_from next t)) → RefusesText (rules_of cs) f
+pub rules_stopped : (f : declared.RuleFault) (cs : List ℕ) (chains : List Chain) (count : ℕ) (next : Option Found) (t : ScanState) → InRules cs chains count next t → BeginsWith f (segment_faults nothing count (segments_from next t)) → RefusesText (rules_of cs) f
 rules_stopped f cs chains count next t is begins = refuses_text f cs (begins-same f _ _ is.fine begins)
 
 pub no_reset : (o : Operator) (at : ℕ) (t : ScanState) (count : ℕ) → resets_here o ≡ false → (rest : List RuleFault) × (segment_faults nothing count (segments_from (Some (record { operator = o; at = at })) t) ≡ record { at = at; cause = text.syntax } ∷ rest)
@@ -332,7 +332,7 @@ no_reset operator.LeftOut at t count is = (_, refl)
 no_reset operator.Expansion at t count is = (_, refl)
 
 -- a fault before the first operator
-pub leading_refused : (f : told.RuleFault) (cs : List ℕ) → BeginsWith f (flat_map leading_faults (left_of (scan_of cs)).leading) → RefusesText (rules_of cs) f
+pub leading_refused : (f : declared.RuleFault) (cs : List ℕ) → BeginsWith f (flat_map leading_faults (left_of (scan_of cs)).leading) → RefusesText (rules_of cs) f
 leading_refused f cs begins = refuses_text f cs (begins-more f (flat_map leading_faults (left_of (scan_of cs)).leading) (segment_faults nothing 0 (segments (parts cs)).all) begins)
 
 -- the end of the text
@@ -372,9 +372,9 @@ pub operator_some : (cs : List ℕ) (chains : List Chain) (count : ℕ) (next : 
 unfolding rules_of
 operator_some cs chains count next g t is here = first-some (faults (segments (parts cs))) _ (λ none said. by_operator g.operator refl none said)
   where
-    behind-some : (xs ys : List rules.Chain) (y : rules.Chain) → xs ++ y ∷ ys ≢ []
-    behind-some [] ys y = λ e. cc
-    behind-some (x ∷ xs) ys y = λ e. cc
+    after-some : (xs ys : List rules.Chain) (y : rules.Chain) → xs ++ y ∷ ys ≢ []
+    after-some [] ys y = λ e. cc
+    after-some (x ∷ xs) ys y = λ e. cc
 
     fault_here : (o : Operator) → g.operator ≡ o → faults (segments (parts cs)) ≡ [] → segment_faults nothing count (segments_from (Some (record { operator = o; at = g.at })) t) ≡ []
     fault_here o e none =
@@ -383,7 +383,7 @@ operator_some cs chains count next g t is here = first-some (faults (segments (p
 
     by_operator : (o : Operator) → g.operator ≡ o → faults (segments (parts cs)) ≡ [] → (grouped (segments (parts cs)).all).chains ≢ []
     by_operator operator.Reset e none = λ said.
-        behind-some (map chain_of chains) (grouped (left_of t).all).chains _
+        after-some (map chain_of chains) (grouped (left_of t).all).chains _
         (sym (ap (λ n. map chain_of chains ++ (grouped (segments_from n t)).chains) here ∙ ap (λ o. let f : Found = record { operator = o; at = g.at } in map chain_of chains ++ (grouped (segments_from (Some f) t)).chains) e) ∙ sym is.says ∙ said)
     by_operator (operator.Relation op) e none = absurd (some_faults _ _ (no_reset (operator.Relation op) g.at t count refl) (fault_here (operator.Relation op) e none))
     by_operator operator.LeftOut e none = absurd (some_faults _ _ (no_reset operator.LeftOut g.at t count refl) (fault_here operator.LeftOut e none))
@@ -395,7 +395,7 @@ pushed (Ok a) b e f = refl
 pushed (Err x) b e f = cc
 
 -- an operator before the first reset has the fault of the text
-pub before_reset : (f : told.RuleFault) (cs : List ℕ) (chains : List Chain) (count : ℕ) (next : Option Found) (g : Found) (t : ScanState) → InRules cs chains count next t → next ≡ Some g → resets_here g.operator ≡ false → f.cause ≡ fault_cause.Syntax → f.at ≡ g.at → RefusesText (rules_of cs) f
+pub before_reset : (f : declared.RuleFault) (cs : List ℕ) (chains : List Chain) (count : ℕ) (next : Option Found) (g : Found) (t : ScanState) → InRules cs chains count next t → next ≡ Some g → resets_here g.operator ≡ false → f.cause ≡ fault_cause.Syntax → f.at ≡ g.at → RefusesText (rules_of cs) f
 before_reset f cs chains count next g t is here other is_syntax place =
     rules_stopped f cs chains count next t is
     (subst (λ n. BeginsWith f (segment_faults nothing count (segments_from n t))) (sym here)

@@ -6,7 +6,7 @@ use Rattle.std.proofs.lemmas.List.Sums.{take_while-cons}
 use Rattle.std.specs.List.{take_while}
 use Rattle.std.specs.Option.{option_map}
 use Rattle.std.specs.Char.{digit_value, is_digit}
-use Rattle.uca_model.specs.RuleText.{begins_with, apostrophe, Quoted, behind_quoted, quoted, refused, syntax, hex_value, code_point, gives, given, less_than, less_run, less_signs, equals, piece_of, is_white_space}
+use Rattle.uca_model.specs.RuleText.{begins_with, apostrophe, Quoted, after_quoted, quoted, refused, syntax, hex_value, code_point, gives, given, less_than, less_run, less_signs, equals, piece_of, is_white_space}
 use Rattle.uca_model.specs.RuleText as text
 use Rattle.uca_model.specs.Rules.{same}
 use Rattle.uca_model.proofs.RuleTextLemmas.{piece-some}
@@ -17,7 +17,7 @@ use Rattle.uca_tailor.specs.declared.pieces.Operator.{Operator}
 use Rattle.uca_tailor.specs.declared.pieces.Operator.TheVariants as operator
 use Rattle.uca_tailor.specs.declared.pieces.Piece.{Piece}
 use Rattle.uca_tailor.specs.declared.pieces.Piece.TheVariants as piece
-use Rattle.uca_tailor.proofs.ScanLemmas.{passed-zero, passed-passed}
+use Rattle.uca_tailor.proofs.ScanSteps.{passed-zero, passed-passed}
 
 -- the character that was looked at is taken
 pub take_peeked : (s t : ScanState) (given : Option ℕ) (c : ℕ) → Some c ≡ first_left s.left → TakesOne s given t → (s.left ≡ c ∷ t.left) × (t ≡ passed 1 s)
@@ -35,7 +35,7 @@ take_next s t given c is h = take_peeked s t given c (peeked c s.left is) h
 pub fewer_left : (s t : ScanState) (c : ℕ) → s.left ≡ c ∷ t.left → length t.left < length s.left
 fewer_left s t c e = omega (arith, ap length e)
 
--- behind n more characters, the first of which was taken
+-- after n more characters, the first of which was taken
 pub passed-taken : (n : ℕ) (s t : ScanState) → t ≡ passed 1 s → passed (n + 1) s ≡ passed n t
 passed-taken n s t e = ap (λ k. passed k s) (let same : n + 1 ≡ 1 + n = omega arith in same) ∙ sym (passed-passed n 1 s) ∙ ap (passed n) (sym e)
 
@@ -77,16 +77,16 @@ run_of_other c (x ∷ cs) is = take_while-cons (λ x. x == c) x cs ∙ cond-fals
 -- Quotes
 
 -- with characters in front that are taken
-abbrev pub behind_all : List ℕ → ℕ → Quoted → Quoted
-behind_all done n q = record { text = done ++ q.text; size = q.size + n }
+abbrev pub after_all : List ℕ → ℕ → Quoted → Quoted
+after_all done n q = record { text = done ++ q.text; size = q.size + n }
 
--- the scan stands inside a quote, whose characters so far stand behind the string
+-- the scan stands inside a quote, whose characters so far stand after the string
 pub record InQuote (old : ScanState) (string : List ℕ) (now : ScanState) (longer : List ℕ) : Type 0 where
   pub count : ℕ
   pub done : List ℕ
   pub scan : now ≡ passed count old
   pub appends : longer ≡ string ++ done
-  pub rest : quoted old.left ≡ option_map (behind_all done count) (quoted now.left)
+  pub rest : quoted old.left ≡ option_map (after_all done count) (quoted now.left)
 
 -- no character of a quote is read yet
 pub quote_begins : (old : ScanState) (string : List ℕ) → InQuote old string old string
@@ -95,31 +95,31 @@ quote_begins old string = record {
   done = [];
   scan = sym (passed-zero old);
   appends = sym (append-nil string);
-  rest = behind_none (quoted old.left);
+  rest = after_none (quoted old.left);
 }
   where
-    same : (q : Quoted) → q ≡ behind_all [] 0 q
+    same : (q : Quoted) → q ≡ after_all [] 0 q
     same q = ap (λ n. let r : Quoted = record { text = q.text; size = n } in r) (let e : q.size ≡ q.size + 0 = omega arith in e)
 
-    behind_none : (q : Option Quoted) → q ≡ option_map (behind_all [] 0) q
-    behind_none None = refl
-    behind_none (Some q) = ap Some (same q)
+    after_none : (q : Option Quoted) → q ≡ option_map (after_all [] 0) q
+    after_none None = refl
+    after_none (Some q) = ap Some (same q)
 
-behind_more : (done : List ℕ) (n c k : ℕ) (q : Option Quoted) → option_map (behind_all done n) (option_map (behind_quoted c k) q) ≡ option_map (behind_all (done ++ c ∷ []) (n + k)) q
-behind_more done n c k None = refl
-behind_more done n c k (Some q) = ap Some (ap₂ (λ t m. let r : Quoted = record { text = t; size = m } in r) (sym (append_assoc done (c ∷ []) q.text)) (omega arith))
+after_more : (done : List ℕ) (n c k : ℕ) (q : Option Quoted) → option_map (after_all done n) (option_map (after_quoted c k) q) ≡ option_map (after_all (done ++ c ∷ []) (n + k)) q
+after_more done n c k None = refl
+after_more done n c k (Some q) = ap Some (ap₂ (λ t m. let r : Quoted = record { text = t; size = m } in r) (sym (append_assoc done (c ∷ []) q.text)) (omega arith))
 
 -- one more character, spelled by k characters
-quote_more : (old : ScanState) (string : List ℕ) (now next : ScanState) (longer : List ℕ) (c k : ℕ) → InQuote old string now longer → next ≡ passed k now → quoted now.left ≡ option_map (behind_quoted c k) (quoted next.left) → InQuote old string next (longer ++ c ∷ [])
+quote_more : (old : ScanState) (string : List ℕ) (now next : ScanState) (longer : List ℕ) (c k : ℕ) → InQuote old string now longer → next ≡ passed k now → quoted now.left ≡ option_map (after_quoted c k) (quoted next.left) → InQuote old string next (longer ++ c ∷ [])
 quote_more old string now next longer c k is e rest = record {
   count = is.count + k;
   done = is.done ++ c ∷ [];
   scan = e ∙ ap (passed k) is.scan ∙ passed-passed k is.count old;
   appends = ap (λ xs. xs ++ c ∷ []) is.appends ∙ append_assoc string is.done (c ∷ []);
-  rest = is.rest ∙ ap (option_map (behind_all is.done is.count)) rest ∙ behind_more is.done is.count c k (quoted next.left);
+  rest = is.rest ∙ ap (option_map (after_all is.done is.count)) rest ∙ after_more is.done is.count c k (quoted next.left);
 }
 
-quoted-other : (c : ℕ) (cs : List ℕ) → (c == apostrophe) ≡ false → quoted (c ∷ cs) ≡ option_map (behind_quoted c 1) (quoted cs)
+quoted-other : (c : ℕ) (cs : List ℕ) → (c == apostrophe) ≡ false → quoted (c ∷ cs) ≡ option_map (after_quoted c 1) (quoted cs)
 unfolding quoted
 quoted-other c [] is = cond-false _ _ _ is
 quoted-other c (d ∷ cs) is = cond-true _ _ _ (ap not is)
@@ -129,7 +129,7 @@ unfolding quoted
 quoted-end c [] is ends = cond-true _ _ _ is
 quoted-end c (d ∷ cs) is ends = cond-false _ _ _ (ap not is) ∙ cond-false _ _ _ ends
 
-quoted-double : (c d : ℕ) (cs : List ℕ) → (c == apostrophe) ≡ true → (d == apostrophe) ≡ true → quoted (c ∷ d ∷ cs) ≡ option_map (behind_quoted apostrophe 2) (quoted cs)
+quoted-double : (c d : ℕ) (cs : List ℕ) → (c == apostrophe) ≡ true → (d == apostrophe) ≡ true → quoted (c ∷ d ∷ cs) ≡ option_map (after_quoted apostrophe 2) (quoted cs)
 unfolding quoted
 quoted-double c d cs is doubled = cond-false _ _ _ (ap not is) ∙ cond-true _ _ _ doubled
 
@@ -155,7 +155,7 @@ quote_double old string now mid next longer c is left e first second f =
 pub quote_ends : (old : ScanState) (string : List ℕ) (now next : ScanState) (longer : List ℕ) (c : ℕ) → InQuote old string now longer → now.left ≡ c ∷ next.left → next ≡ passed 1 now → c ≡ apostrophe → (b : Bool) → b ≡ begins_with apostrophe next.left → b ≡ false → TakesPiece (quoted_piece (quoted old.left)) old string next longer piece.Given
 quote_ends old string now next longer c is left e first b known ends =
     let here : quoted now.left ≡ Some (record { text = []; size = 1 }) = ap quoted left ∙ quoted-end c next.left (is_apostrophe c first) (sym known ∙ ends) in
-    let whole : quoted old.left ≡ Some (record { text = is.done ++ []; size = 1 + is.count }) = is.rest ∙ ap (option_map (behind_all is.done is.count)) here in
+    let whole : quoted old.left ≡ Some (record { text = is.done ++ []; size = 1 + is.count }) = is.rest ∙ ap (option_map (after_all is.done is.count)) here in
     subst (λ q. TakesPiece (quoted_piece q) old string next longer piece.Given) (sym whole) (record {
       kind = refl;
       scan = e ∙ ap (passed 1) is.scan ∙ passed-passed 1 is.count old ∙ ap (λ n. passed n old) (let f : is.count + 1 ≡ (1 + is.count + 1) - 1 = omega arith in f);
@@ -165,7 +165,7 @@ quote_ends old string now next longer c is left e first b known ends =
 -- the text ends within the quote
 pub quote_open : (old : ScanState) (string : List ℕ) (now : ScanState) (longer : List ℕ) → InQuote old string now longer → now.left ≡ [] → (quoted_piece (quoted old.left)).kind ≡ refused syntax
 quote_open old string now longer is none =
-    let whole : quoted old.left ≡ None = is.rest ∙ ap (λ cs. option_map (behind_all is.done is.count) (quoted cs)) none ∙ ap (option_map (behind_all is.done is.count)) quoted-none in
+    let whole : quoted old.left ≡ None = is.rest ∙ ap (λ cs. option_map (after_all is.done is.count) (quoted cs)) none ∙ ap (option_map (after_all is.done is.count)) quoted-none in
     ap (λ q. (quoted_piece q).kind) whole
 
 -- Digits
@@ -255,7 +255,7 @@ equals_taken c o s string first is = operator_taken (piece_of c s.left) 0 o s s 
 
 -- The next piece
 
--- its first character, and what it leaves behind
+-- its first character, and what it leaves
 pub next_taken : (s t u : ScanState) (c : ℕ) (string longer : List ℕ) (k : Piece) → s.left ≡ c ∷ t.left → t ≡ passed 1 s → TakesPiece (piece_of c t.left) t string u longer k → ReadsNext (first_piece s.left) s string u longer (Ok (Some k))
 next_taken s t u c string longer k left e taken =
     let some : 1 ≤ (piece_of c t.left).size = piece-some c t.left in

@@ -1,4 +1,4 @@
--- The raised weight: after the shift no entry and no implicit element has it, and so no text.
+-- The raised weight: once there is room, no entry and no implicit element has it, and so no text.
 use Rattle.std.proofs.Common.{◌≡◌, ℕ, ◌+◌, ◌≤◌, ◌<◌, Bool, false, ◌==◌, nat_le, List, [], ◌∷◌, map, flat_map, slice_index, Option, Some, None, unwrap_or, refl, sym, subst, ◌∙◌, arith}
 use Rattle.std.proofs.lemmas.Bool.Decides.{nat_tests}
 use Rattle.std.specs.List.{AllByRecursion}
@@ -10,14 +10,14 @@ use Rattle.uca_model.specs.Table.{ElementTable, AreRanges, elements_at, is_key}
 use Rattle.uca_model.specs.ImplicitWeights.{pair, implicit, implicit_over}
 use Rattle.uca_model.specs.Match.{Match}
 use Rattle.uca_model.specs.CollationElements.{elements, elements_or_implicit, matches}
-use Rattle.uca_model.specs.Shift.{shifted, shifted_table, top}
+use Rattle.uca_model.specs.Room.{with_room, table_with_room, max_weight}
 use Rattle.uca_model.specs.Tailoring.{least, is_high, Placed}
-use Rattle.uca_model.proofs.PlaceLemmas.{any_anchor}
-use Rattle.uca_model.proofs.ShiftLemmas.{elements_at-shifted}
-use Rattle.uca_model.proofs.ShiftedWeights.{shift-room}
+use Rattle.uca_model.proofs.AnchorElements.{any_anchor}
+use Rattle.uca_model.proofs.RoomLookups.{elements_at-with_room}
+use Rattle.uca_model.proofs.RoomAtWeights.{weight_with_room-room}
 use Rattle.uca_model.proofs.WeightLemmas.{each-append}
 use Rattle.uca_tailor.specs.TailoringLaws.{Lacks}
-use Rattle.uca_tailor.proofs.Levels.{IsLevel, level_one, level_two, level_three, weight-shifted}
+use Rattle.uca_tailor.proofs.Levels.{IsLevel, level_one, level_two, level_three, weight-with_room}
 use Rattle.uca_tailor.proofs.ImplicitElements.{implicit_pair}
 use Rattle.uca_tailor.proofs.RelationFacts.{IsPlacedAt}
 
@@ -31,13 +31,13 @@ below_first x h e = grind (arith, nat_tests)
 pub is_below_top : (m : ℕ) (t : ElementTable) (es : List Element) (p : Placed) → (h : IsPlacedAt m t es p) → IsBelowTop m (weight m h.split.last)
 is_below_top m t es p h is =
     let high = any_anchor is_high m es h.split h.is_split h.free.low in
-    subst (λ k. (weight k h.split.last == top k) ≡ false → weight k h.split.last < 32767) (sym is) (λ e. below_first h.split.last.l1 high.1 e) h.free.below_top
+    subst (λ k. (weight k h.split.last == max_weight k) ≡ false → weight k h.split.last < 32767) (sym is) (λ e. below_first h.split.last.l1 high.1 e) h.free.below_top
 
 -- ## Entries and implicit elements
 
-pub lacks_shifted : (m w : ℕ) (es : List Element) → IsLevel m → IsBelowTop m w → Lacks m (w + 1) (map (shifted m w) es)
+pub lacks_shifted : (m w : ℕ) (es : List Element) → IsLevel m → IsBelowTop m w → Lacks m (w + 1) (map (with_room m w) es)
 lacks_shifted m w [] l h = tt
-lacks_shifted m w (e ∷ es) l h = (λ is. shift-room m w (weight m e) h (sym (weight-shifted m w e l) ∙ is), lacks_shifted m w es l h)
+lacks_shifted m w (e ∷ es) l h = (λ is. weight_with_room-room m w (weight m e) h (sym (weight-with_room m w e l) ∙ is), lacks_shifted m w es l h)
 
 lacks_pair : (m w a b : ℕ) → IsLevel m → IsBelowTop m w → least m ≤ w → 32768 ≤ a → 32768 ≤ b → Lacks m (w + 1) (pair a b)
 lacks_pair m w a b level_one h g p q = let f : w < 32767 = h refl in (λ e. omega arith, (λ e. omega arith, tt))
@@ -47,12 +47,12 @@ lacks_pair m w a b level_three h g p q = let f : 2 ≤ w = g in (λ e. omega ari
 pub lacks_implicit : (m w : ℕ) (rs : List Range) (c : ℕ) → IsLevel m → IsBelowTop m w → least m ≤ w → AreRanges rs → Lacks m (w + 1) (implicit_over rs c)
 lacks_implicit m w rs c l h g r = let p = implicit_pair rs c r in subst (Lacks m (w + 1)) (sym p.are) (lacks_pair m w p.first p.second l h g p.first_high p.second_high)
 
-lacks_entry : (m w : ℕ) (o : Option (List Element)) (es : List Element) → IsLevel m → IsBelowTop m w → option_map (map (shifted m w)) o ≡ Some es → Lacks m (w + 1) es
+lacks_entry : (m w : ℕ) (o : Option (List Element)) (es : List Element) → IsLevel m → IsBelowTop m w → option_map (map (with_room m w)) o ≡ Some es → Lacks m (w + 1) es
 lacks_entry m w None es l h e = absurd (cc)
-lacks_entry m w (Some fs) es l h e = let is : map (shifted m w) fs ≡ es = cc in subst (Lacks m (w + 1)) is (lacks_shifted m w fs l h)
+lacks_entry m w (Some fs) es l h e = let is : map (with_room m w) fs ≡ es = cc in subst (Lacks m (w + 1)) is (lacks_shifted m w fs l h)
 
-pub lacks_table : (m w : ℕ) (t : ElementTable) (key : List ℕ) (es : List Element) → IsLevel m → IsBelowTop m w → elements_at (shifted_table m w t) key ≡ Some es → Lacks m (w + 1) es
-lacks_table m w t key es l h e = lacks_entry m w (elements_at t key) es l h (sym (elements_at-shifted m w t key) ∙ e)
+pub lacks_table : (m w : ℕ) (t : ElementTable) (key : List ℕ) (es : List Element) → IsLevel m → IsBelowTop m w → elements_at (table_with_room m w t) key ≡ Some es → Lacks m (w + 1) es
+lacks_table m w t key es l h e = lacks_entry m w (elements_at t key) es l h (sym (elements_at-with_room m w t key) ∙ e)
 
 -- ## Texts
 

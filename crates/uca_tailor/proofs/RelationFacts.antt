@@ -9,8 +9,8 @@ use Rattle.uca_model.specs.Table.{ElementTable, with_entry}
 use Rattle.uca_model.specs.TableText.{◌>>=◌}
 use Rattle.uca_model.specs.CollationElements.{elements}
 use Rattle.uca_model.specs.Rules.{Relation}
-use Rattle.uca_model.specs.Tailoring.{TailorCause, small_weight, too_many_elements, Anchor, anchor_of, Placed, placed_behind, fault_at, placed_at, placed_after, placed, Related, entered, related}
-use Rattle.uca_model.proofs.PlaceLemmas.{IsFree, is_free}
+use Rattle.uca_model.specs.Tailoring.{TailorCause, small_weight, too_many_elements, Anchor, anchor_of, Placed, placed_next_to, fault_at, placed_at, placed_after, placed, Related, entered, related}
+use Rattle.uca_model.proofs.AnchorElements.{IsFree, is_free}
 use Rattle.uca_tailor.specs.TailoringLaws.{op_level}
 use Rattle.uca_tailor.proofs.Levels.{places_at}
 
@@ -34,7 +34,7 @@ pub record IsPlacedAt (level : ℕ) (t : ElementTable) (anchor : List Element) (
   pub split : Anchor
   pub is_split : anchor_of level anchor ≡ Some split
   pub free : IsFree level (weight level split.last) t anchor
-  pub are : p ≡ placed_behind level t split
+  pub are : p ≡ placed_next_to level t split
 
 no_fault : {A E : Type 0} (o : Option E) (x y : A) → (let r : Result A E = option_map_or (λ cause. Err cause) o (Ok x) in r ≡ Ok y) → (o ≡ None) × (x ≡ y)
 no_fault None x y e = (refl, same_ok x y e)
@@ -44,7 +44,7 @@ at_anchor : (level : ℕ) (t : ElementTable) (anchor : List Element) (o : Option
     → option_map_or (placed_at level t anchor) o (Err small_weight) ≡ Ok p → IsPlacedAt level t anchor p
 at_anchor level t anchor None p is e = absurd (cc)
 at_anchor level t anchor (Some a) p is e =
-    let n = no_fault (fault_at level (weight level a.last) t anchor) (placed_behind level t a) p e in
+    let n = no_fault (fault_at level (weight level a.last) t anchor) (placed_next_to level t a) p e in
     record { split = a; is_split = is; free = is_free level (weight level a.last) t anchor n.0; are = sym n.1 }
 
 pub is_placed_at : (level : ℕ) (t : ElementTable) (anchor : List Element) (p : Placed) → placed_after level t anchor ≡ Ok p → IsPlacedAt level t anchor p

@@ -16,7 +16,7 @@ use Rattle.uca_model.specs.RuleText as text
 use Rattle.uca_model.specs.RuleText.{Part, Segments, segments, with_part, part_at, is_operator, string_of, given, gives, skipped, refused, piece_of, RuleFault, part_faults, leading_faults, piece_faults, leading_kind_faults, Kind, end_faults, fault_if}
 use Rattle.uca_model.specs.RuleText.{parts_from}
 use Rattle.uca_model.proofs.RuleTextLemmas.{parts-step, parts-none, piece-some}
-use Rattle.uca_tailor.specs.Faults.{told_of_text}
+use Rattle.uca_tailor.specs.Faults.{reported_text_cause}
 use Rattle.uca_tailor.specs.Scan.{ScanState, passed}
 use Rattle.uca_tailor.specs.Pieces.{first_piece, kind_of, ReadsNext, TakesNext, RefusesPiece, takes_memory}
 use Rattle.uca_tailor.specs.Strings.{left_of, segments_from, part_of, FindsNext, ReadsString, string_faults, BeginsAt}
@@ -76,7 +76,7 @@ parts-first : (at : ℕ) (cs : List ℕ) (p : text.Piece) → first_piece cs ≡
 parts-first at [] p e = cc
 parts-first at (c ∷ cs) p e = let same : piece_of c cs ≡ p = cc in subst (λ q. let part : Part = part_at at q (c ∷ cs) in parts_from at (c ∷ cs) ≡ part ∷ parts_from part.after (drop q.size (c ∷ cs))) same (parts-step at c cs)
 
--- the segments of what is left, by those behind the next piece
+-- the segments of what is left, by those after the next piece
 pub left-step : (s t : ScanState) (p : text.Piece) → first_piece s.left ≡ Some p → t ≡ passed p.size s → left_of s ≡ with_part (part_at s.at p s.left) (left_of t)
 left-step s t p e f = ap segments (parts-first s.at s.left p e) ∙ ap (λ u. with_part (part_at s.at p s.left) (left_of u)) (sym f)
 
@@ -201,18 +201,18 @@ fault-first faults_of s t p f is e no_operator fault =
 
 -- a piece is refused
 pub refused_leading : (s t : ScanState) (cause : RuleCause) → Skips leading_faults s t → Refused t cause → BeginsAt t.at cause (flat_map leading_faults (left_of s).leading)
-refused_leading s t cause is fault = go (told_of_text cause) fault.fault
+refused_leading s t cause is fault = go (reported_text_cause cause) fault.fault
   where
-    go : (o : Option text.RuleCause) → MatchOption o (takes_memory fault.first.kind ≡ true) (λ told. fault.first.kind ≡ text.refused told) → MatchOption o (Unit {0}) (λ told. (rest : List RuleFault) × (flat_map leading_faults (left_of s).leading ≡ record { at = t.at; cause = told } ∷ rest))
+    go : (o : Option text.RuleCause) → MatchOption o (takes_memory fault.first.kind ≡ true) (λ stated. fault.first.kind ≡ text.refused stated) → MatchOption o (Unit {0}) (λ stated. (rest : List RuleFault) × (flat_map leading_faults (left_of s).leading ≡ record { at = t.at; cause = stated } ∷ rest))
     go None u = tt
-    go (Some told) e = fault-first leading_faults s t fault.first (record { at = t.at; cause = told }) is fault.is_first (no_operator_from _ _ e refl) (ap (leading_kind_faults t.at) e)
+    go (Some stated) e = fault-first leading_faults s t fault.first (record { at = t.at; cause = stated }) is fault.is_first (no_operator_from _ _ e refl) (ap (leading_kind_faults t.at) e)
 
 pub refused_part : (s t : ScanState) (cause : RuleCause) → Skips part_faults s t → Refused t cause → BeginsAt t.at cause (flat_map part_faults (left_of s).leading)
-refused_part s t cause is fault = go (told_of_text cause) fault.fault
+refused_part s t cause is fault = go (reported_text_cause cause) fault.fault
   where
-    go : (o : Option text.RuleCause) → MatchOption o (takes_memory fault.first.kind ≡ true) (λ told. fault.first.kind ≡ text.refused told) → MatchOption o (Unit {0}) (λ told. (rest : List RuleFault) × (flat_map part_faults (left_of s).leading ≡ record { at = t.at; cause = told } ∷ rest))
+    go : (o : Option text.RuleCause) → MatchOption o (takes_memory fault.first.kind ≡ true) (λ stated. fault.first.kind ≡ text.refused stated) → MatchOption o (Unit {0}) (λ stated. (rest : List RuleFault) × (flat_map part_faults (left_of s).leading ≡ record { at = t.at; cause = stated } ∷ rest))
     go None u = tt
-    go (Some told) e = fault-first part_faults s t fault.first (record { at = t.at; cause = told }) is fault.is_first (no_operator_from _ _ e refl) (ap (piece_faults t.at) e)
+    go (Some stated) e = fault-first part_faults s t fault.first (record { at = t.at; cause = stated }) is fault.is_first (no_operator_from _ _ e refl) (ap (piece_faults t.at) e)
 
 -- a character stands before the first operator
 pub given_leading : (s t u : ScanState) (string longer : List ℕ) → Skips leading_faults s t → Took t string u longer piece.Given → (rest : List RuleFault) × (flat_map leading_faults (left_of s).leading ≡ record { at = t.at; cause = text.syntax } ∷ rest)
@@ -241,13 +241,13 @@ takes-no_operator text.left_out_relation is = cc
 takes-no_operator text.expands is = cc
 
 takes-refused : (p : text.Piece) (cause : RuleCause) → RefusesPiece p cause → takes_memory p.kind ≡ true
-takes-refused p cause fault = go (told_of_text cause) fault
+takes-refused p cause fault = go (reported_text_cause cause) fault
   where
-    go : (o : Option text.RuleCause) → MatchOption o (takes_memory p.kind ≡ true) (λ told. p.kind ≡ text.refused told) → takes_memory p.kind ≡ true
+    go : (o : Option text.RuleCause) → MatchOption o (takes_memory p.kind ≡ true) (λ stated. p.kind ≡ text.refused stated) → takes_memory p.kind ≡ true
     go None is = is
-    go (Some told) e = ap takes_memory e
+    go (Some stated) e = ap takes_memory e
 
--- a piece that is refused, or for which memory is wanted
+-- a piece that is refused, or an allocation for it that fails
 pub refused_some : (s t : ScanState) (cause : RuleCause) → Skips leading_faults s t → Refused t cause → flat_map leading_faults (left_of s).leading ≢ []
 refused_some s t cause is fault =
     let takes = takes-refused fault.first cause fault.fault in
@@ -291,5 +291,5 @@ ends_fine [] some short few at = absurd (omega arith)
 ends_fine (c ∷ cs) some short few at = ap₂ (λ a b. fault_if a text.long_run at ++ fault_if b text.key_too_long at) (le-ltb MAX_RUN (longest_run (nfd (c ∷ cs))) short) (le-ltb MAX_KEY (length (nfd (c ∷ cs))) few)
 
 -- a fault at the place where a piece begins
-pub same_place : (f_at at n : ℕ) (cause : RuleCause) → at ≡ n → MatchOption (told_of_text cause) (f_at ≡ 0) (λ _. f_at ≡ at) → MatchOption (told_of_text cause) (f_at ≡ 0) (λ _. f_at ≡ n)
-same_place f_at at n cause e is = subst (λ m. MatchOption (told_of_text cause) (f_at ≡ 0) (λ _. f_at ≡ m)) e is
+pub same_place : (f_at at n : ℕ) (cause : RuleCause) → at ≡ n → MatchOption (reported_text_cause cause) (f_at ≡ 0) (λ _. f_at ≡ at) → MatchOption (reported_text_cause cause) (f_at ≡ 0) (λ _. f_at ≡ n)
+same_place f_at at n cause e is = subst (λ m. MatchOption (reported_text_cause cause) (f_at ≡ 0) (λ _. f_at ≡ m)) e is

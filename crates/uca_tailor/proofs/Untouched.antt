@@ -12,11 +12,11 @@ use Rattle.uca_model.specs.Table.{ElementTable, IsElement, IsTable, AreRanges, k
 use Rattle.uca_model.specs.Match.{Match}
 use Rattle.uca_model.specs.CollationElements.{matches, elements, elements_or_implicit}
 use Rattle.uca_model.specs.LevelWeights.{level_list}
-use Rattle.uca_model.specs.Reading.{list_order}
+use Rattle.uca_model.specs.DecidingLevel.{list_order}
 use Rattle.uca_model.specs.Rules.{Relation, Chain, items}
 use Rattle.uca_model.specs.Tailoring.{tailored, is_touched, IsUntouched}
 use Rattle.uca_model.proofs.LevelLemmas.{levels-within}
-use Rattle.uca_model.proofs.PlaceLemmas.{or_false}
+use Rattle.uca_model.proofs.AnchorElements.{or_false}
 use Rattle.uca_model.proofs.WeightLemmas.{Fits-IsTable, elements-fit, HasWeights-elements, HasWeights-IsTable}
 use Rattle.uca_tailor.specs.TailoringLaws.{UntouchedTextsKeepTheirOrder}
 use Rattle.uca_tailor.proofs.LevelOrders.{level_order}

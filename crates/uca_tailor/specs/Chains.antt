@@ -19,7 +19,7 @@ relation_of r = record { op = operator_of r.op; item = r.item.items; expansion =
 abbrev pub chain_of : ChainParts → Chain
 chain_of c = record { reset = c.reset.items; relations = map relation_of c.relations.items }
 
--- as data, by which a proof tells two of them apart
+-- as data, by which a proof distinguishes two of them
 abbrev pub number_of : Operator → ℕ
 number_of first = 0
 number_of second = 1

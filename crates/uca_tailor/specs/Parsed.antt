@@ -1,4 +1,4 @@
--- Relations and chains that were read, and what is left behind them.
+-- Relations and chains that were read, and what is left after them.
 use Rattle.std.specs.Prelude.{◌≡◌, ℕ, ◌+◌, ◌≤◌, ◌==◌, Bool, true, false, List, [], ◌∷◌, ◌++◌, length, flat_map, Option, Some, None}
 use Rattle.uca_weights.specs.declared.limits.TheConstants.{MAX_RELATIONS}
 use Rattle.uca_model.specs.Rules.{IsRelation, IsChain}
@@ -58,9 +58,9 @@ pub record IsRelationNext (next : Option Found) (count : ℕ) (op : Op) : Type 0
 
 -- What is left
 
--- the faults behind an operator, behind which the scan stands, and before which so many relations stand
-abbrev pub behind_faults : Kind → ℕ → ScanState → List RuleFault
-behind_faults kind n s = flat_map part_faults (left_of s).leading ++ (end_faults s.at (string_of (left_of s).leading) ++ segment_faults (before_next kind) (n + counted kind) (left_of s).all)
+-- the faults after an operator, after which the scan stands, and before which so many relations stand
+abbrev pub after_faults : Kind → ℕ → ScanState → List RuleFault
+after_faults kind n s = flat_map part_faults (left_of s).leading ++ (end_faults s.at (string_of (left_of s).leading) ++ segment_faults (before_next kind) (n + counted kind) (left_of s).all)
 
 -- with one more relation in front
 abbrev pub with_relation : rules.Relation → Grouped → Grouped
@@ -69,14 +69,14 @@ with_relation r g = record { expansion = []; relations = r ∷ g.relations; chai
 -- a relation whose operator was read
 pub record ReadsRelation (s : ScanState) (op : Op) (r : Relation) (found : Option Found) (t : ScanState) : Type 0 where
   pub is_relation : IsRelation (relation_of r)
-  pub faults : (n : ℕ) → behind_faults (relates (operator_of op)) n s ≡ segment_faults no_item (n + 1) (segments_from found t)
+  pub faults : (n : ℕ) → after_faults (relates (operator_of op)) n s ≡ segment_faults no_item (n + 1) (segments_from found t)
   pub says : (at : ℕ) → is_left_out_next found ≡ false → grouped (segments_from (Some (record { operator = operator.Relation op; at = at })) s) ≡ with_relation (relation_of r) (grouped (segments_from found t))
   pub fewer : length (segments_from found t) ≤ length (left_of s).all
 
--- a chain whose reset was read, behind so many relations
+-- a chain whose reset was read, after so many relations
 pub record ReadsChain (s : ScanState) (n : ℕ) (c : Chain) (found : Option Found) (t : ScanState) : Type 0 where
   pub is_chain : IsChain (chain_of c)
-  pub faults : behind_faults resets n s ≡ segment_faults nothing (n + length c.relations.items) (segments_from found t)
+  pub faults : after_faults resets n s ≡ segment_faults nothing (n + length c.relations.items) (segments_from found t)
   pub says : (at : ℕ) → (grouped (segments_from (Some (record { operator = operator.Reset; at = at })) s)).chains ≡ chain_of c ∷ (grouped (segments_from found t)).chains
   pub room : n + length c.relations.items ≤ MAX_RELATIONS
   pub fewer : length (segments_from found t) ≤ length (left_of s).all

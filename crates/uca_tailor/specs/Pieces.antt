@@ -4,7 +4,7 @@ use Rattle.std.specs.Option.{option_map_or}
 use Rattle.uca_model.specs.RuleText as text
 use Rattle.uca_model.specs.RuleText.{Kind, resets, relates, left_out_relation, expands, skipped, gives, refused, given, piece_of, syntax, left_out, is_left_out, is_plain, Quoted}
 use Rattle.uca_tailor.specs.Chains.{operator_of}
-use Rattle.uca_tailor.specs.Faults.{told_of_text}
+use Rattle.uca_tailor.specs.Faults.{reported_text_cause}
 use Rattle.uca_tailor.specs.Scan.{ScanState, passed}
 use Rattle.uca_tailor.specs.declared.faults.RuleCause.{RuleCause}
 use Rattle.uca_tailor.specs.declared.pieces.Operator.{Operator}
@@ -24,7 +24,7 @@ IsOfKind piece.Skipped k = k ≡ skipped
 IsOfKind piece.Given k = k ≡ gives (given k)
 IsOfKind (piece.Operator o) k = k ≡ kind_of o
 
--- a piece whose first character was taken is taken whole, and its characters stand behind a string
+-- a piece whose first character was taken is taken whole, and its characters stand after a string
 pub record TakesPiece (p : text.Piece) (s : ScanState) (string : List ℕ) (t : ScanState) (longer : List ℕ) (taken : Piece) : Type 0 where
   pub kind : IsOfKind taken p.kind
   pub scan : t ≡ passed (p.size - 1) s
@@ -40,9 +40,9 @@ takes_memory (relates op) = false
 takes_memory left_out_relation = false
 takes_memory expands = false
 
--- a piece is refused, or memory is wanted for it
+-- a piece is refused, or an allocation for it fails
 abbrev pub RefusesPiece : text.Piece → RuleCause → Type 0
-RefusesPiece p cause = MatchOption (told_of_text cause) (takes_memory p.kind ≡ true) (λ told. p.kind ≡ refused told)
+RefusesPiece p cause = MatchOption (reported_text_cause cause) (takes_memory p.kind ≡ true) (λ stated. p.kind ≡ refused stated)
 
 -- one of the two
 abbrev pub ReadsPiece : text.Piece → ScanState → List ℕ → ScanState → List ℕ → Result Piece RuleCause → Type 0
@@ -50,7 +50,7 @@ ReadsPiece p s string t longer result = MatchResult result (TakesPiece p s strin
 
 -- Some pieces
 
--- behind a quote
+-- after a quote
 abbrev pub quoted_piece : Option Quoted → text.Piece
 quoted_piece q = option_map_or (λ q. text.piece (gives q.text) (q.size + 1)) q (text.piece (refused syntax) 1)
 

@@ -13,7 +13,7 @@ pub record ScanState : Type 0 where
 abbrev pub scan_of : List ℕ → ScanState
 scan_of text = record { at = 0; left = text }
 
--- behind so many characters more
+-- after so many characters more
 abbrev pub passed : ℕ → ScanState → ScanState
 passed n s = record { at = s.at + length (encode_utf8_all (take n s.left)); left = drop n s.left }
 

@@ -4,7 +4,7 @@ use Rattle.uca_weights.specs.declared.element.Element.{Element}
 use Rattle.uca_model.specs.Table.{ElementTable}
 use Rattle.uca_model.specs.Tailoring as tailoring
 use Rattle.uca_tailor.specs.declared.faults.TailorCause.{TailorCause}
-use Rattle.uca_tailor.specs.Faults.{told}
+use Rattle.uca_tailor.specs.Faults.{reported_cause}
 
 abbrev pub anchor_as : List Element → Element → tailoring.Anchor
 anchor_as before last = record { before = before; last = last }
@@ -15,11 +15,11 @@ placed_as base t = record { base = base; table = t }
 abbrev pub related_as : ElementTable → List Element → tailoring.Related
 related_as t anchor = record { table = t; anchor = anchor }
 
--- a fault is this cause, which isn't want of memory
+-- a fault is this cause, which isn't an allocation failure
 pub record IsToldAs (fault : Option tailoring.TailorCause) (cause : TailorCause) : Type 0 where
-  pub is : fault ≡ told cause
+  pub is : fault ≡ reported_cause cause
   pub some : IsSome fault
 
--- a step is refused for this cause; want of memory says nothing of it
+-- a step is refused for this cause; an allocation failure says nothing of it
 abbrev pub Refuses : {A : Type 0} → Result A tailoring.TailorCause → TailorCause → Type 0
-Refuses says cause = MatchOption (told cause) (Unit {0}) (λ c. says ≡ Err c)
+Refuses says cause = MatchOption (reported_cause cause) (Unit {0}) (λ c. says ≡ Err c)

@@ -18,12 +18,12 @@ use Rattle.uca_model.specs.LevelWeights.{level_list}
 use Rattle.uca_model.specs.SortKey.{sort_key, key_order}
 use Rattle.uca_model.specs.WellFormed.{skips_a_level}
 use Rattle.uca_model.specs.Rules.{Operator, first, second, third, same, Relation, Chain, IsRelation}
-use Rattle.uca_model.specs.Shift.{shift}
+use Rattle.uca_model.specs.Room.{weight_with_room}
 use Rattle.uca_model.specs.Tailoring.{Related, related, tailored, IsUntouched}
 
 -- Untouched texts
 
--- the order of the keys of two untouched texts is the same under the lent and the tailored table, at every strength and option
+-- the order of the keys of two untouched texts is the same under the given and the tailored table, at every strength and option
 abbrev pub UntouchedTextsKeepTheirOrder : Type 0
 UntouchedTextsKeepTheirOrder =
     (t u : ElementTable) (cs : List Chain) (s : Settings) (x y : List ℕ) → IsTable t → tailored t cs ≡ Ok u → All IsScalar x → All IsScalar y → IsUntouched t u cs x → IsUntouched t u cs y
@@ -48,9 +48,9 @@ Lacks level w es = AllByRecursion (λ e. weight level e ≢ w) es
 
 -- what a relation of a level makes of its anchor, whose weights at that level are `front` and then w
 pub record IsPlaced (level : ℕ) (anchor : List Element) (r : Relation) (next : Related) (front : List ℕ) (w : ℕ) : Type 0 where
-  -- at the level the item has the shifted weights of the anchor, the last one raised by one ..
+  -- at the level the item has the weights of the anchor with room, the last one raised by one ..
   pub old : weights_at level anchor ≡ front ++ w ∷ []
-  pub at : weights_at level next.anchor ≡ map (shift level w) front ++ (w + 1) ∷ []
+  pub at : weights_at level next.anchor ≡ map (weight_with_room level w) front ++ (w + 1) ∷ []
   -- .. and at each level below, those of the anchor
   pub below : (j : ℕ) → 1 ≤ j → j < level → weights_at j next.anchor ≡ weights_at j anchor
   -- the raised weight stands in the last element of the item's place ..

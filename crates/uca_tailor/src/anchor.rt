@@ -1,13 +1,13 @@
 ghost use Rattle.std.specs.Prelude.{◌≡◌, ◌≤◌, ◌<◌, ◌∷◌, ◌++◌, [], false, None, Some, length, map, IfOk, IfNone, IfSome, MatchOption};
 ghost use Rattle.std.specs.List.{list_any};
 ghost use Rattle.uca_weights.specs.Element.{weight};
-ghost use Rattle.uca_model.specs.Shift.{shifted, is_stuck};
+ghost use Rattle.uca_model.specs.Room.{with_room, has_no_room};
 ghost use Rattle.uca_model.specs.Tailoring.{anchor_of, least, is_high, is_full, fault_at, raised};
 ghost use Rattle.uca_tailor.specs.Steps.{anchor_as, IsToldAs};
 
 use crate::faults::TailorCause;
 use std::alloc::{AllocError, Global};
-use uca_table::shift::{any_stuck, shift_elements, top};
+use uca_table::room::{any_has_no_room, make_room, max_weight};
 use uca_table::{Element, Table};
 
 /// Elements up to the last that has a weight at a level.
@@ -37,7 +37,7 @@ pub(crate) fn anchor_of(level: u8, elements: &[Element]) -> Option<Anchor<'_>>
     None
 }
 
-/// The least weight at a level behind which an item may stand, so that implicit weights never move.
+/// The least weight at a level after which an item may stand, so that implicit weights never move.
 fn least(level: u8) -> u16
     ensures { result ≡ least level }
 {
@@ -61,10 +61,10 @@ fn is_full(level: u8, w: u16, t: &Table, elements: &[Element]) -> bool
     requires last { level ≤ 3 }
     ensures { result ≡ is_full level w t.now elements.now }
 {
-    w == top(level) || any_stuck(level, w, elements) || t.has_stuck(level, w)
+    w == max_weight(level) || any_has_no_room(level, w, elements) || t.lacks_room(level, w)
 }
 
-/// Why no item can stand behind elements whose last weight at a level is `w`.
+/// Why no item can stand after elements whose last weight at a level is `w`.
 pub(crate) fn fault_at(level: u8, w: u16, t: &Table, elements: &[Element]) -> Option<TailorCause>
     requires first { 1 ≤ level }
     requires last { level ≤ 3 }
@@ -106,8 +106,8 @@ fn raised(level: u8, e: Element) -> Element
     next
 }
 
-/// The elements of an item that stands at a level directly behind an element and those before it.
-pub(crate) fn base_behind(
+/// The elements of an item that stands at a level directly after an element and those before it.
+pub(crate) fn base_after(
     alloc: Global,
     level: u8,
     before: &[Element],
@@ -116,11 +116,11 @@ pub(crate) fn base_behind(
     requires first { 1 ≤ level }
     requires last { level ≤ 3 }
     requires next { weight level last < 65535 }
-    requires room { list_any (is_stuck level (weight level last)) before.now ≡ false }
-    ensures { IfOk result (λ v. v.items ≡ map (shifted level (weight level last)) before.now ++ raised level last ∷ []) }
+    requires room { list_any (has_no_room level (weight level last)) before.now ≡ false }
+    ensures { IfOk result (λ v. v.items ≡ map (with_room level (weight level last)) before.now ++ raised level last ∷ []) }
 {
     let mut base = before.to_vec(alloc)?;
-    shift_elements(level, last.weight(level), &mut base);
+    make_room(level, last.weight(level), &mut base);
     base.push(raised(level, last))?;
     Ok(base)
 }

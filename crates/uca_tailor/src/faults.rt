@@ -25,7 +25,7 @@ pub enum RuleCause {
     /// There are more than `MAX_RELATIONS` relations.
     #[error("TooManyRelations")]
     TooManyRelations,
-    /// Memory was wanted and refused.
+    /// An allocation failed.
     #[error("OutOfMemory")]
     OutOfMemory,
 }
@@ -49,7 +49,7 @@ impl From<AllocError> for RuleCause {
 /// Where and why a text of rules is refused.
 #[derive(Clone, Copy, Debug, PartialEq, Eq)]
 pub struct RuleFault {
-    /// The byte in the text; 0 where memory was wanted.
+    /// The byte in the text; 0 on `OutOfMemory`.
     pub at: usize,
     pub cause: RuleCause,
 }
@@ -69,7 +69,7 @@ pub enum TailorCause {
     /// The item would have more than `MAX_ELEMENTS` collation elements.
     #[error("TooManyElements")]
     TooManyElements,
-    /// Memory was wanted and refused.
+    /// An allocation failed.
     #[error("OutOfMemory")]
     OutOfMemory,
 }
@@ -87,7 +87,7 @@ impl From<AllocError> for TailorCause {
 /// Where and why a table can't be tailored.
 #[derive(Clone, Copy, Debug, PartialEq, Eq)]
 pub struct TailorFault {
-    /// The relation, counted from 1 over all chains; 0 where memory was wanted.
+    /// The relation, counted from 1 over all chains; 0 on `OutOfMemory`.
     pub relation: u64,
     pub cause: TailorCause,
 }

@@ -1,14 +1,14 @@
 ghost use Rattle.uca_tailor.specs.TailoringLaws.{UntouchedTextsKeepTheirOrder, EachItemIsPlaced, EachItemIsNext, EachItemIsAnAnchor, RelatedTablesAreTables};
 
-/// Two texts that no rule touches keep their order: the byte order of their sort keys is the same under the lent and the
-/// tailored table, at every strength and option. So a table may be tailored while an index of such texts stays in order.
+/// Two texts that no rule touches keep their order: the byte order of their sort keys is the same under the given and
+/// the tailored table, at every strength and option. So a table may be tailored while an index of such texts stays in order.
 #[tactic(auto, using(crate::proofs::Untouched::untouched))]
 pub fn untouched_texts_keep_their_order()
     ensures { UntouchedTextsKeepTheirOrder }
 {}
 
 /// What a relation of a level makes of its anchor, where the anchor's elements are well-formed (UTS #10, 5, WF1): the item
-/// has the anchor's weights at the levels below, and at the level itself the shifted ones with the last raised by one.
+/// has the anchor's weights at the levels below, and at the level itself those with room, the last raised by one.
 /// No other entry and no implicit element has that raised weight.
 pub fn each_item_is_placed()
     ensures { EachItemIsPlaced }

@@ -5,7 +5,7 @@ ghost use Rattle.uca_tailor.specs.Chains.{operator_of};
 ghost use Rattle.uca_tailor.specs.Faults.{RefusesText};
 ghost use Rattle.uca_tailor.specs.Scan.{ScanState};
 ghost use Rattle.uca_tailor.specs.Strings.{segments_from, BeginsWith};
-ghost use Rattle.uca_tailor.specs.Parsed.{EndsChain, IsRelationNext, is_expansion, resets_here, behind_faults, ReadsRelation, ReadsChain};
+ghost use Rattle.uca_tailor.specs.Parsed.{EndsChain, IsRelationNext, is_expansion, resets_here, after_faults, ReadsRelation, ReadsChain};
 
 use crate::faults::{RuleCause, RuleFault};
 use crate::pieces::Operator;
@@ -15,7 +15,7 @@ use crate::strings::{Found, fault_at, first_operator, read_string};
 use std::alloc::Global;
 use uca_weights::MAX_RELATIONS;
 
-/// The operator of the next relation of a chain, behind so many relations, or None at the end of the chain.
+/// The operator of the next relation of a chain, after so many relations, or None at the end of the chain.
 fn next_relation(next: Option<Found>, count: usize) -> Result<Option<Op>, RuleFault>
     ensures { MatchResult result (λ op. MatchOption op (EndsChain next) (IsRelationNext next count)) (λ f. (s : ScanState) → BeginsWith f (segment_faults no_item count (segments_from next s))) }
 {
@@ -52,7 +52,7 @@ fn is_reset(found: Found) -> bool
     matches!(found.operator, Operator::Reset)
 }
 
-/// A relation whose operator was read, and the operator behind it.
+/// A relation whose operator was read, and the operator after it.
 fn read_relation(
     alloc: Global,
     scanner: &mut Scanner<'_>,
@@ -60,7 +60,7 @@ fn read_relation(
 ) -> Result<(Relation, Option<Found>), RuleFault>
     ensures { MatchResult result
         (λ p. ReadsRelation scanner.old op p.0 p.1 scanner.new)
-        (λ f. (n : ℕ) → BeginsWith f (behind_faults (relates (operator_of op)) n scanner.old)) }
+        (λ f. (n : ℕ) → BeginsWith f (after_faults (relates (operator_of op)) n scanner.old)) }
 {
     let item = read_string(alloc, scanner)?;
     if !is_expansion(item.found) {
@@ -80,7 +80,7 @@ fn read_relation(
     Ok((relation, expansion.found))
 }
 
-/// A chain whose `&` was read, and the operator behind it. `count` relations stand before it.
+/// A chain whose `&` was read, and the operator after it. `count` relations stand before it.
 fn read_chain(
     alloc: Global,
     scanner: &mut Scanner<'_>,
@@ -89,17 +89,17 @@ fn read_chain(
     requires { count ≤ MAX_RELATIONS }
     ensures { MatchResult result
         (λ p. ReadsChain scanner.old count p.0 p.1 scanner.new)
-        (λ f. BeginsWith f (behind_faults resets count scanner.old)) }
+        (λ f. BeginsWith f (after_faults resets count scanner.old)) }
 {
     let reset = read_string(alloc, scanner)?;
     let mut relations = Vec::new(alloc);
     let mut next = reset.found;
     while let Some(op) = next_relation(next, count + relations.len())? {
-        let (relation, behind) = read_relation(alloc, scanner, op)?;
+        let (relation, after) = read_relation(alloc, scanner, op)?;
         if relations.push(relation).is_err() {
             return Err(fault_at(0, RuleCause::OutOfMemory));
         }
-        next = behind;
+        next = after;
     }
     let chain = Chain {
         reset: reset.string,
@@ -125,7 +125,7 @@ pub fn parse(alloc: Global, text: &str) -> Result<Rules, RuleFault>
         if !is_reset(found) {
             return Err(fault_at(found.at, RuleCause::Syntax));
         }
-        let (chain, behind) = match read_chain(alloc, &mut scanner, count) {
+        let (chain, after) = match read_chain(alloc, &mut scanner, count) {
             Ok(read) => read,
             Err(fault) => return Err(fault),
         };
@@ -133,7 +133,7 @@ pub fn parse(alloc: Global, text: &str) -> Result<Rules, RuleFault>
         if chains.push(chain).is_err() {
             return Err(fault_at(0, RuleCause::OutOfMemory));
         }
-        next = behind;
+        next = after;
     }
     Ok(Rules { chains })
 }

@@ -66,7 +66,7 @@ fn is_plain(c: char) -> bool
     matches!(c, '0'..='9' | 'A'..='Z' | 'a'..='z' | '_') || !c.is_ascii()
 }
 
-/// Passes over a comment behind its `#`, up to the end of its line.
+/// Passes over a comment after its `#`, up to the end of its line.
 fn skip_comment(scanner: &mut Scanner<'_>)
     ensures { scanner.new ≡ passed (length (take_while (λ c. not (is_line_end c)) scanner.old.left)) scanner.old }
 {
@@ -78,7 +78,7 @@ fn skip_comment(scanner: &mut Scanner<'_>)
     }
 }
 
-/// The operator of a relation that `scanner` stands behind; `*` isn't part of this profile.
+/// The operator of a relation that `scanner` stands after; `*` isn't part of this profile.
 fn relation(scanner: &Scanner<'_>, op: Op) -> Operator
     ensures { (n : ℕ) → operator (operator_of op) n scanner.now.left ≡ piece (kind_of result) n }
 {
@@ -143,7 +143,7 @@ fn hex_value(scanner: &mut Scanner<'_>, digits: u8) -> Option<u32>
     Some(value)
 }
 
-/// An escape with so many digits, behind the letter that says so.
+/// An escape with so many digits, after the letter that says so.
 fn code_point(
     scanner: &mut Scanner<'_>,
     digits: u8,
@@ -162,7 +162,7 @@ fn code_point(
     Ok(Piece::Given)
 }
 
-/// An escape, behind its backslash.
+/// An escape, after its backslash.
 fn escape(scanner: &mut Scanner<'_>, string: &mut Vec<char>) -> Result<Piece, RuleCause>
     ensures { ReadsPiece (escape scanner.old.left) scanner.old string.old.items scanner.new string.new.items result }
 {
@@ -195,7 +195,7 @@ fn quoted(scanner: &mut Scanner<'_>, string: &mut Vec<char>) -> Result<Piece, Ru
     Err(RuleCause::Syntax)
 }
 
-/// Quoted characters behind a quote; `''` outside quotes is an apostrophe.
+/// Quoted characters after a quote; `''` outside quotes is an apostrophe.
 fn quote(scanner: &mut Scanner<'_>, string: &mut Vec<char>) -> Result<Piece, RuleCause>
     ensures { ReadsPiece (quote scanner.old.left) scanner.old string.old.items scanner.new string.new.items result }
 {
@@ -223,7 +223,7 @@ fn plain(c: char, string: &mut Vec<char>) -> Result<Piece, RuleCause>
 }
 
 /// The piece that begins with a character which was taken.
-fn piece_behind(
+fn piece_after(
     c: char,
     scanner: &mut Scanner<'_>,
     string: &mut Vec<char>,
@@ -253,7 +253,7 @@ fn piece_behind(
     }
 }
 
-/// The next piece of the text, whose characters go behind `string`.
+/// The next piece of the text, whose characters go after `string`.
 pub(crate) fn next_piece(
     scanner: &mut Scanner<'_>,
     string: &mut Vec<char>,
@@ -263,6 +263,6 @@ pub(crate) fn next_piece(
     let Some(c) = scanner.next() else {
         return Ok(None);
     };
-    let piece = piece_behind(c, scanner, string)?;
+    let piece = piece_after(c, scanner, string)?;
     Ok(Some(piece))
 }

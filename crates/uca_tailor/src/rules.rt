@@ -16,21 +16,21 @@ pub enum Op {
     Same,
 }
 
-/// An item, which is placed behind what stands before it.
+/// An item, which is placed after what stands before it.
 #[derive(Debug, Drop)]
 pub struct Relation {
     pub op: Op,
     /// The key that the item becomes, in NFD: 1 to `MAX_KEY` code points.
     pub item: Vec<char>,
-    /// The string behind `/`, in NFD, whose collation elements follow those of the item's place (UTS #35, Part 5,
+    /// The string after `/`, in NFD, whose collation elements follow those of the item's place (UTS #35, Part 5,
     /// section 3.6, Expansions): at most `MAX_KEY` code points, and none where there is no `/`.
     pub expansion: Vec<char>,
 }
 
-/// A reset, and the relations behind it (UTS #35, Part 5, section 3.5, Orderings).
+/// A reset, and the relations after it (UTS #35, Part 5, section 3.5, Orderings).
 #[derive(Debug, Drop)]
 pub struct Chain {
-    /// The string behind `&`, in NFD: 1 to `MAX_KEY` code points.
+    /// The string after `&`, in NFD: 1 to `MAX_KEY` code points.
     pub reset: Vec<char>,
     /// The relations in the order of the text.
     pub relations: Vec<Relation>,

@@ -4,7 +4,7 @@ ghost use Rattle.uca_model.specs.Rules.{IsString};
 ghost use Rattle.uca_model.specs.SafeText.{longest_run};
 ghost use Rattle.uca_model.specs.RuleText.{string_of, leading_faults, part_faults, end_faults};
 ghost use Rattle.uca_tailor.specs.Strings.{left_of, string_faults, FindsNext, ReadsString, BeginsWith, BeginsAt};
-ghost use Rattle.uca_tailor.specs.Faults.{told_of_text};
+ghost use Rattle.uca_tailor.specs.Faults.{reported_text_cause};
 
 use crate::faults::{RuleCause, RuleFault};
 use crate::pieces::{Operator, Piece, next_piece};
@@ -21,17 +21,17 @@ pub(crate) struct Found {
     pub(crate) at: usize,
 }
 
-/// A string in NFD, and the operator behind it.
+/// A string in NFD, and the operator after it.
 #[derive(Drop)]
 pub(crate) struct Next {
     pub(crate) string: Vec<char>,
     pub(crate) found: Option<Found>,
 }
 
-/// The fault at a byte; where memory was wanted, at none.
+/// The fault at a byte; on `OutOfMemory`, at none.
 pub(crate) fn fault_at(at: usize, cause: RuleCause) -> RuleFault
     ensures cause { result.cause ≡ cause }
-    ensures at { MatchOption (told_of_text cause) (result.at ≡ 0) (λ _. result.at ≡ at) }
+    ensures at { MatchOption (reported_text_cause cause) (result.at ≡ 0) (λ _. result.at ≡ at) }
 {
     match cause {
         RuleCause::OutOfMemory => RuleFault { at: 0, cause },
@@ -60,7 +60,7 @@ pub(crate) fn first_operator(
     }
 }
 
-/// Goes to the next operator, and puts the characters before it behind `string`.
+/// Goes to the next operator, and puts the characters before it after `string`.
 fn next_operator(
     scanner: &mut Scanner<'_>,
     string: &mut Vec<char>,
@@ -115,7 +115,7 @@ fn ended(alloc: Global, string: &[char]) -> Result<Vec<char>, RuleCause>
     Ok(points)
 }
 
-/// The string behind an operator, behind which the scan stands.
+/// The string after an operator, after which the scan stands.
 pub(crate) fn read_string(alloc: Global, scanner: &mut Scanner<'_>) -> Result<Next, RuleFault>
     ensures { MatchResult result (λ n. ReadsString scanner.old n.string.items n.found scanner.new) (λ f. BeginsWith f (string_faults scanner.old)) }
 {

@@ -3,10 +3,10 @@ ghost use Rattle.uca_model.specs.CollationElements.{elements};
 ghost use Rattle.uca_model.specs.Rules.{IsRelation};
 ghost use Rattle.uca_model.specs.Tailoring.{placed_after, placed, entered, related, related_all, tailored};
 ghost use Rattle.uca_tailor.specs.Chains.{operator_of, relation_of};
-ghost use Rattle.uca_tailor.specs.Faults.{told, RefusesRelation};
+ghost use Rattle.uca_tailor.specs.Faults.{reported_cause, RefusesRelation};
 ghost use Rattle.uca_tailor.specs.Steps.{Refuses, placed_as, related_as};
 
-use crate::anchor::{anchor_of, base_behind, fault_at};
+use crate::anchor::{anchor_of, base_after, fault_at};
 use crate::faults::{TailorCause, TailorFault};
 use crate::rules::{Op, Relation, Rules};
 use std::alloc::{AllocError, Global};
@@ -14,8 +14,8 @@ use uca_match::elements_of_points;
 use uca_table::{Element, Table};
 use uca_weights::MAX_ELEMENTS;
 
-/// Makes room behind elements at a level, 1 to 3, and gives the elements of an item that stands there.
-fn place_behind(
+/// Makes room after elements at a level, 1 to 3, and gives the elements of an item that stands there.
+fn place_after(
     alloc: Global,
     t: &mut Table,
     level: u8,
@@ -33,8 +33,8 @@ fn place_behind(
     if let Some(cause) = fault_at(level, w, t, elements) {
         return Err(cause);
     }
-    let base = base_behind(alloc, level, anchor.before, anchor.last)?;
-    t.shift(level, w);
+    let base = base_after(alloc, level, anchor.before, anchor.last)?;
+    t.make_room(level, w);
     Ok(base)
 }
 
@@ -50,9 +50,9 @@ fn place(
     ensures some { IfOk result (λ base. 0 < length base.items) }
 {
     match op {
-        Op::First => place_behind(alloc, t, 1, anchor),
-        Op::Second => place_behind(alloc, t, 2, anchor),
-        Op::Third => place_behind(alloc, t, 3, anchor),
+        Op::First => place_after(alloc, t, 1, anchor),
+        Op::Second => place_after(alloc, t, 2, anchor),
+        Op::Third => place_after(alloc, t, 3, anchor),
         Op::Same => Ok(anchor.to_vec(alloc)?),
     }
 }
@@ -104,10 +104,10 @@ fn relate(
     Ok(base)
 }
 
-/// The fault of a relation; want of memory is none of its.
+/// The fault of a relation; an allocation failure is none of its.
 fn fault_of(relation: u64, cause: TailorCause) -> TailorFault
     ensures cause { result.cause ≡ cause }
-    ensures relation { result.relation ≡ (if is_some (told cause) then relation else 0) }
+    ensures relation { result.relation ≡ (if is_some (reported_cause cause) then relation else 0) }
 {
     match cause {
         TailorCause::OutOfMemory => TailorFault { relation: 0, cause },
@@ -115,7 +115,7 @@ fn fault_of(relation: u64, cause: TailorCause) -> TailorFault
     }
 }
 
-/// Applies the relations of a chain to a table, behind others of this number.
+/// Applies the relations of a chain to a table, after others of this number.
 fn relate_all(
     alloc: Global,
     t: &mut Table,

@@ -1,4 +1,4 @@
--- A weigher as data, by which a proof tells two of them apart.
+-- A weigher as data, by which a proof distinguishes two of them.
 use Rattle.std.specs.Prelude.{Bool, refl}
 use Rattle.std.specs.Coded.{Coded, code_by, coded×, coded_bool}
 use Rattle.uca_weights.specs.contracts.settings.Variable as variable

@@ -6,7 +6,7 @@ use Rattle.uca_weights.specs.declared.settings.Variable.{Variable}
 use Rattle.uca_weights.specs.declared.settings.Variable.TheVariants.{NonIgnorable, Blanked, Shifted}
 use Rattle.uca_weights.specs.Element.{has_primary, is_variable, is_completely_ignorable}
 
--- 4: the place behind these elements is after a variable, where the nearest of them that has a primary weight is variable
+-- 4: the place after these elements is after a variable, where the nearest of them that has a primary weight is variable
 abbrev pub is_after_variable : List Element → Bool
 is_after_variable before = option_map_or is_variable (find has_primary (reverse before)) false
 
@@ -28,7 +28,7 @@ weights Shifted after e =
     else if e.l1 == 0 && after then ignored 0
     else unchanged e 0xffff
 
--- 4: the weights of elements that stand behind these
+-- 4: the weights of elements that stand after these
 abbrev pub weighted_after : Variable → List Element → List Element → List (List ℕ)
 weighted_after v before [] = []
 weighted_after v before (e ∷ es) = weights v (is_after_variable before) e ∷ weighted_after v (before ++ e ∷ []) es

@@ -10,7 +10,7 @@ pub record WeigherState : Type 0 where
   pub weighting : Variable
   pub after : Bool
 
--- 4: whether the place behind an element is after a variable, by whether the place of the element is
+-- 4: whether the place after an element is after a variable, by whether the place of the element is
 abbrev pub after_element : Bool → Element → Bool
 after_element after e = if has_primary e then is_variable e else after
 

@@ -1,10 +1,10 @@
 ghost use Rattle.std.specs.Prelude.{◌≡◌, ◌≤◌};
 ghost use Rattle.uca_weights.specs.Element.{weight};
 
-/// A collation element: three weights and a mark (UTS #10, section 3).
+/// A collation element: three weights, and whether it is marked as variable (UTS #10, section 3).
 #[derive(Clone, Copy, Debug, Default, PartialEq, Eq)]
 pub struct Element {
-    /// Whether the mark is `*`, which stands at variable elements, and not `.`.
+    /// Whether a table writes it with `*`, as a variable element, and not with `.`.
     pub starred: bool,
     /// The primary weight. A weight of zero is ignorable at its level.
     pub l1: u16,

@@ -2,7 +2,7 @@
 //!
 //! The weights of an element are those of the table (UTS #10, section 3), and [`Weigher`] gives each element of a list
 //! its weights at the levels 1 to 4, by the option for variable elements (section 4). The readers and writers of
-//! `uca_io` are passed on, since most callers want both.
+//! `uca_io` are passed on, since most callers use both.
 #![tactic(auto)]
 
 pub mod element;

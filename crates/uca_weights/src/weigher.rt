@@ -6,7 +6,7 @@ ghost use Rattle.uca_weights.specs.VariableWeighting.{is_after_variable, weights
 use crate::{Element, Variable};
 use std::marker::Model;
 
-/// Weighs the elements of a list, which are handed in one by one in their order (UTS #10, section 4).
+/// Weighs the elements of a list, which are given one by one in their order (UTS #10, section 4).
 #[derive(Debug, Drop)]
 pub struct Weigher {
     weighting: Variable,

@@ -1,4 +1,4 @@
--- Lemmas on the NFD of points that are decomposed and in order, and of the characters behind them.
+-- Lemmas on the NFD of points that are decomposed and in order, and of the characters after them.
 use Rattle.std.proofs.Common.{◌≡◌, ℕ, zero, suc, ◌<◌, ◌≤◌, Bool, true, false, List, [], ◌∷◌, ◌++◌, drop, flat_map, refl, sym, ap, ap₂, ◌∙◌, arith, inl, inr, append_assoc, append-nil}
 use Rattle.std.proofs.lemmas.Grind.{flat_map-append}
 use Rattle.std.specs.List.{list_all}
@@ -43,14 +43,14 @@ final-IsInForm ds h = ap all_final (sym h ∙ nfd-is ds) ∙ list_all-canonical_
 pub IsInForm-from : (ds : List ℕ) → all_final ds ≡ true → is_ordered ds ≡ true → IsInForm Nfd ds
 IsInForm-from ds final ordered = nfd-is ds ∙ ap canonical_order (parts-final ds final) ∙ canonical_order-ordered ds ordered
 
--- ---- points, and characters behind them
+-- ---- points, and characters after them
 
 -- decomposed points count as they are in the NFD of one list
 pub nfd-points : (ps cs : List ℕ) → all_final ps ≡ true → nfd (ps ++ cs) ≡ canonical_order (ps ++ parts cs)
 nfd-points ps cs final =
     nfd-is (ps ++ cs) ∙ ap canonical_order (flat_map-append decompose_canonical ps cs ∙ ap (λ l. l ++ parts cs) (parts-final ps final))
 
--- one character may be decomposed and put in order behind the points before the others are
+-- one character may be decomposed and put in order after the points before the others are
 pub nfd-read : (ps : List ℕ) (c : ℕ) (cs : List ℕ) → IsInForm Nfd ps → nfd (canonical_order (ps ++ decompose_canonical c) ++ cs) ≡ nfd (ps ++ c ∷ cs)
 nfd-read ps c cs h =
     let final = final-IsInForm ps h in
@@ -69,7 +69,7 @@ IsInForm-read ps c h =
 
 -- ---- the order of a list whose front is in order already
 
--- behind a starter the marks are put in order by themselves
+-- after a starter the nonstarters are put in order by themselves
 pub order-parted : (front : List ℕ) (s : ℕ) (marks later : List ℕ) → ccc s ≤ 0 → is_ordered front ≡ true → canonical_order ((front ++ s ∷ marks) ++ later) ≡ front ++ s ∷ canonical_order (marks ++ later)
 order-parted front s marks later starter ordered =
     ap canonical_order (append_assoc front (s ∷ marks) later)
@@ -96,7 +96,7 @@ is_ordered-drop zero xs h = h
 is_ordered-drop (suc n) [] h = h
 is_ordered-drop (suc n) (x ∷ xs) h = is_ordered-drop n xs (is_ordered-tail x xs h)
 
--- what is left without a mark
+-- what is left without a nonstarter
 pub is_ordered-without : (xs : List ℕ) (m : ℕ) (ys : List ℕ) → 0 < ccc m → is_ordered (xs ++ m ∷ ys) ≡ true → is_ordered (xs ++ ys) ≡ true
 is_ordered-without [] m ys mark h = is_ordered-tail m ys h
 is_ordered-without (x ∷ []) m [] mark h = is_ordered-one x
@@ -116,7 +116,7 @@ is_ordered-without (x ∷ []) m (y ∷ ys) mark h =
 is_ordered-without (x ∷ z ∷ xs) m ys mark h =
     let both = is_ordered-parts x z (xs ++ m ∷ ys) h in is_ordered-cons x z (xs ++ ys) both.0 (is_ordered-without (z ∷ xs) m ys mark both.1)
 
--- ---- a mark in its place
+-- ---- a nonstarter in its place
 
 -- the last code point has no class above this one
 abbrev pub EndsAtMost : ℕ → List ℕ → Type 0
@@ -129,7 +129,7 @@ abbrev pub AreAbove : ℕ → List ℕ → Type 0
 AreAbove n [] = Unit {0}
 AreAbove n (x ∷ xs) = (n < ccc x) × AreAbove n xs
 
--- a list stays in order with a mark between these
+-- a list stays in order with a nonstarter between these
 is_ordered-with : (xs : List ℕ) (d : ℕ) (zs : List ℕ) → is_ordered (xs ++ zs) ≡ true → EndsAtMost (ccc d) xs → AreAbove (ccc d) zs → is_ordered (xs ++ d ∷ zs) ≡ true
 is_ordered-with [] d [] h low high = is_ordered-one d
 is_ordered-with [] d (z ∷ zs) h low high = let above = high.0 in is_ordered-cons d z zs (not_reorderable_rising d z (omega arith)) h
@@ -138,7 +138,7 @@ is_ordered-with (x ∷ []) d zs h low high =
 is_ordered-with (x ∷ y ∷ xs) d zs h low high =
     let both = is_ordered-parts x y (xs ++ zs) h in is_ordered-cons x y (xs ++ d ∷ zs) both.0 (is_ordered-with (y ∷ xs) d zs both.1 low high)
 
--- a mark at the end goes before all those of higher classes
+-- a nonstarter at the end goes before all those of higher classes
 order-moved : (xs zs : List ℕ) (d : ℕ) → 0 < ccc d → AreAbove (ccc d) zs → canonical_order ((xs ++ zs) ++ d ∷ []) ≡ canonical_order (xs ++ d ∷ zs)
 order-moved xs [] d mark high = ap (λ l. canonical_order (l ++ d ∷ [])) (append-nil xs)
 order-moved xs (z ∷ zs) d mark high =

@@ -1,7 +1,7 @@
-pub mod ScanLemmas
+pub mod RunScan
 pub mod SourceLemmas
 pub mod RunLemmas
 pub mod FormLemmas
-pub mod PlaceLemmas
+pub mod PlacedPoints
 pub mod SegmentLemmas
-pub mod WindowLemmas
+pub mod WindowCalls

@@ -24,16 +24,16 @@ runs-back n xs ys =
 pub runs-drop : (k n : ℕ) (cs : List ℕ) → longest_run_after 0 (drop k cs) ≤ longest_run_after n cs
 runs-drop k n cs = subst (λ l. longest_run_after 0 (drop k cs) ≤ longest_run_after n l) (take-append-drop k cs) (runs-back n (take k cs) (drop k cs))
 
--- a text without a mark
+-- a text without a nonstarter
 pub runs-without : (n : ℕ) (xs : List ℕ) (m : ℕ) (ys : List ℕ) → is_nonstarter m ≡ true → longest_run_after n (xs ++ ys) ≤ longest_run_after n (xs ++ m ∷ ys)
 runs-without n xs m ys mark =
     let one : longest_run_after (run_after n xs) (m ∷ ys) ≡ longest_run_after (run_after n xs + 1) ys = rw mark refl in
     let more : longest_run_after (run_after n xs) ys ≤ longest_run_after (run_after n xs + 1) ys = runs-more (run_after n xs) (run_after n xs + 1) ys (omega arith) in
     omega (arith, runs-append n xs ys, runs-append n xs (m ∷ ys))
 
--- marks that stand in a row are a run
+-- nonstarters that stand in a row are a run
 pub length-run : (n : ℕ) (ms ys : List ℕ) → list_all is_nonstarter ms ≡ true → n + length ms ≤ longest_run_after n (ms ++ ys)
-length-run n [] ys marks = omega (arith, count_le n ys)
+length-run n [] ys nonstarters = omega (arith, count_le n ys)
 length-run n (m ∷ ms) ys marks =
     let both = and_parts (is_nonstarter m) (list_all is_nonstarter ms) marks in
     let one : longest_run_after n (m ∷ (ms ++ ys)) ≡ longest_run_after (n + 1) (ms ++ ys) = rw both.0 refl in

@@ -1,4 +1,4 @@
--- Lemmas on segments: what one more point does to them, and that the NFD may be cut behind a closed one.
+-- Lemmas on segments: what one more point does to them, and that the NFD may be cut after a closed one.
 use Rattle.std.proofs.Common.{◌≡◌, ℕ, zero, suc, ◌<◌, ◌≤◌, Bool, true, List, [], ◌∷◌, ◌++◌, length, take, drop, refl, sym, ap, ap₂, subst, ◌∙◌, arith, inl, inr, append-nil, length-append, length-drop, take-append-drop, length-take-le}
 use Rattle.std.proofs.lemmas.Bool.{cases_Bool, cases_lt, and_parts, and_from, not_from_false}
 use Rattle.std.proofs.lemmas.List.{drop_at, nil_from_length}
@@ -37,7 +37,7 @@ nonstarter_from d h = not_from_false _ (not_starter_from d h)
 
 -- ---- a cut before a starter, or at the end of all
 
--- the NFD of all is the front, and the NFD of what stands behind it
+-- the NFD of all is the front, and the NFD of what stands after it
 pub nfd-cut : (front back left : List ℕ) → all_final (front ++ back) ≡ true → is_ordered front ≡ true → begins_segment back ≡ true → (back ≡ [] → left ≡ []) → nfd ((front ++ back) ++ left) ≡ front ++ nfd (back ++ left)
 nfd-cut front [] left final ordered begins last =
     let none = last refl in
@@ -59,10 +59,10 @@ nfd-begins (s ∷ marks) left final begins last =
 
 -- ---- one more point
 
--- a mark joins an open segment that begins with a starter
-behind_starter : (front : List ℕ) (s : ℕ) (marks : List ℕ) (d closed : ℕ) (after : List ℕ) → closed ≡ length front → is_ordered front ≡ true → ccc s ≤ 0 → list_all is_nonstarter marks ≡ true → 0 < ccc d
+-- a nonstarter joins an open segment that begins with a starter
+after_starter : (front : List ℕ) (s : ℕ) (marks : List ℕ) (d closed : ℕ) (after : List ℕ) → closed ≡ length front → is_ordered front ≡ true → ccc s ≤ 0 → list_all is_nonstarter marks ≡ true → 0 < ccc d
     → after ≡ canonical_order ((front ++ s ∷ marks) ++ d ∷ []) → IsOpen closed after
-behind_starter front s marks d closed after e ordered starter all mark h =
+after_starter front s marks d closed after e ordered starter all mark h =
     let whole = h ∙ order-parted front s marks (d ∷ []) starter ordered in
     let back : drop closed after ≡ s ∷ canonical_order (marks ++ d ∷ []) = ap (drop closed) whole ∙ drop_at front _ closed (sym e) in
     let size = ap length whole in
@@ -70,23 +70,23 @@ behind_starter front s marks d closed after e ordered starter all mark h =
     record {
       within = omega arith;
       begins = λ _. ap begins_segment back ∙ is_starter_from s starter;
-      marks = ap (λ l. list_all is_nonstarter (drop 1 l)) back ∙ list_all-canonical_order is_nonstarter _ (list_all-push is_nonstarter marks d all (nonstarter_from d mark));
+      nonstarters = ap (λ l. list_all is_nonstarter (drop 1 l)) back ∙ list_all-canonical_order is_nonstarter _ (list_all-push is_nonstarter marks d all (nonstarter_from d mark));
       some = λ _. omega arith;
     }
 
--- a mark joins marks at the start
+-- a nonstarter joins nonstarters at the start
 among_marks : (marks : List ℕ) (d : ℕ) (after : List ℕ) → list_all is_nonstarter marks ≡ true → 0 < ccc d → after ≡ canonical_order (marks ++ d ∷ []) → IsOpen 0 after
 among_marks marks d after all mark h =
     record {
       within = omega arith;
       begins = λ (z : 0 < 0). absurd (omega arith);
-      marks =
+      nonstarters =
           list_all-drop is_nonstarter 1 after
           (ap (list_all is_nonstarter) h ∙ list_all-canonical_order is_nonstarter _ (list_all-push is_nonstarter marks d all (nonstarter_from d mark)));
       some = λ (z : 0 < 0). absurd (omega arith);
     }
 
--- a mark joins the open segment, whatever it begins with
+-- a nonstarter joins the open segment, whatever it begins with
 mark_at_back : (front back : List ℕ) (d closed : ℕ) (after : List ℕ) → closed ≡ length front → is_ordered front ≡ true → (0 < closed → begins_segment back ≡ true) → list_all is_nonstarter (drop 1 back) ≡ true → (0 < closed → 0 < length back) → 0 < ccc d
     → after ≡ canonical_order ((front ++ back) ++ d ∷ []) → IsOpen closed after
 mark_at_back [] [] d closed after e ordered begins marks some mark h =
@@ -94,7 +94,7 @@ mark_at_back [] [] d closed after e ordered begins marks some mark h =
 mark_at_back (f ∷ front) [] d closed after e ordered begins marks some mark h = let none = some (omega arith) in absurd (omega arith)
 mark_at_back front (s ∷ rest) d closed after e ordered begins marks some mark h =
     elim (cases_Bool (is_starter s)) [
-      | inl starter ↦ behind_starter front s rest d closed after e ordered (is_starter-true s starter) marks mark h
+      | inl starter ↦ after_starter front s rest d closed after e ordered (is_starter-true s starter) marks mark h
       | inr other ↦
           elim (cases_lt 0 closed) [
             | inl positive ↦ let clash = sym (begins positive) ∙ other in cc
@@ -106,14 +106,14 @@ mark_at_back front (s ∷ rest) d closed after e ordered begins marks some mark 
           ]
     ]
 
--- a mark closes no segment
+-- a nonstarter closes no segment
 pub IsOpen-mark : (closed : ℕ) (points : List ℕ) (d : ℕ) (after : List ℕ) → IsOpen closed points → is_ordered points ≡ true → 0 < ccc d → after ≡ canonical_order (points ++ d ∷ []) → IsOpen closed after
 IsOpen-mark closed points d after h ordered mark e =
     let whole = take-append-drop closed points in
     mark_at_back (take closed points) (drop closed points) d closed after
     (sym (length-take-le closed points h.within))
     (is_ordered-front (take closed points) (drop closed points) (ap is_ordered whole ∙ ordered))
-    h.begins h.marks
+    h.begins h.nonstarters
     (λ positive. let some = h.some positive in omega (arith, length-drop closed points))
     mark (e ∙ ap (λ l. canonical_order (l ++ d ∷ [])) (sym whole))
 
@@ -125,6 +125,6 @@ IsOpen-starter points s after starter e =
     record {
       within = omega arith;
       begins = λ _. ap begins_segment back ∙ is_starter_from s starter;
-      marks = ap (λ l. list_all is_nonstarter (drop 1 l)) back;
+      nonstarters = ap (λ l. list_all is_nonstarter (drop 1 l)) back;
       some = λ _. omega arith;
     }

@@ -29,7 +29,7 @@ utf8_after s t (Some c) text h = IsUtf8-past_char _ _ c text h.0
 place-next : (text left : List ℕ) (c : ℕ) (rest : List ℕ) → Follows text left → left ≡ c ∷ rest → length text - length rest ≡ (length text - length left) + 1
 place-next text left c rest h e = omega (arith, h.within, ap length e)
 
--- what is left behind a character follows in the text
+-- what is left after a character follows in the text
 follows-next : (text left : List ℕ) (c : ℕ) (rest : List ℕ) → Follows text left → left ≡ c ∷ rest → Follows text rest
 follows-next text left c rest h e =
     record {
@@ -39,7 +39,7 @@ follows-next text left c rest h e =
           ∙ sym (drop-drop 1 (length text - length left) text) ∙ ap (drop 1) (h.follows ∙ e);
     }
 
--- the same behind a call that may have met the end
+-- the same after a call that may have met the end
 follows-given : (text left rest : List ℕ) (given : Option ℕ) → Follows text left → GivesChar left given rest → Follows text rest
 follows-given text left rest None h g = subst (Follows text) (sym g.1) h
 follows-given text left rest (Some c) h g = follows-next text left c rest h g
@@ -65,7 +65,7 @@ stands_first text left utf8 e =
       };
     }
 
--- the bytes that are left behind a call
+-- the bytes that are left after a call
 bytes-given : (text : List ℕ) (s t : Chars) (given : Option ℕ) → length (chars_rest s) ≤ length text → drop (length text - length (chars_rest s)) text ≡ chars_rest s → chars_steps s given t
     → (length (chars_rest t) ≤ length text) × (drop (length text - length (chars_rest t)) text ≡ chars_rest t)
 bytes-given text s t None short bytes h = subst (λ u. (length (chars_rest u) ≤ length text) × (drop (length text - length (chars_rest u)) text ≡ chars_rest u)) (sym h.0.1) (short, bytes)
@@ -75,7 +75,7 @@ bytes-given text s t (Some c) short bytes h =
     let further : length text - length (chars_rest t) ≡ (length text - length (chars_rest s)) + length (encode_utf8 c) = omega (arith, short, size) in
     (omega (arith, short, size), ap (λ n. drop n text) further ∙ sym (drop-drop (length (encode_utf8 c)) (length text - length (chars_rest s)) text) ∙ ap (drop (length (encode_utf8 c))) (bytes ∙ e) ∙ drop-append_seam (encode_utf8 c) (chars_rest t))
 
--- the iterator behind a call
+-- the iterator after a call
 pub stands_next : (text : List ℕ) (s t : Chars) (given : Option ℕ) → StandsIn text (chars_rest s) → chars_steps s given t → StandsIn text (chars_rest t)
 stands_next text s t given h step =
     record {
@@ -86,20 +86,20 @@ stands_next text s t given h step =
     }
 
 -- a call of the source, of which the iterator gave the next character
-pub gives_next : (text : List ℕ) (s t : Chars) (marked : List ℕ) (given : Option ℕ) (taken backs count : ℕ) → StandsIn text (chars_rest s) → chars_steps s given t → count ≡ one_more taken
-    → GivesNext (state_at (chars text) (chars (chars_rest s)) marked taken backs) given (state_at (chars text) (chars (chars_rest t)) marked count backs)
-gives_next text s t marked given taken backs count h step counts =
+pub gives_next : (text : List ℕ) (s t : Chars) (marked : List ℕ) (given : Option ℕ) (reads rewinds count : ℕ) → StandsIn text (chars_rest s) → chars_steps s given t → count ≡ one_more reads
+    → GivesNext (state_at (chars text) (chars (chars_rest s)) marked reads rewinds) given (state_at (chars text) (chars (chars_rest t)) marked count rewinds)
+gives_next text s t marked given reads rewinds count h step counts =
     record {
       text = refl;
       value = next-given _ _ _ given h.follows (gives_char s t given h.utf8 step);
       mark = refl;
-      taken = counts;
-      backs = refl;
+      reads = counts;
+      rewinds = refl;
     }
 
 -- ---- one character back
 
--- what is left behind the front of a text follows in it
+-- what is left after the front of a text follows in it
 follows-bytes : (text front left : List ℕ) → text ≡ front ++ left → IsUtf8 front → Follows (chars text) (chars left)
 follows-bytes text front left e utf8 =
     let parts : chars text ≡ chars front ++ chars left = ap chars e ∙ chars-append front left utf8 in

@@ -5,7 +5,7 @@ use Rattle.uca_model.specs.Source.{SourceState}
 
 -- a source of this text of which these characters are left, and these from its mark on
 abbrev pub state_at : List ℕ → List ℕ → List ℕ → ℕ → ℕ → SourceState
-state_at text left marked taken backs = record { text = text; place = length text - length left; mark = length text - length marked; taken = taken; backs = backs }
+state_at text left marked reads rewinds = record { text = text; place = length text - length left; mark = length text - length marked; reads = reads; rewinds = rewinds }
 
 -- the characters that are left are the text without its first ones
 pub record Follows (text left : List ℕ) : Type 0 where

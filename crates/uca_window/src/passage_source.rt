@@ -13,8 +13,8 @@ pub struct PassageSource<'t> {
     text: &'t str,
     rest: Chars<'t>,
     marked: Chars<'t>,
-    taken: u128,
-    backs: u128,
+    reads: u128,
+    rewinds: u128,
 }
 
 impl<'t> Model for PassageSource<'t> {
@@ -25,7 +25,7 @@ impl<'t> Model for PassageSource<'t> {
 
     ghost Value = { SourceState };
 
-    ghost view = { λ s. state_at (chars s.text.now) (chars (chars_rest s.rest)) (chars (chars_rest s.marked)) s.taken s.backs };
+    ghost view = { λ s. state_at (chars s.text.now) (chars (chars_rest s.rest)) (chars (chars_rest s.marked)) s.reads s.rewinds };
 
     ghost invariant = { λ s. StandsIn s.text.now (chars_rest s.rest) × StandsIn s.text.now (chars_rest s.marked) };
 }
@@ -45,14 +45,14 @@ impl<'t> PassageSource<'t> {
             text,
             rest: text.chars(),
             marked: text.chars(),
-            taken: 0,
-            backs: 0,
+            reads: 0,
+            rewinds: 0,
         }
     }
 }
 
 // What is left of a text one character earlier.
-fn behind_last<'t>(text: &'t str, rest: &str) -> Chars<'t>
+fn after_last<'t>(text: &'t str, rest: &str) -> Chars<'t>
     requires stands { StandsIn text.now rest.now }
     requires some { length (chars rest.now) < length (chars text.now) }
     ensures stands { StandsIn text.now (chars_rest result) }
@@ -67,21 +67,21 @@ impl<'t> Source for PassageSource<'t> {
     ghost state = { λ s. s };
 
     fn next(&mut self) -> Option<char> {
-        self.taken = self.taken.saturating_add(1);
+        self.reads = self.reads.saturating_add(1);
         self.rest.next()
     }
 
     fn restart(&mut self) {
-        self.backs = self.backs.saturating_add(1);
+        self.rewinds = self.rewinds.saturating_add(1);
         self.rest = self.text.chars();
     }
 
     fn mark(&mut self) {
-        self.marked = behind_last(self.text, self.rest.as_str());
+        self.marked = after_last(self.text, self.rest.as_str());
     }
 
     fn rewind(&mut self) {
-        self.backs = self.backs.saturating_add(1);
+        self.rewinds = self.rewinds.saturating_add(1);
         self.rest = self.marked.as_str().chars();
     }
 }

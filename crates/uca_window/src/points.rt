@@ -16,7 +16,7 @@ pub(crate) const ROOM: usize = MAX_KEY + MAX_LOOKAHEAD;
 // The first character that has a decomposition. Each one below is a starter, too.
 const FIRST_DECOMPOSED: char = '\u{C0}';
 
-// Puts what a character decomposes to behind points in canonical order, and keeps them in order. The first `closed`
+// Puts what a character decomposes to after points in canonical order, and keeps them in order. The first `closed`
 // points stand in closed segments; gives how many do then.
 pub(crate) fn push_decomposed(points: &mut ArrayVec<char, ROOM>, closed: usize, c: char) -> usize
     requires room { array_vec_len points.old + length (decompose_canonical c) ≤ ROOM }
@@ -50,7 +50,7 @@ fn push_starter(points: &mut ArrayVec<char, ROOM>, point: char) -> usize
     closed
 }
 
-// Puts a point behind points in canonical order: a starter at the end, and a mark in its place.
+// Puts a point after points in canonical order: a starter at the end, and a nonstarter in its place.
 fn push_point(points: &mut ArrayVec<char, ROOM>, closed: usize, point: char) -> usize
     requires room { array_vec_len points.old < ROOM }
     requires ordered { is_ordered points.old.items ≡ true }
@@ -68,7 +68,7 @@ fn push_point(points: &mut ArrayVec<char, ROOM>, closed: usize, point: char) -> 
     closed
 }
 
-// The place of a mark of this class. Each starter stops the search, since its class is 0.
+// The place of a nonstarter of this class. Each starter stops the search, since its class is 0.
 fn place_of(points: &[char], class: u8) -> usize
     ensures { IsPlaceOf points.now class result }
 {

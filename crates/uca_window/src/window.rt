@@ -9,7 +9,7 @@ use crate::source::Source;
 use arrayvec::ArrayVec;
 use std::marker::Model;
 
-/// A stretch of a text in NFD, at most `longest + MAX_LOOKAHEAD` code points of it. It is lent a source at each call
+/// A stretch of a text in NFD, at most `longest + MAX_LOOKAHEAD` code points of it. It borrows a source at each call
 /// that reads. Its rest over a source is the NFD of one list: its points, and then the characters that the source has
 /// not given yet. It takes no memory.
 #[derive(Drop)]
@@ -61,8 +61,8 @@ impl Window {
         self.points.as_slice()
     }
 
-    /// How many points are closed: those of whole segments. A segment is a starter with the marks behind it, or marks
-    /// at the start. It is whole once the starter behind it or the end was read.
+    /// How many points are closed: those of whole segments. A segment is a starter with the nonstarters after it, or
+    /// nonstarters at the start. It is whole once the starter after it or the end was read.
     pub fn closed(&self) -> usize
         ensures value { result ≡ self.now.closed }
         ensures valid { IsWindow self.now }
@@ -115,7 +115,7 @@ impl Window {
         self.closed < self.longest && !self.ended
     }
 
-    /// Reads one character, or the end, and answers it. Only what a character decomposes to decides whether it closes a
+    /// Reads one character, or the end, and returns it. Only what a character decomposes to decides whether it closes a
     /// segment.
     pub fn read<S: Source>(&mut self, source: &mut S) -> Option<char>
         requires wants { is_wanting self.old ≡ true }

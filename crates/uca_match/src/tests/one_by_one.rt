@@ -16,20 +16,20 @@ use uca_window::{Passage, PassageSource, Source};
 #[derive(Drop)]
 struct Counted<'t> {
     source: PassageSource<'t>,
-    taken: usize,
-    backs: usize,
+    reads: usize,
+    rewinds: usize,
 }
 
 impl<'t> Source for Counted<'t> {
     ghost state = { λ s. s.source };
 
     fn next(&mut self) -> Option<char> {
-        self.taken = self.taken.saturating_add(1);
+        self.reads = self.reads.saturating_add(1);
         self.source.next()
     }
 
     fn restart(&mut self) {
-        self.backs = self.backs.saturating_add(1);
+        self.rewinds = self.rewinds.saturating_add(1);
         self.source.restart();
     }
 
@@ -38,7 +38,7 @@ impl<'t> Source for Counted<'t> {
     }
 
     fn rewind(&mut self) {
-        self.backs = self.backs.saturating_add(1);
+        self.rewinds = self.rewinds.saturating_add(1);
         self.source.rewind();
     }
 }
@@ -48,8 +48,8 @@ fn source_of<'t>(p: &Passage<'t>) -> Counted<'t>
 {
     Counted {
         source: PassageSource::new(p),
-        taken: 0,
-        backs: 0,
+        reads: 0,
+        rewinds: 0,
     }
 }
 
@@ -124,7 +124,7 @@ fn a_source_is_asked_once_for_each_character_and_for_the_end(rt: HostRuntime) {
     assert_eq!(rt; elements.next(&mut source), Some(plain(0, 0x24)));
     assert_eq!(rt; elements.next(&mut source), None);
     assert_eq!(rt; elements.next(&mut source), None);
-    assert_eq!(rt; (source.taken, source.backs), (3, 0));
+    assert_eq!(rt; (source.reads, source.rewinds), (3, 0));
 }
 
 #[test]
@@ -142,7 +142,7 @@ fn characters_are_read_while_some_are_wanted(rt: HostRuntime) {
     assert!(rt; !elements.wants());
     assert_eq!(rt; elements.next(&mut source), Some(plain(0x1007, 0x20)));
     assert_eq!(rt; elements.next(&mut source), None);
-    assert_eq!(rt; (source.taken, source.backs), (3, 0));
+    assert_eq!(rt; (source.reads, source.rewinds), (3, 0));
 }
 
 #[test]

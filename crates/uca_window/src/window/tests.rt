@@ -15,17 +15,17 @@ struct CharsSource<'t> {
     text: &'t [char],
     place: usize,
     marked: usize,
-    taken: u128,
-    backs: u128,
+    reads: u128,
+    rewinds: u128,
     ghost within: { place ≤ length text.now },
     ghost marked_within: { marked ≤ length text.now },
 }
 
 impl<'t> Source for CharsSource<'t> {
-    ghost state = { λ s. record { text = s.text.now; place = s.place; mark = s.marked; taken = s.taken; backs = s.backs } };
+    ghost state = { λ s. record { text = s.text.now; place = s.place; mark = s.marked; reads = s.reads; rewinds = s.rewinds } };
 
     fn next(&mut self) -> Option<char> {
-        self.taken = self.taken.saturating_add(1);
+        self.reads = self.reads.saturating_add(1);
         if self.place == self.text.len() {
             return None;
         }
@@ -35,7 +35,7 @@ impl<'t> Source for CharsSource<'t> {
     }
 
     fn restart(&mut self) {
-        self.backs = self.backs.saturating_add(1);
+        self.rewinds = self.rewinds.saturating_add(1);
         self.place = 0;
     }
 
@@ -44,7 +44,7 @@ impl<'t> Source for CharsSource<'t> {
     }
 
     fn rewind(&mut self) {
-        self.backs = self.backs.saturating_add(1);
+        self.rewinds = self.rewinds.saturating_add(1);
         self.place = self.marked;
     }
 }
@@ -58,8 +58,8 @@ fn source_of<'t>(text: &'t [char]) -> CharsSource<'t>
         text,
         place: 0,
         marked: 0,
-        taken: 0,
-        backs: 0,
+        reads: 0,
+        rewinds: 0,
     }
 }
 
@@ -104,7 +104,7 @@ fn a_fill_reads_no_more_than_it_must(rt: HostRuntime) {
         ("a", '\u{F73}', 1, "b", 1, [4, 3, 3]),
         ("b\u{301}", '\u{323}', 1, "a", 3, [4, 3, 4]),
     ];
-    for (start, mark, times, end, longest, [points, closed, taken]) in rows {
+    for (start, mark, times, end, longest, [points, closed, reads]) in rows {
         let Ok(text) = text_of(rt.alloc(), start, mark, times, end) else {
             return;
         };
@@ -120,8 +120,8 @@ fn a_fill_reads_no_more_than_it_must(rt: HostRuntime) {
             "{text:?}"
         );
         assert_eq!(rt;
-            (source.taken, source.backs),
-            (taken as u128, 0),
+            (source.reads, source.rewinds),
+            (reads as u128, 0),
             "{text:?}"
         );
     }
@@ -161,12 +161,12 @@ fn a_window_that_was_told_the_end_asks_no_more(rt: HostRuntime) {
     let mut window = Window::new(5);
     window.fill(&mut source);
     window.fill(&mut source);
-    assert_eq!(rt; (window.closed(), source.taken), (2, 3));
+    assert_eq!(rt; (window.closed(), source.reads), (2, 3));
     let n = window.closed();
     window.drop_front(n);
     window.fill(&mut source);
     assert_eq!(rt;
-        (window.points().len(), window.closed(), source.taken),
+        (window.points().len(), window.closed(), source.reads),
         (0, 0, 3)
     );
 }

@@ -1,6 +1,6 @@
 use Rattle.std.proofs.Common.{◌≡◌, ◌∷◌, ◌+◌, List, ℕ, ap, ap₂, sym, ◌∙◌, map, take, drop}
 use Rattle.uca_model.specs.Lines.{without_return, lines_of}
-use Rattle.uca_model.proofs.LinesLemmas.{split_lines-first}
+use Rattle.uca_model.proofs.FirstLines.{split_lines-first}
 use Rattle.uca_cli.proofs.lines.first_line.Goals as goal
 
 pub returns-clause-parts : goal.returns-clause-parts

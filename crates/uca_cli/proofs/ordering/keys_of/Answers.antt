@@ -1,7 +1,7 @@
 use Rattle.std.proofs.Common.{◌≡◌, ℕ, List, [], ◌∷◌, ◌++◌, length, map, flat_map, All, ap, subst, sym, ◌∙◌, arith, append_assoc}
 use Rattle.std.proofs.lemmas.List.Elements.{All-tail}
 use Rattle.uca_model.specs.Lines.{lines_of, IsTextLine}
-use Rattle.uca_model.specs.Ordered.{line_key}
+use Rattle.uca_model.specs.OrderOutput.{line_key}
 use Rattle.uca_model.specs.SortKey.{sort_key}
 use Rattle.uca_cli.proofs.ordering.keys_of.Goals as goal
 

@@ -1,6 +1,6 @@
 use Rattle.std.proofs.Common.{◌≡◌, ◌++◌, length, map, flat_map, All}
 use Rattle.uca_model.specs.Lines.{lines_of, IsTextLine}
-use Rattle.uca_model.specs.Ordered.{line_key}
+use Rattle.uca_model.specs.OrderOutput.{line_key}
 use Rattle.uca_cli.proofs.ordering.keys_of.Given as goal
 
 abbrev pub invariant-loop-left : goal.invariant-loop-left

@@ -4,7 +4,7 @@ use Rattle.std.proofs.lemmas.List.{length-map}
 use Rattle.std.proofs.lemmas.List.Sorted.{length_permutation}
 use Rattle.uca_weights.specs.declared.settings.Settings.{Settings}
 use Rattle.uca_model.specs.Lines.{lines_of}
-use Rattle.uca_model.specs.Ordered.{IsInOrder, IsOrderOutput, text_of_lines}
+use Rattle.uca_model.specs.OrderOutput.{IsInOrder, IsOrderOutput, text_of_lines}
 use Rattle.uca_model.specs.SortKey.{key_order}
 use Rattle.uca_model.specs.Table.{ElementTable}
 use Rattle.uca_cli.specs.Ordering.{cut_up, AreKeys}

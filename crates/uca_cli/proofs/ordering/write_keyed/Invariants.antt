@@ -1,6 +1,6 @@
 use Rattle.std.proofs.Common.{◌≡◌, ◌≤◌, ◌+◌, ◌*◌, ◌^◌, List, ℕ, ◌++◌, length, map, drop}
 use Rattle.uca_io.specs.OutputBuffer.{accepted, Accepts}
-use Rattle.uca_model.specs.Ordered.{text_of_lines}
+use Rattle.uca_model.specs.OrderOutput.{text_of_lines}
 use Rattle.uca_cli.proofs.ordering.write_keyed.Given as goal
 
 abbrev pub invariant-loop-keyed : goal.invariant-loop-keyed

@@ -3,7 +3,7 @@ use Rattle.std.proofs.lemmas.Result.{IfOk-weaker}
 use Rattle.unicode_normalization.specs.Forms.{nfd}
 use Rattle.uca_weights.specs.Settings.{levels}
 use Rattle.uca_window.specs.Passage.{text_of}
-use Rattle.uca_key.proofs.KeyLemmas.{key-few, key-identical, all_five}
+use Rattle.uca_key.proofs.KeyBytes.{key-few, key-identical, all_five}
 use Rattle.uca_key.proofs.keys.key_of.Goals as goal
 
 pub returns-then-levels-lt5 : goal.returns-then-levels-lt5

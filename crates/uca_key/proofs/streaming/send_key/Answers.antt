@@ -1,10 +1,10 @@
 use Rattle.std.proofs.Common.{◌≡◌, ℕ, List, suc, ◌+◌, ◌-◌, ◌^◌, [], ◌∷◌, ◌++◌, sym, ap, refl, ◌∙◌, arith}
 use Rattle.uca_weights.specs.Settings.{levels}
 use Rattle.uca_model.specs.LevelWeights.{level_list}
-use Rattle.uca_model.specs.Reading.{bytes_at, key_from}
+use Rattle.uca_model.specs.DecidingLevel.{bytes_at, key_from}
 use Rattle.uca_model.specs.Source.{unread}
 use Rattle.uca_model.proofs.LevelLemmas.{sort_key-levels, levels-within}
-use Rattle.uca_key.proofs.SendingLemmas.{IsSending-start, IsSending-room, IsSending-more, IsSending-stops, IsSending-ends, tail_of, key_from-split}
+use Rattle.uca_key.proofs.KeyPieces.{IsSending-start, IsSending-room, IsSending-more, IsSending-stops, IsSending-ends, tail_of, key_from-split}
 use Rattle.uca_key.proofs.streaming.send_key.Goals as goal
 
 pub each-init : goal.each-init

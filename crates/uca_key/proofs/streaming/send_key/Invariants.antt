@@ -1,9 +1,9 @@
 use Rattle.std.proofs.Common.{◌≡◌, ◌-◌, ◌≤◌}
 use Rattle.uca_weights.specs.Settings.{levels}
 use Rattle.uca_model.specs.LevelWeights.{level_list}
-use Rattle.uca_model.specs.Reading.{key_from}
+use Rattle.uca_model.specs.DecidingLevel.{key_from}
 use Rattle.uca_model.specs.SortKey.{sort_key}
-use Rattle.uca_key.proofs.SendingLemmas.{IsSending}
+use Rattle.uca_key.proofs.KeyPieces.{IsSending}
 use Rattle.uca_key.proofs.streaming.send_key.Given as goal
 
 abbrev pub invariant-each : goal.invariant-each

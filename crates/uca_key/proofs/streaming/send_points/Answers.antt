@@ -3,7 +3,7 @@ use Rattle.uca_model.specs.SortKey.{code_point_bytes}
 use Rattle.uca_model.specs.Source.{unread}
 use Rattle.uca_model.specs.Window.{WindowState, rest_of}
 use Rattle.uca_levels.proofs.ReadsLemmas.{given_some, given_none}
-use Rattle.uca_key.proofs.SendingLemmas.{IsSending-start, IsSending-room, IsSending-more, IsSending-stops, IsSending-ends, none_from}
+use Rattle.uca_key.proofs.KeyPieces.{IsSending-start, IsSending-room, IsSending-more, IsSending-stops, IsSending-ends, none_from}
 use Rattle.uca_key.proofs.streaming.send_points.Goals as goal
 
 pub each-init : goal.each-init
@@ -16,24 +16,24 @@ each-init g c =
 
 pub send_point-requires : goal.send_point-requires
 send_point-requires g c =
-    let first = given_some _ _ c.next_point.result c.in-Some.point c.next_point.ensures.pulls.first c.in-Some.is in
+    let first = given_some _ _ c.next_point.result c.in-Some.point c.next_point.ensures.yields.first c.in-Some.is in
     IsSending-room _ _ _ _ _ _ c.each.invariant.sending (code_point_bytes c.in-Some.point) _ _ (ap (flat_map code_point_bytes) first) c.requires.room
 
 pub each-preserved : goal.each-preserved
 each-preserved g c =
-    let first = given_some _ _ c.next_point.result c.in-Some.point c.next_point.ensures.pulls.first c.in-Some.is in
+    let first = given_some _ _ c.next_point.result c.in-Some.point c.next_point.ensures.yields.first c.in-Some.is in
     record {
-      text = c.next_point.ensures.pulls.reads.text ∙ c.each.invariant.text;
-      fits = c.next_point.ensures.pulls.reads.fits;
+      text = c.next_point.ensures.yields.reads.text ∙ c.each.invariant.text;
+      fits = c.next_point.ensures.yields.reads.fits;
       sending = IsSending-more _ _ _ _ _ _ c.each.invariant.sending _ _ (code_point_bytes c.in-Some.point) _ (ap (flat_map code_point_bytes) first) c.in-Ok.ensures;
     }
 
 pub returns-in-Err-clause-bytes : goal.returns-in-Err-clause-bytes
 returns-in-Err-clause-bytes g c =
-    let first = given_some _ _ c.next_point.result c.in-Some.point c.next_point.ensures.pulls.first c.in-Some.is in
+    let first = given_some _ _ c.next_point.result c.in-Some.point c.next_point.ensures.yields.first c.in-Some.is in
     IsSending-stops _ _ _ _ _ _ c.each.invariant.sending _ (code_point_bytes c.in-Some.point) _ _ (ap (flat_map code_point_bytes) first) c.in-Err.ensures
 
 pub returns-clause-bytes : goal.returns-clause-bytes
 returns-clause-bytes g c =
-    let last = given_none _ _ c.next_point.result c.next_point.ensures.pulls.first (none_from c.next_point.result c.in_default.not-Some) in
+    let last = given_none _ _ c.next_point.result c.next_point.ensures.yields.first (none_from c.next_point.result c.in_default.not-Some) in
     IsSending-ends _ _ _ _ _ _ c.each.invariant.sending (ap (flat_map code_point_bytes) last.0)

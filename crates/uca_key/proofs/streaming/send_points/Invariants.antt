@@ -1,10 +1,10 @@
 use Rattle.std.proofs.Common.{◌≡◌, length, flat_map}
 use Rattle.uca_model.specs.LevelWeights.{level_list}
-use Rattle.uca_model.specs.Reading.{bytes_at}
+use Rattle.uca_model.specs.DecidingLevel.{bytes_at}
 use Rattle.uca_model.specs.SortKey.{code_point_bytes}
 use Rattle.uca_model.specs.Source.{unread}
 use Rattle.uca_model.specs.Window.{Fits, rest_of}
-use Rattle.uca_key.proofs.SendingLemmas.{IsSending}
+use Rattle.uca_key.proofs.KeyPieces.{IsSending}
 use Rattle.uca_key.proofs.streaming.send_points.Given as goal
 
 abbrev pub invariant-each : goal.invariant-each

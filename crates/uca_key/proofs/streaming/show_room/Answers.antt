@@ -1,7 +1,7 @@
 use Rattle.std.proofs.Common.{◌<◌, ◌^◌, length, subst}
 use Rattle.std.specs.Str.{chars}
 use Rattle.uca_model.specs.SortKey.{sort_key}
-use Rattle.uca_key.proofs.RoomLemmas.{length-sort_key}
+use Rattle.uca_key.proofs.KeySize.{length-sort_key}
 use Rattle.uca_key.proofs.streaming.show_room.Goals as goal
 
 pub returns : goal.returns

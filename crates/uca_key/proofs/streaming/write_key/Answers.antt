@@ -2,7 +2,7 @@ use Rattle.std.proofs.Common.{subst}
 use Rattle.uca_io.specs.Writer.{WritesFront}
 use Rattle.uca_model.specs.Source.{SourceState}
 use Rattle.uca_model.specs.SortKey.{sort_key}
-use Rattle.uca_key.proofs.SendingLemmas.{stopped_last}
+use Rattle.uca_key.proofs.KeyPieces.{stopped_last}
 use Rattle.uca_key.proofs.streaming.write_key.Goals as goal
 
 pub returns-in-Err-flush : goal.returns-in-Err-flush

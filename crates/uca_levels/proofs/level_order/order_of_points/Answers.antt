@@ -2,7 +2,7 @@ use Rattle.std.proofs.Common.{ℕ, ◌<◌, ◌^◌, ap}
 use Rattle.uca_model.proofs.LevelLemmas.{OrdersLevel-ends, OrdersLevel-points_shorter, OrdersLevel-points_longer, OrdersLevel-points_differ}
 use Rattle.uca_model.specs.Source.{unread}
 use Rattle.uca_model.specs.Window.{WindowState, rest_of}
-use Rattle.uca_levels.proofs.ReadsLemmas.{IsReading-start, IsReading-more, InStep-start, InStep-more, InStep-orders, given_some, given_none, if_some}
+use Rattle.uca_levels.proofs.ReadsLemmas.{RestUnderWay-start, RestUnderWay-more, InStep-start, InStep-more, InStep-orders, given_some, given_none, if_some}
 use Rattle.uca_levels.proofs.level_order.order_of_points.Goals as goal
 
 abbrev IsPoint : ℕ → Type 0
@@ -11,25 +11,25 @@ IsPoint w = w < 2 ^ 24
 pub loop-x-init : goal.loop-x-init
 loop-x-init g c =
     record {
-      left = IsReading-start _ _ _ c.requires.safe_a c.new-left.ensures.value;
-      right = IsReading-start _ _ _ c.requires.safe_b c.new-right.ensures.value;
+      left = RestUnderWay-start _ _ _ c.requires.safe_a c.new-left.ensures.value;
+      right = RestUnderWay-start _ _ _ c.requires.safe_b c.new-right.ensures.value;
       lists = InStep-start _ _ _ _ (ap (λ (w : WindowState). rest_of w (unread (g.S.Source.state c.args.a.now))) c.new-left.ensures.value) (ap (λ (w : WindowState). rest_of w (unread (g.T.Source.state c.args.b.now))) c.new-right.ensures.value);
     }
 
 pub loop-x-preserved : goal.loop-x-preserved
 loop-x-preserved g c =
-    let first = given_some _ _ c.next_point-x.result c.in-Some-Some.x c.next_point-x.ensures.pulls.first c.in-Some-Some.is-0 in
-    let second = given_some _ _ c.next_point-y.result c.in-Some-Some.y c.next_point-y.ensures.pulls.first c.in-Some-Some.is-1 in
+    let first = given_some _ _ c.next_point-x.result c.in-Some-Some.x c.next_point-x.ensures.yields.first c.in-Some-Some.is-0 in
+    let second = given_some _ _ c.next_point-y.result c.in-Some-Some.y c.next_point-y.ensures.yields.first c.in-Some-Some.is-1 in
     record {
-      left = IsReading-more _ _ _ _ _ c.loop-x.invariant.left c.next_point-x.ensures.pulls.reads;
-      right = IsReading-more _ _ _ _ _ c.loop-x.invariant.right c.next_point-y.ensures.pulls.reads;
+      left = RestUnderWay-more _ _ _ _ _ c.loop-x.invariant.left c.next_point-x.ensures.yields.reads;
+      right = RestUnderWay-more _ _ _ _ _ c.loop-x.invariant.right c.next_point-y.ensures.yields.reads;
       lists = InStep-more _ _ _ _ _ _ _ _ c.loop-x.invariant.lists first second c.if-x-y.false;
     }
 
 pub returns-then-x-y-clause-order : goal.returns-then-x-y-clause-order
 returns-then-x-y-clause-order g c =
-    let first = given_some _ _ c.next_point-x.result c.in-Some-Some.x c.next_point-x.ensures.pulls.first c.in-Some-Some.is-0 in
-    let second = given_some _ _ c.next_point-y.result c.in-Some-Some.y c.next_point-y.ensures.pulls.first c.in-Some-Some.is-1 in
+    let first = given_some _ _ c.next_point-x.result c.in-Some-Some.x c.next_point-x.ensures.yields.first c.in-Some-Some.is-0 in
+    let second = given_some _ _ c.next_point-y.result c.in-Some-Some.y c.next_point-y.ensures.yields.first c.in-Some-Some.is-1 in
     let x = if_some IsPoint c.next_point-x.result c.in-Some-Some.x c.next_point-x.ensures.point c.in-Some-Some.is-0 in
     let y = if_some IsPoint c.next_point-y.result c.in-Some-Some.y c.next_point-y.ensures.point c.in-Some-Some.is-1 in
     rw c.cmp.ensures (InStep-orders 5 _ _ _ _ _ _ _ c.loop-x.invariant.lists first second
@@ -37,18 +37,18 @@ returns-then-x-y-clause-order g c =
 
 pub returns-in-None-None-clause-order : goal.returns-in-None-None-clause-order
 returns-in-None-None-clause-order g c =
-    let first = given_none _ _ c.next_point-x.result c.next_point-x.ensures.pulls.first c.in-None-None.is-0 in
-    let second = given_none _ _ c.next_point-y.result c.next_point-y.ensures.pulls.first c.in-None-None.is-1 in
+    let first = given_none _ _ c.next_point-x.result c.next_point-x.ensures.yields.first c.in-None-None.is-0 in
+    let second = given_none _ _ c.next_point-y.result c.next_point-y.ensures.yields.first c.in-None-None.is-1 in
     InStep-orders 5 _ _ _ _ _ _ _ c.loop-x.invariant.lists first.0 second.0 (OrdersLevel-ends 5)
 
 pub returns-in-None-Some-clause-order : goal.returns-in-None-Some-clause-order
 returns-in-None-Some-clause-order g c =
-    let first = given_none _ _ c.next_point-x.result c.next_point-x.ensures.pulls.first c.in-None-Some.is-0 in
-    let second = given_some _ _ c.next_point-y.result c.in-None-Some.field-0-1 c.next_point-y.ensures.pulls.first c.in-None-Some.is-1 in
+    let first = given_none _ _ c.next_point-x.result c.next_point-x.ensures.yields.first c.in-None-Some.is-0 in
+    let second = given_some _ _ c.next_point-y.result c.in-None-Some.field-0-1 c.next_point-y.ensures.yields.first c.in-None-Some.is-1 in
     InStep-orders 5 _ _ _ _ _ _ _ c.loop-x.invariant.lists first.0 second (OrdersLevel-points_shorter c.in-None-Some.field-0-1 _)
 
 pub returns-in-Some-None-clause-order : goal.returns-in-Some-None-clause-order
 returns-in-Some-None-clause-order g c =
-    let first = given_some _ _ c.next_point-x.result c.in-Some-None.field-0-0 c.next_point-x.ensures.pulls.first c.in-Some-None.is-0 in
-    let second = given_none _ _ c.next_point-y.result c.next_point-y.ensures.pulls.first c.in-Some-None.is-1 in
+    let first = given_some _ _ c.next_point-x.result c.in-Some-None.field-0-0 c.next_point-x.ensures.yields.first c.in-Some-None.is-0 in
+    let second = given_none _ _ c.next_point-y.result c.next_point-y.ensures.yields.first c.in-Some-None.is-1 in
     InStep-orders 5 _ _ _ _ _ _ _ c.loop-x.invariant.lists first second.0 (OrdersLevel-points_longer c.in-Some-None.field-0-0 _)

@@ -2,13 +2,13 @@ use Rattle.std.proofs.Common.{length}
 use Rattle.uca_model.specs.LevelWeights.{level_list}
 use Rattle.uca_model.specs.Source.{unread}
 use Rattle.uca_model.specs.Window.{rest_of}
-use Rattle.uca_levels.specs.Reads.{IsReading, InStep}
+use Rattle.uca_levels.specs.Reads.{RestUnderWay, InStep}
 use Rattle.uca_levels.proofs.level_order.order_of_points.Given as goal
 
 abbrev pub invariant-loop-x : goal.invariant-loop-x
 invariant-loop-x g l = record {
-  left : IsReading (g.S.Source.state l.fn.a) l.left (g.S.Source.state l.a);
-  right : IsReading (g.T.Source.state l.fn.b) l.right (g.T.Source.state l.b);
+  left : RestUnderWay (g.S.Source.state l.fn.a) l.left (g.S.Source.state l.a);
+  right : RestUnderWay (g.T.Source.state l.fn.b) l.right (g.T.Source.state l.b);
   lists : InStep (level_list l.t l.fn.v (unread (g.S.Source.state l.fn.a)) 5) (level_list l.t l.fn.v (unread (g.T.Source.state l.fn.b)) 5)
       (rest_of l.left (unread (g.S.Source.state l.a))) (rest_of l.right (unread (g.T.Source.state l.b)));
 }

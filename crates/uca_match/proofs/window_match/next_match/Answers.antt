@@ -4,7 +4,7 @@ use Rattle.uca_model.specs.Table.{is_key}
 use Rattle.uca_model.specs.CollationElements.{step}
 use Rattle.uca_model.specs.Source.{unread}
 use Rattle.uca_model.specs.Window.{rest_of, Fits}
-use Rattle.uca_match.proofs.WindowLemmas.{ReadsOn-match, closed-within, TakesHeld-filled}
+use Rattle.uca_match.proofs.WindowMatches.{ReadsOn-match, closed-within, TakesHeld-filled}
 use Rattle.uca_match.proofs.window_match.next_match.Goals as goal
 
 pub returns-then-closed-eq0-clause-none : goal.returns-then-closed-eq0-clause-none

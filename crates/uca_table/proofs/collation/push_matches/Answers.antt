@@ -2,7 +2,7 @@ use Rattle.std.proofs.Common.{◌≡◌, ℕ, ◌+◌, ◌-◌, ◌++◌, length
 use Rattle.std.proofs.lemmas.List.{length-drop, take_rest}
 use borrow.Rule.Slice.PartMut.{put_mid}
 use Rattle.uca_model.specs.CollationElements.{elements}
-use Rattle.uca_table.proofs.PlaceLemmas.{rewritten-length}
+use Rattle.uca_table.proofs.MovedForward.{rewritten-length}
 use Rattle.uca_table.proofs.ElementLemmas.{elements-further, elements-done}
 use Rattle.uca_table.proofs.collation.push_matches.Goals as goal
 

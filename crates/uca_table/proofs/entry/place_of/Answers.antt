@@ -3,7 +3,7 @@ use Rattle.std.proofs.lemmas.List.{get_or_default}
 use Rattle.std.specs.declared.cmp.Ordering.TheVariants.{Less, Equal, Greater}
 use Rattle.uca_model.specs.Table.{key_cmp}
 use Rattle.uca_table.specs.declared.entry.Entry.{Entry}
-use Rattle.uca_table.proofs.SearchLemmas.{lower_before, higher_behind}
+use Rattle.uca_table.proofs.SearchLemmas.{lower_before, higher_after}
 use Rattle.uca_table.proofs.entry.place_of.Goals as goal
 
 pub loop-low-preserved-in-Less : goal.loop-low-preserved-in-Less
@@ -27,7 +27,7 @@ loop-low-preserved c =
       within = omega arith;
       ordered = omega arith;
       lower = c.loop-low.invariant.lower;
-      higher = λ k d behind within. higher_behind es (c.loop-low.low + (c.loop-low.high - c.loop-low.low) / 2) k q e d c.requires higher behind within;
+      higher = λ k d behind within. higher_after es (c.loop-low.low + (c.loop-low.high - c.loop-low.low) / 2) k q e d c.requires higher behind within;
     }
 
 pub returns-in-Equal : goal.returns-in-Equal

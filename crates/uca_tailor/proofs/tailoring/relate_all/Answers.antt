@@ -2,7 +2,7 @@ use Rattle.std.proofs.Common.{◌≡◌, ◌+◌, Ok, map, drop, refl, subst, ar
 use Rattle.uca_model.specs.Tailoring.{related}
 use Rattle.uca_tailor.specs.Chains.{relation_of}
 use Rattle.uca_tailor.specs.Steps.{Refuses, related_as}
-use Rattle.uca_tailor.proofs.StepLemmas.{relation_refused, relation_applied, relations_done, next_relation, valid_relation}
+use Rattle.uca_tailor.proofs.RelationSteps.{relation_refused, relation_applied, relations_done, next_relation, valid_relation}
 use Rattle.uca_tailor.proofs.tailoring.relate_all.Goals as goal
 
 pub relate-requires-clause-valid : goal.relate-requires-clause-valid

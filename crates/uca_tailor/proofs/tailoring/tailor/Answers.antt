@@ -6,7 +6,7 @@ use Rattle.uca_model.specs.Rules.{IsChain, IsRelation, items}
 use Rattle.uca_model.specs.Tailoring.{related_all, tailored_from}
 use Rattle.uca_tailor.specs.Chains.{relation_of, chain_of}
 use Rattle.uca_tailor.specs.Faults.{RefusesRelation}
-use Rattle.uca_tailor.proofs.StepLemmas.{chain_refused, chain_applied, chains_done, next_chain, valid_chain, items_left}
+use Rattle.uca_tailor.proofs.RelationSteps.{chain_refused, chain_applied, chains_done, next_chain, valid_chain, items_left}
 use Rattle.uca_tailor.proofs.tailoring.tailor.Goals as goal
 
 pub relate_all-requires-clause-some : goal.relate_all-requires-clause-some

@@ -1,5 +1,5 @@
 use Rattle.std.proofs.Common.{refl, arith}
-use Rattle.uca_window.proofs.ScanLemmas.{latin_ends, latin_fits}
+use Rattle.uca_window.proofs.RunScan.{latin_ends, latin_fits}
 use Rattle.uca_window.proofs.passage.run_after_char.Goals as goal
 
 pub returns-then-c-lt192-clause-count : goal.returns-then-c-lt192-clause-count

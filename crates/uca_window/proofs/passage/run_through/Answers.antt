@@ -1,4 +1,4 @@
-use Rattle.uca_window.proofs.ScanLemmas.{full_run}
+use Rattle.uca_window.proofs.RunScan.{full_run}
 use Rattle.uca_window.proofs.passage.run_through.Goals as goal
 
 pub returns-then-run-eq-MAX_RUN-clause-long : goal.returns-then-run-eq-MAX_RUN-clause-long

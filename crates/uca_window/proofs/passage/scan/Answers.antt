@@ -3,7 +3,7 @@ use Rattle.std.specs.Str.{chars}
 use Rattle.std.specs.Str.Iter.{char_indices_rest, char_indices_offset}
 use Rattle.uca_model.specs.SafeText.{IsSafe}
 use Rattle.uca_window.specs.Scan.{Fits}
-use Rattle.uca_window.proofs.ScanLemmas.{scanned_start, scanned_step, not_safe, long_run_at, all_safe}
+use Rattle.uca_window.proofs.RunScan.{scanned_start, scanned_step, not_safe, long_run_at, all_safe}
 use Rattle.uca_window.proofs.passage.scan.Goals as goal
 
 pub loop-at-init : goal.loop-at-init

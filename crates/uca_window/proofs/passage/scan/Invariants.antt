@@ -1,4 +1,4 @@
-use Rattle.uca_window.proofs.ScanLemmas.{ScannedTo}
+use Rattle.uca_window.proofs.RunScan.{ScannedTo}
 use Rattle.uca_window.proofs.passage.scan.Given as goal
 
 abbrev pub invariant-loop-at : goal.invariant-loop-at

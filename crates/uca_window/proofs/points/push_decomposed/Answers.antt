@@ -2,8 +2,8 @@ use Rattle.std.proofs.Common.{◌++◌, length, take_all, ap, sym, ◌∙◌, ar
 use Rattle.unicode_normalization.specs.Order.{is_ordered, canonical_order}
 use Rattle.unicode_normalization.proofs.OrderLemmas.{is_ordered-canonical_order}
 use Rattle.unicode_normalization.proofs.FormsLemmas.{class-latin}
-use Rattle.uca_window.proofs.ScanLemmas.{latin_parts}
-use Rattle.uca_window.proofs.PlaceLemmas.{order-more, order-none, length-ordered}
+use Rattle.uca_window.proofs.RunScan.{latin_parts}
+use Rattle.uca_window.proofs.PlacedPoints.{order-more, order-none, length-ordered}
 use Rattle.uca_window.proofs.points.push_decomposed.Goals as goal
 
 pub loop-point-init : goal.loop-point-init

@@ -2,11 +2,11 @@ use Rattle.std.proofs.Common.{◌≡◌, ◌++◌, ◌∷◌, [], subst, ◌∙�
 use Rattle.unicode.specs.CanonicalCombiningClass.{canonical_combining_class}
 use Rattle.unicode_normalization.specs.Order.{canonical_order}
 use Rattle.uca_window.specs.Segment.{IsPlaceOf}
-use Rattle.uca_window.proofs.PlaceLemmas.{order-placed}
+use Rattle.uca_window.proofs.PlacedPoints.{order-placed}
 use Rattle.uca_window.proofs.SegmentLemmas.{IsOpen-mark}
 use Rattle.uca_window.proofs.points.push_point.Goals as goal
 
--- what the mark's place gives
+-- what the nonstarter's place gives
 inserted : (c : goal.After-insert) → c.insert.new.self.items ≡ canonical_order (c.args.points.now.items ++ c.args.point ∷ [])
 inserted c =
     let items = c.args.points.now.items in

@@ -1,6 +1,6 @@
 use Rattle.std.proofs.Common.{◌≡◌, length}
 use Rattle.uca_model.specs.Source.{unread}
-use Rattle.uca_levels.specs.ToCome.{all_to_come}
+use Rattle.uca_levels.specs.RemainingWeights.{remaining_with_zeros}
 use Rattle.uca_levels.proofs.ReadsLemmas.{Passes}
 use Rattle.uca_levels.proofs.weights.Weights.next.Given as goal
 
@@ -8,4 +8,4 @@ abbrev pub invariant-loop-weight : goal.invariant-loop-weight
 invariant-loop-weight g l = (l.self.level ≡ l.fn.self.level) × Passes l.fn.self (g.S.Source.state l.fn.source) l.self (g.S.Source.state l.source)
 
 abbrev pub decreases-loop-weight : goal.decreases-loop-weight
-decreases-loop-weight g l = length (all_to_come l.self (unread (g.S.Source.state l.source)))
+decreases-loop-weight g l = length (remaining_with_zeros l.self (unread (g.S.Source.state l.source)))

@@ -4,7 +4,7 @@ use Rattle.uca_model.specs.Table.{IsRange}
 use Rattle.uca_model.specs.Ranges.{is_bad_range}
 use Rattle.uca_table.specs.Stored.{pair_in}
 use Rattle.uca_table.proofs.BuilderLemmas.{either_way}
-use Rattle.uca_table.proofs.RangeLemmas.{ranges-put, IsRange-fine}
+use Rattle.uca_table.proofs.RangeInsertion.{ranges-put, IsRange-fine}
 use Rattle.uca_table.proofs.builder.TableBuilder.add_implicit.Goals as goal
 
 pub invariant_of-self : goal.invariant_of-self

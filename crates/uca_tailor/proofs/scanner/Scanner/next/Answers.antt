@@ -1,6 +1,6 @@
 use Rattle.std.proofs.Common.{subst, Some, None}
 use Rattle.uca_tailor.specs.Scan.{TakesOne, state_of}
-use Rattle.uca_tailor.proofs.ScanLemmas.{takes_one, takes_none, cursor_next}
+use Rattle.uca_tailor.proofs.ScanSteps.{takes_one, takes_none, cursor_next}
 use Rattle.uca_tailor.proofs.scanner.Scanner.next.Goals as goal
 
 pub returns-in_default : goal.returns-in_default

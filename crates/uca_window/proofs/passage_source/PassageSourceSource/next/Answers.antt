@@ -11,6 +11,6 @@ invariant_of-self c = (stands_next _ c.self.inside.rest c.next.new.self c.next.r
 pub returns : goal.returns
 returns c =
     let s = c.self.inside in
-    let after = state_at (chars s.text.now) (chars (chars_rest c.next.new.self)) (chars (chars_rest s.marked)) c.saturating_add-self-inside.result s.backs in
+    let after = state_at (chars s.text.now) (chars (chars_rest c.next.new.self)) (chars (chars_rest s.marked)) c.saturating_add-self-inside.result s.rewinds in
     subst (λ before. GivesNext before c.next.result after) c.self.view_is
-    (gives_next _ s.rest c.next.new.self (chars (chars_rest s.marked)) c.next.result s.taken s.backs c.saturating_add-self-inside.result c.self.invariant.0 c.next.ensures.steps c.saturating_add-self-inside.ensures)
+    (gives_next _ s.rest c.next.new.self (chars (chars_rest s.marked)) c.next.result s.reads s.rewinds c.saturating_add-self-inside.result c.self.invariant.0 c.next.ensures.steps c.saturating_add-self-inside.ensures)

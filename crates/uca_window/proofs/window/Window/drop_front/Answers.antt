@@ -1,6 +1,6 @@
 use Rattle.std.proofs.Common.{◌-◌, ◌≤◌, drop, sym, subst}
 use Rattle.uca_model.specs.Window.{IsWindow, ChangesRest}
-use Rattle.uca_window.proofs.WindowLemmas.{window_of, IsWindow-drop, changes-drop}
+use Rattle.uca_window.proofs.WindowCalls.{window_of, IsWindow-drop, changes-drop}
 use Rattle.uca_window.proofs.window.Window.drop_front.Goals as goal
 
 pub invariant_of-self : goal.invariant_of-self

@@ -1,5 +1,5 @@
 use Rattle.std.proofs.Common.{sym, ◌∙◌}
-use Rattle.uca_window.proofs.WindowLemmas.{closed-end}
+use Rattle.uca_window.proofs.WindowCalls.{closed-end}
 use Rattle.uca_window.proofs.window.Window.fill.Goals as goal
 
 pub returns-clause-enough : goal.returns-clause-enough

@@ -1,6 +1,6 @@
 use Rattle.std.proofs.Common.{false, sym, subst}
 use Rattle.uca_model.specs.Window.{IsWindow}
-use Rattle.uca_window.proofs.WindowLemmas.{window_of, IsWindow-new}
+use Rattle.uca_window.proofs.WindowCalls.{window_of, IsWindow-new}
 use Rattle.uca_window.proofs.window.Window.new.Goals as goal
 
 pub invariant_of-result : goal.invariant_of-result

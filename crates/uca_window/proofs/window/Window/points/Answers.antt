@@ -1,6 +1,6 @@
 use Rattle.std.proofs.Common.{subst}
 use Rattle.uca_model.specs.Window.{IsWindow}
-use Rattle.uca_window.proofs.WindowLemmas.{shows_front}
+use Rattle.uca_window.proofs.WindowCalls.{shows_front}
 use Rattle.uca_window.proofs.window.Window.points.Goals as goal
 
 pub returns-clause-front : goal.returns-clause-front

@@ -2,7 +2,7 @@ use Rattle.std.proofs.Common.{◌≡◌, ◌<◌, ◌∷◌, false, Some, sym, s
 use Rattle.uca_model.specs.Source.{unread}
 use Rattle.uca_model.specs.Window.{Fits, ReadsOn, rest_of, is_wanting, after_read}
 use Rattle.uca_window.proofs.FormLemmas.{ordered-IsInForm}
-use Rattle.uca_window.proofs.WindowLemmas.{window_of, room_for, Steps-char, reads-char, rest-char, wants-few, after_read-char}
+use Rattle.uca_window.proofs.WindowCalls.{window_of, room_for, Steps-char, reads-char, rest-char, wants-few, after_read-char}
 use Rattle.uca_window.proofs.window.Window.read.Goals as goal
 
 pub push_decomposed-self-inside-requires-clause-room : goal.push_decomposed-self-inside-requires-clause-room

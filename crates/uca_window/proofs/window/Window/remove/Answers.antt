@@ -2,7 +2,7 @@ use Rattle.std.proofs.Common.{◌-◌, ◌<◌, get_or, sym, subst}
 use Rattle.std.specs.List.{remove}
 use Rattle.unicode.specs.CanonicalCombiningClass.{canonical_combining_class}
 use Rattle.uca_model.specs.Window.{IsWindow, ChangesRest}
-use Rattle.uca_window.proofs.WindowLemmas.{window_of, IsWindow-remove, changes-remove}
+use Rattle.uca_window.proofs.WindowCalls.{window_of, IsWindow-remove, changes-remove}
 use Rattle.uca_window.proofs.window.Window.remove.Goals as goal
 
 pub invariant_of-self : goal.invariant_of-self

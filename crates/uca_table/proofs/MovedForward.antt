@@ -1,0 +1,64 @@
+-- Where the code points stand after one was moved forward.
+use Rattle.std.proofs.Common.{◌≡◌, ℕ, ◌+◌, ◌-◌, ◌≤◌, ◌<◌, List, [], ◌∷◌, ◌++◌, length, take, drop, get_or, sym, ap, ap₂, ◌∙◌, arith, append-nil}
+use Rattle.std.proofs.lemmas.List.{length-take-le, length-drop, length-append, length_push, take_at, drop_at, drop-drop, take-append-drop, take_more, drop_all, get_or-drop}
+use borrow.Rule.Slice.PartMut.{put_mid}
+use Rattle.uca_table.specs.Running.{brought_forward, passed_over}
+
+module _ (text : List ℕ) (to from : ℕ) (ordered : to ≤ from) (within : from < length text) where
+  abbrev front : List ℕ
+  front = take to text ++ get_or text from 0 ∷ []
+
+  long_front : length front ≡ to + 1
+  long_front = let n : length (take to text) ≡ to = length-take-le to text (omega arith) in length_push (take to text) (get_or text from 0) ∙ ap (λ k. k + 1) n
+
+  long_between : length (passed_over text to from) ≡ from - to
+  long_between = let n : length (drop to text) ≡ length text - to = length-drop to text in length-take-le (from - to) (drop to text) (omega arith)
+
+  pub brought-front : take (to + 1) (brought_forward text to from) ≡ take to text ++ get_or text from 0 ∷ []
+  brought-front = take_at front _ (to + 1) long_front
+
+  brought-after : drop (to + 1) (brought_forward text to from) ≡ passed_over text to from ++ drop (from + 1) text
+  brought-after = drop_at front _ (to + 1) long_front
+
+  pub brought-between : passed_over (brought_forward text to from) (to + 1) (from + 1) ≡ passed_over text to from
+  brought-between =
+      let same : from + 1 - (to + 1) ≡ from - to = omega arith in
+      ap₂ take same brought-after ∙ take_at (passed_over text to from) (drop (from + 1) text) (from - to) long_between
+
+  pub brought-rest : drop (from + 1) (brought_forward text to from) ≡ drop (from + 1) text
+  brought-rest =
+      let same : from + 1 ≡ (to + 1) + (from - to) = omega arith in
+      ap (λ n. drop n (brought_forward text to from)) same ∙ sym (drop-drop (from - to) (to + 1) (brought_forward text to from))
+      ∙ ap (drop (from - to)) brought-after ∙ drop_at (passed_over text to from) (drop (from + 1) text) (from - to) long_between
+
+-- one more code point was passed over
+pub passed_over-more : (text : List ℕ) (end at : ℕ) → end ≤ at → at < length text → passed_over text end (at + 1) ≡ passed_over text end at ++ get_or text at 0 ∷ []
+passed_over-more text end at upto within =
+    let size : length (drop end text) ≡ length text - end = length-drop end text in
+    let next : at + 1 - end ≡ (at - end) + 1 = omega arith in
+    let place : end + (at - end) ≡ at = omega arith in
+    ap (λ n. take n (drop end text)) next ∙ take_more (drop end text) (at - end) 0 (omega arith)
+    ∙ ap (λ c. passed_over text end at ++ c ∷ []) (get_or-drop end text (at - end) 0 ∙ ap (λ n. get_or text n 0) place)
+
+-- what was passed over and what comes then
+pub passed_over-rest : (text : List ℕ) (end at : ℕ) → end ≤ at → passed_over text end at ++ drop at text ≡ drop end text
+passed_over-rest text end at upto =
+    let place : end + (at - end) ≡ at = omega arith in
+    ap (λ n. passed_over text end at ++ drop n text) (sym place) ∙ ap (λ xs. passed_over text end at ++ xs) (sym (drop-drop (at - end) end text)) ∙ take-append-drop (at - end) (drop end text)
+
+-- nothing was passed over
+pub passed_over-none : (text : List ℕ) (at : ℕ) → passed_over text at at ≡ []
+passed_over-none text at = let none : at - at ≡ 0 = omega arith in ap (λ n. take n (drop at text)) none
+
+-- the rest of a text was rewritten from a place on
+pub rewritten-rest : (at : ℕ) (text new : List ℕ) → at ≤ length text → drop at (put_mid at (length text - at) text new) ≡ new
+rewritten-rest at text new within =
+    let past : drop (length text - at) (drop at text) ≡ [] = drop_all (length text - at) (drop at text) (omega (arith, length-drop at text)) in
+    drop_at (take at text) _ at (length-take-le at text within) ∙ ap (λ xs. new ++ xs) past ∙ append-nil new
+
+pub rewritten-length : (at : ℕ) (text new : List ℕ) → at ≤ length text → length new ≡ length text - at → length (put_mid at (length text - at) text new) ≡ length text
+rewritten-length at text new within size =
+    let past : drop (length text - at) (drop at text) ≡ [] = drop_all (length text - at) (drop at text) (omega (arith, length-drop at text)) in
+    let front : length (take at text) ≡ at = length-take-le at text within in
+    let whole : length (put_mid at (length text - at) text new) ≡ length (take at text) + length new = length-append (take at text) _ ∙ ap (λ xs. length (take at text) + length xs) (ap (λ xs. new ++ xs) past ∙ append-nil new) in
+    omega arith

@@ -1,0 +1,105 @@
+-- Lemmas on a scan: what it knows of the characters so far, and what one more shows.
+use Rattle.std.proofs.Common.{◌≡◌, ℕ, ◌+◌, ◌≤◌, ◌<◌, max, not, false, ◌==◌, List, [], ◌∷◌, ◌++◌, length, drop, get_or, flat_map, ne_eqb, encode_utf8, refl, sym, ap, subst, ◌∙◌, arith}
+use Rattle.std.proofs.lemmas.Bool.{cond-false}
+use Rattle.std.proofs.lemmas.List.{drop_more}
+use Rattle.std.specs.Str.{chars, IsUtf8}
+use Rattle.std.specs.Str.Iter.{char_indices_rest, char_indices_offset}
+use Rattle.std.specs.declared.str.CharIndices.{CharIndices}
+use Rattle.unicode.specs.CanonicalCombiningClass.{canonical_combining_class as ccc}
+use Rattle.unicode_normalization.specs.Decompose.{decompose_canonical}
+use Rattle.unicode_normalization.specs.Forms.{nfd, Nfd}
+use Rattle.unicode_normalization.specs.Order.{is_nonstarter}
+use Rattle.unicode_normalization.proofs.DecomposeLemmas.{decompose-final}
+use Rattle.unicode_normalization.proofs.FormsLemmas.{is_final-Nfd, quick_check-below, class-latin}
+use Rattle.uca_weights.specs.declared.limits.TheConstants.{MAX_RUN, MAX_DECOMPOSITION}
+use Rattle.uca_model.specs.SafeText.{longest_run_after, longest_run, IsSafe, IsLongRunAt}
+use Rattle.uca_model.proofs.SafeLemmas.{run_after, one_too_many, ends-append, length-nfd_one, parts-push, runs-push, safe_none, safe_more, short_last, StandsAfter, stands_first, stands_next, stands_last, unsafe_from, long_run_here}
+use Rattle.uca_window.specs.Scan.{Fits}
+
+-- the characters so far are safe, and end in so many nonstarters
+pub record Scanned (front : List ℕ) (count : ℕ) : Type 0 where
+  pub ends : count ≡ run_after 0 (flat_map decompose_canonical front)
+  pub within : count ≤ MAX_RUN
+  pub safe : IsSafe front
+
+-- no character is scanned yet
+scanned_none : Scanned [] 0
+scanned_none = record { ends = refl; within = omega arith; safe = safe_none }
+
+-- the longest run with one more character, by the count
+runs_with : (front : List ℕ) (count c : ℕ) → Scanned front count → longest_run (nfd (front ++ c ∷ [])) ≡ max (longest_run (nfd front)) (longest_run_after count (decompose_canonical c))
+runs_with front count c s = runs-push front c ∙ ap (λ k. max (longest_run (nfd front)) (longest_run_after k (decompose_canonical c))) (sym s.ends)
+
+-- a character that fits is scanned too
+scanned_more : (front : List ℕ) (count c n : ℕ) → Scanned front count → Fits count c → n ≤ MAX_RUN → n ≡ run_after count (decompose_canonical c) → Scanned (front ++ c ∷ []) n
+scanned_more front count c n s fits within is = record {
+  ends = is ∙ ap (λ k. run_after k (decompose_canonical c)) s.ends ∙ sym (ends-append 0 (flat_map decompose_canonical front) (decompose_canonical c)) ∙ ap (run_after 0) (sym (parts-push front c));
+  within = within;
+  safe = (
+      let e : longest_run (nfd (front ++ c ∷ [])) ≡ max (longest_run (nfd front)) (longest_run_after count (decompose_canonical c)) = runs_with front count c s in
+      safe_more front c s.safe (omega (arith, s.safe.runs, fits.1)) (subst (λ k. k ≤ MAX_DECOMPOSITION) (sym (length-nfd_one c)) fits.0));
+}
+
+-- one that doesn't fit makes the text unsafe
+scanned_stop : (front : List ℕ) (count c : ℕ) → Scanned front count → ¬ (Fits count c) → ¬ (IsSafe (front ++ c ∷ []))
+scanned_stop front count c s unfit safe =
+    let e : longest_run (nfd (front ++ c ∷ [])) ≡ max (longest_run (nfd front)) (longest_run_after count (decompose_canonical c)) = runs_with front count c s in
+    unfit (subst (λ k. k ≤ MAX_DECOMPOSITION) (length-nfd_one c) (short_last front c safe), omega (arith, safe.runs))
+
+-- below U+00C0 a character is its own decomposition
+pub latin_parts : (c : ℕ) → c < 0xC0 → decompose_canonical c ≡ c ∷ []
+latin_parts c h = decompose-final Nfd c (is_final-Nfd c (quick_check-below Nfd c h))
+
+-- and a starter
+latin_starter : (c : ℕ) → c < 0xC0 → is_nonstarter c ≡ false
+latin_starter c h = ap (λ k. not (k == 0)) (class-latin c (omega arith))
+
+-- so no nonstarter stands at the end after it
+pub latin_ends : (count c : ℕ) → c < 0xC0 → 0 ≡ run_after count (decompose_canonical c)
+latin_ends count c h = sym (ap (run_after count) (latin_parts c h) ∙ cond-false (is_nonstarter c) _ _ (latin_starter c h))
+
+-- and it fits
+pub latin_fits : (count c : ℕ) → count ≤ MAX_RUN → c < 0xC0 → Fits count c
+latin_fits count c full h =
+    let one : length (decompose_canonical c) ≡ 1 = ap length (latin_parts c h) in
+    let run : longest_run_after count (decompose_canonical c) ≡ max count 0 = ap (longest_run_after count) (latin_parts c h) ∙ cond-false (is_nonstarter c) _ _ (latin_starter c h) in
+    (omega arith, omega arith)
+
+-- a nonstarter of the list stands after a full run
+pub full_run : (n i c class : ℕ) (points : List ℕ) → i < length points → c ≡ get_or points i c → class ≡ ccc c → (class ≡ 0 → ⊥) → n ≡ MAX_RUN → MAX_RUN < longest_run_after n (drop i points)
+full_run n i c class points h is k mark full =
+    let first : drop i points ≡ c ∷ drop (i + 1) points = drop_more points i c h ∙ ap (λ x. x ∷ drop (i + 1) points) (sym is) in
+    let e : longest_run_after n (drop i points) ≡ longest_run_after n (c ∷ drop (i + 1) points) = ap (longest_run_after n) first in
+    let g : n < longest_run_after n (c ∷ drop (i + 1) points) = one_too_many n c (drop (i + 1) points) (ap not (ne_eqb (ccc c) 0 (λ z. mark (k ∙ z)))) in
+    omega arith
+
+-- the iterator stands after characters that are safe, and end in so many nonstarters
+pub record ScannedTo (text : List ℕ) (it : CharIndices) (count : ℕ) : Type 0 where
+  pub front : List ℕ
+  pub stands : StandsAfter text it front
+  pub scan : Scanned front count
+
+-- at first none are scanned
+pub scanned_start : (text : List ℕ) (it : CharIndices) → char_indices_rest it ≡ text → char_indices_offset it ≡ 0 → ScannedTo text it 0
+scanned_start text it rest none = record { front = []; stands = stands_first text it rest none; scan = scanned_none }
+
+-- a step past a character that fits
+pub scanned_step : (text : List ℕ) (s t : CharIndices) (count c n : ℕ) → ScannedTo text s count → char_indices_rest s ≡ encode_utf8 c ++ char_indices_rest t → char_indices_offset t ≡ char_indices_offset s + length (encode_utf8 c)
+    → Fits count c → n ≤ MAX_RUN → n ≡ run_after count (decompose_canonical c) → ScannedTo text t n
+scanned_step text s t count c n at rest offset fits within is = record {
+  front = at.front ++ c ∷ [];
+  stands = stands_next text s t at.front c at.stands rest offset;
+  scan = scanned_more at.front count c n at.scan fits within is;
+}
+
+-- a text with a character that doesn't fit is not safe
+pub not_safe : (text : List ℕ) (s : CharIndices) (count c : ℕ) (rest : List ℕ) → ScannedTo text s count → IsUtf8 text → char_indices_rest s ≡ encode_utf8 c ++ rest → ¬ (Fits count c) → ¬ (IsSafe (chars text))
+not_safe text s count c rest at utf8 is unfit = unsafe_from text s at.front c rest at.stands utf8 is (scanned_stop at.front count c at.scan unfit)
+
+-- and this character is the first with which it isn't
+pub long_run_at : (text : List ℕ) (s : CharIndices) (count c : ℕ) (rest : List ℕ) (offset : ℕ) → ScannedTo text s count → IsUtf8 text → offset ≡ char_indices_offset s → char_indices_rest s ≡ encode_utf8 c ++ rest → ¬ (Fits count c) → IsLongRunAt (chars text) offset
+long_run_at text s count c rest offset at utf8 o is unfit = long_run_here text s at.front c rest offset at.stands utf8 o is at.scan.safe (scanned_stop at.front count c at.scan unfit)
+
+-- a text that is scanned to its end is safe
+pub all_safe : (text : List ℕ) (s : CharIndices) (count : ℕ) → ScannedTo text s count → IsUtf8 text → length (char_indices_rest s) ≡ 0 → IsSafe (chars text)
+all_safe text s count at utf8 none = subst IsSafe (stands_last text s at.front at.stands utf8 none) at.scan.safe
