@@ -1,6 +1,6 @@
 //! The numbers of a table's text, and single bytes that have to stand first.
 ghost use Rattle.std.specs.Prelude.{◌≡◌, MatchOption, Ok, Err};
-ghost use Rattle.uca_model.specs.TableText.{code_point, four_digits, behind, Cause};
+ghost use Rattle.uca_model.specs.TableText.{code_point, four_digits, after_byte, Cause};
 
 use uca_io::digits::number;
 
@@ -32,7 +32,7 @@ pub(crate) fn four_digits(digits: &[u8]) -> Option<u16>
     }
 }
 
-/// What stands behind a byte that has to stand first.
+/// What follows a byte that has to stand first.
 pub(crate) fn after_byte(byte: u8, text: &[u8]) -> Option<&[u8]>
     ensures { MatchOption result
         ((c : Cause) → after_byte c byte text.now ≡ Err c)

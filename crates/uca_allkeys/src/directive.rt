@@ -34,7 +34,7 @@ fn point_len(text: &[u8]) -> usize
     len
 }
 
-/// An end of a range: a code point up to a blank, `;` or `.`, and what stands after_byte it.
+/// An end of a range: a code point up to a blank, `;` or `.`, and what stands after it.
 #[tactic(auto, unfolding(uca_model::specs::TableText::range_end))]
 fn range_end(text: &[u8]) -> Result<(char, &[u8]), LineFault>
     ensures { Tells with_rest (range_end text.now) result }
@@ -46,7 +46,7 @@ fn range_end(text: &[u8]) -> Result<(char, &[u8]), LineFault>
     }
 }
 
-/// What stands after_byte the `..` between the ends of a range.
+/// What stands after the `..` between the ends of a range.
 #[tactic(auto, unfolding(uca_model::specs::TableText::two_stops))]
 fn two_stops(text: &[u8]) -> Result<&[u8], LineFault>
     ensures { Tells (λ rest. rest.now) (two_stops text.now) result }
@@ -60,7 +60,7 @@ fn two_stops(text: &[u8]) -> Result<&[u8], LineFault>
     }
 }
 
-/// The base after_byte a `;`, with blanks before both.
+/// The base after a `;`, with blanks before both.
 #[tactic(auto, unfolding(uca_model::specs::TableText::range_base))]
 fn range_base(text: &[u8]) -> Result<u16, LineFault>
     ensures { Tells (λ base. base) (range_base text.now) result }
@@ -87,7 +87,7 @@ fn range_of_text(text: &[u8]) -> Result<Statement, LineFault>
     Ok(Statement::Range(Range { first, last, base }))
 }
 
-/// The same, after_byte the word of the directive.
+/// The same, after the word of the directive.
 fn range_directive(rest: &[u8]) -> Result<Statement, LineFault>
     ensures value { Tells said_by (some_text rest.now (range_of_text rest.now)) result }
     ensures some { IfOk result IsSomeEntry }
@@ -99,7 +99,7 @@ fn range_directive(rest: &[u8]) -> Result<Statement, LineFault>
     }
 }
 
-/// A version, whose text isn't kept, after_byte the word of the directive.
+/// A version, whose text isn't kept, after the word of the directive.
 fn version_directive(rest: &[u8]) -> Result<Statement, LineFault>
     ensures value { Tells said_by (some_text (skip_blanks rest.now) (Ok version)) result }
     ensures some { IfOk result IsSomeEntry }

@@ -47,7 +47,7 @@ fn entry_key(text: &[u8]) -> Result<ArrayVec<char, MAX_KEY>, LineFault>
     Ok(key)
 }
 
-/// Whether the mark of an element is `*`, and what stands after_byte it.
+/// Whether the mark of an element is `*`, and what stands after it.
 fn mark(text: &[u8]) -> Result<(bool, &[u8]), LineFault>
     ensures { Tells with_rest (mark text.now) result }
 {
@@ -63,7 +63,7 @@ fn mark(text: &[u8]) -> Result<(bool, &[u8]), LineFault>
     }
 }
 
-/// A weight, and what stands after_byte it.
+/// A weight, and what stands after it.
 #[tactic(auto, unfolding(uca_model::specs::TableText::weight_first))]
 fn weight_first(text: &[u8]) -> Result<(u16, &[u8]), LineFault>
     ensures { Tells with_rest (weight_first text.now) result }
@@ -75,7 +75,7 @@ fn weight_first(text: &[u8]) -> Result<(u16, &[u8]), LineFault>
     }
 }
 
-/// A weight after_byte a full stop, and what stands behind it.
+/// A weight after a full stop, and what stands behind it.
 #[tactic(auto, unfolding(uca_model::specs::TableText::next_weight))]
 fn next_weight(text: &[u8]) -> Result<(u16, &[u8]), LineFault>
     ensures { Tells with_rest (next_weight text.now) result }
@@ -86,7 +86,7 @@ fn next_weight(text: &[u8]) -> Result<(u16, &[u8]), LineFault>
     }
 }
 
-/// Whether after_byte the third weight of an element there is nothing, or a fourth weight, which isn't used.
+/// Whether after the third weight of an element there is nothing, or a fourth weight, which isn't used.
 fn element_ends(text: &[u8]) -> bool
     ensures { result ≡ element_ends text.now }
 {
@@ -130,7 +130,7 @@ fn element(text: &[u8]) -> Result<Element, LineFault>
     }
 }
 
-/// What stands before the first `]`, and what stands after_byte it.
+/// What stands before the first `]`, and what stands after it.
 fn next_part(text: &[u8]) -> Option<(&[u8], &[u8])>
     ensures { MatchOption result
         (slice_split is_right_bracket text.now ≡ text.now ∷ [])
@@ -159,7 +159,7 @@ fn add_element(elements: &mut ArrayVec<Element, MAX_ELEMENTS>, part: &[u8]) -> R
     }
 }
 
-/// The elements after_byte a `;`.
+/// The elements after a `;`.
 fn elements_of(text: &[u8]) -> Result<ArrayVec<Element, MAX_ELEMENTS>, LineFault>
     ensures value { Tells (λ es. es.items) (elements_after [] (slice_split is_right_bracket text.now)) result }
     ensures some { IfOk result (λ es. 0 < length es.items) }
@@ -181,7 +181,7 @@ fn elements_of(text: &[u8]) -> Result<ArrayVec<Element, MAX_ELEMENTS>, LineFault
     Ok(elements)
 }
 
-/// What stands after_byte the first `;`.
+/// What stands after the first `;`.
 fn behind_key(text: &[u8]) -> &[u8]
     ensures { result.now ≡ after_first is_semicolon text.now }
 {
