@@ -1,11 +1,11 @@
 pub mod Input
 pub mod BuiltIn
-pub mod Lent
+pub mod Borrowed
 pub mod RuleFile
+pub mod Commands
 pub mod Performing
 pub mod Sending
 pub mod Ordering
-pub mod Checking
 pub mod Conforming
 pub mod Comparing
 pub mod TestReading
