@@ -6,7 +6,7 @@ use Rattle.uca_weights.specs.declared.element.Element.{Element}
 use Rattle.uca_weights.specs.declared.range.Range.{Range}
 use Rattle.uca_model.specs.Table.{ElementTable, key_cmp, with_entry}
 use Rattle.uca_cli.specs.BuiltIn.{plain, with_point, with_contractions, with_ranges, built_in_entries, built_in_table, tangut, tangut_supplement}
-use Rattle.uca_cli.specs.declared.small_table.TheConstants.{ENTRIES}
+use Rattle.uca_cli.specs.declared.built_in_table.TheConstants.{ENTRIES}
 
 -- the table of all of them
 abbrev pub whole_table : ElementTable

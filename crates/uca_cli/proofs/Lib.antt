@@ -1,6 +1,7 @@
 pub mod InputLemmas
 pub mod LinesLemmas
 pub mod BuiltInLemmas
+pub mod CommandLemmas
 pub mod PerformingLemmas
 pub mod SendingLemmas
 pub mod HexLemmas

@@ -13,7 +13,7 @@ use Rattle.uca_model.specs.Table.{ElementTable}
 use Rattle.uca_model.specs.Lines.{lines_of, line_feed}
 use Rattle.uca_model.specs.Output.{hex_text}
 use Rattle.uca_model.specs.SortKey.{sort_key}
-use Rattle.uca_cli.specs.Performing.{WritesSome}
+use Rattle.uca_cli.specs.Commands.{WritesSome}
 use Rattle.uca_cli.specs.Sending.{line_text, lines_text, StopsLine, StopsOutput}
 use Rattle.uca_cli.specs.declared.faults.CliFault.{CliFault}
 use Rattle.uca_cli.specs.declared.faults.CliFault.TheVariants.{Table, RulesText, Rules, Tailor, Input, Conform, Output, OutOfMemory}

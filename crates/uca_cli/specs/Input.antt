@@ -1,10 +1,10 @@
--- What a fault of the input says.
-use Rattle.std.specs.Prelude.{◌≡◌, ℕ, ◌<◌, ◌≤◌, List, length}
+-- An input of lines: what was read of it, and why it was refused.
+use Rattle.std.specs.Prelude.{◌≡◌, ℕ, ◌<◌, ◌≤◌, ◌⊎◌, List, length, All}
 use Rattle.uca_weights.specs.declared.limits.TheConstants.{MAX_INPUT}
-use Rattle.uca_io.specs.Reader.{ReaderState, Gives, GivesAndFails}
-use Rattle.uca_model.specs.Lines.{lines_of, not_utf8, long_run, HasFault, IsFirstFault}
+use Rattle.uca_io.specs.Reader.{ReaderState, Gives, GivesAll, GivesAndFails}
+use Rattle.uca_model.specs.Lines.{lines_of, not_utf8, long_run, HasFault, IsFirstFault, IsTextLine}
 use Rattle.uca_cli.specs.declared.faults.InputCause.{InputCause}
-use Rattle.uca_cli.specs.declared.faults.InputCause.TheVariants.{NotUtf8, LongRun, TooLarge, Read, OutOfMemory}
+use Rattle.uca_cli.specs.declared.faults.InputCause.TheVariants.{NotUtf8, LongRun, TooLarge, Read, OutOfMemory, NotOneLine}
 use Rattle.uca_cli.specs.declared.faults.InputFault.{InputFault}
 use Rattle.uca_cli.specs.declared.input.Stop.{Stop}
 use Rattle.uca_cli.specs.declared.input.Stop.TheVariants as stop
@@ -48,3 +48,43 @@ HasInputFault lines fault = IsFirstFaultAt fault.cause lines fault.line fault.at
 -- an input is a single line
 abbrev pub IsOneLine : List ℕ → Type 0
 IsOneLine bytes = length (lines_of bytes) ≡ 1
+
+-- ---- lines that were read
+
+-- the reader gave these bytes and no more: they are not too many
+pub record ReadsInput (old new : ReaderState) (bytes : List ℕ) : Type 0 where
+  pub given : GivesAll old new bytes
+  pub small : length bytes ≤ MAX_INPUT
+
+-- the bytes of an input whose lines are all safe texts
+pub record ReadsLines (old new : ReaderState) (bytes : List ℕ) : Type 0 where
+  pub input : ReadsInput old new bytes
+  pub lines : All IsTextLine (lines_of bytes)
+
+-- the same of an input that is a single line
+pub record ReadsOneLine (old new : ReaderState) (bytes : List ℕ) : Type 0 where
+  pub text : ReadsLines old new bytes
+  pub one : IsOneLine bytes
+
+-- ---- lines that were refused
+
+-- the whole input was read, and the fault is that of its first line that has one
+pub record HasFaultyLine (old new : ReaderState) (f : InputFault) : Type 0 where
+  pub bytes : List ℕ
+  pub input : ReadsInput old new bytes
+  pub faulty : HasInputFault (lines_of bytes) f
+
+-- the input is refused: it was not read to its end, or a line of it is at fault
+abbrev pub RefusesInput : ReaderState → ReaderState → InputFault → Type 0
+RefusesInput old new f = StopsReading old new f ⊎ HasFaultyLine old new f
+
+-- the whole input was read, and all of its lines are texts, but it is not a single line
+pub record HasOtherLines (old new : ReaderState) (f : InputFault) : Type 0 where
+  pub bytes : List ℕ
+  pub text : ReadsLines old new bytes
+  pub other : ¬ IsOneLine bytes
+  pub fault : f ≡ record { line = 0; at = 0; cause = NotOneLine }
+
+-- where one line is expected, the input is refused, or is not a single line
+abbrev pub RefusesOneLine : ReaderState → ReaderState → InputFault → Type 0
+RefusesOneLine old new f = RefusesInput old new f ⊎ HasOtherLines old new f

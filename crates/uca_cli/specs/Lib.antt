@@ -1,9 +1,9 @@
 pub mod Input
 pub mod BuiltIn
-pub mod Lent
+pub mod Borrowed
 pub mod RuleFile
+pub mod Commands
 pub mod Performing
 pub mod Sending
 pub mod Ordering
-pub mod Checking
 pub use Rattle.uca_conform.specs.Conforming

@@ -10,7 +10,7 @@ use Rattle.uca_model.specs.Lines.{line_feed, lines_of}
 use Rattle.uca_model.specs.Output.{blank, hex_pair, key_line}
 use Rattle.uca_model.specs.Table.{ElementTable}
 use Rattle.uca_model.specs.WellFormed.{Condition, condition_name}
-use Rattle.uca_cli.specs.Performing.{WritesSome}
+use Rattle.uca_cli.specs.Commands.{WritesSome}
 use Rattle.uca_cli.specs.declared.faults.CliFault.{CliFault}
 use Rattle.uca_cli.specs.declared.faults.CliFault.TheVariants.{Output, OutOfMemory}
 use Rattle.uca_cli.specs.declared.output.LineForm.{LineForm}

@@ -1,3 +1,7 @@
+ghost use Rattle.std.specs.Prelude.{◌≡◌};
+
+use uca_conform::ConformFault;
+use std::alloc::AllocError;
 use std::fmt;
 use thiserror::Error;
 use uca_allkeys::{ReadCause, ReadFault};
@@ -23,7 +27,7 @@ pub enum InputCause {
     /// Memory for the input was refused.
     #[error("OutOfMemory")]
     OutOfMemory,
-    /// There are no lines or several, where one is wanted.
+    /// There are no lines or several, where one is expected.
     #[error("NotOneLine")]
     NotOneLine,
 }
@@ -69,6 +73,76 @@ pub enum CliFault {
     Output(WriteFault),
     /// Memory was refused, but not to the table's text, to the rules that were read, or to the input.
     OutOfMemory,
+}
+
+impl From<AllocError> for CliFault {
+    ghost use Rattle.uca_cli.specs.declared.faults.CliFault.TheVariants.{OutOfMemory};
+
+    ghost from_gives = { λ _ result. result ≡ OutOfMemory };
+
+    fn from(_refused: AllocError) -> CliFault {
+        CliFault::OutOfMemory
+    }
+}
+
+impl From<ReadFault> for CliFault {
+    ghost use Rattle.uca_cli.specs.declared.faults.CliFault.TheVariants.{Table};
+
+    ghost from_gives = { λ fault result. result ≡ Table fault };
+
+    fn from(fault: ReadFault) -> CliFault {
+        CliFault::Table(fault)
+    }
+}
+
+impl From<RuleFault> for CliFault {
+    ghost use Rattle.uca_cli.specs.declared.faults.CliFault.TheVariants.{Rules};
+
+    ghost from_gives = { λ fault result. result ≡ Rules fault };
+
+    fn from(fault: RuleFault) -> CliFault {
+        CliFault::Rules(fault)
+    }
+}
+
+impl From<TailorFault> for CliFault {
+    ghost use Rattle.uca_cli.specs.declared.faults.CliFault.TheVariants.{Tailor};
+
+    ghost from_gives = { λ fault result. result ≡ Tailor fault };
+
+    fn from(fault: TailorFault) -> CliFault {
+        CliFault::Tailor(fault)
+    }
+}
+
+impl From<InputFault> for CliFault {
+    ghost use Rattle.uca_cli.specs.declared.faults.CliFault.TheVariants.{Input};
+
+    ghost from_gives = { λ fault result. result ≡ Input fault };
+
+    fn from(fault: InputFault) -> CliFault {
+        CliFault::Input(fault)
+    }
+}
+
+impl From<ConformFault> for CliFault {
+    ghost use Rattle.uca_cli.specs.declared.faults.CliFault.TheVariants.{Conform};
+
+    ghost from_gives = { λ fault result. result ≡ Conform fault };
+
+    fn from(fault: ConformFault) -> CliFault {
+        CliFault::Conform(fault)
+    }
+}
+
+impl From<WriteFault> for CliFault {
+    ghost use Rattle.uca_cli.specs.declared.faults.CliFault.TheVariants.{Output};
+
+    ghost from_gives = { λ fault result. result ≡ Output fault };
+
+    fn from(fault: WriteFault) -> CliFault {
+        CliFault::Output(fault)
+    }
 }
 
 impl fmt::Display for CliFault {

@@ -7,7 +7,7 @@ use arrayvec::ArrayVec;
 use uca_io::OutputBuffer;
 use uca_weights::{WriteFault, Writer};
 
-/// How many bytes go out as digits at once.
+/// How many bytes are written as digits at once.
 const PIECE: usize = 256;
 
 /// Room for the digits of a piece, and a blank before each pair.
@@ -43,7 +43,7 @@ fn spaced_pairs(bytes: &[u8]) -> ArrayVec<u8, PAIRS>
     pairs
 }
 
-/// Has bytes go out as pairs of digits, with a blank before each.
+/// Writes bytes to a buffer as pairs of digits, with a blank before each.
 fn send_spaced<W: Writer>(w: &mut W, out: &mut OutputBuffer, bytes: &[u8]) -> Result<(), WriteFault>
     requires { accepted out.old + 3 * length bytes.now < 2 ^ 128 }
     ensures { MatchResult result
@@ -59,8 +59,12 @@ fn send_spaced<W: Writer>(w: &mut W, out: &mut OutputBuffer, bytes: &[u8]) -> Re
     out.write(w, spaced_pairs(left).as_slice())
 }
 
-/// Has bytes go out as pairs of digits, with one blank between.
-pub fn send_hex<W: Writer>(w: &mut W, out: &mut OutputBuffer, bytes: &[u8]) -> Result<(), WriteFault>
+/// Writes bytes to a buffer as pairs of digits, with one blank between.
+pub fn send_hex<W: Writer>(
+    w: &mut W,
+    out: &mut OutputBuffer,
+    bytes: &[u8],
+) -> Result<(), WriteFault>
     requires { accepted out.old + 3 * length bytes.now < 2 ^ 128 }
     ensures { MatchResult result
         (λ _. Accepts (W.state w.old) out.old (W.state w.new) out.new (hex_text bytes.now))

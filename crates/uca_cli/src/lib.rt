@@ -4,24 +4,21 @@
 //! a [`uca_weights::Reader`], checks it whole, and only then writes to a [`uca_weights::Writer`].
 #![tactic(auto)]
 
-mod checking;
+mod built_in_table;
+pub mod commands;
 pub mod faults;
-mod findings;
 mod hex;
 mod input;
 mod lines;
-mod neighbours;
-pub mod ordering;
 mod output;
 pub mod performing;
-mod small_table;
-mod tailoring;
+mod rule_file;
 #[cfg(test)]
 mod tests;
 
+pub use built_in_table::built_in;
+pub use commands::order::order;
 pub use faults::{CliFault, InputCause, InputFault, RulesTextCause};
-pub use uca_job::{Job, JobFault, Task, job_of};
-pub use ordering::order;
 pub use performing::{perform, status_of};
-pub use small_table::built_in;
 pub use uca_conform::{ConformCause, ConformFault, Conformance, conform};
+pub use uca_job::{Job, JobFault, Task, job_of};

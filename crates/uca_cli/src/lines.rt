@@ -1,10 +1,9 @@
 ghost use Rattle.std.specs.Prelude.{◌≡◌, ◌≢◌, ◌∷◌, ℕ, ◌+◌, ◌<◌, ◌≤◌, length, drop, slice_index, All, IfErr, IfOk, IsFalse, IsTrue, MatchResult};
 ghost use Rattle.uca_model.specs.Lines.{line_feed, lines_of, IsTextLine};
-ghost use Rattle.uca_cli.specs.Input.{HasInputFault, HasFaultAt, IsOneLine};
-ghost use Rattle.uca_cli.specs.Performing.{ReadsLines, RefusesInput};
+ghost use Rattle.uca_cli.specs.Input.{HasInputFault, HasFaultAt, IsOneLine, ReadsLines, ReadsOneLine, RefusesInput, RefusesOneLine};
 
 use crate::faults::{InputCause, InputFault};
-use crate::input::read_input;
+use crate::input::{read_input, refused};
 use memchr::memchr;
 use simdutf8::compat::from_utf8;
 use std::alloc::Global;
@@ -24,7 +23,7 @@ fn line_end(bytes: &[u8]) -> usize
     }
 }
 
-/// What stands behind the byte at `end`.
+/// What stands after the byte at `end`.
 fn behind(bytes: &[u8], end: usize) -> &[u8]
     ensures { result.now ≡ drop (end + 1) bytes.now }
 {
@@ -35,7 +34,7 @@ fn behind(bytes: &[u8], end: usize) -> &[u8]
     }
 }
 
-/// The first line of an input, without what ends it, and the bytes behind that.
+/// The first line of an input, without what ends it, and the bytes after that.
 pub fn first_line(bytes: &[u8]) -> (&[u8], &[u8])
     requires { 0 < length bytes.now }
     ensures parts { lines_of bytes.now ≡ result.0.now ∷ lines_of result.1.now }
@@ -98,11 +97,19 @@ pub fn read_lines<I: Reader>(alloc: Global, input: &mut I) -> Result<Vec<u8>, In
     ensures ok { IfOk result (λ v. ReadsLines (I.state input.old) (I.state input.new) v.items) }
     ensures err { IfErr result (RefusesInput (I.state input.old) (I.state input.new)) }
 {
-    match read_input(alloc, input) {
-        Ok(bytes) => match check_lines(&bytes) {
-            Ok(()) => Ok(bytes),
-            Err(fault) => Err(fault),
-        },
-        Err(fault) => Err(fault),
+    let bytes = read_input(alloc, input)?;
+    check_lines(&bytes)?;
+    Ok(bytes)
+}
+
+/// Reads an input of lines to its end, looks at each line, and then whether it is a single one.
+pub fn read_one_line<I: Reader>(alloc: Global, input: &mut I) -> Result<Vec<u8>, InputFault>
+    ensures ok { IfOk result (λ v. ReadsOneLine (I.state input.old) (I.state input.new) v.items) }
+    ensures err { IfErr result (RefusesOneLine (I.state input.old) (I.state input.new)) }
+{
+    let bytes = read_lines(alloc, input)?;
+    if !is_one_line(&bytes) {
+        return Err(refused(InputCause::NotOneLine));
     }
+    Ok(bytes)
 }

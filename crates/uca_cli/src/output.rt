@@ -7,8 +7,6 @@ ghost use Rattle.uca_model.specs.ElementsOutput.{elements_text};
 ghost use Rattle.uca_model.specs.Lines.{lines_of, IsTextLine};
 ghost use Rattle.uca_model.specs.Output.{hex_line};
 ghost use Rattle.uca_window.specs.Passage.{text_of};
-ghost use Rattle.uca_cli.specs.Input.{IsOneLine};
-ghost use Rattle.uca_cli.specs.Performing.{raw_key_output};
 ghost use Rattle.uca_cli.specs.Sending.{line_text, lines_text, StopsLine, StopsOutput};
 
 use crate::faults::CliFault;
@@ -17,10 +15,10 @@ use crate::lines::first_line;
 use std::alloc::Global;
 use std::str::from_utf8_unchecked;
 use uca_allkeys::element_text;
-use uca_key::{key_of, write_key};
+use uca_io::OutputBuffer;
+use uca_key::key_of;
 use uca_match::elements_of;
 use uca_table::Table;
-use uca_io::OutputBuffer;
 use uca_weights::{Element, Settings, WriteFault, Writer};
 use uca_window::Passage;
 
@@ -41,7 +39,7 @@ pub fn text_of_line(line: &[u8]) -> Passage<'_>
     Passage::of_safe(unsafe { from_utf8_unchecked(line) })
 }
 
-/// Has collation elements go out one behind the other.
+/// Writes collation elements to a buffer, one after the other.
 fn send_each<W: Writer>(
     w: &mut W,
     out: &mut OutputBuffer,
@@ -58,7 +56,7 @@ fn send_each<W: Writer>(
     Ok(())
 }
 
-/// Has the line of some collation elements go out.
+/// Writes the line of some collation elements to a buffer.
 fn send_elements<W: Writer>(
     w: &mut W,
     out: &mut OutputBuffer,
@@ -76,7 +74,7 @@ fn send_elements<W: Writer>(
     }
 }
 
-/// Has the line of a key go out.
+/// Writes the line of a key to a buffer.
 fn send_key<W: Writer>(w: &mut W, out: &mut OutputBuffer, key: &[u8]) -> Result<(), WriteFault>
     requires { accepted out.old < 2 ^ 127 }
     ensures sends { MatchResult result
@@ -90,7 +88,7 @@ fn send_key<W: Writer>(w: &mut W, out: &mut OutputBuffer, key: &[u8]) -> Result<
     }
 }
 
-/// Has what a command writes for a line go out.
+/// Writes to a buffer what a command writes for a line.
 fn send_line<W: Writer>(
     alloc: Global,
     form: LineForm,
@@ -153,25 +151,5 @@ pub fn write_lines<W: Writer>(
     match out.flush(w) {
         Ok(()) => Ok(()),
         Err(fault) => Err(CliFault::Output(fault)),
-    }
-}
-
-/// Writes the sort key of the one line of an input, which was checked. It takes no memory.
-pub fn write_raw_key<W: Writer>(
-    t: &Table,
-    s: Settings,
-    bytes: &[u8],
-    w: &mut W,
-) -> Result<(), WriteFault>
-    requires one { IsOneLine bytes.now }
-    requires texts { All IsTextLine (lines_of bytes.now) }
-    ensures { MatchResult result
-        (λ _. WritesAll (W.state w.old) (W.state w.new) (raw_key_output t.now s (lines_of bytes.now)))
-        (WritesFront (W.state w.old) (W.state w.new) (raw_key_output t.now s (lines_of bytes.now))) }
-{
-    let (line, _) = first_line(bytes);
-    match write_key(w, t, s, &text_of_line(line)) {
-        Ok(_) => Ok(()),
-        Err(fault) => Err(fault),
     }
 }

@@ -1,23 +1,17 @@
-ghost use Rattle.std.specs.Prelude.{◌≡◌, ◌≢◌, Err, IfErr, IfOk, MatchResult, None, Ok, Some, option_map};
-ghost use Rattle.uca_cli.specs.Lent.{left_behind, lent};
-ghost use Rattle.uca_cli.specs.Performing.{IsCheckedFor, Performs, Refuses, ReadsFor, ReadsOneLine, ReadsTable, RefusesFor, RefusesOneLine, StopsOutputFor, StopsTable, StopsWork, Works, WritesFor};
-ghost use Rattle.uca_job.specs.declared.job.Task.TheVariants.{Check};
+ghost use Rattle.std.specs.Prelude.{◌≡◌, IfErr, IfOk, None, Some, option_map};
+ghost use Rattle.uca_cli.specs.Borrowed.{borrowed, given_back};
+ghost use Rattle.uca_cli.specs.Commands.{Does, Fails, command_of};
+ghost use Rattle.uca_cli.specs.Performing.{Performs, ReadsTable, Refuses, StopsTable, settings_of};
 
-use crate::checking::check;
-use crate::faults::{CliFault, InputCause, InputFault};
-use crate::findings::write_findings;
-use crate::input::refused;
-use uca_job::{Job, Task};
-use crate::lines::{is_one_line, read_lines};
-use crate::neighbours::write_orders;
-use crate::ordering::write_in_order;
-use crate::output::{LineForm, write_lines, write_raw_key};
-use crate::small_table::built_in;
-use crate::tailoring::tailored_in;
+use crate::built_in_table::built_in;
+use crate::commands::{check, compare, elements, key, lint, order, table};
+use crate::faults::CliFault;
+use crate::rule_file::tailored_in;
 use std::alloc::Global;
-use uca_allkeys::{read_table, write_table};
+use uca_allkeys::read_table;
+use uca_job::{Job, Task};
 use uca_table::Table;
-use uca_weights::{Reader, Settings, WriteFault, Writer};
+use uca_weights::{Reader, Settings, Writer};
 
 /// The table that the text in a reader says.
 fn table_in<T: Reader>(alloc: Global, reader: &mut T) -> Result<Table, CliFault>
@@ -41,116 +35,7 @@ fn own_table(alloc: Global) -> Result<Table, CliFault>
     }
 }
 
-/// Reads an input to its end, looks at each line, and then whether it is a single one.
-fn read_one_line<I: Reader>(alloc: Global, input: &mut I) -> Result<Vec<u8>, InputFault>
-    ensures ok { IfOk result (λ v. ReadsOneLine (I.state input.old) (I.state input.new) v.items) }
-    ensures err { IfErr result (RefusesOneLine (I.state input.old) (I.state input.new)) }
-{
-    match read_lines(alloc, input) {
-        Ok(bytes) => {
-            if is_one_line(&bytes) {
-                Ok(bytes)
-            } else {
-                Err(refused(InputCause::NotOneLine))
-            }
-        }
-        Err(fault) => Err(fault),
-    }
-}
-
-/// Reads the input of a command other than `check`, and looks at its lines. `lint` and `table` have none.
-fn read_for<I: Reader>(
-    alloc: Global,
-    command: Task,
-    raw: bool,
-    input: &mut I,
-) -> Result<Vec<u8>, InputFault>
-    requires { command ≢ Check }
-    ensures ok { IfOk result (λ v. ReadsFor command raw (I.state input.old) (I.state input.new) v.items) }
-    ensures checked { IfOk result (λ v. IsCheckedFor command raw v.items) }
-    ensures err { IfErr result (RefusesFor command raw (I.state input.old) (I.state input.new)) }
-{
-    match command {
-        Task::Elements => read_lines(alloc, input),
-        Task::Key => {
-            if raw {
-                read_one_line(alloc, input)
-            } else {
-                read_lines(alloc, input)
-            }
-        }
-        Task::Compare => read_lines(alloc, input),
-        Task::Order => read_lines(alloc, input),
-        Task::Check => unreachable!(),
-        Task::Lint => Ok(Vec::new(alloc)),
-        Task::Table => Ok(Vec::new(alloc)),
-    }
-}
-
-/// The status of what was done.
-fn done(written: Result<(), CliFault>) -> Result<u8, CliFault>
-    ensures { MatchResult written (λ _. result ≡ Ok 0) (λ f. result ≡ Err f) }
-{
-    match written {
-        Ok(()) => Ok(0),
-        Err(fault) => Err(fault),
-    }
-}
-
-/// The same of output for which no memory is taken.
-fn written(wrote: Result<(), WriteFault>) -> Result<u8, CliFault>
-    ensures { MatchResult wrote (λ _. result ≡ Ok 0) (λ f. result ≡ Err (CliFault.Output f)) }
-{
-    match wrote {
-        Ok(()) => Ok(0),
-        Err(fault) => Err(CliFault::Output(fault)),
-    }
-}
-
-/// Writes what a command other than `check` writes with a table for an input, whose lines were checked, and answers its
-/// status.
-fn write_for<W: Writer>(
-    alloc: Global,
-    command: Task,
-    raw: bool,
-    t: &Table,
-    s: Settings,
-    bytes: &[u8],
-    output: &mut W,
-) -> Result<u8, CliFault>
-    requires checked { IsCheckedFor command raw bytes.now }
-    requires lines { command ≢ Check }
-    ensures { MatchResult result
-        (WritesFor command raw t.now s bytes.now (W.state output.old) (W.state output.new))
-        (StopsOutputFor command raw t.now s bytes.now (W.state output.old) (W.state output.new)) }
-{
-    match command {
-        Task::Elements => done(write_lines(alloc, LineForm::Elements, t, s, bytes, output)),
-        Task::Key => {
-            if raw {
-                written(write_raw_key(t, s, bytes, output))
-            } else {
-                done(write_lines(alloc, LineForm::Key, t, s, bytes, output))
-            }
-        }
-        Task::Compare => written(write_orders(t, s, bytes, output)),
-        Task::Order => match write_in_order(alloc, t, s, bytes, output) {
-            Ok(_) => Ok(0),
-            Err(fault) => Err(fault),
-        },
-        Task::Check => unreachable!(),
-        Task::Lint => match write_findings(t, output) {
-            Ok(status) => Ok(status),
-            Err(fault) => Err(CliFault::Output(fault)),
-        },
-        Task::Table => match write_table(output, t) {
-            Ok(_) => Ok(0),
-            Err(fault) => Err(CliFault::Output(fault)),
-        },
-    }
-}
-
-/// Does the work of a job with its table.
+/// Does the command of a job with its table.
 fn work<I: Reader, W: Writer>(
     alloc: Global,
     job: &Job,
@@ -158,10 +43,10 @@ fn work<I: Reader, W: Writer>(
     input: &mut I,
     output: &mut W,
 ) -> Result<u8, CliFault>
-    ensures done { IfOk result (Works job.now t.now
+    ensures done { IfOk result (Does (command_of job.now.command job.now.raw) t.now (settings_of job.now)
         (record { input = I.state input.old; output = W.state output.old })
         (record { input = I.state input.new; output = W.state output.new })) }
-    ensures fault { IfErr result (StopsWork job.now t.now
+    ensures fault { IfErr result (Fails (command_of job.now.command job.now.raw) t.now (settings_of job.now)
         (record { input = I.state input.old; output = W.state output.old })
         (record { input = I.state input.new; output = W.state output.new })) }
 {
@@ -169,12 +54,20 @@ fn work<I: Reader, W: Writer>(
         strength: job.strength,
         weighting: job.weighting,
     };
-    if job.command == Task::Check {
-        return check(t, settings, input, output);
-    }
-    match read_for(alloc, job.command, job.raw, input) {
-        Ok(bytes) => write_for(alloc, job.command, job.raw, t, settings, &bytes, output),
-        Err(fault) => Err(CliFault::Input(fault)),
+    match job.command {
+        Task::Elements => elements::run(alloc, t, settings, input, output),
+        Task::Key => {
+            if job.raw {
+                key::run_raw(alloc, t, settings, input, output)
+            } else {
+                key::run(alloc, t, settings, input, output)
+            }
+        }
+        Task::Compare => compare::run(alloc, t, settings, input, output),
+        Task::Order => order::run(alloc, t, settings, input, output),
+        Task::Check => check::run(t, settings, input, output),
+        Task::Lint => lint::run(t, output),
+        Task::Table => table::run(t, output),
     }
 }
 
@@ -269,13 +162,13 @@ fn perform_alone<I: Reader, W: Writer>(
 }
 
 /// Does a job: reads the table, then the rules, by which it tailors the table, then the input, which it checks whole, and
-/// only then writes the output. It answers the status of the program: 1 where `check` failed or `lint`
+/// only then writes the output. It returns the status of the program: 1 where `check` failed or `lint`
 /// found something, and else 0.
 ///
-/// Where there is no reader of a table, the built-in table serves, and where there is none of rules, the table as it is. At
-/// a fault of the table nothing else was read, at one of the rules nothing of the input, and at each of these and at one of
-/// the input nothing was written. On a fault of the output, or where memory is wanted while it is written, its front went
-/// out; `written` counts over the whole run. It does not flush the writer.
+/// Where there is no reader of a table, it works with the built-in table, and where there is none of rules, with the table
+/// as it is. At a fault of the table nothing else was read, at one of the rules nothing of the input, and at each of these
+/// and at one of the input nothing was written. On a fault of the output, or on an allocation failure while it is written,
+/// its front went out; `written` counts over the whole run. It does not flush the writer.
 pub fn perform<T: Reader, U: Reader, I: Reader, W: Writer>(
     alloc: Global,
     job: &Job,
@@ -285,13 +178,13 @@ pub fn perform<T: Reader, U: Reader, I: Reader, W: Writer>(
     output: &mut W,
 ) -> Result<u8, CliFault>
     ensures done { IfOk result (Performs job.now
-        (record { table = option_map T.state (lent table.entry); rules = option_map U.state (lent rules.entry) })
-        (record { table = option_map T.state (left_behind table.exit); rules = option_map U.state (left_behind rules.exit) })
+        (record { table = option_map T.state (borrowed table.entry); rules = option_map U.state (borrowed rules.entry) })
+        (record { table = option_map T.state (given_back table.exit); rules = option_map U.state (given_back rules.exit) })
         (record { input = I.state input.old; output = W.state output.old })
         (record { input = I.state input.new; output = W.state output.new })) }
     ensures fault { IfErr result (Refuses job.now
-        (record { table = option_map T.state (lent table.entry); rules = option_map U.state (lent rules.entry) })
-        (record { table = option_map T.state (left_behind table.exit); rules = option_map U.state (left_behind rules.exit) })
+        (record { table = option_map T.state (borrowed table.entry); rules = option_map U.state (borrowed rules.entry) })
+        (record { table = option_map T.state (given_back table.exit); rules = option_map U.state (given_back rules.exit) })
         (record { input = I.state input.old; output = W.state output.old })
         (record { input = I.state input.new; output = W.state output.new })) }
 {

@@ -1,0 +1,53 @@
+ghost use Rattle.std.specs.Prelude.{IfErr, IfOk};
+ghost use Rattle.uca_cli.specs.RuleFile.{ReadsRuleBytes, ReadsRules, RefusesRules, StopsTailoring, TailorsBy};
+
+use crate::faults::{CliFault, RulesTextCause};
+use crate::input::{Stop, read_whole};
+use simdutf8::compat::from_utf8;
+use std::alloc::Global;
+use uca_table::Table;
+use uca_tailor::{Rules, parse, tailor};
+use uca_weights::{MAX_RULES, Reader};
+
+/// Reads the bytes of rules to their end.
+fn read_rules<U: Reader>(alloc: Global, reader: &mut U) -> Result<Vec<u8>, CliFault>
+    ensures ok { IfOk result (λ v. ReadsRuleBytes (U.state reader.old) (U.state reader.new) v.items) }
+    ensures err { IfErr result (RefusesRules (U.state reader.old) (U.state reader.new)) }
+{
+    match read_whole(alloc, reader, MAX_RULES) {
+        Ok(bytes) => Ok(bytes),
+        Err(Stop::TooLarge) => Err(CliFault::RulesText {
+            at: MAX_RULES,
+            cause: RulesTextCause::TooLarge,
+        }),
+        Err(Stop::Read) => Err(CliFault::RulesText {
+            at: 0,
+            cause: RulesTextCause::Read,
+        }),
+        Err(Stop::OutOfMemory) => Err(CliFault::OutOfMemory),
+    }
+}
+
+/// The rules in the text of a reader. The text is read whole before anything else is looked at.
+fn rules_in<U: Reader>(alloc: Global, reader: &mut U) -> Result<Rules, CliFault>
+    ensures ok { IfOk result (λ r. ReadsRules (U.state reader.old) (U.state reader.new) r) }
+    ensures err { IfErr result (RefusesRules (U.state reader.old) (U.state reader.new)) }
+{
+    let bytes = read_rules(alloc, reader)?;
+    match from_utf8(&bytes) {
+        Ok(text) => Ok(parse(alloc, text)?),
+        Err(error) => Err(CliFault::RulesText {
+            at: error.valid_up_to(),
+            cause: RulesTextCause::NotUtf8,
+        }),
+    }
+}
+
+/// The table tailored by the rules in a reader.
+pub fn tailored_in<U: Reader>(alloc: Global, t: Table, reader: &mut U) -> Result<Table, CliFault>
+    ensures ok { IfOk result (TailorsBy (U.state reader.old) (U.state reader.new) t) }
+    ensures err { IfErr result (StopsTailoring (U.state reader.old) (U.state reader.new) t) }
+{
+    let rules = rules_in(alloc, reader)?;
+    Ok(tailor(alloc, &t, &rules)?)
+}
