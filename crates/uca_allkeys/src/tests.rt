@@ -6,73 +6,8 @@ use std::io;
 use std::io::Write;
 use std::process::Abort;
 use uca_table::{Table, TableBuilder};
+use uca_testing::{SMALL_TABLE, SMALL_TEXT, TWO_RANGES, element};
 use uca_weights::{Element, Range, Reading, WriteCause, Writing};
-
-/// Keys with their one element, whose mark is `*` where the flag is true, in no order.
-const SMALL_TABLE: [(&[char], bool, [u16; 3]); 18] = [
-    (&['\u{1}'], false, [0, 0, 0]),
-    (&[' '], true, [0x201, 0x20, 2]),
-    (&['-'], true, [0x202, 0x20, 2]),
-    (&['\u{300}'], false, [0, 0x21, 2]),
-    (&['\u{301}'], false, [0, 0x22, 2]),
-    (&['\u{308}'], false, [0, 0x23, 2]),
-    (&['\u{323}'], false, [0, 0x24, 2]),
-    (&['a'], false, [0x1000, 0x20, 2]),
-    (&['A'], false, [0x1000, 0x20, 8]),
-    (&['b'], false, [0x1001, 0x20, 2]),
-    (&['c'], false, [0x1002, 0x20, 2]),
-    (&['e'], false, [0x1004, 0x20, 2]),
-    (&['h'], false, [0x1005, 0x20, 2]),
-    (&['z'], false, [0x1006, 0x20, 2]),
-    (&['c', 'h'], false, [0x1007, 0x20, 2]),
-    (&['a', '\u{301}'], false, [0x1008, 0x20, 2]),
-    (&['b', '\u{301}'], false, [0x1009, 0x20, 2]),
-    (&['b', '\u{301}', '\u{308}'], false, [0x100A, 0x20, 2]),
-];
-
-const TWO_RANGES: [Range; 2] = [
-    Range {
-        first: '\u{17000}',
-        last: '\u{18AFF}',
-        base: 0xFB00,
-    },
-    Range {
-        first: '\u{18D00}',
-        last: '\u{18D8F}',
-        base: 0xFB00,
-    },
-];
-
-pub(crate) const SMALL_TEXT: &[u8] = b"@implicitweights 17000..18AFF; FB00
-@implicitweights 18D00..18D8F; FB00
-0001 ; [.0000.0000.0000]
-0020 ; [*0201.0020.0002]
-002D ; [*0202.0020.0002]
-0041 ; [.1000.0020.0008]
-0061 ; [.1000.0020.0002]
-0061 0301 ; [.1008.0020.0002]
-0062 ; [.1001.0020.0002]
-0062 0301 ; [.1009.0020.0002]
-0062 0301 0308 ; [.100A.0020.0002]
-0063 ; [.1002.0020.0002]
-0063 0068 ; [.1007.0020.0002]
-0065 ; [.1004.0020.0002]
-0068 ; [.1005.0020.0002]
-007A ; [.1006.0020.0002]
-0300 ; [.0000.0021.0002]
-0301 ; [.0000.0022.0002]
-0308 ; [.0000.0023.0002]
-0323 ; [.0000.0024.0002]
-";
-
-fn element(starred: bool, [l1, l2, l3]: [u16; 3]) -> Element {
-    Element {
-        starred,
-        l1,
-        l2,
-        l3,
-    }
-}
 
 /// Inserts an entry, once more where memory was refused.
 fn insert(builder: &mut TableBuilder, key: &[char], elements: &[Element]) -> bool {

@@ -1,6 +1,5 @@
 mod agreement;
 mod checking;
-mod ends;
 mod findings;
 mod ordering;
 mod raw;
@@ -9,10 +8,12 @@ mod tables;
 
 use crate::input::read_input;
 use crate::{CliFault, InputCause, InputFault, Job, Task, perform, status_of};
-use ends::{Expecting, Pieces, Repeating};
 use simdutf8::compat::from_utf8;
-use std::alloc::{AllocError, Global};
+use std::alloc::Global;
 use std::test::Fail;
+use uca_allkeys::ReadCause;
+use uca_tailor::{RuleCause, TailorCause};
+use uca_testing::{Expecting, Pieces, Repeating, repeated};
 use uca_weights::{
     MAX_INPUT, Reader, Reading, Settings, Strength, Variable, WriteCause, WriteFault, Writer,
     Writing,
@@ -37,6 +38,18 @@ const PLAIN: Settings = Settings {
     weighting: Variable::NonIgnorable,
 };
 
+/// A job without the flag `raw`. The readers of its table and its rules are passed beside it.
+fn plain_job(command: Task, settings: Settings) -> Job {
+    Job {
+        command,
+        strength: settings.strength,
+        weighting: settings.weighting,
+        raw: false,
+        table: None,
+        rules: None,
+    }
+}
+
 /// Does a job with the built-in table.
 fn perform_as<I: Reader, W: Writer>(
     alloc: Global,
@@ -45,14 +58,7 @@ fn perform_as<I: Reader, W: Writer>(
     input: &mut I,
     output: &mut W,
 ) -> Result<u8, CliFault> {
-    let job = Job {
-        command,
-        strength: settings.strength,
-        weighting: settings.weighting,
-        raw: false,
-        table: None,
-        rules: None,
-    };
+    let job = plain_job(command, settings);
     let table: Option<&mut Repeating> = None;
     let rules: Option<&mut Repeating> = None;
     perform(alloc, &job, table, rules, input, output)
@@ -71,6 +77,9 @@ fn perform_key<I: Reader, W: Writer>(
 fn wants_memory(answer: &Result<u8, CliFault>) -> bool {
     match answer {
         Err(CliFault::Input(fault)) => fault.cause == InputCause::OutOfMemory,
+        Err(CliFault::Table(fault)) => fault.cause == ReadCause::OutOfMemory,
+        Err(CliFault::Rules(fault)) => fault.cause == RuleCause::OutOfMemory,
+        Err(CliFault::Tailor(fault)) => fault.cause == TailorCause::OutOfMemory,
         Err(CliFault::OutOfMemory) => true,
         _ => false,
     }
@@ -116,13 +125,37 @@ fn input_refused(line: u64, at: usize, cause: InputCause) -> CliFault {
     CliFault::Input(InputFault { line, at, cause })
 }
 
-/// A piece of an input, several times.
-fn repeated(alloc: Global, piece: &[u8], times: usize) -> Result<Vec<u8>, AllocError> {
-    let mut bytes = Vec::new(alloc);
-    for _ in 0..times {
-        bytes.extend_from_slice(piece)?;
+/// Whether a job over bytes in memory succeeds and writes exactly this.
+fn writes(alloc: Global, command: Task, settings: Settings, input: &[u8], want: &[u8]) -> bool {
+    let done = run_as(alloc, command, settings, input);
+    done.answer == Ok(0) && done.output.as_slice() == want
+}
+
+/// Whether the job `key` is refused for its input and writes nothing.
+fn is_refused(alloc: Global, input: &[u8], line: u64, at: usize, cause: InputCause) -> bool {
+    let done = run(alloc, input);
+    done.answer == Err(input_refused(line, at, cause)) && done.output.is_empty()
+}
+
+/// Whether this is what comes of a job whose output is stopped, and its writer has the front; or memory is refused.
+fn stops_at(
+    answer: Result<u8, CliFault>,
+    writer: &Expecting,
+    output: &[u8],
+    room: usize,
+    cause: WriteCause,
+) -> bool {
+    if wants_memory(&answer) {
+        // What went out is a front of the output.
+        return writer.left().is_some();
     }
-    Ok(bytes)
+    let written = room.min(output.len());
+    let want = if room < output.len() {
+        Err(output_refused(written as u128, cause))
+    } else {
+        Ok(0)
+    };
+    answer == want && writer.left() == Some(output.len() - written)
 }
 
 #[test]
@@ -148,9 +181,10 @@ fn each_line_gets_its_key(rt: HostRuntime) {
         (b"\r\r", b"FB C0 80 0D 00 00 00 20 00 00 00 02\n"),
     ];
     for (input, want) in cases {
-        let done = run(rt.alloc(), input);
-        assert_eq!(rt; done.answer, Ok(0), "{input:?}");
-        assert_eq!(rt; done.output.as_slice(), want, "{input:?}");
+        assert!(rt;
+            writes(rt.alloc(), Task::Key, PLAIN, input, want),
+            "{input:?}"
+        );
     }
 }
 
@@ -167,13 +201,7 @@ fn the_first_faulty_line_is_told_and_nothing_is_written(rt: HostRuntime) {
         (b"\xEF\xBB\xBF\xC0\x80", 1, 3, InputCause::NotUtf8),
     ];
     for (input, line, at, cause) in cases {
-        let done = run(rt.alloc(), input);
-        assert_eq!(rt;
-            done.answer.err(),
-            Some(input_refused(line, at, cause)),
-            "{input:?}"
-        );
-        assert!(rt; done.output.is_empty(), "{input:?}");
+        assert!(rt; is_refused(rt.alloc(), input, line, at, cause), "{input:?}");
     }
 }
 
@@ -188,10 +216,7 @@ fn a_long_run_is_told_by_its_place_in_the_line(rt: HostRuntime) -> Result<(), Fa
         let Ok(input) = format!(in alloc; "{front}{}\n\u{301}", from_utf8(&marks)?) else {
             return Ok(());
         };
-        let done = run(alloc, input.as_bytes());
-        let want = Some(input_refused(line, at, InputCause::LongRun));
-        assert_eq!(rt; done.answer.err(), want, "{front:?}");
-        assert!(rt; done.output.is_empty(), "{front:?}");
+        assert!(rt; is_refused(alloc, input.as_bytes(), line, at, InputCause::LongRun));
     }
     Ok(())
 }
@@ -205,9 +230,7 @@ fn a_line_that_is_no_text_has_no_run(rt: HostRuntime) {
     if input.push(0xFF).is_err() {
         return;
     }
-    let done = run(alloc, &input);
-    let want = Some(input_refused(1, 62, InputCause::NotUtf8));
-    assert_eq!(rt; done.answer.err(), want);
+    assert!(rt; is_refused(alloc, &input, 1, 62, InputCause::NotUtf8));
 }
 
 #[test]
@@ -240,7 +263,7 @@ fn a_failed_read_is_told(rt: HostRuntime) {
     for (most, calls) in [(5, 0), (5, 1), (1, 3), (1, 5)] {
         let reader = Pieces::new(TWO_LINES, most, calls);
         let want = Some(input_refused(0, 0, InputCause::Read));
-        assert_eq!(rt; fault_of(rt.alloc(), reader), want, "behind {calls} calls");
+        assert!(rt; fault_of(rt.alloc(), reader) == want, "after {calls} calls");
     }
 }
 
@@ -255,8 +278,10 @@ fn pieces_of_the_input_change_nothing(rt: HostRuntime) {
             reader = Pieces::new(TWO_LINES, most, 100);
             answer = perform_key(alloc, &mut reader, &mut writer);
         }
-        assert_eq!(rt; answer, Ok(0), "{most} at once");
-        assert_eq!(rt; writer.left(), Some(0), "{most} at once");
+        assert!(rt;
+            answer == Ok(0) && writer.left() == Some(0),
+            "{most} at once"
+        );
     }
 }
 
@@ -265,20 +290,7 @@ fn stops(alloc: Global, input: &[u8], output: &[u8], room: usize, cause: WriteCa
     let mut reader = Reading::new(input);
     let mut writer = Expecting::new(output, room, cause);
     let answer = perform_key(alloc, &mut reader, &mut writer);
-    if wants_memory(&answer) {
-        // What went out is a front of the output.
-        return writer.left().is_some();
-    }
-    let written = room.min(output.len());
-    let want = if room < output.len() {
-        Err(CliFault::Output(WriteFault {
-            written: written as u128,
-            cause,
-        }))
-    } else {
-        Ok(0)
-    };
-    answer == want && writer.left() == Some(output.len() - written)
+    stops_at(answer, &writer, output, room, cause)
 }
 
 #[test]
@@ -342,9 +354,10 @@ fn each_line_gets_its_elements(rt: HostRuntime) {
         ),
     ];
     for (input, want) in cases {
-        let done = run_as(rt.alloc(), Task::Elements, PLAIN, input);
-        assert_eq!(rt; done.answer, Ok(0), "{input:?}");
-        assert_eq!(rt; done.output.as_slice(), want, "{input:?}");
+        assert!(rt;
+            writes(rt.alloc(), Task::Elements, PLAIN, input, want),
+            "{input:?}"
+        );
     }
 }
 
@@ -363,9 +376,10 @@ fn each_two_neighbours_are_compared(rt: HostRuntime) {
         (PLAIN, b"\n\n", b"equal\n"),
     ];
     for (settings, input, want) in cases {
-        let done = run_as(rt.alloc(), Task::Compare, settings, input);
-        assert_eq!(rt; done.answer, Ok(0), "{input:?}");
-        assert_eq!(rt; done.output.as_slice(), want, "{input:?}");
+        assert!(rt;
+            writes(rt.alloc(), Task::Compare, settings, input, want),
+            "{input:?}"
+        );
     }
 }
 
@@ -390,11 +404,10 @@ fn lines_go_out_in_the_order_of_their_keys(rt: HostRuntime) {
         let answer = perform_as(rt.alloc(), Task::Order, settings, &mut reader, &mut writer);
         if wants_memory(&answer) {
             // All memory is taken before the first byte is written.
-            assert_eq!(rt; writer.left(), Some(want.len()), "{input:?}");
+            assert!(rt; writer.left() == Some(want.len()));
             continue;
         }
-        assert_eq!(rt; answer, Ok(0), "{input:?}");
-        assert_eq!(rt; writer.left(), Some(0), "{input:?}");
+        assert!(rt; answer == Ok(0) && writer.left() == Some(0), "{input:?}");
     }
 }
 
@@ -427,9 +440,10 @@ fn settings_are_those_of_the_job(rt: HostRuntime) {
         (blanked, b"a-b", b"10 00 10 01\n"),
     ];
     for (settings, input, want) in cases {
-        let done = run_as(rt.alloc(), Task::Key, settings, input);
-        assert_eq!(rt; done.answer, Ok(0), "{input:?}");
-        assert_eq!(rt; done.output.as_slice(), want, "{input:?}");
+        assert!(rt;
+            writes(rt.alloc(), Task::Key, settings, input, want),
+            "{input:?}"
+        );
     }
 }
 

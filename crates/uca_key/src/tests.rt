@@ -2,34 +2,12 @@ mod all_pairs;
 mod written;
 
 use crate::key_of;
-use std::alloc::{AllocError, Global};
+use std::alloc::Global;
 use std::process::Abort;
 use uca_table::{InsertFault, Table, TableBuilder};
-use uca_weights::{Element, Settings, Strength, Variable};
+use uca_testing::{SMALL_TABLE, element};
+use uca_weights::{Settings, Strength, Variable};
 use uca_window::Passage;
-
-/// Keys with their one element, whose mark is `*` where the flag is true.
-#[rattlefmt::skip]
-const KEYS: [(&[char], bool, [u16; 3]); 18] = [
-    (&['\u{1}'], false, [0, 0, 0]),
-    (&[' '], true, [0x201, 0x20, 2]),
-    (&['-'], true, [0x202, 0x20, 2]),
-    (&['\u{300}'], false, [0, 0x21, 2]),
-    (&['\u{301}'], false, [0, 0x22, 2]),
-    (&['\u{308}'], false, [0, 0x23, 2]),
-    (&['\u{323}'], false, [0, 0x24, 2]),
-    (&['a'], false, [0x1000, 0x20, 2]),
-    (&['A'], false, [0x1000, 0x20, 8]),
-    (&['b'], false, [0x1001, 0x20, 2]),
-    (&['c'], false, [0x1002, 0x20, 2]),
-    (&['e'], false, [0x1004, 0x20, 2]),
-    (&['h'], false, [0x1005, 0x20, 2]),
-    (&['z'], false, [0x1006, 0x20, 2]),
-    (&['c', 'h'], false, [0x1007, 0x20, 2]),
-    (&['a', '\u{301}'], false, [0x1008, 0x20, 2]),
-    (&['b', '\u{301}'], false, [0x1009, 0x20, 2]),
-    (&['b', '\u{301}', '\u{308}'], false, [0x100A, 0x20, 2]),
-];
 
 const STRENGTHS: [Strength; 5] = [
     Strength::Primary,
@@ -41,19 +19,10 @@ const STRENGTHS: [Strength; 5] = [
 
 const OPTIONS: [Variable; 3] = [Variable::NonIgnorable, Variable::Blanked, Variable::Shifted];
 
-fn element(starred: bool, [l1, l2, l3]: [u16; 3]) -> Element {
-    Element {
-        starred,
-        l1,
-        l2,
-        l3,
-    }
-}
-
-/// Makes the table of the keys, each step once more where memory was refused.
+/// Makes the small table, each step once more where memory was refused.
 fn table(rt: &impl Abort, alloc: Global) -> Table {
     let mut builder = TableBuilder::new(alloc);
-    for (key, starred, weights) in KEYS {
+    for (key, starred, weights) in SMALL_TABLE {
         let elements = [element(starred, weights)];
         let inserted = match builder.insert(key, &elements) {
             Err(InsertFault::OutOfMemory) => builder.insert(key, &elements),
@@ -191,19 +160,4 @@ fn marks_alone_count_at_the_second_level(rt: HostRuntime) {
     }
     let empty = key_again(&rt, rt.alloc(), &t, Strength::Secondary, option, "");
     assert!(rt; key.as_slice() > empty.as_slice());
-}
-
-/// A text of up to nine characters, by a number.
-fn generated(alloc: Global, number: u32) -> Result<String, AllocError> {
-    let characters = [
-        'a', 'b', 'c', 'h', 'A', '-', ' ', '\u{1}', '\u{1EA1}', '\u{C0}', '\u{4E00}', '\u{300}',
-        '\u{301}', '\u{308}', '\u{323}', '-',
-    ];
-    let mut text = String::new(alloc);
-    let mut state = number;
-    for _ in 0..number % 10 {
-        state = state.wrapping_mul(1_664_525).wrapping_add(1_013_904_223);
-        text.push(characters[(state >> 20) as usize % 16])?;
-    }
-    Ok(text)
 }

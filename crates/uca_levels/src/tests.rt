@@ -8,40 +8,9 @@ use std::cmp::Ordering;
 use std::process::Abort;
 use uca_match::Elements;
 use uca_table::{InsertFault, Table, TableBuilder};
+use uca_testing::{SMALL_TABLE, element};
 use uca_weights::{Element, Settings, Strength, Variable};
 use uca_window::{Passage, PassageSource, Source, Window};
-
-/// Keys with their one element, whose mark is `*` where the flag is true.
-#[rattlefmt::skip]
-const KEYS: [(&[char], bool, [u16; 3]); 18] = [
-    (&['\u{1}'], false, [0, 0, 0]),
-    (&[' '], true, [0x201, 0x20, 2]),
-    (&['-'], true, [0x202, 0x20, 2]),
-    (&['\u{300}'], false, [0, 0x21, 2]),
-    (&['\u{301}'], false, [0, 0x22, 2]),
-    (&['\u{308}'], false, [0, 0x23, 2]),
-    (&['\u{323}'], false, [0, 0x24, 2]),
-    (&['a'], false, [0x1000, 0x20, 2]),
-    (&['A'], false, [0x1000, 0x20, 8]),
-    (&['b'], false, [0x1001, 0x20, 2]),
-    (&['c'], false, [0x1002, 0x20, 2]),
-    (&['e'], false, [0x1004, 0x20, 2]),
-    (&['h'], false, [0x1005, 0x20, 2]),
-    (&['z'], false, [0x1006, 0x20, 2]),
-    (&['c', 'h'], false, [0x1007, 0x20, 2]),
-    (&['a', '\u{301}'], false, [0x1008, 0x20, 2]),
-    (&['b', '\u{301}'], false, [0x1009, 0x20, 2]),
-    (&['b', '\u{301}', '\u{308}'], false, [0x100A, 0x20, 2]),
-];
-
-fn element(starred: bool, [l1, l2, l3]: [u16; 3]) -> Element {
-    Element {
-        starred,
-        l1,
-        l2,
-        l3,
-    }
-}
 
 /// Inserts an entry, once more where memory was refused.
 fn insert(rt: &impl Abort, builder: &mut TableBuilder, key: &[char], elements: &[Element]) {
@@ -52,10 +21,10 @@ fn insert(rt: &impl Abort, builder: &mut TableBuilder, key: &[char], elements: &
     assert_eq!(rt; inserted, Ok(()));
 }
 
-/// A builder that has the keys.
+/// A builder that has the entries of the small table.
 fn builder(rt: &impl Abort, alloc: Global) -> TableBuilder {
     let mut builder = TableBuilder::new(alloc);
-    for (key, starred, weights) in KEYS {
+    for (key, starred, weights) in SMALL_TABLE {
         insert(rt, &mut builder, key, &[element(starred, weights)]);
     }
     builder
@@ -69,7 +38,7 @@ fn finish(rt: &impl Abort, builder: TableBuilder) -> Table {
     }
 }
 
-/// The table of the keys.
+/// The small table.
 fn table(rt: &impl Abort, alloc: Global) -> Table {
     finish(rt, builder(rt, alloc))
 }

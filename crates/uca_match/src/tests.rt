@@ -1,38 +1,16 @@
 mod one_by_one;
 
 use crate::elements_of;
-use std::alloc::{AllocError, Global};
+use std::alloc::Global;
 use std::process::Abort;
 use uca_table::{InsertFault, RangeFault, Table, TableBuilder};
-use uca_weights::{Element, MAX_KEY, Range};
+use uca_testing::{Entry, SMALL_TABLE, TWO_RANGES, element, generated, plain};
+use uca_weights::{Element, MAX_KEY};
 use uca_window::Passage;
-
-/// Keys with their one element, whose mark is `*` where the flag is true.
-#[rattlefmt::skip]
-const KEYS: [(&[char], bool, [u16; 3]); 18] = [
-    (&['\u{1}'], false, [0, 0, 0]),
-    (&[' '], true, [0x201, 0x20, 2]),
-    (&['-'], true, [0x202, 0x20, 2]),
-    (&['\u{300}'], false, [0, 0x21, 2]),
-    (&['\u{301}'], false, [0, 0x22, 2]),
-    (&['\u{308}'], false, [0, 0x23, 2]),
-    (&['\u{323}'], false, [0, 0x24, 2]),
-    (&['a'], false, [0x1000, 0x20, 2]),
-    (&['A'], false, [0x1000, 0x20, 8]),
-    (&['b'], false, [0x1001, 0x20, 2]),
-    (&['c'], false, [0x1002, 0x20, 2]),
-    (&['e'], false, [0x1004, 0x20, 2]),
-    (&['h'], false, [0x1005, 0x20, 2]),
-    (&['z'], false, [0x1006, 0x20, 2]),
-    (&['c', 'h'], false, [0x1007, 0x20, 2]),
-    (&['a', '\u{301}'], false, [0x1008, 0x20, 2]),
-    (&['b', '\u{301}'], false, [0x1009, 0x20, 2]),
-    (&['b', '\u{301}', '\u{308}'], false, [0x100A, 0x20, 2]),
-];
 
 /// Keys of which no shorter substring, or not each, is a key.
 #[rattlefmt::skip]
-const KEYS_WITH_GAPS: [(&[char], bool, [u16; 3]); 6] = [
+const KEYS_WITH_GAPS: [Entry; 6] = [
     (&['x', '\u{301}'], false, [0x1010, 0x20, 2]),
     (&['a', 'b', 'c', 'h'], false, [0x1011, 0x20, 2]),
     (&['a', '\u{323}', '\u{301}', '\u{308}'], false, [0x1012, 0x20, 2]),
@@ -41,34 +19,8 @@ const KEYS_WITH_GAPS: [(&[char], bool, [u16; 3]); 6] = [
     (&['\u{323}', '\u{301}'], false, [0, 0x30, 2]),
 ];
 
-const RANGES: [Range; 2] = [
-    Range {
-        first: '\u{17000}',
-        last: '\u{18AFF}',
-        base: 0xFB00,
-    },
-    Range {
-        first: '\u{18D00}',
-        last: '\u{18D8F}',
-        base: 0xFB00,
-    },
-];
-
-fn element(starred: bool, [l1, l2, l3]: [u16; 3]) -> Element {
-    Element {
-        starred,
-        l1,
-        l2,
-        l3,
-    }
-}
-
-fn plain(l1: u16, l2: u16) -> Element {
-    element(false, [l1, l2, 2])
-}
-
 /// Inserts entries, each once more where memory was refused.
-fn insert_all(rt: &impl Abort, builder: &mut TableBuilder, keys: &[(&[char], bool, [u16; 3])]) {
+fn insert_all(rt: &impl Abort, builder: &mut TableBuilder, keys: &[Entry]) {
     for (key, starred, weights) in keys {
         let elements = [element(*starred, *weights)];
         let inserted = match builder.insert(key, &elements) {
@@ -80,9 +32,9 @@ fn insert_all(rt: &impl Abort, builder: &mut TableBuilder, keys: &[(&[char], boo
 }
 
 /// Makes a table, once more where memory was refused.
-fn table(rt: &impl Abort, alloc: Global, gaps: &[(&[char], bool, [u16; 3])]) -> Table {
+fn table(rt: &impl Abort, alloc: Global, gaps: &[Entry]) -> Table {
     let mut builder = TableBuilder::new(alloc);
-    for range in RANGES {
+    for range in TWO_RANGES {
         let added = match builder.add_implicit(range.first, range.last, range.base) {
             Err(RangeFault::OutOfMemory) => {
                 builder.add_implicit(range.first, range.last, range.base)
@@ -91,7 +43,7 @@ fn table(rt: &impl Abort, alloc: Global, gaps: &[(&[char], bool, [u16; 3])]) -> 
         };
         assert_eq!(rt; added, Ok(()));
     }
-    insert_all(rt, &mut builder, &KEYS);
+    insert_all(rt, &mut builder, &SMALL_TABLE);
     insert_all(rt, &mut builder, gaps);
     match builder.finish() {
         Ok(table) => table,
@@ -161,7 +113,7 @@ fn contractions_are_matched_whole(rt: HostRuntime) {
 }
 
 #[test]
-fn marks_far_behind_are_taken(rt: HostRuntime) {
+fn marks_far_away_are_taken(rt: HostRuntime) {
     let t = table(&rt, rt.alloc(), &[]);
     let text =
         "b\u{323}\u{323}\u{323}\u{323}\u{323}\u{323}\u{323}\u{323}\u{323}\u{323}\u{323}\u{323}\u{323}\u{323}\u{301}\u{308}";
@@ -189,7 +141,7 @@ fn a_code_point_without_key_takes_no_mark(rt: HostRuntime) {
 }
 
 /// A key of as many code points as one may have.
-const LONG_KEY: [(&[char], bool, [u16; 3]); 1] = [(&['z'; MAX_KEY], false, [0x1010, 0x20, 2])];
+const LONG_KEY: [Entry; 1] = [(&['z'; MAX_KEY], false, [0x1010, 0x20, 2])];
 
 #[test]
 fn the_longest_key_is_taken_whole(rt: HostRuntime) {
@@ -208,20 +160,11 @@ fn the_longest_key_is_taken_whole(rt: HostRuntime) {
     }
 }
 
-/// A text of up to nine characters, by a number.
-fn generated(alloc: Global, number: u32) -> Result<String, AllocError> {
-    let characters = [
-        'a', 'b', 'c', 'h', 'e', 'x', '\u{1EA1}', '\u{C0}', '\u{4E00}', '\u{300}', '\u{301}',
-        '\u{308}', '\u{323}', '\u{301}', '\u{308}', '\u{323}',
-    ];
-    let mut text = String::new(alloc);
-    let mut state = number;
-    for _ in 0..number % 10 {
-        state = state.wrapping_mul(1_664_525).wrapping_add(1_013_904_223);
-        text.push(characters[(state >> 20) as usize % 16])?;
-    }
-    Ok(text)
-}
+/// Characters of which keys are made, marks among them.
+const CHARACTERS: [char; 16] = [
+    'a', 'b', 'c', 'h', 'e', 'x', '\u{1EA1}', '\u{C0}', '\u{4E00}', '\u{300}', '\u{301}',
+    '\u{308}', '\u{323}', '\u{301}', '\u{308}', '\u{323}',
+];
 
 /// Texts whose characters join others in each way: in a key, as marks, as parts of a syllable, beyond the cells.
 const JOINED: [&str; 10] = [
@@ -254,7 +197,7 @@ fn a_table_without_cells_gives_the_same_elements(rt: HostRuntime) {
         assert_same(&rt, rt.alloc(), &t, &copy, text);
     }
     for number in 0..600 {
-        let Ok(text) = generated(rt.alloc(), number) else {
+        let Ok(text) = generated(rt.alloc(), &CHARACTERS, number) else {
             return;
         };
         assert_same(&rt, rt.alloc(), &t, &copy, &text);

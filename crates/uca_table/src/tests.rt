@@ -6,41 +6,7 @@ use arrayvec::ArrayVec;
 use std::alloc::Global;
 use std::process::Abort;
 use std::test::Fail;
-
-/// Keys with their one element, whose mark is `*` where the flag is true.
-const SMALL_TABLE: [(&[char], bool, [u16; 3]); 18] = [
-    (&['\u{1}'], false, [0, 0, 0]),
-    (&[' '], true, [0x201, 0x20, 2]),
-    (&['-'], true, [0x202, 0x20, 2]),
-    (&['\u{300}'], false, [0, 0x21, 2]),
-    (&['\u{301}'], false, [0, 0x22, 2]),
-    (&['\u{308}'], false, [0, 0x23, 2]),
-    (&['\u{323}'], false, [0, 0x24, 2]),
-    (&['a'], false, [0x1000, 0x20, 2]),
-    (&['A'], false, [0x1000, 0x20, 8]),
-    (&['b'], false, [0x1001, 0x20, 2]),
-    (&['c'], false, [0x1002, 0x20, 2]),
-    (&['e'], false, [0x1004, 0x20, 2]),
-    (&['h'], false, [0x1005, 0x20, 2]),
-    (&['z'], false, [0x1006, 0x20, 2]),
-    (&['c', 'h'], false, [0x1007, 0x20, 2]),
-    (&['a', '\u{301}'], false, [0x1008, 0x20, 2]),
-    (&['b', '\u{301}'], false, [0x1009, 0x20, 2]),
-    (&['b', '\u{301}', '\u{308}'], false, [0x100A, 0x20, 2]),
-];
-
-const TWO_RANGES: [Range; 2] = [
-    Range {
-        first: '\u{17000}',
-        last: '\u{18AFF}',
-        base: 0xFB00,
-    },
-    Range {
-        first: '\u{18D00}',
-        last: '\u{18D8F}',
-        base: 0xFB00,
-    },
-];
+use uca_testing::{SMALL_TABLE, TWO_RANGES, element};
 
 const ELEMENT: Element = Element {
     starred: false,
@@ -48,15 +14,6 @@ const ELEMENT: Element = Element {
     l2: 0x20,
     l3: 2,
 };
-
-pub(crate) fn element(starred: bool, [l1, l2, l3]: [u16; 3]) -> Element {
-    Element {
-        starred,
-        l1,
-        l2,
-        l3,
-    }
-}
 
 /// Inserts an entry, once more where memory was refused.
 pub(crate) fn insert(

@@ -8,33 +8,8 @@ use crate::{Chain, Op, Relation, Rules, TailorCause, TailorFault, tailor};
 use std::alloc::{AllocError, Global};
 use std::process::Abort;
 use uca_table::{Element, InsertFault, Table, TableBuilder};
+use uca_testing::{Entry, SMALL_TABLE};
 use uca_weights::{MAX_KEY, MAX_RELATIONS};
-
-/// Keys with their one element, whose mark is `*` where the flag is true.
-#[rattlefmt::skip]
-const SMALL_TABLE: [PlainEntry; 18] = [
-    (&['\u{1}'], false, [0, 0, 0]),
-    (&[' '], true, [0x201, 0x20, 2]),
-    (&['-'], true, [0x202, 0x20, 2]),
-    (&['\u{300}'], false, [0, 0x21, 2]),
-    (&['\u{301}'], false, [0, 0x22, 2]),
-    (&['\u{308}'], false, [0, 0x23, 2]),
-    (&['\u{323}'], false, [0, 0x24, 2]),
-    (&['a'], false, [0x1000, 0x20, 2]),
-    (&['A'], false, [0x1000, 0x20, 8]),
-    (&['b'], false, [0x1001, 0x20, 2]),
-    (&['c'], false, [0x1002, 0x20, 2]),
-    (&['e'], false, [0x1004, 0x20, 2]),
-    (&['h'], false, [0x1005, 0x20, 2]),
-    (&['z'], false, [0x1006, 0x20, 2]),
-    (&['c', 'h'], false, [0x1007, 0x20, 2]),
-    (&['a', '\u{301}'], false, [0x1008, 0x20, 2]),
-    (&['b', '\u{301}'], false, [0x1009, 0x20, 2]),
-    (&['b', '\u{301}', '\u{308}'], false, [0x100A, 0x20, 2]),
-];
-
-/// A key with its element, and whether its mark is `*`.
-type PlainEntry = (&'static [char], bool, [u16; 3]);
 
 /// A reset, and relations with their items and expansions.
 type PlainChain = (
@@ -52,7 +27,7 @@ fn element([l1, l2, l3]: [u16; 3]) -> Element {
 }
 
 /// Makes a table, each step once more where memory was refused.
-fn table(rt: &impl Abort, alloc: Global, entries: &[PlainEntry], count: usize) -> Table
+fn table(rt: &impl Abort, alloc: Global, entries: &[Entry], count: usize) -> Table
     requires { count ≤ 64 }
 {
     let mut builder = TableBuilder::new(alloc);
@@ -430,7 +405,7 @@ fn the_first_relation_at_fault_is_told(rt: HostRuntime) {
     }
 }
 
-const FULL: [(&'static [PlainEntry], &'static [PlainChain], u8, u64); 5] = [
+const FULL: [(&'static [Entry], &'static [PlainChain], u8, u64); 5] = [
     (
         &[
             (&['a'], false, [0x1000, 0x20, 2]),
@@ -487,12 +462,7 @@ fn a_level_without_room_is_full(rt: HostRuntime) {
     }
 }
 
-const ROOMY: [(
-    &'static [PlainEntry],
-    &'static [PlainChain],
-    [u16; 3],
-    [u16; 3],
-); 4] = [
+const ROOMY: [(&'static [Entry], &'static [PlainChain], [u16; 3], [u16; 3]); 4] = [
     (
         &[
             (&['a'], false, [0x1000, 0x20, 2]),
@@ -545,7 +515,7 @@ fn the_last_room_is_used_and_implicit_weights_stay(rt: HostRuntime) {
 
 #[test]
 fn an_item_has_at_most_sixty_four_elements(rt: HostRuntime) {
-    let entries: [PlainEntry; 1] = [(&['a'], false, [0x1000, 0x20, 2])];
+    let entries: [Entry; 1] = [(&['a'], false, [0x1000, 0x20, 2])];
     let expanded: [PlainChain; 1] = [(&['a'], &[(Op::Same, &['b'], &['a'])])];
     let twice: [PlainChain; 1] = [(&['a', 'a'], &[(Op::Same, &['b'], &[])])];
     for plain in [&expanded, &twice] {
@@ -597,12 +567,7 @@ fn elements_before_the_last_one_of_an_anchor_move_too(rt: HostRuntime) {
     );
 }
 
-const SMALL_OR_HIGH: [(
-    &'static [PlainEntry],
-    &'static [PlainChain],
-    TailorCause,
-    u64,
-); 4] = [
+const SMALL_OR_HIGH: [(&'static [Entry], &'static [PlainChain], TailorCause, u64); 4] = [
     (
         &[
             (&['a'], false, [0x1000, 0x1F, 1]),

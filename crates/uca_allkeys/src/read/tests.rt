@@ -1,8 +1,9 @@
-use crate::tests::{SMALL_TEXT as CANONICAL_TEXT, with_room};
+use crate::tests::with_room;
 use crate::{ReadCause, ReadFault, read_table, write_table};
 use std::alloc::{AllocError, Global};
 use std::process::Abort;
 use uca_table::Table;
+use uca_testing::SMALL_TEXT as CANONICAL_TEXT;
 use uca_weights::{MAX_INPUT, Range, Reader, Reading, Refused};
 
 const SMALL_TEXT: &str = "@version 15.1.0

@@ -1,44 +1,13 @@
 //! The built-in table, and comparison beside keys.
 
-use super::run_as;
+use super::{run_as, writes};
 use crate::{Task, built_in};
 use std::alloc::{AllocError, Global};
 use std::cmp::Ordering;
 use std::process::Abort;
 use uca_table::Table;
-use uca_weights::{Element, Settings, Strength, Variable};
-
-/// The entries of the built-in table: a key, the mark `*` or none, and the weights.
-#[rattlefmt::skip]
-const BUILT_IN: [(&[char], bool, [u16; 3]); 18] = [
-    (&['\u{1}'], false, [0, 0, 0]),
-    (&[' '], true, [0x201, 0x20, 2]),
-    (&['-'], true, [0x202, 0x20, 2]),
-    (&['\u{300}'], false, [0, 0x21, 2]),
-    (&['\u{301}'], false, [0, 0x22, 2]),
-    (&['\u{308}'], false, [0, 0x23, 2]),
-    (&['\u{323}'], false, [0, 0x24, 2]),
-    (&['a'], false, [0x1000, 0x20, 2]),
-    (&['A'], false, [0x1000, 0x20, 8]),
-    (&['b'], false, [0x1001, 0x20, 2]),
-    (&['c'], false, [0x1002, 0x20, 2]),
-    (&['e'], false, [0x1004, 0x20, 2]),
-    (&['h'], false, [0x1005, 0x20, 2]),
-    (&['z'], false, [0x1006, 0x20, 2]),
-    (&['c', 'h'], false, [0x1007, 0x20, 2]),
-    (&['a', '\u{301}'], false, [0x1008, 0x20, 2]),
-    (&['b', '\u{301}'], false, [0x1009, 0x20, 2]),
-    (&['b', '\u{301}', '\u{308}'], false, [0x100A, 0x20, 2]),
-];
-
-fn element(starred: bool, [l1, l2, l3]: [u16; 3]) -> Element {
-    Element {
-        starred,
-        l1,
-        l2,
-        l3,
-    }
-}
+use uca_testing::{SMALL_TABLE, element};
+use uca_weights::{Settings, Strength, Variable};
 
 /// The built-in table, asked for once more where memory was refused.
 fn table(rt: &impl Abort, alloc: Global) -> Table {
@@ -54,7 +23,7 @@ fn the_built_in_table_has_eighteen_keys_and_two_ranges(rt: HostRuntime) {
     assert_eq!(rt; t.longest(), 3);
     assert_eq!(rt; t.entries().count(), 18);
     assert_eq!(rt; t.ranges().len(), 2);
-    for (key, starred, weights) in BUILT_IN {
+    for (key, starred, weights) in SMALL_TABLE {
         let want = [element(starred, weights)];
         assert_eq!(rt; t.get(key), Some(want.as_slice()), "{key:?}");
     }
@@ -73,7 +42,7 @@ fn orders_by_keys(alloc: Global, keys: &[u8]) -> Result<Vec<u8>, AllocError> {
     let mut before: Option<&[u8]> = None;
     for key in keys.split(|b| *b == b'\n') {
         if key.is_empty() {
-            // Behind the last LF: no key is empty text at the strengths below.
+            // After the last LF: no key is empty text at the strengths below.
             break;
         }
         if let Some(last) = before {
@@ -112,9 +81,7 @@ fn neighbours_are_in_the_order_of_their_keys(rt: HostRuntime) {
             let Ok(want) = orders_by_keys(alloc, &keys.output) else {
                 return;
             };
-            let done = run_as(alloc, Task::Compare, settings, NEIGHBOURS.as_bytes());
-            assert_eq!(rt; done.answer, Ok(0));
-            assert_eq!(rt; done.output.as_slice(), want.as_slice(), "{settings:?}");
+            assert!(rt; writes(alloc, Task::Compare, settings, NEIGHBOURS.as_bytes(), &want));
         }
     }
 }

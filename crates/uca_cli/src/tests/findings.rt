@@ -1,9 +1,10 @@
 //! The job `lint`.
-use super::ends::{Expecting, Pieces};
-use crate::{CliFault, Job, Task, perform};
+use super::{PLAIN, plain_job, stops_at, wants_memory};
+use crate::{CliFault, Task, perform};
 use std::alloc::Global;
 use uca_allkeys::{ReadCause, ReadFault};
-use uca_weights::{Reader, Reading, Strength, Variable, WriteCause, WriteFault, Writer};
+use uca_testing::{Expecting, Pieces};
+use uca_weights::{Reader, Reading, WriteCause, Writer};
 
 /// A table that breaks each condition.
 const BROKEN: &[u8] = b"\
@@ -22,28 +23,13 @@ fn perform_lint<T: Reader, W: Writer>(
     table: Option<&mut T>,
     output: &mut W,
 ) -> Result<u8, CliFault> {
-    let job = Job {
-        command: Task::Lint,
-        strength: Strength::Tertiary,
-        weighting: Variable::NonIgnorable,
-        raw: false,
-        table: None,
-        rules: None,
-    };
+    let job = plain_job(Task::Lint, PLAIN);
     let rules: Option<&mut Pieces> = None;
     let mut input = Pieces::new(b"a\n", 1, 0);
     perform(alloc, &job, table, rules, &mut input, output)
 }
 
-fn wants_memory(answer: &Result<u8, CliFault>) -> bool {
-    match answer {
-        Err(CliFault::Table(fault)) => fault.cause == ReadCause::OutOfMemory,
-        Err(CliFault::OutOfMemory) => true,
-        _ => false,
-    }
-}
-
-/// Whether the job answers this and writes just this with the table of a text, or is out of memory and writes nothing.
+/// Whether the job answers this and writes exactly this with the table of a text, or is out of memory and writes nothing.
 fn comes_to(alloc: Global, text: &[u8], want: Result<u8, CliFault>, output: &[u8]) -> bool {
     let mut table = Reading::new(text);
     let mut writer = Expecting::new(output, output.len() + 1, WriteCause::Failed);
@@ -60,8 +46,7 @@ fn the_built_in_table_is_well_formed(rt: HostRuntime) {
     let table: Option<&mut Pieces> = None;
     let answer = perform_lint(rt.alloc(), table, &mut writer);
     if !wants_memory(&answer) {
-        assert_eq!(rt; answer, Ok(0));
-        assert_eq!(rt; writer.left(), Some(0));
+        assert!(rt; answer == Ok(0) && writer.left() == Some(0));
     }
 }
 
@@ -112,13 +97,10 @@ fn a_writer_that_stops_gets_the_front_of_the_findings(rt: HostRuntime) {
             let mut table = Reading::new(BROKEN);
             let mut writer = Expecting::new(FINDINGS, room, cause);
             let answer = perform_lint(rt.alloc(), Some(&mut table), &mut writer);
-            if wants_memory(&answer) {
-                continue;
-            }
-            let written = room as u128;
-            let want = Err(CliFault::Output(WriteFault { written, cause }));
-            assert_eq!(rt; answer, want);
-            assert_eq!(rt; writer.left(), Some(FINDINGS.len() - room));
+            assert!(rt;
+                stops_at(answer, &writer, FINDINGS, room, cause),
+                "{room} bytes"
+            );
         }
     }
 }

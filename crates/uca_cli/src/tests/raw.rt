@@ -1,8 +1,8 @@
 //! The job `key --raw`.
-use super::ends::{Expecting, Pieces, Repeating};
-use super::{PLAIN, input_refused, output_refused, repeated, wants_memory};
+use super::{PLAIN, input_refused, plain_job, stops_at, wants_memory};
 use crate::{CliFault, InputCause, Job, Task, perform};
 use std::alloc::Global;
+use uca_testing::{Expecting, Pieces, Repeating, repeated};
 use uca_weights::{
     MAX_INPUT, Reader, Reading, Settings, Strength, Variable, WriteCause, Writer, Writing,
 };
@@ -29,19 +29,15 @@ fn perform_raw<I: Reader, W: Writer>(
     output: &mut W,
 ) -> Result<u8, CliFault> {
     let job = Job {
-        command,
-        strength: settings.strength,
-        weighting: settings.weighting,
         raw: true,
-        table: None,
-        rules: None,
+        ..plain_job(command, settings)
     };
     let table: Option<&mut Repeating> = None;
     let rules: Option<&mut Repeating> = None;
     perform(alloc, &job, table, rules, input, output)
 }
 
-/// Whether the job `key --raw` answers this and writes just this, or is out of memory and writes nothing.
+/// Whether the job `key --raw` answers this and writes exactly this, or is out of memory and writes nothing.
 fn comes_to(
     alloc: Global,
     settings: Settings,
@@ -89,7 +85,7 @@ fn the_key_of_the_one_line_is_written_as_its_bytes(rt: HostRuntime) {
 }
 
 #[test]
-fn all_settings_serve_a_raw_key(rt: HostRuntime) {
+fn a_raw_key_is_that_of_the_settings(rt: HostRuntime) {
     let shifted = Settings {
         strength: Strength::Quaternary,
         weighting: Variable::Shifted,
@@ -146,12 +142,7 @@ fn a_writer_that_stops_gets_the_front_of_a_raw_key(rt: HostRuntime) {
             let mut reader = Reading::new(b"a\n".as_slice());
             let mut writer = Expecting::new(KEY, room, cause);
             let answer = perform_raw(rt.alloc(), Task::Key, PLAIN, &mut reader, &mut writer);
-            if wants_memory(&answer) {
-                continue;
-            }
-            let want = Err(output_refused(room as u128, cause));
-            assert_eq!(rt; answer, want);
-            assert_eq!(rt; writer.left(), Some(KEY.len() - room));
+            assert!(rt; stops_at(answer, &writer, KEY, room, cause), "{room} bytes");
         }
     }
 }
@@ -174,6 +165,6 @@ fn the_flag_is_one_of_keys_alone(rt: HostRuntime) {
             // A vector that cannot grow fails as a writer.
             continue;
         }
-        assert_eq!(rt; writer.into_inner().as_slice(), want, "{command:?}");
+        assert!(rt; writer.into_inner().as_slice() == want, "{command:?}");
     }
 }

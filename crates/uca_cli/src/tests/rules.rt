@@ -1,46 +1,28 @@
 //! The rules of a job: what comes of their reader, and the table that they tailor.
-use super::ends::{Expecting, Pieces, Repeating};
-use super::{PLAIN, input_refused, output_refused};
-use crate::{CliFault, InputCause, Job, RulesTextCause, Task, perform, status_of};
+use super::{PLAIN, input_refused, output_refused, plain_job, wants_memory};
+use crate::{CliFault, InputCause, RulesTextCause, Task, perform, status_of};
 use std::alloc::Global;
 use uca_allkeys::{ReadCause, ReadFault};
 use uca_tailor::{RuleCause, RuleFault, TailorCause, TailorFault};
-use uca_weights::{MAX_RULES, Reader, Reading, Settings, WriteCause, Writer};
+use uca_testing::{Expecting, Pieces, Repeating};
+use uca_weights::{MAX_RULES, Reader, Reading, WriteCause, Writer};
 
 /// Does a job with these readers of its table and its rules, and with the input in memory.
 fn perform_tailored<T: Reader, U: Reader, W: Writer>(
     alloc: Global,
     command: Task,
-    settings: Settings,
     table: Option<&mut T>,
     rules: &mut U,
     input: &[u8],
     output: &mut W,
 ) -> Result<u8, CliFault> {
-    let job = Job {
-        command,
-        strength: settings.strength,
-        weighting: settings.weighting,
-        raw: false,
-        table: None,
-        rules: None,
-    };
+    let job = plain_job(command, PLAIN);
     let mut input = Reading::new(input);
     perform(alloc, &job, table, Some(rules), &mut input, output)
 }
 
-/// Whether a growth was refused.
-fn wants_memory(answer: &Result<u8, CliFault>) -> bool {
-    match answer {
-        Err(CliFault::Table(fault)) => fault.cause == ReadCause::OutOfMemory,
-        Err(CliFault::Rules(fault)) => fault.cause == RuleCause::OutOfMemory,
-        Err(CliFault::Tailor(fault)) => fault.cause == TailorCause::OutOfMemory,
-        _ => super::wants_memory(answer),
-    }
-}
-
-/// Whether a command with the built-in table and these rules answers this and writes just this for an input. It is asked
-/// once more where memory was refused.
+/// Whether a command with the built-in table and these rules answers this and writes exactly this for an input. It is
+/// asked once more where memory was refused.
 fn comes_to(
     alloc: Global,
     command: Task,
@@ -52,42 +34,19 @@ fn comes_to(
     let table: Option<&mut Repeating> = None;
     let mut reader = Reading::new(rules.as_bytes());
     let mut writer = Expecting::new(output, output.len() + 1, WriteCause::Failed);
-    let mut answer = perform_tailored(
-        alloc,
-        command,
-        PLAIN,
-        table,
-        &mut reader,
-        input,
-        &mut writer,
-    );
+    let mut answer = perform_tailored(alloc, command, table, &mut reader, input, &mut writer);
     if wants_memory(&answer) {
         let table: Option<&mut Repeating> = None;
         reader = Reading::new(rules.as_bytes());
         writer = Expecting::new(output, output.len() + 1, WriteCause::Failed);
-        answer = perform_tailored(
-            alloc,
-            command,
-            PLAIN,
-            table,
-            &mut reader,
-            input,
-            &mut writer,
-        );
+        answer = perform_tailored(alloc, command, table, &mut reader, input, &mut writer);
     }
     answer == want && writer.left() == Some(0)
 }
 
 /// Whether these bytes of rules are refused so, or memory is, before the input is read.
 fn is_refused<U: Reader>(alloc: Global, rules: &mut U, want: CliFault) -> bool {
-    let job = Job {
-        command: Task::Key,
-        strength: PLAIN.strength,
-        weighting: PLAIN.weighting,
-        raw: false,
-        table: None,
-        rules: None,
-    };
+    let job = plain_job(Task::Key, PLAIN);
     let table: Option<&mut Repeating> = None;
     // It fails at its first call, and so does the writer.
     let mut input = Pieces::new(b"a", 1, 0);
@@ -154,16 +113,12 @@ fn rules_tailor_the_table_in_a_reader(rt: HostRuntime) {
     let answer = perform_tailored(
         alloc,
         Task::Table,
-        PLAIN,
         Some(&mut table),
         &mut rules,
         b"",
         &mut writer,
     );
-    if !wants_memory(&answer) {
-        assert_eq!(rt; answer, Ok(0));
-        assert_eq!(rt; writer.left(), Some(0));
-    }
+    assert!(rt; wants_memory(&answer) || (answer == Ok(0) && writer.left() == Some(0)));
 }
 
 #[test]
@@ -242,7 +197,6 @@ fn a_fault_of_the_table_comes_before_those_of_the_rules(rt: HostRuntime) {
     let answer = perform_tailored(
         alloc,
         Task::Key,
-        PLAIN,
         Some(&mut table),
         &mut rules,
         b"\xFF",
@@ -256,22 +210,14 @@ fn a_fault_of_the_table_comes_before_those_of_the_rules(rt: HostRuntime) {
 }
 
 #[test]
-fn faults_behind_the_rules_are_told(rt: HostRuntime) {
+fn faults_after_the_rules_are_told(rt: HostRuntime) {
     let alloc = rt.alloc();
     let want = Err(input_refused(2, 1, InputCause::NotUtf8));
     assert!(rt; comes_to(alloc, Task::Key, "", b"a\nb\xFF\n", want, b""));
     let table: Option<&mut Repeating> = None;
     let mut rules = Reading::new(b"".as_slice());
     let mut writer = Expecting::new(b"10 ", 3, WriteCause::Failed);
-    let answer = perform_tailored(
-        alloc,
-        Task::Key,
-        PLAIN,
-        table,
-        &mut rules,
-        b"a",
-        &mut writer,
-    );
+    let answer = perform_tailored(alloc, Task::Key, table, &mut rules, b"a", &mut writer);
     assert!(rt; answer == Err(output_refused(3, WriteCause::Failed)) || wants_memory(&answer));
 }
 

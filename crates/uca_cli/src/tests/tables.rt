@@ -1,59 +1,10 @@
 //! The job `table`, and what comes of the reader of a table.
-use super::ends::{Expecting, Pieces};
-use crate::{CliFault, Job, Task, perform};
+use super::{PLAIN, plain_job, stops_at, wants_memory};
+use crate::{CliFault, Task, perform};
 use std::alloc::Global;
 use uca_allkeys::{ReadCause, ReadFault};
-use uca_weights::{Reader, Reading, Strength, Variable, WriteCause, WriteFault, Writer, Writing};
-
-/// The text of a table, as a person writes it.
-const TEXT: &[u8] = b"\
-@version 15.1.0
-@implicitweights 17000..18AFF; FB00 # first range
-@implicitweights 18D00..18D8F; FB00 # second range, the same base
-
-0001  ; [.0000.0000.0000] # completely ignorable
-0020  ; [*0201.0020.0002] # SPACE
-002D  ; [*0202.0020.0002.002D] # HYPHEN-MINUS, an old fourth weight
-0300  ; [.0000.0021.0002]
-0301  ; [.0000.0022.0002]
-0308  ; [.0000.0023.0002]
-0323  ; [.0000.0024.0002]
-0061  ; [.1000.0020.0002]
-0041  ; [.1000.0020.0008]
-0062  ; [.1001.0020.0002]
-0063  ; [.1002.0020.0002]
-0065  ; [.1004.0020.0002]
-0068  ; [.1005.0020.0002]
-007a  ; [.1006.0020.0002]
-0063 0068 ; [.1007.0020.0002]
-0061 0301 ; [.1008.0020.0002]
-0062 0301 ; [.1009.0020.0002]
-0062 0301 0308 ; [.100a.0020.0002]
-";
-
-/// The same table in its canonical text.
-const CANONICAL: &[u8] = b"\
-@implicitweights 17000..18AFF; FB00
-@implicitweights 18D00..18D8F; FB00
-0001 ; [.0000.0000.0000]
-0020 ; [*0201.0020.0002]
-002D ; [*0202.0020.0002]
-0041 ; [.1000.0020.0008]
-0061 ; [.1000.0020.0002]
-0061 0301 ; [.1008.0020.0002]
-0062 ; [.1001.0020.0002]
-0062 0301 ; [.1009.0020.0002]
-0062 0301 0308 ; [.100A.0020.0002]
-0063 ; [.1002.0020.0002]
-0063 0068 ; [.1007.0020.0002]
-0065 ; [.1004.0020.0002]
-0068 ; [.1005.0020.0002]
-007A ; [.1006.0020.0002]
-0300 ; [.0000.0021.0002]
-0301 ; [.0000.0022.0002]
-0308 ; [.0000.0023.0002]
-0323 ; [.0000.0024.0002]
-";
+use uca_testing::{Expecting, Pieces, SMALL_TEXT, WRITTEN_BY_HAND};
+use uca_weights::{Reader, Reading, WriteCause, Writer, Writing};
 
 /// Does the job `table`. The reader of the input fails at each call, so that a job that reads it is not done.
 fn perform_table<T: Reader, W: Writer>(
@@ -61,28 +12,13 @@ fn perform_table<T: Reader, W: Writer>(
     table: Option<&mut T>,
     output: &mut W,
 ) -> Result<u8, CliFault> {
-    let job = Job {
-        command: Task::Table,
-        strength: Strength::Tertiary,
-        weighting: Variable::NonIgnorable,
-        raw: false,
-        table: None,
-        rules: None,
-    };
+    let job = plain_job(Task::Table, PLAIN);
     let rules: Option<&mut Pieces> = None;
     let mut input = Pieces::new(b"a\n", 1, 0);
     perform(alloc, &job, table, rules, &mut input, output)
 }
 
-fn wants_memory(answer: &Result<u8, CliFault>) -> bool {
-    match answer {
-        Err(CliFault::Table(fault)) => fault.cause == ReadCause::OutOfMemory,
-        Err(CliFault::OutOfMemory) => true,
-        _ => false,
-    }
-}
-
-/// Whether the job answers this and writes just this with the table in a reader, or is out of memory and writes nothing.
+/// Whether the job answers this and writes exactly this with the table in a reader, or is out of memory and writes nothing.
 fn comes_to<T: Reader>(
     alloc: Global,
     table: &mut T,
@@ -103,14 +39,14 @@ fn table_refused(line: u64, cause: ReadCause) -> Result<u8, CliFault> {
 
 #[test]
 fn a_table_is_written_in_its_canonical_text(rt: HostRuntime) {
-    for text in [TEXT, CANONICAL] {
+    for text in [WRITTEN_BY_HAND, SMALL_TEXT] {
         let mut table = Reading::new(text);
-        assert!(rt; comes_to(rt.alloc(), &mut table, Ok(0), CANONICAL));
+        assert!(rt; comes_to(rt.alloc(), &mut table, Ok(0), SMALL_TEXT));
     }
     for most in [1, 7, 4096] {
-        let mut table = Pieces::new(TEXT, most, 10_000);
+        let mut table = Pieces::new(WRITTEN_BY_HAND, most, 10_000);
         assert!(rt;
-            comes_to(rt.alloc(), &mut table, Ok(0), CANONICAL),
+            comes_to(rt.alloc(), &mut table, Ok(0), SMALL_TEXT),
             "{most} at once"
         );
     }
@@ -120,12 +56,11 @@ fn a_table_is_written_in_its_canonical_text(rt: HostRuntime) {
 
 #[test]
 fn the_built_in_table_is_this_one(rt: HostRuntime) {
-    let mut writer = Expecting::new(CANONICAL, CANONICAL.len(), WriteCause::Failed);
+    let mut writer = Expecting::new(SMALL_TEXT, SMALL_TEXT.len(), WriteCause::Failed);
     let table: Option<&mut Pieces> = None;
     let answer = perform_table(rt.alloc(), table, &mut writer);
     if !wants_memory(&answer) {
-        assert_eq!(rt; answer, Ok(0));
-        assert_eq!(rt; writer.left(), Some(0));
+        assert!(rt; answer == Ok(0) && writer.left() == Some(0));
     }
 }
 
@@ -156,12 +91,12 @@ fn a_faulty_text_is_told_and_nothing_is_written(rt: HostRuntime) {
 #[test]
 fn a_failed_read_of_the_table_is_told(rt: HostRuntime) {
     // The line in which the reader fails, a byte at a time.
-    for (calls, line) in [(0, 1), (15, 1), (16, 2), (65, 2), (66, 3)] {
-        let mut table = Pieces::new(TEXT, 1, calls);
+    for (calls, line) in [(0, 1), (15, 1), (16, 2), (81, 2), (82, 3)] {
+        let mut table = Pieces::new(WRITTEN_BY_HAND, 1, calls);
         let want = table_refused(line, ReadCause::Read);
         assert!(rt;
             comes_to(rt.alloc(), &mut table, want, b""),
-            "behind {calls} calls"
+            "after {calls} calls"
         );
     }
 }
@@ -169,17 +104,14 @@ fn a_failed_read_of_the_table_is_told(rt: HostRuntime) {
 #[test]
 fn a_writer_that_stops_gets_the_front_of_the_table(rt: HostRuntime) {
     for cause in [WriteCause::Failed, WriteCause::Zero] {
-        for room in 0..CANONICAL.len() {
-            let mut table = Reading::new(TEXT);
-            let mut writer = Expecting::new(CANONICAL, room, cause);
+        for room in 0..SMALL_TEXT.len() {
+            let mut table = Reading::new(WRITTEN_BY_HAND);
+            let mut writer = Expecting::new(SMALL_TEXT, room, cause);
             let answer = perform_table(rt.alloc(), Some(&mut table), &mut writer);
-            if wants_memory(&answer) {
-                continue;
-            }
-            let written = room as u128;
-            let want = Err(CliFault::Output(WriteFault { written, cause }));
-            assert_eq!(rt; answer, want);
-            assert_eq!(rt; writer.left(), Some(CANONICAL.len() - room));
+            assert!(rt;
+                stops_at(answer, &writer, SMALL_TEXT, room, cause),
+                "{room} bytes"
+            );
         }
     }
 }
@@ -187,14 +119,14 @@ fn a_writer_that_stops_gets_the_front_of_the_table(rt: HostRuntime) {
 #[test]
 fn a_written_table_is_read_again(rt: HostRuntime) {
     let alloc = rt.alloc();
-    let mut table = Reading::new(TEXT);
+    let mut table = Reading::new(WRITTEN_BY_HAND);
     let mut writer = Writing::new(Vec::new(alloc));
     if perform_table(alloc, Some(&mut table), &mut writer).is_err() {
         return;
     }
     let written = writer.into_inner();
     let mut table = Reading::new(written.as_slice());
-    assert!(rt; comes_to(alloc, &mut table, Ok(0), CANONICAL));
+    assert!(rt; comes_to(alloc, &mut table, Ok(0), SMALL_TEXT));
 }
 
 #[test]

@@ -1,10 +1,11 @@
-use super::{STRENGTHS, element};
+use super::STRENGTHS;
 use crate::key_of;
 use std::alloc::{AllocError, Global};
 use std::cmp::Ordering;
 use std::process::Abort;
 use uca_levels::compare;
 use uca_table::{InsertFault, RangeFault, Table, TableBuilder};
+use uca_testing::{Entry, element};
 use uca_weights::{Settings, Strength, Variable};
 use uca_window::Passage;
 
@@ -12,7 +13,7 @@ use uca_window::Passage;
 /// which counts at the third level alone, letters of both cases, Hangul letters, contractions, and weights whose bytes
 /// look like separators.
 #[rattlefmt::skip]
-const KEYS: [(&[char], bool, [u16; 3]); 41] = [
+const KEYS: [Entry; 41] = [
     (&['\u{1}'], false, [0, 0, 0]),
     (&['\u{AD}'], false, [0, 0, 0]),
     (&['\u{34F}'], false, [0, 0, 0]),
@@ -191,7 +192,7 @@ fn keyed_texts(
     Ok(keyed)
 }
 
-/// Compares each text with itself and those behind it, and answers how many of these pairs have equal keys.
+/// Compares each text with itself and those after it, and returns how many of these pairs have equal keys.
 fn count_equal(rt: &impl Abort, t: &Table, s: Settings, keyed: &[Keyed]) -> usize {
     let mut equal = 0usize;
     for (at, left) in keyed.iter().enumerate() {

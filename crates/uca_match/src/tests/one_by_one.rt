@@ -4,11 +4,12 @@ ghost use Rattle.uca_model.specs.SafeText.{IsSafe};
 ghost use Rattle.uca_model.specs.Source.{unread};
 ghost use Rattle.uca_model.specs.CollationElements.{elements};
 
-use super::{KEYS_WITH_GAPS, element, elements_again, generated, plain, table};
+use super::{CHARACTERS, KEYS_WITH_GAPS, elements_again, table};
 use crate::Elements;
 use std::alloc::{AllocError, Global};
 use std::process::Abort;
 use uca_table::Table;
+use uca_testing::{Entry, element, generated, plain};
 use uca_weights::{Element, MAX_KEY};
 use uca_window::{Passage, PassageSource, Source};
 
@@ -84,8 +85,8 @@ fn contractions_are_matched_in_the_window(rt: HostRuntime) {
     let t = table(&rt, rt.alloc(), &[]);
     let far =
         "b\u{323}\u{323}\u{323}\u{323}\u{323}\u{323}\u{323}\u{323}\u{323}\u{323}\u{323}\u{323}\u{323}\u{323}\u{301}\u{308}";
-    let mut marks_far_behind = [plain(0, 0x24); 15];
-    marks_far_behind[0] = plain(0x100A, 0x20);
+    let mut marks_far_away = [plain(0, 0x24); 15];
+    marks_far_away[0] = plain(0x100A, 0x20);
     let cases: [(&str, &[Element]); 6] = [
         ("", &[]),
         ("cch", &[plain(0x1002, 0x20), plain(0x1007, 0x20)]),
@@ -96,7 +97,7 @@ fn contractions_are_matched_in_the_window(rt: HostRuntime) {
             "a\u{300}\u{301}",
             &[plain(0x1000, 0x20), plain(0, 0x21), plain(0, 0x22)],
         ),
-        (far, marks_far_behind.as_slice()),
+        (far, marks_far_away.as_slice()),
         (
             "\u{4E00}-",
             &[
@@ -150,7 +151,7 @@ fn elements_in_turn_are_the_elements(rt: HostRuntime) {
     let small = table(&rt, rt.alloc(), &[]);
     let gaps = table(&rt, rt.alloc(), &KEYS_WITH_GAPS);
     for number in 0..3000 {
-        let Ok(text) = generated(rt.alloc(), number) else {
+        let Ok(text) = generated(rt.alloc(), &CHARACTERS, number) else {
             return;
         };
         for t in [&small, &gaps] {
@@ -165,7 +166,7 @@ const A: char = 'a';
 
 /// Keys as long as they may be, and one code point shorter.
 #[rattlefmt::skip]
-const LONG_KEYS: [(&[char], bool, [u16; 3]); 4] = [
+const LONG_KEYS: [Entry; 4] = [
     (&[A, A, A, A, A, A, A, A, A, A, A, A, A, A, A, A, A, A, A, A, A, A, A, A, A, A, A, A, A, A, A, A], false, [0x1020, 0x20, 2]),
     (&[A, A, A, A, A, A, A, A, A, A, A, A, A, A, A, A, A, A, A, A, A, A, A, A, A, A, A, A, A, A, A, '\u{301}'], false, [0x1021, 0x20, 2]),
     (&[A, A, A, A, A, A, A, A, A, A, A, A, A, A, A, A, A, A, A, A, A, A, A, A, A, A, A, A, A, A, '\u{323}'], false, [0x1022, 0x20, 2]),

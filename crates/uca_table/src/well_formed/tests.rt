@@ -1,11 +1,9 @@
-use crate::tests::{element, finish, insert, small_table};
+use crate::tests::{finish, insert, small_table};
 use crate::{Table, TableBuilder, WellFormed, lint};
 use std::alloc::Global;
 use std::process::Abort;
 use std::test::Fail;
-
-/// A key with its one element, and whether its mark is `*`.
-type Entry = (&'static [char], bool, [u16; 3]);
+use uca_testing::{Entry, element};
 
 const LETTER: Entry = (&['a'], false, [0x1000, 0x20, 2]);
 

@@ -1,12 +1,13 @@
 ghost use Rattle.std.specs.Prelude.{◌≤◌};
 
-use super::{PlainChain, PlainEntry, element, small_table, table, tailored};
+use super::{PlainChain, element, small_table, table, tailored};
 use crate::Op;
 use std::alloc::{AllocError, Global};
 use std::cmp::Ordering;
 use std::process::Abort;
 use uca_match::elements_of_points;
 use uca_table::{Element, InsertFault, Table, TableBuilder};
+use uca_testing::Entry;
 
 /// The weights of a text in NFD at a level, zeros left out: its list where variable elements are not ignored.
 fn weights_of(alloc: Global, t: &Table, text: &[char], level: u8) -> Result<Vec<u16>, AllocError>
@@ -156,7 +157,7 @@ fn an_anchor_that_is_not_well_formed_is_not_next_to_its_item(rt: HostRuntime) {
 
 #[test]
 fn an_item_with_an_expansion_is_not_next_to_its_anchor(rt: HostRuntime) {
-    let entries: [PlainEntry; 2] = [
+    let entries: [Entry; 2] = [
         (&['a'], false, [0x1000, 0x20, 2]),
         (&['b'], false, [0x1001, 0x20, 2]),
     ];
