@@ -77,6 +77,15 @@ done
 ./uca check --table "$work/table" <&- >"$work/out" 2>"$work/err"
 status=$?
 is "a closed test file" "0|uca: input line 1: Read|3" "$(wc -c <"$work/out")|$(cat "$work/err")|$status"
+for words in "--table $work/none" "--table $work/table --rules $work/none"; do
+    ./uca key $words <&- >"$work/out" 2>"$work/err"
+    status=$?
+    is "a file that is not there is reported before a closed input: $words" "|uca: cannot open $work/none|3" "$(cat "$work/out")|$(cat "$work/err")|$status"
+done
+printf '0061 ; [.10\n' >"$work/faulty"
+./uca key --table "$work/faulty" <&- >"$work/out" 2>"$work/err"
+status=$?
+is "a faulty table is reported before a closed input" "|uca: table line 1: BadElement|3" "$(cat "$work/out")|$(cat "$work/err")|$status"
 ./uca table --table "$work/table" <&- >"$work/out"
 status=$?
 is "a closed input that is not read" "same|0" "$(cmp -s "$work/out" "$work/table" && echo same)|$status"

@@ -1,6 +1,5 @@
 ghost use Rattle.std.specs.Prelude.{◌≡◌};
 
-use uca_conform::ConformFault;
 use std::alloc::AllocError;
 use std::fmt;
 use thiserror::Error;
