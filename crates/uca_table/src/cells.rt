@@ -8,7 +8,7 @@ ghost use Rattle.uca_model.specs.StandAlone.{begins, leads, continues, joining_o
 ghost use Rattle.uca_table.specs.Cells.{AreKeyFlags, IsCell, AreCells, HoldsCells, Grows};
 
 use crate::collation::{push_elements, push_matches};
-use crate::key_flags::{LIMIT, KeyFlags, key_flags_of};
+use crate::key_flags::{KeyFlags, LIMIT, key_flags_of};
 use crate::stored::Stored;
 use std::alloc::{AllocError, Global};
 use uca_weights::Element;
@@ -141,7 +141,12 @@ fn extent(start: usize, end: usize) -> (u32, u8)
 }
 
 // Appends the elements of a single code point.
-fn push_single(out: &mut Vec<Element>, t: &Stored, key_flags: &KeyFlags, p: char) -> Result<(), AllocError>
+fn push_single(
+    out: &mut Vec<Element>,
+    t: &Stored,
+    key_flags: &KeyFlags,
+    p: char,
+) -> Result<(), AllocError>
     requires { AreKeyFlags t.now key_flags.now.leads.items key_flags.now.continues.items key_flags.now.begins.items }
     ensures { OnOk result (out.new.items ≡ out.old.items ++ elements t.now (p ∷ [])) }
 {

@@ -2,7 +2,7 @@ ghost use Rattle.std.specs.Prelude.{◌≡◌, ◌≤◌, ◌<◌, ◌^◌, fals
 
 use crate::builder::{read_elements, read_key};
 use crate::entries::Entries;
-use crate::entry::{Entry, copies, elements_of, lacks_room, put, make_room_in_entries};
+use crate::entry::{Entry, copies, elements_of, lacks_room, make_room_in_entries, put};
 use crate::implicit_weights;
 use crate::ranges::Ranges;
 use std::alloc::{AllocError, Global};
