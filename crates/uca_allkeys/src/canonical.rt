@@ -122,7 +122,7 @@ fn push_key(line: &mut Line, key: &[char])
     }
 }
 
-/// Appends elements one behind the other.
+/// Appends elements one after the other.
 fn push_elements(line: &mut Line, elements: &[Element])
     requires { length line.old.items + 17 * length elements.now ≤ MAX_LINE }
     ensures text { line.new.items ≡ line.old.items ++ flat_map element_text elements.now }
@@ -230,7 +230,7 @@ fn send_table<W: Writer>(
 }
 
 /// Writes the canonical text of a table: its ranges by their first code points, then its entries by key order, in
-/// upper-case digits, with no comments. Answers the count of bytes. On a fault just the first `written` bytes of the
+/// upper-case digits, with no comments. Returns the count of bytes. On a fault exactly the first `written` bytes of the
 /// text went out. It takes no memory, and does not flush the writer.
 pub fn write_table<W: Writer>(writer: &mut W, t: &Table) -> Result<u128, WriteFault>
     ensures { MatchResult result

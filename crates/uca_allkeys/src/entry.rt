@@ -75,7 +75,7 @@ fn weight_first(text: &[u8]) -> Result<(u16, &[u8]), LineFault>
     }
 }
 
-/// A weight after a full stop, and what stands behind it.
+/// A weight after a full stop, and what follows it.
 #[tactic(auto, unfolding(uca_model::specs::TableText::next_weight))]
 fn next_weight(text: &[u8]) -> Result<(u16, &[u8]), LineFault>
     ensures { Tells with_rest (next_weight text.now) result }

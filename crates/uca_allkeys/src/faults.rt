@@ -9,7 +9,7 @@ pub enum ReadCause {
     /// A line has more than `MAX_LINE` bytes before its LF.
     #[error("LineTooLong")]
     LineTooLong,
-    /// A directive is unknown or is not in its form, or a second version is told.
+    /// A directive is unknown or is not in its form, or there is a second version.
     #[error("BadDirective")]
     BadDirective,
     /// A code point is not four to six hexadecimal digits, or no scalar value.
@@ -18,10 +18,10 @@ pub enum ReadCause {
     /// A key has more than `MAX_KEY` code points.
     #[error("KeyTooLong")]
     KeyTooLong,
-    /// An entry has no `;` behind its key.
+    /// An entry has no `;` after its key.
     #[error("NoSemicolon")]
     NoSemicolon,
-    /// What stands behind a key is no collation element.
+    /// What follows a key is no collation element.
     #[error("BadElement")]
     BadElement,
     /// An entry has no collation element.
@@ -42,7 +42,7 @@ pub enum ReadCause {
     /// The reader failed.
     #[error("Read")]
     Read,
-    /// Memory was wanted and refused.
+    /// An allocation failed.
     #[error("OutOfMemory")]
     OutOfMemory,
 }
@@ -50,7 +50,7 @@ pub enum ReadCause {
 /// Where and why the text of a table was refused.
 #[derive(Clone, Copy, Debug, PartialEq, Eq)]
 pub struct ReadFault {
-    /// The line, counted from 1; 0 where memory was wanted.
+    /// The line, counted from 1; 0 where an allocation failed.
     pub line: u64,
     pub cause: ReadCause,
 }

@@ -1,4 +1,4 @@
-//! The text of a collation element table, in the manner of `allkeys.txt` (UTS #10, Allkeys File Format): [`read_table`]
+//! The text of a collation element table, in the format of `allkeys.txt` (UTS #10, Allkeys File Format): [`read_table`]
 //! reads it, and [`write_table`] writes a table in the one canonical form.
 #![tactic(auto)]
 

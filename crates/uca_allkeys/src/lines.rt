@@ -17,7 +17,7 @@ pub(crate) struct Lines {
     pub(crate) has_version: bool,
 }
 
-/// Adds a version, which may be told once.
+/// Adds a version, which may stand once.
 fn add_version(lines: &mut Lines) -> Result<(), ReadCause>
     ensures adds { Leads (add_statement (state_of lines.old) version) (state_of lines.new) result }
     ensures of_text { IfErr result IsOfText }

@@ -10,7 +10,7 @@ use uca_weights::{MAX_INPUT, Reader};
 /// How many bytes a reader is asked for at once.
 const CHUNK: usize = 65_536;
 
-/// Reads the text of a table, in the manner of `allkeys.txt` (UTS #10, Allkeys File Format), to its end or to its
+/// Reads the text of a table, in the format of `allkeys.txt` (UTS #10, Allkeys File Format), to its end or to its
 /// first fault. What the reader still holds after a fault isn't said.
 pub fn read_table<R: Reader>(alloc: Global, reader: &mut R) -> Result<Table, ReadFault>
     ensures { MatchResult result (GivesTable (R.state reader.old) (R.state reader.new)) (IsRefused (R.state reader.old) (R.state reader.new)) }

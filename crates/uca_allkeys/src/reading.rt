@@ -39,7 +39,7 @@ pub(crate) fn start(alloc: Global) -> Progress
     }
 }
 
-/// The cause with its line, which is 0 where memory is wanted.
+/// The cause with its line, which is 0 where an allocation failed.
 fn fault_of(number: u64, cause: ReadCause) -> ReadFault
     ensures cause { result.cause ≡ cause }
     ensures line { MatchOption (told cause) (result.line ≡ 0) (λ _. result.line ≡ number) }
@@ -151,7 +151,7 @@ pub(crate) fn finish(progress: Progress) -> Result<Table, ReadFault>
     }
 }
 
-/// The fault of a text that goes on behind `MAX_INPUT` bytes, which end with `piece`.
+/// The fault of a text that goes on after `MAX_INPUT` bytes, which end with `piece`.
 pub(crate) fn too_large(progress: &mut Progress, piece: &[u8]) -> ReadFault
     requires open { IsOpen progress.old.held.items }
     requires short { length progress.old.held.items ≤ MAX_LINE }

@@ -1,4 +1,4 @@
-//! Test files in the manner of the Unicode Consortium's CollationTest files.
+//! Test files like the Unicode Consortium's CollationTest files.
 ghost use Rattle.std.specs.Prelude.{MatchResult};
 ghost use Rattle.uca_conform.specs.Conforming.{GivesReport, RefusesFile};
 

@@ -1,4 +1,4 @@
-//! Test files in the manner of the Unicode Consortium's CollationTest files: [`conform`] compares each test line with
+//! Test files like the Unicode Consortium's CollationTest files: [`conform`] compares each test line with
 //! the one before it, and reports how many lines there are, how many of them were not compared, and the first one that
 //! is out of order.
 #![tactic(auto)]

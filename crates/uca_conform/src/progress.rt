@@ -179,7 +179,7 @@ pub(crate) fn finish(
     }
 }
 
-/// The fault of a test file that goes on behind `MAX_INPUT` bytes, which end with `piece`.
+/// The fault of a test file that goes on after `MAX_INPUT` bytes, which end with `piece`.
 pub(crate) fn too_large(
     progress: &mut Progress,
     t: &Table,

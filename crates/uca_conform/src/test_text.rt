@@ -36,7 +36,7 @@ pub(crate) fn checked(text: ArrayString<MAX_LINE>) -> Option<TestText>
     }
 }
 
-/// Adds a code point to a text, and answers whether it is a scalar value.
+/// Adds a code point to a text, and returns whether it is a scalar value.
 pub(crate) fn push_point(text: &mut ArrayString<MAX_LINE>, point: u32) -> bool
     requires { length text.old.bytes + 4 ≤ MAX_LINE }
     ensures is_scalar { result ≡ scalar point }

@@ -4,3 +4,6 @@ pub mod DigitLemmas
 pub mod WordLemmas
 pub mod LineLemmas
 pub mod ReaderLemmas
+pub mod FoldLemmas
+pub mod ProgressLemmas
+pub mod ReadLemmas

@@ -7,3 +7,6 @@ pub mod OutputBuffer
 pub mod Lines
 pub mod Words
 pub mod Digits
+pub mod LineFold
+pub mod LineReader
+pub mod LineProgress

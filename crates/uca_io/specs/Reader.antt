@@ -3,7 +3,7 @@ use Rattle.std.specs.Prelude.{◌≡◌, ℕ, List, Option}
 use Rattle.std.specs.Io.KnownBytes.{Consumes, IsAtEnd}
 use Rattle.uca_io.specs.Counts.{one_more}
 
--- the bytes still to come, where it tells them, and how many of its calls failed
+-- the bytes still to come, where they are known, and how many of its calls failed
 pub record ReaderState : Type 0 where
   pub coming : Option (List ℕ)
   pub failures : ℕ

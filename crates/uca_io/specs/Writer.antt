@@ -18,7 +18,7 @@ abbrev pub CountsCause : WriteCause → WriterState → WriterState → Type 0
 CountsCause Failed old new = (new.failures ≡ one_more old.failures) × (new.zeros ≡ old.zeros)
 CountsCause Zero old new = (new.zeros ≡ one_more old.zeros) × (new.failures ≡ old.failures)
 
--- just the first bytes went out, as many as the fault tells, and then there was its cause
+-- exactly the first bytes went out, as many as the fault reports, and then there was its cause
 pub record WritesFront (old new : WriterState) (bytes : List ℕ) (fault : WriteFault) : Type 0 where
   pub part : fault.written < length bytes
   pub out : Appends old.taken new.taken (take fault.written bytes)

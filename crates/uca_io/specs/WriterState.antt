@@ -1,7 +1,7 @@
 -- What is known of a writer.
 use Rattle.std.specs.Prelude.{ℕ, Bool, false, ◌==◌, ◌&&◌, nat_lt, List, length, Option, Result, Ok, Err}
 
--- the bytes that it took, where it tells them, how many of its calls failed, and how many took nothing of a piece that was not empty
+-- the bytes that it took, where they are known, how many of its calls failed, and how many took nothing of a piece that was not empty
 pub record WriterState : Type 0 where
   pub taken : Option (List ℕ)
   pub failures : ℕ

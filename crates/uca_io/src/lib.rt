@@ -5,6 +5,8 @@
 #![tactic(auto)]
 
 pub mod digits;
+pub mod limits;
+pub mod line_reader;
 pub mod lines;
 pub mod output_buffer;
 pub mod reader;
@@ -12,6 +14,8 @@ pub mod words;
 pub mod writer;
 pub mod writing;
 
+pub use limits::{MAX_INPUT, MAX_LINE};
+pub use line_reader::{LineCause, LineFault, LineSink, read_lines};
 pub use output_buffer::OutputBuffer;
 pub use reader::{Reader, Reading, Refused};
 pub use writer::{WriteCause, WriteFault, Writer, Writing};

@@ -54,7 +54,7 @@ pub fn next_line(text: &[u8]) -> Option<(&[u8], &[u8])>
     }
 }
 
-/// Holds more bytes of a line, and answers whether they fit. If not, it holds what it held.
+/// Holds more bytes of a line, and returns whether they fit. If not, it holds what it held.
 pub fn extend_held<const N: usize>(held: &mut ArrayVec<u8, N>, part: &[u8]) -> bool
     ensures fits { OnTrue result (held.new.items ≡ held.old.items ++ part.now) }
     ensures short { OnTrue result (length held.new.items ≤ N) }

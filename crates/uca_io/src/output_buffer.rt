@@ -9,7 +9,7 @@ use std::marker::Model;
 pub const ROOM: usize = 8_192;
 
 /// A buffer before a [`Writer`]: what waits to go out, and the count of bytes that went out before it. Pieces go out
-/// in their order, and a fault tells how many bytes of all pieces went out.
+/// in their order, and a fault reports how many bytes of all pieces went out.
 #[derive(Drop)]
 pub struct OutputBuffer {
     waiting: ArrayVec<u8, ROOM>,
@@ -45,7 +45,7 @@ impl OutputBuffer {
         self.written
     }
 
-    /// Has what waits go out. On a fault the buffer stays as it was, and only the fault tells what went out of it.
+    /// Writes what waits. On a fault the buffer stays as it was, and only the fault reports what went out of it.
     pub fn flush<W: Writer>(&mut self, w: &mut W) -> Result<(), WriteFault>
         requires { accepted self.old < 2 ^ 128 }
         ensures all { MatchResult result
@@ -67,8 +67,8 @@ impl OutputBuffer {
         }
     }
 
-    /// Has a piece go out, now or later. On a fault the buffer stays as it was, without the piece, and only the fault
-    /// tells what went out of it.
+    /// Writes a piece, now or later. On a fault the buffer stays as it was, without the piece, and only the fault
+    /// reports what went out of it.
     pub fn write<W: Writer>(&mut self, w: &mut W, piece: &[u8]) -> Result<(), WriteFault>
         requires short { length piece.now ≤ ROOM }
         requires room { accepted self.old + length piece.now < 2 ^ 128 }

@@ -12,10 +12,10 @@ pub struct Refused;
 
 /// A source of bytes, which states how many of its calls failed. The count stays at 2^128 - 1 once it is there.
 pub trait Reader {
-    /// The bytes still to come, where it tells them, and how many of its calls failed.
+    /// The bytes still to come, where they are known, and how many of its calls failed.
     ghost state: { Self → ReaderState };
 
-    /// Reads into the front of a buffer, and answers how many bytes it read. It answers 0 for a buffer that is
+    /// Reads into the front of a buffer, and returns how many bytes it read. It returns 0 for a buffer that is
     /// not empty only where no byte is left. An error takes no byte.
     fn pull(&mut self, buf: &mut [u8]) -> Result<usize, Refused>
         ensures bound { ReadsAtMost result buf.new }

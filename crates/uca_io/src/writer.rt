@@ -11,11 +11,11 @@ use thiserror::Error;
 /// A sink of bytes, which states how many of its calls failed, and how many took nothing. A count stays at
 /// 2^128 - 1 once it is there.
 pub trait Writer {
-    /// The bytes taken so far, where it tells them, how many of its calls failed, and how many answered 0 for a
+    /// The bytes taken so far, where they are known, how many of its calls failed, and how many answered 0 for a
     /// piece that was not empty.
     ghost state: { Self → WriterState };
 
-    /// Takes a front of the bytes, and answers how many it took. An error takes no byte.
+    /// Takes a front of the bytes, and returns how many it took. An error takes no byte.
     fn put(&mut self, bytes: &[u8]) -> Result<usize, Refused>
         ensures bound { WritesAtMost result bytes.now }
         ensures bytes { WriteAppends (state self.old).taken (state self.new).taken result bytes.now }

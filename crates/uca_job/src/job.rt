@@ -35,7 +35,7 @@ pub enum Task {
     Compare,
     /// Writes the lines in the order of their sort keys.
     Order,
-    /// Writes what the table makes of a test file in the manner of the Unicode Consortium's CollationTest files.
+    /// Writes what the table makes of a test file like the Unicode Consortium's CollationTest files.
     Check,
     /// Writes which conditions of well-formedness the table breaks (UTS #10, section 5).
     Lint,
@@ -51,9 +51,9 @@ pub struct Job {
     pub weighting: Variable,
     /// Whether the key of the input's one line is written as its bytes. Only [`Task::Key`] looks at it.
     pub raw: bool,
-    /// The path of the table's file. Where there is none, the built-in table serves.
+    /// The path of the table's file. Where there is none, the built-in table is used.
     pub table: Option<String>,
-    /// The path of the file of rules. Where there is none, the table serves as it is.
+    /// The path of the file of rules. Where there is none, the table is used as it is.
     pub rules: Option<String>,
 }
 
@@ -68,7 +68,7 @@ pub enum JobFault {
     OutOfMemory,
 }
 
-/// The job that the words after the program's name ask for. What they name is told by `clap`. Where no option says
+/// The job that the words after the program's name ask for. What they name is decided by `clap`. Where no option says
 /// otherwise, the comparison is tertiary and leaves variable elements as they stand.
 pub fn job_of(alloc: Global, words: &[&str]) -> Result<Job, JobFault>
     ensures job { IfOk result (IsJobOf (map (λ w. w.now) words.now)) }

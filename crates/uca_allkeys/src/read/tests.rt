@@ -30,7 +30,7 @@ const SMALL_TEXT: &str = "@version 15.1.0
 0062 0301 0308 ; [.100a.0020.0002]
 ";
 
-/// Gives so many bytes a call at most, and fails at the end where it is told to.
+/// Gives so many bytes a call at most, and fails at the end if it is asked to.
 #[derive(Drop)]
 struct Slow<'t> {
     rest: &'t [u8],

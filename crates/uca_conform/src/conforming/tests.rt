@@ -6,7 +6,7 @@ use std::process::Abort;
 use uca_table::{Table, TableBuilder};
 use uca_weights::{Element, MAX_INPUT, Reader, Refused, Settings, Strength, Variable};
 
-/// Gives its bytes so many times, in pieces of at most `step`, and fails at the end where it is told to.
+/// Gives its bytes so many times, in pieces of at most `step`, and fails at the end if it is asked to.
 #[derive(Clone, Copy)]
 struct Lines<'b> {
     bytes: &'b [u8],

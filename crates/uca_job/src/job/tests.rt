@@ -58,7 +58,7 @@ fn is_tailored_job(alloc: Global, words: &[&str], command: Task, path: &str) -> 
     job_again(alloc, words) == Ok(job)
 }
 
-// The words are refused with a text for the user, and not for want of memory.
+// The words are refused with a text for the user, and not for an allocation failure.
 fn is_refused(alloc: Global, words: &[&str]) -> bool {
     match job_again(alloc, words) {
         Err(JobFault::Usage(text)) => !text.is_empty() && !text.ends_with('\n'),
@@ -333,7 +333,7 @@ fn a_value_may_be_spelled_like_a_flag(rt: HostRuntime) {
     assert!(rt; is_job_with(rt.alloc(), &["key", "--table=--raw"], Task::Key, "--raw"));
 }
 
-// Two calls with the same words answer the same, but for want of memory. This is a test where each growth is
+// Two calls with the same words return the same, but for allocation failures. This is a test where each growth is
 // refused in turn.
 fn is_one_answer(alloc: Global, words: &[&str]) -> bool {
     let first = job_of(alloc, words);
@@ -359,7 +359,7 @@ fn a_refused_growth_changes_no_answer(rt: HostRuntime) {
     assert!(rt; is_one_answer(alloc, &["--help"]));
 }
 
-// The refusal of the words shows this text, but for want of memory.
+// The refusal of the words shows this text, but for an allocation failure.
 fn shows(alloc: Global, words: &[&str], text: &str) -> bool {
     match job_again(alloc, words) {
         Ok(_) => false,

@@ -133,7 +133,7 @@ fn the_fault_that_is_met_first_is_told_with_its_byte(rt: HostRuntime) {
         ("/a", "Syntax 0"),
         ("<*a", "Syntax 0"),
         ("=a", "Syntax 0"),
-        // An expansion stands behind an item alone.
+        // An expansion follows an item alone.
         ("&a<b/c/d", "Syntax 6"),
         ("&a<b&c/d", "Syntax 6"),
         ("&a<b/", "EmptyString 5"),
