@@ -1,4 +1,4 @@
-ghost use Rattle.std.specs.Prelude.{Option, None, Ok, Unit};
+ghost use Rattle.std.specs.Prelude.{None, Ok};
 ghost use Rattle.uca_io.specs.LineFold.{Fold};
 
 use super::{LineCause, LineFault, LineSink, read_lines};
