@@ -1,0 +1,144 @@
+// Nanoseconds of a call of the C library and of ICU's over the lines of a file: library TABLE LINES STRENGTH VARIABLE
+// Each figure is that of the fastest of some rounds.
+#include "uca.h"
+#include <stdio.h>
+#include <stdlib.h>
+#include <string.h>
+#include <time.h>
+#include <unicode/ucol.h>
+#include <unicode/ustring.h>
+
+#define ROUNDS 3
+
+struct line { char *text; size_t size; UChar *wide; int32_t points; };
+
+static struct line *lines;
+static size_t count;
+static uca_collator collator = UCA_CLOSED;
+static uca_settings settings = UCA_TERTIARY_SETTINGS;
+static UCollator *icu;
+static long sum;
+
+static double now(void) {
+    struct timespec time;
+    clock_gettime(CLOCK_PROCESS_CPUTIME_ID, &time);
+    return time.tv_sec * 1e9 + time.tv_nsec;
+}
+
+static void *room(void *block) {
+    if (!block) exit(2);
+    return block;
+}
+
+static char *contents(const char *path, size_t *size) {
+    FILE *file = fopen(path, "rb");
+    if (!file) { perror(path); exit(2); }
+    fseek(file, 0, SEEK_END);
+    *size = ftell(file);
+    rewind(file);
+    char *bytes = room(malloc(*size + 1));
+    if (fread(bytes, 1, *size, file) != *size) exit(2);
+    bytes[*size] = 0;
+    fclose(file);
+    return bytes;
+}
+
+static int uca_order(const struct line *a, const struct line *b) {
+    uca_fault fault;
+    int32_t order = 0;
+    if (uca_compare(&collator, &settings, (uint8_t *)a->text, a->size, (uint8_t *)b->text, b->size, &order, &fault)) exit(3);
+    return order;
+}
+
+static int icu_order(const struct line *a, const struct line *b) {
+    UErrorCode error = U_ZERO_ERROR;
+    return ucol_strcollUTF8(icu, a->text, (int32_t)a->size, b->text, (int32_t)b->size, &error);
+}
+
+static uint8_t key[1 << 20];
+
+static size_t uca_key(const struct line *line) {
+    uca_fault fault;
+    size_t needed = 0;
+    if (uca_sort_key(&collator, &settings, (uint8_t *)line->text, line->size, key, sizeof key, &needed, &fault)) exit(3);
+    return needed;
+}
+
+static size_t icu_key(const struct line *line) {
+    static UChar wide[1 << 16];
+    UErrorCode error = U_ZERO_ERROR;
+    int32_t points;
+    u_strFromUTF8(wide, 1 << 16, &points, line->text, (int32_t)line->size, &error);
+    return ucol_getSortKey(icu, wide, points, key, sizeof key);
+}
+
+static double pairs(int (*order)(const struct line *, const struct line *)) {
+    double best = 1e300;
+    for (int round = 0; round < ROUNDS; round++) {
+        double from = now();
+        for (size_t i = 1; i < count; i++) sum += order(&lines[i - 1], &lines[i]);
+        double took = (now() - from) / (count - 1);
+        if (took < best) best = took;
+    }
+    return best;
+}
+
+static double keys(size_t (*key_of)(const struct line *)) {
+    double best = 1e300;
+    for (int round = 0; round < ROUNDS; round++) {
+        double from = now();
+        for (size_t i = 0; i < count; i++) sum += key_of(&lines[i]);
+        double took = (now() - from) / count;
+        if (took < best) best = took;
+    }
+    return best;
+}
+
+static double same(const char *text, int (*order)(const struct line *, const struct line *)) {
+    struct line line = {(char *)text, strlen(text), NULL, 0};
+    double best = 1e300;
+    for (int round = 0; round < ROUNDS; round++) {
+        double from = now();
+        for (int i = 0; i < 1000000; i++) sum += order(&line, &line);
+        double took = (now() - from) / 1e6;
+        if (took < best) best = took;
+    }
+    return best;
+}
+
+static int by_order(const void *a, const void *b) { return uca_order(a, b); }
+
+int main(int words, char **word) {
+    if (words != 5) return 2;
+    size_t size, table_size;
+    char *table = contents(word[1], &table_size), *text = contents(word[2], &size);
+    UErrorCode error = U_ZERO_ERROR;
+    uca_fault fault;
+    settings.strength = atoi(word[3]);
+    settings.variable = atoi(word[4]);
+    double from = now();
+    if (uca_open(&collator, (uint8_t *)table, table_size, NULL, 0, &fault)) return 3;
+    double opened = now() - from;
+    icu = ucol_open("", &error);
+    ucol_setAttribute(icu, UCOL_NORMALIZATION_MODE, UCOL_ON, &error);
+    ucol_setStrength(icu, settings.strength == UCA_QUATERNARY ? UCOL_QUATERNARY : UCOL_TERTIARY);
+    ucol_setAttribute(icu, UCOL_ALTERNATE_HANDLING, settings.variable == UCA_SHIFTED ? UCOL_SHIFTED : UCOL_NON_IGNORABLE, &error);
+    for (char *at = text; at < text + size; count++) {
+        char *end = memchr(at, '\n', text + size - at);
+        if (!end) end = text + size;
+        if ((count & (count + 1)) == 0) lines = room(realloc(lines, 2 * (count + 1) * sizeof *lines));
+        lines[count] = (struct line){at, end - at, NULL, 0};
+        at = end + 1;
+    }
+    printf("open %.1f ms; two empty texts %.0f ns (ICU %.0f); a and a %.0f (%.0f)\n", opened / 1e6, same("", uca_order), same("", icu_order), same("a", uca_order), same("a", icu_order));
+    double uca = pairs(uca_order), other = pairs(icu_order);
+    printf("neighbours: %.0f ns (ICU %.0f, %.1f times)\n", uca, other, uca / other);
+    uca = keys(uca_key), other = keys(icu_key);
+    printf("keys: %.0f ns (ICU %.0f, %.1f times)\n", uca, other, uca / other);
+    qsort(lines, count, sizeof *lines, by_order);
+    uca = pairs(uca_order), other = pairs(icu_order);
+    printf("sorted neighbours: %.0f ns (ICU %.0f, %.1f times)\n", uca, other, uca / other);
+    uca_close(&collator);
+    ucol_close(icu);
+    return sum == 12345;
+}

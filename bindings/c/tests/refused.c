@@ -1,0 +1,103 @@
+/* Allocations of a call are refused one at a time. Link with --wrap=malloc,realloc,free. Each call has to return its answer or
+ * UCA_NO_MEMORY, to leave its collators as they were, and to free what it took. Comparing has to take no memory at all. */
+#include "checks.h"
+
+static long calls, refused, live;
+void *__real_malloc(size_t size);
+void *__real_realloc(void *block, size_t size);
+void __real_free(void *block);
+
+void *__wrap_malloc(size_t size) {
+    if (++calls == refused) return NULL;
+    live++;
+    return __real_malloc(size);
+}
+
+void *__wrap_realloc(void *block, size_t size) {
+    if (++calls == refused) return NULL;
+    if (!block) live++;
+    return __real_realloc(block, size);
+}
+
+void __wrap_free(void *block) {
+    if (block) live--;
+    __real_free(block);
+}
+
+/* Whether the allocation that was to be refused was not asked for any more. */
+static int ends(long count) { return calls < count; }
+
+/* Each of the first 200 allocations is refused, and from there on ever fewer. */
+static long next(long count) { return count < 200 ? count + 1 : count + count / 16; }
+
+static long refuses_opening(void) {
+    uca_fault fault;
+    long tried = 0;
+    for (long count = 1;; count = next(count)) {
+        uca_collator collator = UCA_CLOSED;
+        calls = 0;
+        refused = count;
+        uint32_t status = uca_open(&collator, TEXT(small_table), TEXT(ch_rules), &fault);
+        refused = 0;
+        CHECK(status == UCA_OK || (status == UCA_NO_MEMORY && !collator.private_is_open && fault.kind == 0 && fault.at == 0));
+        int last = ends(count);
+        uca_close(&collator);
+        CHECK(live == 0);
+        if (last) return tried;
+        tried++;
+    }
+}
+
+static long refuses_the_rest(void) {
+    static const char text[] = "ch\xC3\xA1 b";
+    uca_settings settings = UCA_SETTINGS(UCA_IDENTICAL, UCA_SHIFTED);
+    uca_collator collator = UCA_CLOSED;
+    uca_fault fault;
+    uca_digest digest, right;
+    uint8_t key[256], whole[256];
+    size_t needed, size;
+    long count, none_left = 0, tried = 0;
+    refused = 0;
+    open_small(&collator);
+    long open_blocks = live;
+    CHECK(uca_sort_key(&collator, &settings, TEXT(text), whole, sizeof whole, &size, &fault) == UCA_OK);
+    CHECK(uca_fingerprint(&collator, &settings, &right) == UCA_OK);
+    for (int call = 0; call < 3; call++) {
+        for (count = 1, none_left = 0; !none_left; count = next(count), tried++) {
+            uca_collator other = UCA_CLOSED;
+            uint32_t status;
+            calls = 0;
+            refused = count;
+            if (call == 0) {
+                status = uca_sort_key(&collator, &settings, TEXT(text), key, sizeof key, &needed, &fault);
+                if (status == UCA_OK) CHECK(needed == size && memcmp(key, whole, size) == 0);
+            } else if (call == 1) {
+                status = uca_fingerprint(&collator, &settings, &digest);
+                if (status == UCA_OK) CHECK(memcmp(&digest, &right, sizeof right) == 0);
+            } else {
+                status = uca_clone(&collator, &other);
+                CHECK(other.private_is_open == (status == UCA_OK));
+            }
+            refused = 0;
+            CHECK(status == UCA_OK || status == UCA_NO_MEMORY);
+            none_left = ends(count);
+            uca_close(&other);
+            CHECK(live == open_blocks && collator.private_is_open);
+        }
+    }
+    int32_t order;
+    calls = 0;
+    CHECK(uca_compare(&collator, &settings, TEXT(text), TEXT("cz"), &order, &fault) == UCA_OK && order == 1);
+    CHECK(uca_check(TEXT(text), &fault) == UCA_OK && uca_version() == UCA_VERSION);
+    CHECK(calls == 0);
+    uca_close(&collator);
+    CHECK(live == 0);
+    return tried;
+}
+
+int main(void) {
+    long opening = refuses_opening(), rest = refuses_the_rest();
+    CHECK(opening > 10 && rest > 3);
+    if (failed_checks == 0) printf("well, %ld runs\n", opening + rest);
+    return failed_checks != 0;
+}

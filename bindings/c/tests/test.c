@@ -1,0 +1,219 @@
+/* Every function of the C library, every status and every kind; sizes and offsets of what crosses. */
+#include "checks.h"
+
+#define SAME_FAULT(kind_, text_, at_) CHECK(fault.kind == (kind_) && fault.text == (text_) && fault.at == (at_))
+
+static void layout(void) {
+    CHECK(sizeof(uca_collator) == 16 && offsetof(uca_collator, private_table) == 0 && offsetof(uca_collator, private_is_open) == 8);
+    CHECK(sizeof(uca_fault) == 16 && offsetof(uca_fault, kind) == 0 && offsetof(uca_fault, text) == 4 && offsetof(uca_fault, at) == 8);
+    CHECK(sizeof(uca_settings) == 32 && offsetof(uca_settings, strength) == 0 && offsetof(uca_settings, variable) == 4);
+    CHECK(offsetof(uca_settings, reserved) == 8 && sizeof(uca_digest) == 32);
+    CHECK(UCA_OK == 0 && UCA_NOT_UTF8 == 1 && UCA_LONG_RUN == 2 && UCA_NOT_OPEN == 3 && UCA_BAD_SETTINGS == 4 && UCA_NO_MEMORY == 5);
+    CHECK(UCA_BAD_TABLE == 6 && UCA_BAD_RULES == 7 && UCA_BAD_TAILORING == 8);
+    CHECK(strcmp(uca_status_name(UCA_BAD_TAILORING), "bad tailoring") == 0 && strcmp(uca_status_name(99), "unknown status") == 0);
+}
+
+static void versions(void) {
+    CHECK(uca_version() == UCA_VERSION);
+    CHECK(uca_unicode_version() == 0x120000);
+}
+
+static void checking(void) {
+    static const struct { const char *text; size_t size; uint32_t status; uint64_t at; } cases[] = {
+        {"", 0, UCA_OK, 0}, {"a\xC3\xA1", 3, UCA_OK, 0}, {"ab\xFF", 3, UCA_NOT_UTF8, 2}, {"a\xC3", 2, UCA_NOT_UTF8, 1},
+        {"a\0b", 3, UCA_OK, 0},
+    };
+    uca_fault fault;
+    for (size_t i = 0; i < sizeof cases / sizeof cases[0]; i++) {
+        memset(&fault, 0xEE, sizeof fault);
+        CHECK(uca_check((const uint8_t *)cases[i].text, cases[i].size, &fault) == cases[i].status);
+        SAME_FAULT(0, cases[i].status != UCA_OK, cases[i].at);
+    }
+    char run[1 + 2 * 31] = "a";
+    for (int i = 0; i < 31; i++) memcpy(run + 1 + 2 * i, "\xCC\x81", 2);
+    CHECK(uca_check((uint8_t *)run, 61, &fault) == UCA_OK);
+    CHECK(uca_check((uint8_t *)run, 63, &fault) == UCA_LONG_RUN);
+    SAME_FAULT(0, 1, 61);
+    CHECK(uca_check(NULL, 0, &fault) == UCA_OK);
+}
+
+static void comparing(void) {
+    static const struct { const char *a, *b; uint32_t strength, variable; int32_t order; } cases[] = {
+        {"a", "b", 1, 0, -1}, {"b", "a", 3, 0, 1}, {"a", "A", 2, 0, 0}, {"a", "A", 3, 0, -1}, {"a\xCC\x81", "\xC3\xA1", 5, 0, 0},
+        {"a", "\xC3\xA1", 1, 0, 0}, {"a", "\xC3\xA1", 2, 0, -1}, {"ch", "cz", 1, 0, 1}, {"a b", "ab", 4, 2, -1},
+        {"a b", "ab", 3, 1, 0}, {"a b", "ab", 3, 0, -1}, {"", "", 3, 0, 0}, {"", "a", 3, 0, -1},
+    };
+    uca_collator collator = UCA_CLOSED;
+    uca_fault fault;
+    int32_t order;
+    open_small(&collator);
+    for (size_t i = 0; i < sizeof cases / sizeof cases[0]; i++) {
+        uca_settings settings = UCA_SETTINGS(cases[i].strength, cases[i].variable);
+        const uint8_t *a = (const uint8_t *)cases[i].a, *b = (const uint8_t *)cases[i].b;
+        order = 9;
+        CHECK(uca_compare(&collator, &settings, a, strlen(cases[i].a), b, strlen(cases[i].b), &order, &fault) == UCA_OK);
+        if (order != cases[i].order) fprintf(stderr, "%s, %s at %u:\n", cases[i].a, cases[i].b, cases[i].strength);
+        CHECK(order == cases[i].order);
+        SAME_FAULT(0, 0, 0);
+    }
+    uca_settings settings = UCA_TERTIARY_SETTINGS;
+    order = 9;
+    CHECK(uca_compare(&collator, &settings, TEXT("a\xFF"), TEXT("\xFF"), &order, &fault) == UCA_NOT_UTF8);
+    SAME_FAULT(0, 1, 1);
+    CHECK(uca_compare(&collator, &settings, TEXT("a"), TEXT("\xFF"), &order, &fault) == UCA_NOT_UTF8);
+    SAME_FAULT(0, 2, 0);
+    char run[2 * 31];
+    for (int i = 0; i < 31; i++) memcpy(run + 2 * i, "\xCC\x81", 2);
+    CHECK(uca_compare(&collator, &settings, TEXT("a"), (uint8_t *)run, sizeof run, &order, &fault) == UCA_LONG_RUN);
+    SAME_FAULT(0, 2, 60);
+    CHECK(order == 9);
+    CHECK(uca_compare(&collator, &settings, NULL, 0, NULL, 0, &order, &fault) == UCA_OK && order == 0);
+    uca_close(&collator);
+    order = 9;
+    CHECK(uca_compare(&collator, &settings, TEXT("a"), TEXT("\xFF"), &order, &fault) == UCA_NOT_OPEN && order == 9);
+    SAME_FAULT(0, 0, 0);
+}
+
+static void settings(void) {
+    uca_collator collator = UCA_CLOSED;
+    uca_fault fault;
+    uca_digest digest, before;
+    uint8_t out[8];
+    size_t needed = 77;
+    int32_t order = 9;
+    open_small(&collator);
+    uca_settings refused[4] = {UCA_SETTINGS(0, 0), UCA_SETTINGS(6, 0), UCA_SETTINGS(3, 3), UCA_TERTIARY_SETTINGS};
+    refused[3].reserved[5] = 1;
+    memset(&digest, 0xEE, sizeof digest);
+    before = digest;
+    for (int i = 0; i < 4; i++) {
+        CHECK(uca_compare(&collator, &refused[i], TEXT("a"), TEXT("b"), &order, &fault) == UCA_BAD_SETTINGS && order == 9);
+        SAME_FAULT(0, 0, 0);
+        memset(&fault, 0xEE, sizeof fault);
+        CHECK(uca_sort_key(&collator, &refused[i], TEXT("a"), out, sizeof out, &needed, &fault) == UCA_BAD_SETTINGS && needed == 77);
+        SAME_FAULT(0, 0, 0);
+        CHECK(uca_fingerprint(&collator, &refused[i], &digest) == UCA_BAD_SETTINGS);
+        CHECK(memcmp(&digest, &before, sizeof digest) == 0);
+    }
+    uca_close(&collator);
+}
+
+static void keys(void) {
+    static const uint8_t key[] = {0x10, 0, 0x10, 1, 0, 0, 0, 0x20, 0, 0x24, 0, 0x20, 0, 0, 0, 2, 0, 2, 0, 2};
+    uca_settings settings = UCA_TERTIARY_SETTINGS;
+    uca_collator collator = UCA_CLOSED;
+    uca_fault fault;
+    uint8_t out[64];
+    open_small(&collator);
+    for (size_t capacity = 0; capacity <= sizeof out; capacity++) {
+        size_t needed = 0, fits = capacity < sizeof key ? capacity : sizeof key;
+        memset(out, 0xEE, sizeof out);
+        CHECK(uca_sort_key(&collator, &settings, TEXT("\xC3\xA1" "b"), out, capacity, &needed, &fault) == UCA_OK);
+        CHECK(needed == sizeof key && memcmp(out, key, fits) == 0);
+        for (size_t i = fits; i < sizeof out; i++) CHECK(out[i] == 0xEE);
+    }
+    size_t needed = 0;
+    CHECK(uca_sort_key(&collator, &settings, TEXT("a"), NULL, 0, &needed, &fault) == UCA_OK && needed == 10);
+    memset(out, 0xEE, sizeof out);
+    CHECK(uca_sort_key(&collator, &settings, TEXT("a\xFF"), out, sizeof out, &needed, &fault) == UCA_NOT_UTF8 && needed == 10);
+    SAME_FAULT(0, 1, 1);
+    CHECK(out[0] == 0xEE);
+    uca_close(&collator);
+    CHECK(uca_sort_key(&collator, &settings, TEXT("a"), out, sizeof out, &needed, &fault) == UCA_NOT_OPEN && needed == 10);
+    SAME_FAULT(0, 0, 0);
+}
+
+/* The digests are those of the canonical text of the table and of the settings, computed outside by sha256sum. */
+static void fingerprints(const char *expected) {
+    uca_settings settings = UCA_TERTIARY_SETTINGS, shifted = UCA_SETTINGS(UCA_TERTIARY, UCA_SHIFTED);
+    uca_collator collator = UCA_CLOSED, other = UCA_CLOSED;
+    uca_digest digest, again, of_shifted, of_other;
+    uca_fault fault;
+    char text[65];
+    CHECK(uca_fingerprint(&collator, &settings, &digest) == UCA_NOT_OPEN);
+    open_small(&collator);
+    CHECK(uca_open(&other, TEXT(small_table), NULL, 0, &fault) == UCA_OK);
+    CHECK(uca_fingerprint(&collator, &settings, &digest) == UCA_OK && uca_fingerprint(&collator, &settings, &again) == UCA_OK);
+    CHECK(uca_fingerprint(&collator, &shifted, &of_shifted) == UCA_OK && uca_fingerprint(&other, &settings, &of_other) == UCA_OK);
+    CHECK(memcmp(&digest, &again, sizeof digest) == 0 && memcmp(&digest, &of_shifted, sizeof digest) != 0);
+    CHECK(memcmp(&digest, &of_other, sizeof digest) != 0);
+    for (int i = 0; i < 32; i++) sprintf(text + 2 * i, "%02x", of_other.bytes[i]);
+    if (expected) CHECK(strcmp(text, expected) == 0);
+    uca_close(&collator);
+    uca_close(&other);
+}
+
+static void opening(void) {
+    static const struct { const char *table, *rules; uint32_t status, kind; uint64_t at; } cases[] = {
+        {"0061 ; zzz\n", "", UCA_BAD_TABLE, UCA_TABLE_BAD_ELEMENT, 1},
+        {"@version 17.0.0\n@variable shifted\n", "", UCA_BAD_TABLE, UCA_TABLE_BAD_DIRECTIVE, 2},
+        {"61 ; [.1000.0020.0002]\n", "", UCA_BAD_TABLE, UCA_TABLE_BAD_CODE_POINT, 1},
+        {"0061\n", "", UCA_BAD_TABLE, UCA_TABLE_NO_SEMICOLON, 1},
+        {"\n0061 ;\n", "", UCA_BAD_TABLE, UCA_TABLE_NO_ELEMENT, 2},
+        {"0061 ; [.1000.0020.0002]\n0061 ; [.1001.0020.0002]\n", "", UCA_BAD_TABLE, UCA_TABLE_REPEATED, 2},
+        {"@implicitweights 18000..17000; FB00\n", "", UCA_BAD_TABLE, UCA_TABLE_BAD_RANGE, 1},
+        {"0061 ; [.1000.0020.0002]\n", "&a<", UCA_BAD_RULES, UCA_RULES_EMPTY_STRING, 3},
+        {"0061 ; [.1000.0020.0002]\n", "a<b", UCA_BAD_RULES, UCA_RULES_SYNTAX, 0},
+        {"0061 ; [.1000.0020.0002]\n", "[backwards 2]", UCA_BAD_RULES, UCA_RULES_LEFT_OUT, 0},
+        {"0061 ; [.1000.0020.0002]\n", "&a<b\xFF", UCA_BAD_RULES, UCA_RULES_NOT_UTF8, 4},
+        {"0061 ; [.0000.0000.0000]\n", "&a<b", UCA_BAD_TAILORING, UCA_TAILOR_SMALL_WEIGHT, 1},
+        {"0061 ; [.FFFE.0020.0002]\n0062 ; [.1000.0020.0002]\n", "&b<c&a<d", UCA_BAD_TAILORING, UCA_TAILOR_HIGH_RESET, 2},
+        {"0061 ; [.1000.FFFF.0002]\n", "&a<<b", UCA_BAD_TAILORING, UCA_TAILOR_FULL_SECONDARY, 1},
+        {"0061 ; [.1000.0020.FFFF]\n", "&a<<<b", UCA_BAD_TAILORING, UCA_TAILOR_FULL_TERTIARY, 1},
+        {"0061 ; zzz\n", "&a<", UCA_BAD_TABLE, UCA_TABLE_BAD_ELEMENT, 1},
+    };
+    uca_settings settings = UCA_TERTIARY_SETTINGS;
+    uca_collator collator = UCA_CLOSED;
+    uca_fault fault;
+    int32_t order;
+    for (int had = 0; had < 2; had++) {
+        for (size_t i = 0; i < sizeof cases / sizeof cases[0]; i++) {
+            const uint8_t *table = (const uint8_t *)cases[i].table, *rules = (const uint8_t *)cases[i].rules;
+            memset(&fault, 0xEE, sizeof fault);
+            uint32_t status = uca_open(&collator, table, strlen(cases[i].table), rules, strlen(cases[i].rules), &fault);
+            if (status != cases[i].status || fault.kind != cases[i].kind || fault.at != cases[i].at)
+                fprintf(stderr, "case %zu: status %u kind %u at %llu\n", i, status, fault.kind, (unsigned long long)fault.at);
+            CHECK(status == cases[i].status);
+            SAME_FAULT(cases[i].kind, 0, cases[i].at);
+        }
+        /* A refused table leaves the collator as it was. */
+        CHECK(uca_compare(&collator, &settings, TEXT("cz"), TEXT("ch"), &order, &fault) == (had ? UCA_OK : UCA_NOT_OPEN));
+        if (!had) open_small(&collator);
+    }
+    CHECK(order == -1);
+    open_small(&collator);
+    CHECK(uca_open(&collator, NULL, 0, NULL, 0, &fault) == UCA_OK);
+    SAME_FAULT(0, 0, 0);
+    uca_close(&collator);
+    uca_close(&collator);
+}
+
+static void cloning(void) {
+    uca_settings settings = UCA_TERTIARY_SETTINGS;
+    uca_collator collator = UCA_CLOSED, other = UCA_CLOSED;
+    uca_fault fault;
+    int32_t order = 9;
+    CHECK(uca_clone(&collator, &other) == UCA_NOT_OPEN);
+    open_small(&collator);
+    CHECK(uca_clone(&collator, &other) == UCA_OK);
+    CHECK(uca_clone(&collator, &other) == UCA_OK);
+    uca_close(&collator);
+    CHECK(uca_compare(&other, &settings, TEXT("cz"), TEXT("ch"), &order, &fault) == UCA_OK && order == -1);
+    CHECK(uca_clone(&collator, &other) == UCA_NOT_OPEN);
+    CHECK(uca_compare(&other, &settings, TEXT("ch"), TEXT("cz"), &order, &fault) == UCA_OK && order == 1);
+    uca_close(&other);
+}
+
+int main(int count, char **words) {
+    layout();
+    versions();
+    checking();
+    comparing();
+    settings();
+    keys();
+    fingerprints(count > 1 ? words[1] : NULL);
+    opening();
+    cloning();
+    if (failed_checks == 0) puts("well");
+    return failed_checks != 0;
+}

@@ -1,0 +1,35 @@
+//! Sorts the lines of a file by key, as `uca order` does: check TABLE LINES ORDERED FINGERPRINT
+use std::cmp::Ordering;
+use uca::{Collator, Key, Settings, Strength, Variable};
+
+fn main() {
+    let words: Vec<String> = std::env::args().skip(1).collect();
+    let table = std::fs::read(&words[0]).unwrap();
+    let lines = std::fs::read_to_string(&words[1]).unwrap();
+    let ordered = std::fs::read_to_string(&words[2]).unwrap();
+    let mut collator = Collator::open(&table, b"", Settings::default()).unwrap();
+
+    let mut sorted: Vec<(Key, &str)> = lines.split_terminator('\n').map(|line| (collator.key(line).unwrap(), line)).collect();
+    sorted.sort_by(|a, b| a.0.cmp(&b.0));
+    assert!(sorted.iter().map(|pair| pair.1).eq(ordered.split_terminator('\n')));
+    for pair in sorted.windows(2) {
+        assert_eq!(collator.compare(pair[0].1, pair[1].1), Ok(pair[0].0.cmp(&pair[1].0)));
+    }
+    let digits: String = collator.fingerprint().unwrap().iter().map(|byte| format!("{byte:02x}")).collect();
+    assert_eq!(digits, words[3]);
+
+    let mut clone = collator.try_clone().unwrap();
+    drop(collator);
+    let handle = std::thread::spawn(move || clone.compare("b", "a"));
+    assert_eq!(handle.join().unwrap(), Ok(Ordering::Greater));
+
+    let refused = Collator::open(b"zzz", b"", Settings::default()).err().unwrap();
+    assert_eq!((refused.status, refused.at), (6, 1));
+    let settings = Settings { strength: Strength::Identical, variable: Variable::Shifted };
+    let mut empty = Collator::open(b"", b"", settings).unwrap();
+    assert_eq!(empty.compare("", ""), Ok(Ordering::Equal));
+    assert_eq!(empty.key(&"\u{301}".repeat(31)).err().map(|error| (error.status, error.at)), Some((2, 60)));
+    assert_eq!(uca::check(b"a\xFF").err().map(|error| (error.status, error.text, error.at)), Some((1, 1, 1)));
+    assert_eq!((uca::version(), uca::unicode_version()), (0x010000, 0x120000));
+    println!("well");
+}

@@ -1,0 +1,204 @@
+//! Text in the order that the readers of a language expect: a safe binding of libuca.
+//!
+//! ```no_run
+//! # fn main() -> Result<(), uca::Error> {
+//! let table = std::fs::read("allkeys.txt").unwrap();
+//! let mut collator = uca::Collator::open(&table, b"", uca::Settings::default())?;
+//! let mut words = vec!["b", "á", "a"];
+//! words.sort_by_cached_key(|word| collator.key(word).unwrap());
+//! # Ok(())
+//! # }
+//! ```
+
+use std::cmp::Ordering;
+use std::ffi::c_void;
+use std::fmt;
+
+mod ffi {
+    use super::{c_void, RawFault, RawSettings};
+
+    #[repr(C)]
+    pub struct RawCollator {
+        pub table: *mut c_void,
+        pub is_open: bool,
+    }
+
+    extern "C" {
+        pub fn uca_version() -> u32;
+        pub fn uca_unicode_version() -> u32;
+        pub fn uca_open(c: *mut RawCollator, table: *const u8, table_size: usize, rules: *const u8, rules_size: usize, fault: *mut RawFault) -> u32;
+        pub fn uca_close(c: *mut RawCollator);
+        pub fn uca_clone(c: *mut RawCollator, other: *mut RawCollator) -> u32;
+        pub fn uca_check(text: *const u8, size: usize, fault: *mut RawFault) -> u32;
+        pub fn uca_compare(c: *mut RawCollator, s: *const RawSettings, a: *const u8, a_size: usize, b: *const u8, b_size: usize, order: *mut i32, fault: *mut RawFault) -> u32;
+        pub fn uca_sort_key(c: *mut RawCollator, s: *const RawSettings, text: *const u8, size: usize, out: *mut u8, capacity: usize, needed: *mut usize, fault: *mut RawFault) -> u32;
+        pub fn uca_fingerprint(c: *mut RawCollator, s: *const RawSettings, out: *mut [u8; 32]) -> u32;
+    }
+}
+
+#[repr(C)]
+#[derive(Clone, Copy, Default)]
+struct RawFault {
+    kind: u32,
+    text: u32,
+    at: u64,
+}
+
+#[repr(C)]
+#[derive(Clone, Copy)]
+struct RawSettings {
+    strength: u32,
+    variable: u32,
+    reserved: [u32; 6],
+}
+
+/// How many levels are compared.
+#[derive(Clone, Copy, Debug, PartialEq, Eq)]
+pub enum Strength {
+    Primary = 1,
+    Secondary = 2,
+    Tertiary = 3,
+    Quaternary = 4,
+    Identical = 5,
+}
+
+/// How spaces, punctuation and symbols are weighted.
+#[derive(Clone, Copy, Debug, PartialEq, Eq)]
+pub enum Variable {
+    NonIgnorable = 0,
+    Blanked = 1,
+    Shifted = 2,
+}
+
+/// The settings of a collator.
+#[derive(Clone, Copy, Debug, PartialEq, Eq)]
+pub struct Settings {
+    pub strength: Strength,
+    pub variable: Variable,
+}
+
+impl Default for Settings {
+    fn default() -> Settings {
+        Settings { strength: Strength::Tertiary, variable: Variable::NonIgnorable }
+    }
+}
+
+/// A call was refused. The numbers are those of `uca.h`.
+#[derive(Clone, Copy, Debug, PartialEq, Eq)]
+pub struct Error {
+    pub status: u32,
+    pub kind: u32,
+    pub text: u32,
+    pub at: u64,
+}
+
+impl fmt::Display for Error {
+    fn fmt(&self, f: &mut fmt::Formatter<'_>) -> fmt::Result {
+        write!(f, "uca: status {}, kind {}, text {}, at {}", self.status, self.kind, self.text, self.at)
+    }
+}
+
+impl std::error::Error for Error {}
+
+fn answer<T>(status: u32, fault: RawFault, value: T) -> Result<T, Error> {
+    match status {
+        0 => Ok(value),
+        _ => Err(Error { status, kind: fault.kind, text: fault.text, at: fault.at }),
+    }
+}
+
+/// A sort key: keys compare as their texts do, where they were made under one table and the same settings.
+#[derive(Clone, Debug, PartialEq, Eq, PartialOrd, Ord, Hash)]
+pub struct Key(Vec<u8>);
+
+impl Key {
+    pub fn as_bytes(&self) -> &[u8] {
+        &self.0
+    }
+
+    pub fn into_bytes(self) -> Vec<u8> {
+        self.0
+    }
+}
+
+/// A table and settings. One call at a time uses it, so each takes it by `&mut`; another thread takes a clone.
+pub struct Collator {
+    raw: ffi::RawCollator,
+    settings: RawSettings,
+}
+
+// The library's type of a collator may go to another thread.
+unsafe impl Send for Collator {}
+
+impl Collator {
+    /// The table of a text in the format of `allkeys.txt`, tailored by rules.
+    pub fn open(table: &[u8], rules: &[u8], settings: Settings) -> Result<Collator, Error> {
+        let settings = RawSettings { strength: settings.strength as u32, variable: settings.variable as u32, reserved: [0; 6] };
+        let mut collator = Collator { raw: ffi::RawCollator { table: std::ptr::null_mut(), is_open: false }, settings };
+        let mut fault = RawFault::default();
+        // The pointers are those of slices, which are not null.
+        let status = unsafe { ffi::uca_open(&mut collator.raw, table.as_ptr(), table.len(), rules.as_ptr(), rules.len(), &mut fault) };
+        answer(status, fault, collator)
+    }
+
+    /// Another collator over the same table.
+    pub fn try_clone(&mut self) -> Result<Collator, Error> {
+        let mut other = Collator { raw: ffi::RawCollator { table: std::ptr::null_mut(), is_open: false }, settings: self.settings };
+        let status = unsafe { ffi::uca_clone(&mut self.raw, &mut other.raw) };
+        answer(status, RawFault::default(), other)
+    }
+
+    pub fn compare(&mut self, a: &str, b: &str) -> Result<Ordering, Error> {
+        let (mut order, mut fault) = (0, RawFault::default());
+        let status = unsafe {
+            ffi::uca_compare(&mut self.raw, &self.settings, a.as_ptr(), a.len(), b.as_ptr(), b.len(), &mut order, &mut fault)
+        };
+        answer(status, fault, order.cmp(&0))
+    }
+
+    pub fn key(&mut self, text: &str) -> Result<Key, Error> {
+        let mut out = vec![0; 8 * text.len() + 32];
+        loop {
+            let (mut needed, mut fault) = (0, RawFault::default());
+            let status = unsafe {
+                ffi::uca_sort_key(&mut self.raw, &self.settings, text.as_ptr(), text.len(), out.as_mut_ptr(), out.len(), &mut needed, &mut fault)
+            };
+            answer(status, fault, ())?;
+            let whole = needed <= out.len();
+            out.resize(needed, 0);
+            if whole {
+                return Ok(Key(out));
+            }
+        }
+    }
+
+    /// The digest of all that keys depend on: store it with them.
+    pub fn fingerprint(&mut self) -> Result<[u8; 32], Error> {
+        let mut out = [0; 32];
+        let status = unsafe { ffi::uca_fingerprint(&mut self.raw, &self.settings, &mut out) };
+        answer(status, RawFault::default(), out)
+    }
+}
+
+impl Drop for Collator {
+    fn drop(&mut self) {
+        unsafe { ffi::uca_close(&mut self.raw) }
+    }
+}
+
+/// Whether a text can be collated, or where not.
+pub fn check(text: &[u8]) -> Result<(), Error> {
+    let mut fault = RawFault::default();
+    let status = unsafe { ffi::uca_check(text.as_ptr(), text.len(), &mut fault) };
+    answer(status, fault, ())
+}
+
+/// The version of the library, in the form of `uca.h`.
+pub fn version() -> u32 {
+    unsafe { ffi::uca_version() }
+}
+
+/// The version of Unicode by which texts are decomposed, in the same form.
+pub fn unicode_version() -> u32 {
+    unsafe { ffi::uca_unicode_version() }
+}

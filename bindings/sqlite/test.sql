@@ -1,0 +1,35 @@
+.bail on
+SELECT uca_load('uca', '@TABLE@');
+SELECT uca_load('es', '@TABLE@', '@RULES@', 'tertiary', 'shifted');
+CREATE TABLE w (n INTEGER PRIMARY KEY, t TEXT);
+CREATE TABLE lines (t TEXT);
+.mode ascii
+.separator "\037" "\n"
+.import @LINES@ lines
+INSERT INTO w (t) SELECT * FROM lines;
+.mode list
+CREATE INDEX by_collation ON w (t COLLATE uca);
+CREATE INDEX by_key ON w (uca_key(t));
+ANALYZE;
+.output @WORK@/by_collation
+SELECT t FROM w ORDER BY t COLLATE uca, n;
+.output @WORK@/by_key
+SELECT t FROM w ORDER BY uca_key(t), n;
+.output @WORK@/answers
+SELECT count(*) FROM w;
+EXPLAIN QUERY PLAN SELECT t FROM w ORDER BY t COLLATE uca, n;
+EXPLAIN QUERY PLAN SELECT t FROM w ORDER BY uca_key(t), n;
+EXPLAIN QUERY PLAN SELECT t FROM w WHERE t COLLATE uca BETWEEN 'l' AND 'm';
+EXPLAIN QUERY PLAN SELECT t FROM w WHERE uca_key(t) BETWEEN uca_key('l') AND uca_key('m');
+SELECT (SELECT count(*) FROM w WHERE t COLLATE uca BETWEEN 'l' AND 'm') = (SELECT count(*) FROM w WHERE uca_key(t) BETWEEN uca_key('l') AND uca_key('m'));
+SELECT group_concat(column1, ' ') FROM (SELECT column1 FROM (VALUES ('mano'), ('lomo'), ('llano'), ('luna')) ORDER BY column1 COLLATE es);
+SELECT lower(hex(uca_fingerprint('uca')));
+PRAGMA integrity_check;
+.bail off
+SELECT uca_key(CAST(x'61ff' AS TEXT));
+SELECT uca_key('a', 'none');
+SELECT uca_load('uca', '@TABLE@');
+SELECT uca_load('x', '/nowhere');
+SELECT uca_load('x', '@RULES@');
+SELECT uca_load('x', '@TABLE@', NULL, 'sixth');
+SELECT hex(uca_key(NULL)), length(uca_key(printf('%.*c', 1000, 'a')));

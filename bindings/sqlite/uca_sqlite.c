@@ -1,0 +1,244 @@
+/*
+ * An extension of SQLite that sorts and indexes text by libuca.
+ *
+ *     .load ./uca_sqlite
+ *     SELECT uca_load('uca', 'allkeys.txt');                           -- or with rules: uca_load(name, table, rules)
+ *     SELECT uca_load('es', 'allkeys.txt', 'es.rules', 'tertiary', 'non-ignorable');
+ *     SELECT t FROM words ORDER BY t COLLATE uca;
+ *     CREATE INDEX by_key ON words(uca_key(t));                        -- a sort key as a blob, by the collation 'uca'
+ *     SELECT t FROM words ORDER BY uca_key(t);
+ *     SELECT uca_key(t, 'es') FROM words;                              -- by the collation of this name
+ *     SELECT uca_fingerprint('uca');                                   -- store it with an index, and compare before use
+ *
+ * uca_load has to run on each connection before a statement that needs its collation. A file that it names is read by the
+ * process, so it cannot be called from triggers and views. Bytes that are no text come after all texts, by their bytes,
+ * since a collation of SQLite cannot fail; uca_key reports them.
+ */
+#include <sqlite3ext.h>
+SQLITE_EXTENSION_INIT1
+#include "uca.h"
+#include <stdio.h>
+#include <stdlib.h>
+#include <string.h>
+
+/* A collation by its name. The registry of a connection has it, and each function of SQLite that uses it. */
+struct collation {
+    uca_collator collator;
+    uca_settings settings;
+    int owners;
+    char *name;
+    struct collation *next;
+};
+
+struct registry {
+    struct collation *first;
+};
+
+static void let_go(void *room) {
+    struct collation *collation = room;
+    if (--collation->owners > 0) return;
+    uca_close(&collation->collator);
+    sqlite3_free(collation->name);
+    sqlite3_free(collation);
+}
+
+static void let_all_go(void *room) {
+    struct registry *registry = room;
+    while (registry->first) {
+        struct collation *collation = registry->first;
+        registry->first = collation->next;
+        let_go(collation);
+    }
+    sqlite3_free(registry);
+}
+
+static struct collation *named(struct registry *registry, const char *name) {
+    struct collation *collation = registry->first;
+    while (collation && sqlite3_stricmp(collation->name, name) != 0) collation = collation->next;
+    return collation;
+}
+
+static int by_bytes(int a_size, const void *a, int b_size, const void *b) {
+    int order = memcmp(a, b, a_size < b_size ? a_size : b_size);
+    return order ? order : (a_size > b_size) - (a_size < b_size);
+}
+
+static int compare(void *room, int a_size, const void *a, int b_size, const void *b) {
+    struct collation *collation = room;
+    uca_fault fault;
+    int32_t order = 0;
+    if (uca_compare(&collation->collator, &collation->settings, a, a_size, b, b_size, &order, &fault) == UCA_OK) return order;
+    int a_fails = uca_check(a, a_size, &fault) != UCA_OK, b_fails = uca_check(b, b_size, &fault) != UCA_OK;
+    return a_fails && b_fails ? by_bytes(a_size, a, b_size, b) : a_fails - b_fails;
+}
+
+static void report(sqlite3_context *context, const char *function, uint32_t status, const uca_fault *fault) {
+    if (status == UCA_NO_MEMORY) {
+        sqlite3_result_error_nomem(context);
+        return;
+    }
+    char *text = sqlite3_mprintf("%s: %s, kind %u, at %llu", function, uca_status_name(status), fault->kind,
+                                 (unsigned long long)fault->at);
+    sqlite3_result_error(context, text ? text : function, -1);
+    sqlite3_free(text);
+}
+
+/* The collation that an optional argument names; 'uca' without one. */
+static struct collation *wanted(sqlite3_context *context, int count, sqlite3_value **values, int place) {
+    const char *name = count > place ? (const char *)sqlite3_value_text(values[place]) : "uca";
+    struct collation *collation = name ? named(sqlite3_user_data(context), name) : NULL;
+    if (!collation) sqlite3_result_error(context, "uca: no collation of this name: call uca_load first", -1);
+    return collation;
+}
+
+static void key(sqlite3_context *context, int count, sqlite3_value **values) {
+    struct collation *collation = wanted(context, count, values, 1);
+    if (!collation || sqlite3_value_type(values[0]) == SQLITE_NULL) return;
+    const uint8_t *text = sqlite3_value_text(values[0]);
+    size_t size = sqlite3_value_bytes(values[0]), needed = 0;
+    uint8_t room[1024], *out = room;
+    uca_fault fault;
+    uint32_t status = uca_sort_key(&collation->collator, &collation->settings, text, size, out, sizeof room, &needed, &fault);
+    if (status == UCA_OK && needed > sizeof room) {
+        out = sqlite3_malloc64(needed);
+        if (!out) {
+            sqlite3_result_error_nomem(context);
+            return;
+        }
+        status = uca_sort_key(&collation->collator, &collation->settings, text, size, out, needed, &needed, &fault);
+    }
+    if (status != UCA_OK) report(context, "uca_key", status, &fault);
+    else sqlite3_result_blob64(context, out, needed, SQLITE_TRANSIENT);
+    if (out != room) sqlite3_free(out);
+}
+
+static void fingerprint(sqlite3_context *context, int count, sqlite3_value **values) {
+    struct collation *collation = wanted(context, count, values, 0);
+    uca_digest digest;
+    uca_fault none = {0, 0, 0};
+    if (!collation) return;
+    uint32_t status = uca_fingerprint(&collation->collator, &collation->settings, &digest);
+    if (status != UCA_OK) report(context, "uca_fingerprint", status, &none);
+    else sqlite3_result_blob(context, digest.bytes, sizeof digest.bytes, SQLITE_TRANSIENT);
+}
+
+/* The bytes of a file, to be freed by sqlite3_free; null where it cannot be read. */
+static uint8_t *contents(const char *path, size_t *size) {
+    FILE *file = fopen(path, "rb");
+    uint8_t *bytes = NULL;
+    size_t room = 0, got = 0;
+    *size = 0;
+    if (!file) return NULL;
+    do {
+        *size += got;
+        if (*size == room) {
+            uint8_t *grown = sqlite3_realloc64(bytes, room = room ? 2 * room : 1 << 16);
+            if (!grown) break;
+            bytes = grown;
+        }
+        got = fread(bytes + *size, 1, room - *size, file);
+    } while (got > 0);
+    int failed = ferror(file) || *size == room;
+    fclose(file);
+    if (failed) sqlite3_free(bytes);
+    return failed ? NULL : bytes;
+}
+
+/* The place of a word among others, or a number that no setting has. */
+static uint32_t place_of(const char *word, const char *const *words, uint32_t count) {
+    for (uint32_t i = 0; i < count; i++)
+        if (word && strcmp(word, words[i]) == 0) return i;
+    return 99;
+}
+
+static uca_settings settings_of(int count, sqlite3_value **values) {
+    static const char *const strengths[] = {"primary", "secondary", "tertiary", "quaternary", "identical"};
+    static const char *const options[] = {"non-ignorable", "blanked", "shifted"};
+    uca_settings settings = UCA_TERTIARY_SETTINGS;
+    if (count > 3) settings.strength = 1 + place_of((const char *)sqlite3_value_text(values[3]), strengths, 5);
+    if (count > 4) settings.variable = place_of((const char *)sqlite3_value_text(values[4]), options, 3);
+    return settings;
+}
+
+/* Opens a collator by the files that arguments name; whether it did. */
+static int opens(sqlite3_context *context, struct collation *collation, int count, sqlite3_value **values) {
+    size_t table_size = 0, rules_size = 0;
+    const char *table_path = (const char *)sqlite3_value_text(values[1]);
+    const char *rules_path = count > 2 ? (const char *)sqlite3_value_text(values[2]) : NULL;
+    uint8_t *table = table_path ? contents(table_path, &table_size) : NULL;
+    uint8_t *rules = rules_path ? contents(rules_path, &rules_size) : NULL;
+    uint32_t status = UCA_OK;
+    uca_fault fault = {0, 0, 0};
+    int are_read = table && (rules || !rules_path);
+    if (are_read) status = uca_open(&collation->collator, table, table_size, rules, rules_size, &fault);
+    sqlite3_free(table);
+    sqlite3_free(rules);
+    if (!are_read) sqlite3_result_error(context, "uca_load: a file could not be read", -1);
+    else if (status != UCA_OK) report(context, "uca_load", status, &fault);
+    return are_read && status == UCA_OK;
+}
+
+static void load(sqlite3_context *context, int count, sqlite3_value **values) {
+    struct registry *registry = sqlite3_user_data(context);
+    sqlite3 *connection = sqlite3_context_db_handle(context);
+    const char *name = count > 0 ? (const char *)sqlite3_value_text(values[0]) : NULL;
+    if (count < 2 || count > 5 || !name) {
+        sqlite3_result_error(context, "uca_load(name, table [, rules [, strength [, variable]]])", -1);
+        return;
+    }
+    if (named(registry, name)) {
+        sqlite3_result_error(context, "uca_load: there is a collation of this name", -1);
+        return;
+    }
+    struct collation *collation = sqlite3_malloc(sizeof *collation);
+    if (!collation) {
+        sqlite3_result_error_nomem(context);
+        return;
+    }
+    memset(collation, 0, sizeof *collation);
+    collation->owners = 1;
+    collation->settings = settings_of(count, values);
+    collation->name = sqlite3_mprintf("%s", name);
+    uca_fault fault = {0, 0, 0};
+    int32_t order;
+    uint32_t status;
+    if (!collation->name || !opens(context, collation, count, values)) {
+        if (!collation->name) sqlite3_result_error_nomem(context);
+        let_go(collation);
+        return;
+    }
+    status = uca_compare(&collation->collator, &collation->settings, NULL, 0, NULL, 0, &order, &fault);
+    if (status != UCA_OK) {
+        report(context, "uca_load", status, &fault);
+        let_go(collation);
+        return;
+    }
+    collation->owners = 2;
+    if (sqlite3_create_collation_v2(connection, name, SQLITE_UTF8, collation, compare, let_go) != SQLITE_OK) {
+        sqlite3_result_error(context, sqlite3_errmsg(connection), -1);
+        collation->owners = 1;
+        let_go(collation);
+        return;
+    }
+    collation->next = registry->first;
+    registry->first = collation;
+    sqlite3_result_text(context, name, -1, SQLITE_TRANSIENT);
+}
+
+#ifdef _WIN32
+__declspec(dllexport)
+#endif
+int sqlite3_ucasqlite_init(sqlite3 *connection, char **error, const sqlite3_api_routines *api) {
+    SQLITE_EXTENSION_INIT2(api);
+    (void)error;
+    struct registry *registry = sqlite3_malloc(sizeof *registry);
+    if (!registry) return SQLITE_NOMEM;
+    registry->first = NULL;
+    int flags = SQLITE_UTF8 | SQLITE_DETERMINISTIC | SQLITE_INNOCUOUS;
+    /* The first function lets the registry go, with the connection. */
+    int result = sqlite3_create_function_v2(connection, "uca_load", -1, SQLITE_UTF8 | SQLITE_DIRECTONLY, registry, load, NULL, NULL, let_all_go);
+    if (result == SQLITE_OK) result = sqlite3_create_function_v2(connection, "uca_key", 1, flags, registry, key, NULL, NULL, NULL);
+    if (result == SQLITE_OK) result = sqlite3_create_function_v2(connection, "uca_key", 2, flags, registry, key, NULL, NULL, NULL);
+    if (result == SQLITE_OK) result = sqlite3_create_function_v2(connection, "uca_fingerprint", -1, SQLITE_UTF8, registry, fingerprint, NULL, NULL, NULL);
+    return result;
+}

@@ -1,0 +1,3 @@
+mod HandleValues
+mod OpeningLemmas
+mod Values

@@ -1,0 +1,86 @@
+-- What a reader of known bytes that never fails has said of a table.
+use Rattle.std.proofs.Common.{◌≡◌, ℕ, List, ◌++◌, refl, sym, ap, ◌∙◌, subst, append-nil, arith, inl, inr}
+use Rattle.std.specs.Prelude.{Option, Some, None, Result, Ok, Err, MatchOption}
+use Rattle.uca_io.specs.Counts.{one_more}
+use Rattle.std.specs.Io.KnownBytes.{Consumes, IsAtEnd}
+use Rattle.uca_io.specs.Reader.{ReaderState}
+use Rattle.uca_model.specs.Table.{ElementTable}
+use Rattle.uca_io.specs.LineFold.{End, fault_at}
+use Rattle.uca_io.specs.LineReader.{IsFaulty}
+use Rattle.uca_model.specs.TableText.{Cause, ends, table_of_text}
+use Rattle.uca_allkeys.specs.Reading.{GivesTable, RefusedBy}
+use Rattle.uca_allkeys.specs.declared.faults.ReadCause.TheVariants.{LineTooLong, BadDirective, BadCodePoint, KeyTooLong, NoSemicolon, BadElement, NoElement, TooManyElements, Repeated, BadRange, TooLarge, Read, OutOfMemory}
+use Rattle.uca_allkeys.specs.declared.faults.ReadCause.{ReadCause}
+use Rattle.uca_allkeys.specs.Faults.{told}
+use Rattle.uca_model.specs.RuleText as rules
+use Rattle.uca_model.specs.Rules.{Chain}
+use Rattle.uca_model.specs.Tailoring as tailoring
+use Rattle.uca_tailor.specs.Faults.{RefusesText, RefusesRelation, reported_text_cause, reported_cause}
+use Rattle.uca_tailor.specs.declared.faults.RuleCause.{RuleCause}
+use Rattle.uca_tailor.specs.declared.faults.RuleCause.TheVariants as rule
+use Rattle.uca_tailor.specs.declared.faults.TailorCause.{TailorCause}
+use Rattle.uca_tailor.specs.declared.faults.TailorCause.TheVariants as tailor
+
+-- the bytes are all that were known
+all_known : (xs bytes : List ℕ) (left : Option (List ℕ)) → Consumes (Some xs) left bytes → IsAtEnd left → bytes ≡ xs
+all_known xs bytes None given end = absurd given
+all_known xs bytes (Some ys) given end = sym (given ∙ ap (λ zs. bytes ++ zs) end ∙ append-nil bytes)
+
+pub table_said : (old new : ReaderState) (xs : List ℕ) (t : ElementTable) → old.coming ≡ Some xs → GivesTable old new t → table_of_text ends xs ≡ Ok t
+table_said old new xs t known g =
+    subst (λ zs. table_of_text ends zs ≡ Ok t) (all_known xs g.bytes new.coming (subst (λ m. Consumes m new.coming g.bytes) known g.gives.gives.given) g.gives.ends) g.says
+
+-- a front of the known bytes is at fault whatever follows
+front_said : (xs bytes : List ℕ) (left : Option (List ℕ)) (line : ℕ) (cause : Cause) → Consumes (Some xs) left bytes
+    → ((end : End Cause) (more : List ℕ) → table_of_text end (bytes ++ more) ≡ fault_at line cause) → table_of_text ends xs ≡ fault_at line cause
+front_said xs bytes None line cause given says = absurd given
+front_said xs bytes (Some ys) line cause given says = ap (λ zs. table_of_text ends zs) given ∙ says ends ys
+
+-- the text is at fault
+faulty_said : (old new : ReaderState) (xs : List ℕ) (line : ℕ) (cause : Cause) → old.coming ≡ Some xs → IsFaulty table_of_text old new line cause → table_of_text ends xs ≡ fault_at line cause
+faulty_said old new xs line cause known (inl g) = front_said xs g.bytes new.coming line cause (subst (λ m. Consumes m new.coming g.bytes) known g.gives.given) g.says
+faulty_said old new xs line cause known (inr g) =
+    subst (λ zs. table_of_text ends zs ≡ fault_at line cause) (all_known xs g.bytes new.coming (subst (λ m. Consumes m new.coming g.bytes) known g.gives.gives.given) g.gives.ends) g.says
+
+-- one more failure is none of no failures
+never_failed : (failed : ℕ) → failed ≡ 0 → failed ≡ one_more 0 → ⊥
+never_failed failed none more = omega arith
+
+-- the text is refused by a reader that never fails, so for its own fault or for memory
+pub refused_said : (old new : ReaderState) (xs : List ℕ) (line : ℕ) (cause : ReadCause) → old.coming ≡ Some xs → old.failures ≡ 0 → new.failures ≡ 0 → RefusedBy cause old new line
+    → MatchOption (told cause) (Unit {0}) (λ c. table_of_text ends xs ≡ fault_at line c)
+refused_said old new xs line LineTooLong known none never g = faulty_said old new xs line _ known g
+refused_said old new xs line BadDirective known none never g = faulty_said old new xs line _ known g
+refused_said old new xs line BadCodePoint known none never g = faulty_said old new xs line _ known g
+refused_said old new xs line KeyTooLong known none never g = faulty_said old new xs line _ known g
+refused_said old new xs line NoSemicolon known none never g = faulty_said old new xs line _ known g
+refused_said old new xs line BadElement known none never g = faulty_said old new xs line _ known g
+refused_said old new xs line NoElement known none never g = faulty_said old new xs line _ known g
+refused_said old new xs line TooManyElements known none never g = faulty_said old new xs line _ known g
+refused_said old new xs line Repeated known none never g = faulty_said old new xs line _ known g
+refused_said old new xs line BadRange known none never g = faulty_said old new xs line _ known g
+refused_said old new xs line TooLarge known none never g = faulty_said old new xs line _ known g
+refused_said old new xs line Read known none never g = absurd (never_failed new.failures never (g.gives.failures ∙ ap one_more none))
+refused_said old new xs line OutOfMemory known none never g = tt
+
+-- ---- the rules
+
+-- a text of rules is refused for its own fault
+pub rules_refused : (says : Result (List Chain) rules.RuleFault) (at : ℕ) (cause : RuleCause) → ¬ (cause ≡ rule.OutOfMemory) → RefusesText says (record { at = at; cause = cause })
+    → MatchOption (reported_text_cause cause) ⊥ (λ told. says ≡ Err (record { at = at; cause = told }))
+rules_refused says at rule.Syntax other refused = refused
+rules_refused says at rule.LeftOut other refused = refused
+rules_refused says at rule.EmptyString other refused = refused
+rules_refused says at rule.LongRun other refused = refused
+rules_refused says at rule.KeyTooLong other refused = refused
+rules_refused says at rule.TooManyRelations other refused = refused
+rules_refused says at rule.OutOfMemory other refused = absurd (other refl)
+
+-- a relation is refused for its own fault
+pub relation_refused : (says : Result ElementTable tailoring.TailorFault) (relation : ℕ) (cause : TailorCause) → ¬ (cause ≡ tailor.OutOfMemory) → RefusesRelation says (record { relation = relation; cause = cause })
+    → MatchOption (reported_cause cause) ⊥ (λ told. says ≡ Err (record { relation = relation; cause = told }))
+relation_refused says relation tailor.SmallWeight other refused = refused
+relation_refused says relation tailor.HighReset other refused = refused
+relation_refused says relation (tailor.Full level) other refused = refused
+relation_refused says relation tailor.TooManyElements other refused = refused
+relation_refused says relation tailor.OutOfMemory other refused = absurd (other refl)

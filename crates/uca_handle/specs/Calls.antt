@@ -1,0 +1,97 @@
+-- What the calls of a collator answer, by its table.
+use Rattle.std.specs.Prelude.{◌≡◌, ℕ, List, ◌++◌, length, take, drop, Option, Some, None, Result, Ok, Err, chars}
+use Rattle.std.specs.declared.cmp.Ordering.{Ordering}
+use Rattle.sha2.specs.Sha256.{sha256}
+use Rattle.uca_model.specs.Lines.{IsTextLine}
+use Rattle.uca_model.specs.SortKey.{key_order, sort_key}
+use Rattle.uca_model.specs.Table.{ElementTable}
+use Rattle.uca_weights.specs.declared.settings.Settings.{Settings}
+use Rattle.uca_handle.specs.Fingerprint.{fingerprinted}
+use Rattle.uca_handle.specs.Opening.{SaysTable, RefusesTable}
+use Rattle.uca_handle.specs.Texts.{IsFault}
+use Rattle.uca_handle.specs.declared.faults.CompareFault.{CompareFault}
+use Rattle.uca_handle.specs.declared.faults.CompareFault.TheVariants as compare
+use Rattle.uca_handle.specs.declared.faults.FingerprintFault.{FingerprintFault}
+use Rattle.uca_handle.specs.declared.faults.FingerprintFault.TheVariants as fingerprint
+use Rattle.uca_handle.specs.declared.faults.KeyFault.{KeyFault}
+use Rattle.uca_handle.specs.declared.faults.KeyFault.TheVariants as key
+use Rattle.uca_handle.specs.declared.faults.OpenFault.{OpenFault}
+use Rattle.uca_handle.specs.declared.faults.ShareFault.{ShareFault}
+use Rattle.uca_handle.specs.declared.faults.ShareFault.TheVariants as share
+use Rattle.uca_handle.specs.declared.faults.TextFault.{TextFault}
+
+-- a collator has the table that two texts say
+pub record HasTable (table rules : List ℕ) (held : Option ElementTable) : Type 0 where
+  pub t : ElementTable
+  pub has : held ≡ Some t
+  pub says : SaysTable table rules t
+
+-- opening a collator gives it the table of two texts, or leaves it as it was
+abbrev pub Opens : List ℕ → List ℕ → Option ElementTable → Option ElementTable → Result (Unit {0}) OpenFault → Type 0
+Opens table rules old new (Ok _) = HasTable table rules new
+Opens table rules old new (Err f) = RefusesTable table rules f × (new ≡ old)
+
+-- another collator gets the table of one that has it, or stays as it was
+abbrev pub Shares : Option ElementTable → Option ElementTable → Option ElementTable → Result (Unit {0}) ShareFault → Type 0
+Shares (Some t) old new (Ok _) = new ≡ Some t
+Shares None old new (Ok _) = ⊥
+Shares (Some t) old new (Err share.Closed) = ⊥
+Shares None old new (Err share.Closed) = new ≡ old
+Shares (Some t) old new (Err share.OutOfMemory) = new ≡ old
+Shares None old new (Err share.OutOfMemory) = ⊥
+
+-- bytes are a text that can be collated, or have this fault
+abbrev pub Checks : List ℕ → Result (Unit {0}) TextFault → Type 0
+Checks text (Ok _) = IsTextLine text
+Checks text (Err f) = IsFault text f
+
+-- two texts are compared by a table
+pub record IsOrder (t : ElementTable) (s : Settings) (a b : List ℕ) (order : Ordering) : Type 0 where
+  pub first : IsTextLine a
+  pub second : IsTextLine b
+  pub is : order ≡ key_order (sort_key t s (chars a)) (sort_key t s (chars b))
+
+-- two texts are compared by a table, or the first that is none has this fault
+abbrev pub ComparesBy : ElementTable → Settings → List ℕ → List ℕ → Result Ordering CompareFault → Type 0
+ComparesBy t s a b (Ok order) = IsOrder t s a b order
+ComparesBy t s a b (Err compare.Closed) = ⊥
+ComparesBy t s a b (Err (compare.First f)) = IsFault a f
+ComparesBy t s a b (Err (compare.Second f)) = IsTextLine a × IsFault b f
+
+-- the same by a collator, which may have no table
+abbrev pub Compares : Option ElementTable → Settings → List ℕ → List ℕ → Result Ordering CompareFault → Type 0
+Compares None s a b result = result ≡ Err compare.Closed
+Compares (Some t) s a b result = ComparesBy t s a b result
+
+-- the front of a buffer has some bytes, or as many of them as fit, and the rest of it is as it was
+abbrev pub with_front : List ℕ → List ℕ → List ℕ
+with_front bytes buffer = take (length buffer) bytes ++ drop (length bytes) buffer
+
+-- the key of a text under a table is in the front of a buffer, and this is its length
+pub record IsKeyIn (t : ElementTable) (s : Settings) (text before after : List ℕ) (size : ℕ) : Type 0 where
+  pub safe : IsTextLine text
+  pub length_is : size ≡ length (sort_key t s (chars text))
+  pub written : after ≡ with_front (sort_key t s (chars text)) before
+
+-- the key is made, or the buffer stays as it was
+abbrev pub MakesKeyBy : ElementTable → Settings → List ℕ → List ℕ → List ℕ → Result ℕ KeyFault → Type 0
+MakesKeyBy t s text before after (Ok size) = IsKeyIn t s text before after size
+MakesKeyBy t s text before after (Err key.Closed) = ⊥
+MakesKeyBy t s text before after (Err (key.Text f)) = IsFault text f × (after ≡ before)
+MakesKeyBy t s text before after (Err key.OutOfMemory) = IsTextLine text × (after ≡ before)
+
+-- the same by a collator, which may have no table
+abbrev pub MakesKey : Option ElementTable → Settings → List ℕ → List ℕ → List ℕ → Result ℕ KeyFault → Type 0
+MakesKey None s text before after result = (result ≡ Err key.Closed) × (after ≡ before)
+MakesKey (Some t) s text before after result = MakesKeyBy t s text before after result
+
+-- the fingerprint of a table and settings
+abbrev pub FingerprintsBy : ElementTable → Settings → Result (List ℕ) FingerprintFault → Type 0
+FingerprintsBy t s (Ok digest) = digest ≡ sha256 (fingerprinted t s)
+FingerprintsBy t s (Err fingerprint.Closed) = ⊥
+FingerprintsBy t s (Err fingerprint.OutOfMemory) = Unit {0}
+
+-- the same by a collator, which may have no table
+abbrev pub Fingerprints : Option ElementTable → Settings → Result (List ℕ) FingerprintFault → Type 0
+Fingerprints None s result = result ≡ Err fingerprint.Closed
+Fingerprints (Some t) s result = FingerprintsBy t s result

@@ -1,0 +1,6 @@
+pub mod Calls
+pub mod Collator
+pub mod Fingerprint
+pub mod Held
+pub mod Opening
+pub mod Texts

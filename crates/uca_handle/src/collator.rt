@@ -1,0 +1,196 @@
+ghost use Rattle.std.specs.Prelude.{◌≡◌, None, Some, IfOk, is_some, option_map};
+ghost use Rattle.std.specs.Arc.{arc_value};
+ghost use Rattle.std.specs.Box.{box_value};
+
+use crate::digest::digest_of;
+use crate::faults::{CompareFault, FingerprintFault, KeyFault, OpenFault, ShareFault};
+use crate::handle::Handle;
+use crate::keys::put_key;
+use crate::loose::Loose;
+use crate::opening::table_of;
+use crate::texts::order_of;
+use std::alloc::{AllocError, Global};
+use std::cmp::Ordering;
+use std::mem::replace;
+use std::sync::Arc;
+use uca_table::Table;
+use uca_weights::Settings;
+
+/// A table that several collators own together.
+type Shared = Box<Arc<Table, Global>, Global>;
+
+/// A share of a table, or none. It is laid out as C lays out a pointer and a `bool`, and zeros are a collator without a
+/// table.
+#[repr(C)]
+pub struct Collator {
+    pub(crate) handle: Handle,
+    pub(crate) is_open: bool,
+    ghost kept: { is_some handle.table ≡ is_open },
+}
+
+impl Drop for Collator {
+    fn drop(self) {
+        let _table = self.into_table();
+    }
+}
+
+impl Collator {
+    ghost use Rattle.uca_handle.specs.Calls.{Compares, Fingerprints, MakesKey, Opens, Shares};
+    ghost use Rattle.uca_handle.specs.Collator.{held};
+
+    /// A collator without a table.
+    pub fn closed(alloc: Global) -> Collator
+        ensures { held result ≡ None }
+    {
+        Collator {
+            handle: Handle::none(alloc),
+            is_open: false,
+        }
+    }
+
+    fn of(table: Shared) -> Collator
+        ensures { result.handle.table ≡ Some table.value }
+    {
+        Collator {
+            handle: Handle::of(Loose::of(table)),
+            is_open: true,
+        }
+    }
+
+    fn into_table(self) -> Option<Shared>
+        ensures { option_map box_value result ≡ self.handle.table }
+    {
+        let Collator { handle, is_open } = self;
+        if is_open {
+            Some(handle.into_loose().into_box())
+        } else {
+            None
+        }
+    }
+
+    fn take(&mut self, alloc: Global) -> Option<Shared>
+        ensures table { option_map box_value result ≡ self.old.handle.table }
+        ensures closed { self.new.handle.table ≡ None }
+    {
+        replace(self, Collator::closed(alloc)).into_table()
+    }
+
+    fn fill(&mut self, table: Shared)
+        ensures { self.new.handle.table ≡ Some table.value }
+    {
+        *self = Collator::of(table);
+    }
+
+    /// Gives the collator the table that two texts say: the first in the format of `allkeys.txt`, and the second rules that
+    /// tailor it. It lets go of the table that it has had, or keeps it where the texts say none.
+    pub fn load(&mut self, alloc: Global, table: &[u8], rules: &[u8]) -> Result<(), OpenFault>
+        ensures { Opens table.now rules.now (held self.old) (held self.new) result }
+    {
+        let opened = shared(alloc, table_of(alloc, table, rules)?)?;
+        let _before = self.take(alloc);
+        self.fill(opened);
+        Ok(())
+    }
+
+    /// Lets go of the table. It is freed once no other collator has it.
+    pub fn close(&mut self, alloc: Global)
+        ensures { held self.new ≡ None }
+    {
+        let _table = self.take(alloc);
+    }
+
+    /// Gives another collator the same table. That lets go of the one that it has had, or keeps it where there is none to
+    /// share.
+    pub fn share(&mut self, alloc: Global, other: &mut Collator) -> Result<(), ShareFault>
+        ensures shares { Shares (held self.old) (held other.old) (held other.new) result }
+        ensures same { held self.new ≡ held self.old }
+    {
+        let Some(table) = self.take(alloc) else {
+            return Err(ShareFault::Closed);
+        };
+        let copied = copy_of(alloc, &table);
+        self.fill(table);
+        let copy = copied?;
+        let _before = other.take(alloc);
+        other.fill(copy);
+        Ok(())
+    }
+
+    /// The order of the sort keys of two texts, or the fault of the first of them that has one. It takes no memory.
+    pub fn compare(
+        &mut self,
+        alloc: Global,
+        s: Settings,
+        a: &[u8],
+        b: &[u8],
+    ) -> Result<Ordering, CompareFault>
+        ensures compares { Compares (held self.old) s a.now b.now result }
+        ensures same { held self.new ≡ held self.old }
+    {
+        let Some(table) = self.take(alloc) else {
+            return Err(CompareFault::Closed);
+        };
+        let answer = order_of(table_in(&table), s, a, b);
+        self.fill(table);
+        answer
+    }
+
+    /// Puts the sort key of a text into the front of a buffer, or as many of its bytes as fit, and returns how many bytes it
+    /// has.
+    pub fn sort_key(
+        &mut self,
+        alloc: Global,
+        s: Settings,
+        text: &[u8],
+        out: &mut [u8],
+    ) -> Result<usize, KeyFault>
+        ensures key { MakesKey (held self.old) s text.now out.old out.new result }
+        ensures same { held self.new ≡ held self.old }
+    {
+        let Some(table) = self.take(alloc) else {
+            return Err(KeyFault::Closed);
+        };
+        let answer = put_key(alloc, table_in(&table), s, text, out);
+        self.fill(table);
+        answer
+    }
+
+    /// The SHA-256 digest of what sort keys depend on: the canonical text of the table, the settings, and the version of
+    /// Unicode by which texts are decomposed. Keys of equal fingerprints can be compared.
+    pub fn fingerprint(&mut self, alloc: Global, s: Settings) -> Result<[u8; 32], FingerprintFault>
+        ensures digest { Fingerprints (held self.old) s result }
+        ensures same { held self.new ≡ held self.old }
+    {
+        let Some(table) = self.take(alloc) else {
+            return Err(FingerprintFault::Closed);
+        };
+        let answer = digest_of(alloc, table_in(&table), s);
+        self.fill(table);
+        answer
+    }
+}
+
+/// Counts the owners of a table.
+fn shared(alloc: Global, t: Table) -> Result<Shared, AllocError>
+    ensures { IfOk result (λ b. arc_value b.value ≡ t) }
+{
+    let counted = Arc::new(alloc, t)?;
+    Ok(Box::new(alloc, counted)?)
+}
+
+/// One more owner of a table.
+fn copy_of(alloc: Global, table: &Shared) -> Result<Shared, AllocError>
+    ensures { IfOk result (λ b. arc_value b.value ≡ arc_value table.now.value) }
+{
+    let counted: &Arc<Table, Global> = table;
+    let copy = Arc::try_clone(counted)?;
+    Ok(Box::new(alloc, copy)?)
+}
+
+/// The table that an owner has.
+fn table_in(table: &Shared) -> &Table
+    ensures { result.now ≡ arc_value table.now.value }
+{
+    let counted: &Arc<Table, Global> = table;
+    counted
+}

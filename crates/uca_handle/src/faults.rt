@@ -1,0 +1,92 @@
+ghost use Rattle.std.specs.Prelude.{◌≡◌};
+
+use std::alloc::AllocError;
+use thiserror::Error;
+use uca_allkeys::ReadFault;
+use uca_tailor::{RuleFault, TailorFault};
+
+/// Why bytes are no text that can be collated.
+#[derive(Clone, Copy, Debug, PartialEq, Eq, Error)]
+pub enum TextFault {
+    /// They are not UTF-8 from this byte on.
+    #[error("NotUtf8")]
+    NotUtf8(usize),
+    /// A run of nonstarters is too long, from the character at this byte on.
+    #[error("LongRun")]
+    LongRun(usize),
+}
+
+/// Why two texts say no table.
+#[derive(Clone, Copy, Debug, PartialEq, Eq)]
+pub enum OpenFault {
+    /// The text of the table is refused.
+    Table(ReadFault),
+    /// The rules are not UTF-8 from this byte on.
+    RulesNotUtf8(usize),
+    /// The text of the rules is refused.
+    Rules(RuleFault),
+    /// The rules cannot tailor the table.
+    Tailor(TailorFault),
+    /// An allocation failed.
+    OutOfMemory,
+}
+
+/// Why a collator does not share its table.
+#[derive(Clone, Copy, Debug, PartialEq, Eq)]
+pub enum ShareFault {
+    /// It has none.
+    Closed,
+    /// An allocation failed.
+    OutOfMemory,
+}
+
+/// Why two texts were not compared.
+#[derive(Clone, Copy, Debug, PartialEq, Eq)]
+pub enum CompareFault {
+    /// The collator has no table.
+    Closed,
+    /// The first text is at fault.
+    First(TextFault),
+    /// The second text is at fault, and the first is not.
+    Second(TextFault),
+}
+
+/// Why no sort key was made.
+#[derive(Clone, Copy, Debug, PartialEq, Eq)]
+pub enum KeyFault {
+    /// The collator has no table.
+    Closed,
+    /// The text is at fault.
+    Text(TextFault),
+    /// An allocation failed.
+    OutOfMemory,
+}
+
+/// Why no fingerprint was made.
+#[derive(Clone, Copy, Debug, PartialEq, Eq)]
+pub enum FingerprintFault {
+    /// The collator has no table.
+    Closed,
+    /// An allocation failed.
+    OutOfMemory,
+}
+
+impl From<AllocError> for OpenFault {
+    ghost use Rattle.uca_handle.specs.declared.faults.OpenFault.TheVariants.{OutOfMemory};
+
+    ghost from_gives = { λ _ fault. fault ≡ OutOfMemory };
+
+    fn from(_refused: AllocError) -> OpenFault {
+        OpenFault::OutOfMemory
+    }
+}
+
+impl From<AllocError> for ShareFault {
+    ghost use Rattle.uca_handle.specs.declared.faults.ShareFault.TheVariants.{OutOfMemory};
+
+    ghost from_gives = { λ _ fault. fault ≡ OutOfMemory };
+
+    fn from(_refused: AllocError) -> ShareFault {
+        ShareFault::OutOfMemory
+    }
+}

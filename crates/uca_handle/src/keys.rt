@@ -1,0 +1,40 @@
+ghost use Rattle.std.specs.Prelude.{◌≡◌};
+ghost use Rattle.uca_handle.specs.Calls.{MakesKeyBy, with_front};
+
+use crate::faults::KeyFault;
+use crate::texts::passage_of;
+use std::alloc::Global;
+use uca_key::key_of;
+use uca_table::Table;
+use uca_weights::Settings;
+
+/// Copies bytes into the front of a buffer, or as many of them as fit.
+fn copy_front(bytes: &[u8], out: &mut [u8])
+    ensures { out.new ≡ with_front bytes.now out.old }
+{
+    let n = bytes.len().min(out.len());
+    out[..n].copy_from_slice(&bytes[..n]);
+}
+
+/// Puts the sort key of a text into the front of a buffer, or as many of its bytes as fit.
+pub(crate) fn put_key(
+    alloc: Global,
+    t: &Table,
+    s: Settings,
+    text: &[u8],
+    out: &mut [u8],
+) -> Result<usize, KeyFault>
+    ensures { MakesKeyBy t.now s text.now out.old out.new result }
+{
+    let passage = match passage_of(text) {
+        Ok(passage) => passage,
+        Err(fault) => return Err(KeyFault::Text(fault)),
+    };
+    match key_of(alloc, t, s, &passage) {
+        Ok(key) => {
+            copy_front(key.as_slice(), out);
+            Ok(key.len())
+        }
+        Err(_) => Err(KeyFault::OutOfMemory),
+    }
+}

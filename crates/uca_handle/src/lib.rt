@@ -1,0 +1,24 @@
+//! A collator that outlives a call: it owns a share of a tailored table behind one pointer, so that code which is not
+//! Rattle can hold it.
+//!
+//! [`Collator::load`] gives it the table that two texts say, and [`Collator::share`] gives another collator the same
+//! table. The table is freed with the last collator that has it. [`Collator::compare`], [`Collator::sort_key`] and
+//! [`Collator::fingerprint`] work on bytes: they check them, and report where a text ends or is not safe.
+#![tactic(auto)]
+
+mod bytes;
+pub mod collator;
+mod digest;
+pub mod faults;
+pub mod handle;
+mod keys;
+mod loose;
+mod opening;
+pub mod texts;
+
+pub use collator::Collator;
+pub use faults::{CompareFault, FingerprintFault, KeyFault, OpenFault, ShareFault, TextFault};
+pub use texts::check;
+
+#[cfg(test)]
+mod tests;

@@ -1,0 +1,50 @@
+ghost use Rattle.std.specs.Prelude.{◌≡◌, chars, MatchResult};
+ghost use Rattle.uca_model.specs.Lines.{IsTextLine};
+ghost use Rattle.uca_window.specs.Passage.{text_of};
+ghost use Rattle.uca_handle.specs.Calls.{Checks, ComparesBy};
+ghost use Rattle.uca_handle.specs.Texts.{IsFault};
+
+use crate::faults::{CompareFault, TextFault};
+use simdutf8::compat::from_utf8;
+use std::cmp::Ordering;
+use uca_levels::compare;
+use uca_table::Table;
+use uca_weights::Settings;
+use uca_window::Passage;
+
+/// The text that bytes are.
+pub(crate) fn passage_of(bytes: &[u8]) -> Result<Passage<'_>, TextFault>
+    ensures { MatchResult result (λ p. IsTextLine bytes.now × (text_of p ≡ chars bytes.now)) (IsFault bytes.now) }
+{
+    match from_utf8(bytes) {
+        Ok(text) => match Passage::check(text) {
+            Ok(passage) => Ok(passage),
+            Err(run) => Err(TextFault::LongRun(run.at)),
+        },
+        Err(error) => Err(TextFault::NotUtf8(error.valid_up_to())),
+    }
+}
+
+/// Whether bytes are a text that can be collated: UTF-8 whose runs of nonstarters are short. It takes no memory.
+pub fn check(text: &[u8]) -> Result<(), TextFault>
+    ensures { Checks text.now result }
+{
+    match passage_of(text) {
+        Ok(_) => Ok(()),
+        Err(fault) => Err(fault),
+    }
+}
+
+/// The order of the sort keys of two texts, or the fault of the first of them that has one.
+pub(crate) fn order_of(t: &Table, s: Settings, a: &[u8], b: &[u8]) -> Result<Ordering, CompareFault>
+    ensures { ComparesBy t.now s a.now b.now result }
+{
+    let left = match passage_of(a) {
+        Ok(left) => left,
+        Err(fault) => return Err(CompareFault::First(fault)),
+    };
+    match passage_of(b) {
+        Ok(right) => Ok(compare(t, s, &left, &right)),
+        Err(fault) => Err(CompareFault::Second(fault)),
+    }
+}

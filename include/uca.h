@@ -1,0 +1,237 @@
+/*
+ * uca.h: text in the order that the readers of a language expect, by the Unicode Collation Algorithm (UTS #10).
+ *
+ * A collator compares texts and makes sort keys. Sort keys are bytes: comparing two of them byte by byte (memcmp, and the
+ * shorter one first where one is the beginning of the other) orders their texts, so they can be stored and indexed.
+ * Comparing two texts gives the same order as comparing their sort keys.
+ *
+ *     uca_collator collator = UCA_CLOSED;
+ *     uca_fault fault;
+ *     if (uca_open(&collator, table, table_size, rules, rules_size, &fault) != UCA_OK) ...
+ *     uca_settings settings = UCA_TERTIARY_SETTINGS;
+ *     int32_t order;
+ *     uca_compare(&collator, &settings, a, a_size, b, b_size, &order, &fault);
+ *     uca_close(&collator);
+ *
+ * Texts are UTF-8 and given as a pointer and a number of bytes; they need no NUL. A pointer may be null if its number of
+ * bytes is 0. No other pointer may be null. What a call writes through a pointer may not overlap anything else that it is
+ * given.
+ *
+ * Every call returns a status, and most say in a uca_fault where a fault is. Where a call returns any status but UCA_OK,
+ * it has changed nothing but the fault.
+ *
+ * Memory: uca_open, uca_clone, uca_sort_key and uca_fingerprint call malloc, realloc and free. uca_compare, uca_check and
+ * uca_version allocate nothing. No call keeps a pointer that it was given.
+ *
+ * Threads: one call at a time may use a collator. A collator may go from thread to thread. To use one table in several
+ * threads at once, give each thread a collator of its own by uca_clone: they share the table. No call may be made from a
+ * signal handler, or in the child of a fork of a process with several threads.
+ *
+ * Link with -luca (pkg-config --cflags --libs uca).
+ */
+#ifndef UCA_H
+#define UCA_H
+
+#include <stdbool.h>
+#include <stddef.h>
+#include <stdint.h>
+
+#ifdef __cplusplus
+extern "C" {
+#endif
+
+/* The version that this header belongs to; uca_version() returns that of the library. */
+#define UCA_VERSION 0x010000
+
+/*
+ * A collator: a share of a table, or none. It begins as UCA_CLOSED, or as zero bytes. Its fields are the library's: do not
+ * write them, and do not copy a collator. uca_clone makes another. Each one that has a table must be closed.
+ */
+typedef struct uca_collator {
+    void *private_table;
+    bool private_is_open;
+} uca_collator;
+
+#define UCA_CLOSED {0, false}
+
+/* What a call returns. The numbers never change. */
+typedef enum uca_status {
+    UCA_OK = 0,            /* the call did what it is for */
+    UCA_NOT_UTF8 = 1,      /* a text is not UTF-8, from the byte `at` of the fault on */
+    UCA_LONG_RUN = 2,      /* a text has more than 30 nonstarters in a row, and the character at byte `at` is the one too many */
+    UCA_NOT_OPEN = 3,      /* the collator has no table */
+    UCA_BAD_SETTINGS = 4,  /* the settings have a number without a meaning */
+    UCA_NO_MEMORY = 5,     /* an allocation failed */
+    UCA_BAD_TABLE = 6,     /* the text of the table is refused, at the line `at`, counted from 1 */
+    UCA_BAD_RULES = 7,     /* the text of the rules is refused, at the byte `at`, counted from 0 */
+    UCA_BAD_TAILORING = 8  /* the rules cannot tailor the table: the relation `at`, counted from 1, has no place */
+} uca_status;
+
+/* Why a table, rules or a tailoring are refused. The numbers never change. */
+typedef enum uca_kind {
+    UCA_NO_KIND = 0,
+    /* with UCA_BAD_TABLE */
+    UCA_TABLE_LINE_TOO_LONG = 1,      /* a line has more than 4096 bytes */
+    UCA_TABLE_BAD_DIRECTIVE = 2,      /* a directive is unknown or is not in its form, or there is a second version */
+    UCA_TABLE_BAD_CODE_POINT = 3,     /* a code point is not four to six hexadecimal digits, or no scalar value */
+    UCA_TABLE_KEY_TOO_LONG = 4,       /* a key has more than 32 code points */
+    UCA_TABLE_NO_SEMICOLON = 5,       /* an entry has no semicolon after its key */
+    UCA_TABLE_BAD_ELEMENT = 6,        /* what follows a key is no collation element */
+    UCA_TABLE_NO_ELEMENT = 7,         /* an entry has no collation element */
+    UCA_TABLE_TOO_MANY_ELEMENTS = 8,  /* an entry has more than 64 collation elements */
+    UCA_TABLE_REPEATED = 9,           /* an earlier line has this key */
+    UCA_TABLE_BAD_RANGE = 10,         /* a range of implicit weights may not stand beside those of earlier lines */
+    UCA_TABLE_TOO_LARGE = 11,         /* the text has more than 67108864 bytes */
+    /* with UCA_BAD_RULES */
+    UCA_RULES_SYNTAX = 21,             /* the text is not one of rules */
+    UCA_RULES_LEFT_OUT = 22,           /* a part of the syntax of UTS #35 that this profile leaves out */
+    UCA_RULES_EMPTY_STRING = 23,       /* a string has no character */
+    UCA_RULES_LONG_RUN = 24,           /* a string has more than 30 nonstarters in a row */
+    UCA_RULES_KEY_TOO_LONG = 25,       /* a string is decomposed to more than 32 code points */
+    UCA_RULES_TOO_MANY_RELATIONS = 26, /* there are more than 20000 relations */
+    UCA_RULES_NOT_UTF8 = 27,           /* the text is not UTF-8 */
+    /* with UCA_BAD_TAILORING */
+    UCA_TAILOR_SMALL_WEIGHT = 41,      /* the anchor has no weight at the level, or one below those of implicit elements */
+    UCA_TAILOR_HIGH_RESET = 42,        /* the anchor has a primary weight as high as the implicit ones */
+    UCA_TAILOR_FULL_PRIMARY = 43,      /* no primary weight can be raised */
+    UCA_TAILOR_FULL_SECONDARY = 44,    /* no secondary weight can be raised */
+    UCA_TAILOR_FULL_TERTIARY = 45,     /* no tertiary weight can be raised */
+    UCA_TAILOR_TOO_MANY_ELEMENTS = 46  /* the item would have more than 64 collation elements */
+} uca_kind;
+
+/* Where a fault is. Where there is none, all its fields are 0. */
+typedef struct uca_fault {
+    uint32_t kind; /* a uca_kind, with UCA_BAD_TABLE, UCA_BAD_RULES and UCA_BAD_TAILORING; else 0 */
+    uint32_t text; /* with UCA_NOT_UTF8 and UCA_LONG_RUN: which text of the call is at fault, counted from 1; else 0 */
+    uint64_t at;   /* the byte of the text or the rules, counted from 0; the line or the relation, counted from 1 */
+} uca_fault;
+
+/* How many levels are compared (UTS #10, section 7.3). */
+typedef enum uca_strength {
+    UCA_PRIMARY = 1,    /* letters */
+    UCA_SECONDARY = 2,  /* and then accents */
+    UCA_TERTIARY = 3,   /* and then case */
+    UCA_QUATERNARY = 4, /* and then punctuation, where it is shifted */
+    UCA_IDENTICAL = 5   /* and then the texts themselves in NFD: equal only if canonically equivalent */
+} uca_strength;
+
+/* How variable elements are weighted: spaces, punctuation and symbols (UTS #10, section 4). */
+typedef enum uca_variable {
+    UCA_NON_IGNORABLE = 0, /* as letters, before all others */
+    UCA_BLANKED = 1,       /* not at all */
+    UCA_SHIFTED = 2        /* at the fourth level alone */
+} uca_variable;
+
+/* The settings of a call. The reserved numbers have to be 0, and will mean what they mean today where they are 0. */
+typedef struct uca_settings {
+    uint32_t strength; /* a uca_strength */
+    uint32_t variable; /* a uca_variable */
+    uint32_t reserved[6];
+} uca_settings;
+
+#define UCA_SETTINGS(strength, variable) {(strength), (variable), {0, 0, 0, 0, 0, 0}}
+#define UCA_TERTIARY_SETTINGS UCA_SETTINGS(UCA_TERTIARY, UCA_NON_IGNORABLE)
+
+/* A SHA-256 digest. */
+typedef struct uca_digest {
+    uint8_t bytes[32];
+} uca_digest;
+
+/* The version of the library: 65536 times the major number, 256 times the minor number, and the patch. */
+uint32_t uca_version(void);
+
+/* The version of Unicode by which texts are decomposed and code points count as assigned, in the same form. */
+uint32_t uca_unicode_version(void);
+
+/*
+ * Gives a collator the table that two texts say: `table` in the format of allkeys.txt (UTS #10), and `rules` that tailor it
+ * (a profile of UTS #35, Part 5; no bytes for none). Both are read whole before the call returns. If the collator had a
+ * table, it lets go of it. The published table takes about 12 MB.
+ * Returns UCA_OK, UCA_BAD_TABLE, UCA_BAD_RULES, UCA_BAD_TAILORING or UCA_NO_MEMORY.
+ */
+uint32_t uca_open(uca_collator *collator, const uint8_t *table, size_t table_size, const uint8_t *rules, size_t rules_size,
+                  uca_fault *fault);
+
+/* Lets go of a collator's table, which is freed with the last collator that has it. A closed one stays closed. */
+void uca_close(uca_collator *collator);
+
+/*
+ * Gives `other` the table of `collator`, as a share and not as a copy. If `other` had a table, it lets go of it. The two
+ * may not be one collator.
+ * Returns UCA_OK, UCA_NOT_OPEN or UCA_NO_MEMORY.
+ */
+uint32_t uca_clone(uca_collator *collator, uca_collator *other);
+
+/*
+ * Checks whether bytes are a text that can be compared. It needs no collator and allocates nothing.
+ * Returns UCA_OK, UCA_NOT_UTF8 or UCA_LONG_RUN.
+ */
+uint32_t uca_check(const uint8_t *text, size_t size, uca_fault *fault);
+
+/*
+ * Compares two texts, and writes -1, 0 or 1 to `order` if the first comes before, with or after the second. It allocates
+ * nothing.
+ * Returns UCA_OK, UCA_BAD_SETTINGS, UCA_NOT_OPEN, UCA_NOT_UTF8 or UCA_LONG_RUN.
+ */
+uint32_t uca_compare(uca_collator *collator, const uca_settings *settings, const uint8_t *a, size_t a_size, const uint8_t *b,
+                     size_t b_size, int32_t *order, uca_fault *fault);
+
+/*
+ * Writes the first bytes of a text's sort key to `out`, at most `capacity`, and the number of bytes of the whole key to
+ * `needed`. If `needed` is more than `capacity`, call again with as much room. Bytes of `out` after the key are not written.
+ * Returns UCA_OK, UCA_BAD_SETTINGS, UCA_NOT_OPEN, UCA_NOT_UTF8, UCA_LONG_RUN or UCA_NO_MEMORY.
+ */
+uint32_t uca_sort_key(uca_collator *collator, const uca_settings *settings, const uint8_t *text, size_t size, uint8_t *out,
+                      size_t capacity, size_t *needed, uca_fault *fault);
+
+/*
+ * Writes the SHA-256 digest of all that sort keys depend on: the table in its canonical form, the settings, and the version
+ * of Unicode. Store it with an index of sort keys: while it is the same, the keys are right. It takes about as long as
+ * uca_open.
+ * Returns UCA_OK, UCA_BAD_SETTINGS, UCA_NOT_OPEN or UCA_NO_MEMORY.
+ */
+uint32_t uca_fingerprint(uca_collator *collator, const uca_settings *settings, uca_digest *out);
+
+/* The name of a status. */
+static inline const char *uca_status_name(uint32_t status) {
+    static const char *const names[] = {"ok", "not UTF-8", "too many nonstarters in a row", "the collator is not open",
+        "bad settings", "out of memory", "bad table", "bad rules", "bad tailoring"};
+    return status < sizeof names / sizeof names[0] ? names[status] : "unknown status";
+}
+
+/* The functions of the library want no null pointer, even with no bytes. These wrappers give them another one. */
+static inline const uint8_t *uca_private_bytes(const uint8_t *bytes) {
+    static const uint8_t none[1] = {0};
+    return bytes ? bytes : none;
+}
+
+static inline uint32_t uca_private_open(uca_collator *collator, const uint8_t *table, size_t table_size, const uint8_t *rules,
+                                        size_t rules_size, uca_fault *fault) {
+    return uca_open(collator, uca_private_bytes(table), table_size, uca_private_bytes(rules), rules_size, fault);
+}
+
+static inline uint32_t uca_private_check(const uint8_t *text, size_t size, uca_fault *fault) {
+    return uca_check(uca_private_bytes(text), size, fault);
+}
+
+static inline uint32_t uca_private_compare(uca_collator *collator, const uca_settings *settings, const uint8_t *a, size_t a_size,
+                                           const uint8_t *b, size_t b_size, int32_t *order, uca_fault *fault) {
+    return uca_compare(collator, settings, uca_private_bytes(a), a_size, uca_private_bytes(b), b_size, order, fault);
+}
+
+static inline uint32_t uca_private_sort_key(uca_collator *collator, const uca_settings *settings, const uint8_t *text,
+                                            size_t size, uint8_t *out, size_t capacity, size_t *needed, uca_fault *fault) {
+    uint8_t none[1];
+    return uca_sort_key(collator, settings, uca_private_bytes(text), size, out ? out : none, capacity, needed, fault);
+}
+
+#define uca_open uca_private_open
+#define uca_check uca_private_check
+#define uca_compare uca_private_compare
+#define uca_sort_key uca_private_sort_key
+
+#ifdef __cplusplus
+}
+#endif
+
+#endif
