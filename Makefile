@@ -1,0 +1,19 @@
+# Installs the program with its manual, its rules and bash's completions, and the library for C: make install PREFIX=.. (DESTDIR is
+# kept to). `make install-program` and `make install-library` install one of them.
+PREFIX ?= /usr/local
+INSTALL ?= install
+
+.PHONY: install install-program install-library
+install: install-program install-library
+
+install-library:
+	$(MAKE) -C bindings/c install PREFIX=$(PREFIX) DESTDIR=$(DESTDIR)
+
+install-program:
+	./uca key </dev/null
+	$(INSTALL) -d $(DESTDIR)$(PREFIX)/bin $(DESTDIR)$(PREFIX)/share/man/man1 $(DESTDIR)$(PREFIX)/share/uca/rules \
+		$(DESTDIR)$(PREFIX)/share/bash-completion/completions
+	$(INSTALL) -m 755 crates/uca/out/uca $(DESTDIR)$(PREFIX)/bin/uca
+	$(INSTALL) -m 644 man/uca.1 $(DESTDIR)$(PREFIX)/share/man/man1/uca.1
+	$(INSTALL) -m 644 rules/*.rules $(DESTDIR)$(PREFIX)/share/uca/rules
+	$(INSTALL) -m 644 completions/uca.bash $(DESTDIR)$(PREFIX)/share/bash-completion/completions/uca

@@ -1,0 +1,102 @@
+#!/usr/bin/env bash
+# Every collation of CLDR that rules can say: tools/cldr-rules writes its rules, uca tailors CLDR's root table by them, and ICU's
+# collator of that locale orders the same lines (tests/cldr_lines.pl). The table of docs/LANGUAGES.md says what comes of it. With
+# the word `table` it prints that table. Besides, the words of the languages of rules/ rise over that table, and by ICU.
+source "$(dirname "${BASH_SOURCE[0]}")/checks.bash"
+source tests/debian.bash
+source tests/icu.bash
+pages=docs/LANGUAGES.md
+
+# leaves CLDR's folder `common` in $cldr
+cldr_is_here() {
+    cldr=/usr/share/unicode/cldr/common
+    [ -f "$cldr/uca/allkeys_CLDR.txt" ] && return 0
+    debian update || return 1
+    (cd "$work" && debian download unicode-cldr-core) && dpkg-deb -x "$work"/unicode-cldr-core_*.deb "$work/debian" || return 1
+    cldr=$work/debian/usr/share/unicode/cldr/common
+    [ -f "$cldr/uca/allkeys_CLDR.txt" ]
+}
+
+# compares TAG: a row of the table, with how many neighbours differ with the rules and without any; run by xargs
+compares() {
+    local tag=$1 found plain collator relations same=
+    crates/uca/out/uca key --table "$table" --rules "$rules/$tag.rules" <"$rules/$tag.lines" 2>"$rules/$tag.error" | tr -d ' ' >"$rules/$tag.ours"
+    [ -s "$rules/$tag.ours" ] || { echo "| $tag | refused: $(head -n 1 "$rules/$tag.error") |"; return; }
+    crates/uca/out/uca key --table "$table" <"$rules/$tag.lines" | tr -d ' ' >"$rules/$tag.plain"
+    collator=locale
+    "$icu" "$tag" <"$rules/$tag.lines" >"$rules/$tag.icu" 2>/dev/null || {
+        collator=rules
+        "$icu" --rules "$rules/$tag.text" <"$rules/$tag.lines" >"$rules/$tag.icu" 2>/dev/null || collator=none
+    }
+    relations=$(perl -CSD -ne 'next if /^#/; s/\\.//g; $n++ while /<+|=/g; END { print $n // 0 }' "$rules/$tag.rules")
+    found=$(perl tests/cldr_compare.pl "$rules/$tag.lines" "$rules/$tag.ours" "$rules/$tag.icu")
+    plain=$(perl tests/cldr_compare.pl "$rules/$tag.lines" "$rules/$tag.plain" "$rules/$tag.icu")
+    echo "$found" >"$rules/$tag.found"
+    read -r neighbours differ _ <<<"${found%%;*}"
+    read -r _ without _ <<<"${plain%%;*}"
+    if [ "$differ" -gt 0 ] && [ $collator = locale ] && "$icu" --rules "$rules/$tag.text" <"$rules/$tag.lines" >"$rules/$tag.icu" 2>/dev/null; then
+        same=$(perl tests/cldr_compare.pl "$rules/$tag.lines" "$rules/$tag.ours" "$rules/$tag.icu" | sed 's/^[0-9]* //;s/;.*//')
+    fi
+    echo "| $tag | $relations | $collator | $neighbours | $without | $differ | $same |"
+}
+
+is_built
+cldr_is_here || { echo "$script: unicode-cldr-core could not be had, so nothing was tried"; exit 0; }
+icu_is_built || { echo "$script: ICU could not be had: it wants gcc and libicu-dev, so nothing was tried"; exit 0; }
+export rules=$work/rules table=$cldr/uca/allkeys_CLDR.txt icu=$work/icu_keys
+export -f compares
+mkdir "$rules"
+
+# What rules can't say at all is refused; everything else is taken.
+unsaid='zh zh-u-co-big5han zh-u-co-stroke zh-u-co-zhuyin'
+tools/cldr-rules --cldr "$cldr" zh-u-co-big5han >"$work/out" 2>"$work/err"
+status=$?
+is "more letters than there is room for" "0|cldr-rules: zh-u-co-big5han: cannot be said: there is no room for so many letters|1" "$(wc -c <"$work/out")|$(tail -n 1 "$work/err")|$status"
+mapfile -t tags < <(tools/cldr-rules --cldr "$cldr" --list | grep -vxF "$(tr ' ' '\n' <<<"$unsaid")")
+tools/cldr-rules --cldr "$cldr" --into "$rules" "${tags[@]}" 2>"$work/left"
+is "collations that are written" "0" "$?"
+tools/cldr-rules --cldr "$cldr" --text --into "$rules" "${tags[@]}"
+perl tests/cldr_lines.pl "$cldr" "$rules"
+printf '%s\n' "${tags[@]}" | xargs -P "$(nproc)" -I{} bash -c 'compares {}' | LC_ALL=C sort >"$work/rows"
+
+if [ "${1:-}" = table ]; then
+    echo '| Collation | Relations | ICU by its | Neighbours | Other without the rules | Other with them | Other than ICU by the same rules |'
+    echo '|---|---|---|---|---|---|---|'
+    cat "$work/rows"
+    tail -n +1 "$rules"/*.found | awk '/^==>/ { name = $2 } / [1-9][0-9]*;/ { print name ": " $0 }' >&2
+    exit 0
+fi
+
+# others TAG: how many neighbours the page lets differ
+others() { awk -F' *[|] *' -v tag="$1" '$2 == tag && NF == 9 { print $7 }' "$pages"; }
+
+taken=0
+agreed=0
+while IFS='|' read -r _ tag relations collator _ without differ _ _; do
+    tag=${tag// /}
+    wanted=$(others "$tag")
+    if [ -z "$wanted" ]; then
+        is "$tag: a row of $pages" "one" "none:$relations"
+        continue
+    fi
+    is "$tag: other neighbours than ICU's by its ${collator// /}, at most as the page says; first: $(cut -d';' -f2- "$rules/$tag.found")" "yes" \
+        "$([ "${differ:-1}" -le "$wanted" ] && echo yes || echo "$differ, not $wanted")"
+    [ "$relations" -gt 0 ] || continue
+    taken=$((taken + 1))
+    [ "$differ" -eq 0 ] || continue
+    agreed=$((agreed + 1))
+    is "$tag: the rules are seen: without them some neighbours stand in another relation" "yes" "$([ "$without" -gt 0 ] && echo yes)"
+done <"$work/rows"
+# The words of rules/ over CLDR's root table, and by ICU's collator of the language.
+for words in tests/rules/*.words; do
+    tag=$(basename "$words" .words)
+    crates/uca/out/uca key --table "$table" --rules "rules/$tag.rules" <"$words" | LC_ALL=C sort -cu 2>/dev/null
+    status=$?
+    "$icu" "$tag" <"$words" >"$work/keys" 2>/dev/null
+    is "$tag: its words rise over CLDR's root table, and by ICU" "0|$(wc -l <"$words")|0" "$status|$(wc -l <"$work/keys")|$(LC_ALL=C sort -cu "$work/keys" 2>/dev/null; echo $?)"
+done
+
+is "at least ninety tailorings" "yes" "$([ "$taken" -ge 90 ] && echo yes || echo "$taken")"
+is "those that agree with ICU in all neighbours" "yes" "$([ "$agreed" -ge 90 ] && echo yes || echo "$agreed")"
+echo "$script: $taken tailorings of CLDR, $agreed of them in ICU's order in all neighbours, $(awk -F'|' '{ n += $5 } END { print n }' "$work/rows") neighbours in all"
+sum_up

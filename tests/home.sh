@@ -1,0 +1,92 @@
+#!/usr/bin/env bash
+# The program at home on its system: its manual, bash's completions, its installation, a terminal and a full disk.
+source "$(dirname "${BASH_SOURCE[0]}")/checks.bash"
+
+is_built
+uca=$PWD/crates/uca/out/uca
+mkdir "$work/bin"
+ln -s "$uca" "$work/bin/uca"
+PATH=$work/bin:$PATH
+
+# The manual has each command, each option and each value that the help of the program tells.
+sed 's/\\-/-/g; s/\\f[BIR]//g; s/^\.[A-Z]* //' man/uca.1 >"$work/manual"
+in_manual() { grep -qE -- "(^|[^a-z-])$1([^a-z-]|\$)" "$work/manual" || echo "$1"; }
+"$uca" --help 2>"$work/help" >"$work/out"
+commands=$(sed -n '/^Commands:/,/^$/s/^  \([a-z]*\) .*/\1/p' "$work/help")
+is "commands are told" "check compare elements help key lint order table" "$(sort <<<"$commands" | paste -sd' ')"
+for command in $commands; do
+    is "the manual has the command $command" "" "$(in_manual "$command")"
+    [ "$command" = help ] && continue
+    "$uca" "$command" --help 2>"$work/help" >"$work/out"
+    for option in $(grep -oE -e '--[a-z]+' "$work/help" | sort -u); do
+        is "the manual has $option of $command" "" "$(in_manual "$option")"
+    done
+    for value in $(sed -n 's/.*\[possible values: \(.*\)\]$/\1/p' "$work/help" | tr -d ,); do
+        is "the manual has the value $value" "" "$(in_manual "$value")"
+    done
+done
+is "the manual has the statuses" "" "$(for status in 0 1 2 3; do in_manual "$status"; done)"
+if command -v groff >/dev/null; then
+    is "the manual is set without a warning" "0" "$(groff -man -Tutf8 -ww -z man/uca.1 2>&1 | wc -c)"
+fi
+
+# Its examples print what it says.
+perl -ne '
+    BEGIN { $n = 0; $folder = shift }
+    s/\\-/-/g; s/\\e/\\/g;
+    if (/^\.E[XE]/) { $in = /X/; undef $file }
+    elsif ($in && s/^\$ //) { $n++; open $file, ">", "$folder/$n.command"; print $file $_; open $file, ">", "$folder/$n.wanted" }
+    elsif ($file) { print $file $_ }' "$work" man/uca.1
+mkdir "$work/room"
+for command in "$work"/*.command; do
+    is "an example of the manual: $(cat "$command")" "$(cat "${command%.command}.wanted")" "$(cd "$work/room" && bash "$command" 2>&1)"
+done
+is "examples that were run" "3" "$(find "$work" -name '*.command' | wc -l)"
+
+# completed WORDS..: what bash offers for the last word
+completed() {
+    bash -c 'source completions/uca.bash; COMP_WORDS=("$@"); COMP_CWORD=$(($# - 1))
+        _uca "$1" "${COMP_WORDS[COMP_CWORD]}" "${COMP_WORDS[COMP_CWORD - 1]}"; printf "%s\n" "${COMPREPLY[@]}"' bash uca "$@" | sort | paste -sd' '
+}
+is "commands are completed" "check compare" "$(completed c)"
+is "options are completed" "--raw --rules" "$(completed key --r)"
+is "options are those of the command" "--rules" "$(completed order --r)"
+is "values are completed" "secondary" "$(completed key --strength s)"
+is "values after = are completed" "blanked non-ignorable shifted" "$(completed key --variable =)"
+is "files are completed" "man/uca.1" "$(completed key --table man/uca)"
+
+# Installed, it runs without this repository.
+if command -v make >/dev/null; then
+    make -s install-program DESTDIR="$work/root" PREFIX=/usr >"$work/out" 2>&1
+    is "it is installed" "0" "$?"
+    is "the files that are installed" "bin/uca share/bash-completion/completions/uca share/man/man1/uca.1 share/uca/rules/ of $(find rules -name '*.rules' | wc -l)" \
+        "$(cd "$work/root/usr" && find . -type f | grep -v '/rules/' | sort | sed 's/^\.\///' | paste -sd' ') share/uca/rules/ of $(find "$work/root/usr/share/uca/rules" -type f | wc -l)"
+    is "the program that is installed" "a|b" "$(cd / && printf 'b\na\n' | "$work/root/usr/bin/uca" order --rules "$work/root/usr/share/uca/rules/es.rules" --table "$(published_table)" 2>&1 | paste -sd'|')"
+else
+    echo "$script: there is no make, so nothing was installed"
+fi
+
+# A terminal as input is told; nothing else is.
+told='uca: reads from the keyboard; Ctrl-D on a line of its own ends the input'
+if command -v script >/dev/null; then
+    for command in elements key compare order check lint table; do
+        script -qec "'$uca' $command 2>'$work/err' >'$work/out' </dev/tty" /dev/null <<<$'\004' >/dev/null 2>&1
+        case $command in
+        lint | table) is "$command, which reads no input, on a terminal" "" "$(cat "$work/err")" ;;
+        *) is "$command on a terminal" "$told" "$(head -n 1 "$work/err")" ;;
+        esac
+    done
+else
+    echo "$script: there is no command script, so no terminal was tried"
+fi
+runs key </dev/null
+is "another input than a terminal" "|0" "$(cat "$work/err")|$status"
+
+# A pipe that no one reads any more is an output that fails, and the fault says how far it came.
+yes 'b' | head -n 200000 >"$work/many"
+{ "$uca" key <"$work/many" 2>"$work/err"; echo $? >"$work/status"; } | head -n 1 >/dev/null
+is "key before head" "1|3" "$(grep -c '^uca: output byte [0-9]*: Failed$' "$work/err")|$(cat "$work/status")"
+"$uca" key <"$work/many" >/dev/full 2>"$work/err"
+is "a full disk" "3|uca: output byte 0: Failed" "$?|$(cat "$work/err")"
+
+sum_up
