@@ -1,2 +1,5 @@
 pub mod WindowMatches
 pub mod RemainingLemmas
+pub mod KeyLemmas
+pub mod MatchesLemmas
+pub mod FoundLemmas

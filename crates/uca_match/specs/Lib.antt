@@ -1,3 +1,6 @@
 pub mod WindowMatch
 pub mod Yields
 pub mod RemainingElements
+pub mod Keys
+pub mod Matches
+pub mod Found

@@ -1,5 +1,5 @@
 -- The collation elements that remain: those that will be given over a source.
-use Rattle.std.specs.Prelude.{◌≡◌, ℕ, Bool, true, false, ◌&&◌, ◌==◌, nat_eq, length, drop, if◌then◌else◌, List, [], ◌∷◌, ◌++◌, Option, Some, None, refl}
+use Rattle.std.specs.Prelude.{◌≡◌, ℕ, Bool, ◌&&◌, ◌==◌, nat_eq, length, drop, if◌then◌else◌, List, [], ◌∷◌, ◌++◌, Option, Some, None, refl}
 use Rattle.std.specs.Coded.{Coded, code_by, coded×, coded_list, coded_ℕ, coded_bool}
 use Rattle.uca_weights.specs.declared.element.Element.{Element}
 use Rattle.uca_table.specs.Coded.{coded_table, coded_element}
@@ -7,7 +7,7 @@ use Rattle.uca_model.specs.Table.{ElementTable, longest}
 use Rattle.uca_model.specs.CollationElements.{elements, elements_or_implicit}
 use Rattle.uca_model.specs.Source.{SourceState}
 use Rattle.uca_match.specs.WindowMatch.{key_held, after_match}
-use Rattle.uca_model.specs.Window.{WindowState, empty_window, is_wanting, rest_of}
+use Rattle.uca_model.specs.Window.{WindowState, IsWindow, empty_window, is_wanting, rest_of}
 
 -- a table, the elements of the last match that were not given yet, and the window
 pub record ElementsState : Type 0 where
@@ -22,6 +22,11 @@ new_elements t = record { table = t; waiting = []; window = empty_window (longes
 -- its window
 abbrev pub window_of : ElementsState → WindowState
 window_of e = e.window
+
+-- what is true of all of them: the window is one for the longest key of the table
+pub record IsElements (t : ElementTable) (w : WindowState) : Type 0 where
+  pub window : IsWindow w
+  pub longest : w.longest ≡ longest t
 
 -- the remaining elements over unread characters: those that wait, and then those of the window's rest
 abbrev pub remaining_elements : ElementsState → List ℕ → List Element

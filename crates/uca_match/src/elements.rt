@@ -1,14 +1,18 @@
-ghost use Rattle.std.specs.Prelude.{◌≡◌, ℕ, List, true, false, ◌<◌, ◌++◌, ◌∷◌, length, chars, IfOk, OnOk};
+ghost use Rattle.std.specs.Prelude.{◌≡◌, ℕ, List, true, false, ◌+◌, ◌<◌, ◌≤◌, ◌++◌, ◌∷◌, length, chars, IfOk, OnOk};
 ghost use Rattle.unicode_normalization.specs.Forms.{nfd};
 ghost use Rattle.uca_model.specs.CollationElements.{elements, elements_or_implicit};
+ghost use Rattle.uca_weights.specs.declared.limits.TheConstants.{MAX_LOOKAHEAD};
 ghost use Rattle.uca_model.specs.SafeText.{IsSafe};
 ghost use Rattle.uca_model.specs.Source.{GivesNext, unread};
+ghost use Rattle.uca_model.specs.Table.{longest};
 ghost use Rattle.uca_model.specs.Window.{Fits, ReadsOn, after_read, credit};
 ghost use Rattle.uca_window.specs.Passage.{text_of};
+ghost use Rattle.uca_model.specs.ImplicitWeights.{implicit};
+ghost use Rattle.uca_match.specs.Found.{IsFound, points_of};
 ghost use Rattle.uca_match.specs.Yields.{Yields};
 ghost use Rattle.uca_match.specs.RemainingElements.{new_elements, remaining_elements, window_of, waiting_of, is_asking, YieldsHeld};
 
-use crate::window_match::next_match;
+use crate::window_match::{WindowMatch, next_match};
 use std::alloc::{AllocError, Global};
 use std::marker::Model;
 use uca_table::Table;
@@ -57,31 +61,48 @@ struct MatchElements<'t> {
     second: Option<Element>,
 }
 
+// The elements of a key, borrowed from the table.
+fn elements_of_key(elements: &[Element]) -> MatchElements<'_>
+    requires { 0 < length elements.now }
+    ensures { elements.now ≡ result.first ∷ waiting_of result.others.now result.second }
+{
+    MatchElements {
+        first: elements[0],
+        others: &elements[1..],
+        second: None,
+    }
+}
+
+// The implicit elements of a code point.
+fn elements_of_point(t: &Table, c: char) -> MatchElements<'_>
+    ensures { implicit t.now c ≡ result.first ∷ waiting_of result.others.now result.second }
+{
+    let [first, second] = t.implicit(c);
+    MatchElements {
+        first,
+        others: &[],
+        second: Some(second),
+    }
+}
+
 // The elements of a match: those of the key, or else the implicit ones of its first code point (UTS #10, 7.2, step
 // S2.2).
-fn elements_of_match<'t>(t: &'t Table, code_points: &[char]) -> MatchElements<'t>
-    requires { 0 < length code_points.now }
-    ensures { elements_or_implicit t.now code_points.now ≡ result.first ∷ waiting_of result.others.now result.second }
+fn elements_of_match<'t>(t: &'t Table, matched: WindowMatch<'t>) -> MatchElements<'t>
+    requires { IsFound t.now matched }
+    ensures { elements_or_implicit t.now (points_of matched.entry) ≡ result.first ∷ waiting_of result.others.now result.second }
 {
-    match t.get(code_points) {
-        Some(elements) => MatchElements {
-            first: elements[0],
-            others: &elements[1..],
-            second: None,
-        },
-        None => {
-            let [first, second] = t.implicit(code_points[0]);
-            MatchElements {
-                first,
-                others: &[],
-                second: Some(second),
-            }
-        }
+    if matched.walk.len() == 0 {
+        return elements_of_point(t, matched.first);
+    }
+    match matched.walk.elements() {
+        Some(elements) => elements_of_key(elements),
+        None => elements_of_point(t, matched.first),
     }
 }
 
 /// The collation elements of a text one by one, over a window of the text in NFD (UTS #10, section 7.2, step S2). It
-/// borrows a source at each call that reads, and the elements from the table. It takes no memory.
+/// borrows a source at each call that reads, and the elements from the table. It takes no memory. Of the text it holds at
+/// most `MAX_LOOKAHEAD` code points more than the longest key has: `bound`.
 #[derive(Drop)]
 pub struct Elements<'t> {
     table: &'t Table,
@@ -92,9 +113,7 @@ pub struct Elements<'t> {
 }
 
 impl<'t> Model for Elements<'t> {
-    ghost use Rattle.std.specs.Prelude.{◌≡◌};
-    ghost use Rattle.uca_match.specs.RemainingElements.{ElementsState, coded_elements, waiting_of};
-    ghost use Rattle.uca_model.specs.Table.{longest};
+    ghost use Rattle.uca_match.specs.RemainingElements.{ElementsState, IsElements, coded_elements, waiting_of};
 
     ghost Value = { ElementsState };
 
@@ -102,7 +121,7 @@ impl<'t> Model for Elements<'t> {
 
     ghost view = { λ e. record { table = e.table.now; waiting = waiting_of e.waiting.now e.second; window = e.window } };
 
-    ghost invariant = { λ e. e.window.longest ≡ longest e.table.now };
+    ghost invariant = { λ e. IsElements e.table.now e.window };
 }
 
 impl<'t> Elements<'t> {
@@ -112,6 +131,7 @@ impl<'t> Elements<'t> {
         ensures value { result ≡ new_elements t.now }
         ensures fits { (left : List ℕ) → IsSafe left → Fits result.window left }
         ensures remaining { (left : List ℕ) → remaining_elements result left ≡ elements t.now (nfd left) }
+        ensures bound { length result.window.points ≤ longest t.now + MAX_LOOKAHEAD }
     {
         Elements {
             table: t,
@@ -127,6 +147,7 @@ impl<'t> Elements<'t> {
         ensures yields { Yields remaining_elements window_of self.old (S.state source.old) result self.new (S.state source.new) }
         ensures table { self.new.table ≡ self.old.table }
         ensures held { is_asking self.old ≡ false → YieldsHeld self.old (S.state source.old) result self.new (S.state source.new) }
+        ensures bound { length self.new.window.points ≤ longest self.new.table + MAX_LOOKAHEAD }
     {
         if !self.waiting.is_empty() {
             let first = self.waiting[0];
@@ -138,7 +159,7 @@ impl<'t> Elements<'t> {
             return Some(second);
         }
         let matched = next_match(self.table, &mut self.window, source)?;
-        let given = elements_of_match(self.table, matched.as_slice());
+        let given = elements_of_match(self.table, matched);
         self.waiting = given.others;
         self.second = given.second;
         Some(given.first)
@@ -146,7 +167,8 @@ impl<'t> Elements<'t> {
 
     /// Whether no element waits and its window wants a character more.
     pub fn wants(&self) -> bool
-        ensures { result ≡ is_asking self.now }
+        ensures value { result ≡ is_asking self.now }
+        ensures bound { length self.now.window.points ≤ longest self.now.table + MAX_LOOKAHEAD }
     {
         self.waiting.is_empty() && self.second.is_none() && self.window.wants()
     }
@@ -160,6 +182,7 @@ impl<'t> Elements<'t> {
         ensures next { self.new ≡ record self.old { window = after_read self.old.window result } }
         ensures remaining { remaining_elements self.new (unread (S.state source.new)) ≡ remaining_elements self.old (unread (S.state source.old)) }
         ensures fewer { credit self.new.window (unread (S.state source.new)) < credit self.old.window (unread (S.state source.old)) }
+        ensures bound { length self.new.window.points ≤ longest self.new.table + MAX_LOOKAHEAD }
     {
         self.window.read(source)
     }

@@ -5,9 +5,13 @@
 #![tactic(auto)]
 
 pub mod elements;
+pub mod keys;
+pub mod matches;
 mod window_match;
 
 pub use elements::{Elements, elements_of, elements_of_points};
+pub use keys::Keys;
+pub use matches::{Match, matches_of, matches_of_points};
 
 #[cfg(test)]
 mod tests;

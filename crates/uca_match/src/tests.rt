@@ -1,3 +1,4 @@
+mod any_keys;
 mod one_by_one;
 
 use crate::elements_of;

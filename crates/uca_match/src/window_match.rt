@@ -1,43 +1,35 @@
-ghost use Rattle.std.specs.Prelude.{◌≡◌, ◌<◌, ◌≤◌, ◌&&◌, ◌++◌, ◌∷◌, [], false, nat_lt, take, length, IfSome, IfNone, IsTrue, OnSome};
-ghost use Rattle.uca_weights.specs.declared.limits.TheConstants.{MAX_KEY};
+ghost use Rattle.std.specs.Prelude.{◌≡◌, ◌<◌, ◌≤◌, [], false, true, length, IfSome, IfNone, OnSome};
 ghost use Rattle.uca_model.specs.Source.{unread};
-ghost use Rattle.uca_model.specs.Window.{Fits, ReadsOn, is_wanting, rest_of};
-ghost use Rattle.uca_model.specs.Match.{longest_match_len};
+ghost use Rattle.uca_model.specs.Window.{Fits, IsWindow, ReadsOn, is_wanting, rest_of};
 ghost use Rattle.uca_model.specs.Table.{is_key, longest};
-ghost use Rattle.unicode.specs.CanonicalCombiningClass.{canonical_combining_class};
 ghost use Rattle.uca_model.specs.CollationElements.{step};
+ghost use Rattle.uca_table.specs.Walk.{path_of, table_of_walk};
 ghost use Rattle.uca_match.specs.WindowMatch.{TakesNonstarters, TakesMatch, TakesHeld, EndsHeld};
+ghost use Rattle.uca_match.specs.Found.{IsFound, points_of};
 
-use arrayvec::ArrayVec;
-use uca_table::matching::higher;
-use uca_table::{Table, matching};
-use uca_weights::MAX_KEY;
+use uca_table::matching::{higher, longest_match, takes};
+use uca_table::{Table, Walk};
 use uca_window::{Source, Window};
 use unicode_normalization::char::canonical_combining_class;
 
-// The length of the longest initial substring that is a key of a table, 0 where none is.
-fn longest_match_len(t: &Table, text: &[char]) -> usize
-    ensures value { result ≡ longest_match_len (is_key t.now) text.now }
-    ensures within { result ≤ length text.now }
-    ensures few { result ≤ MAX_KEY }
-{
-    matching::longest_match_len(t.stored(), text)
+/// A match that was taken out of a window.
+#[derive(Clone, Copy, Debug)]
+pub(crate) struct WindowMatch<'t> {
+    /// Its first code point.
+    pub(crate) first: char,
+    /// A walk along it; not stepped where the first code point begins no key, and is a match by itself.
+    pub(crate) walk: Walk<'t>,
 }
 
-// Whether a start takes a nonstarter, by the keys of a table.
-fn is_taken(t: &Table, start: &[char], high: u8, nonstarter: char) -> bool
-    ensures value { result ≡ (nat_lt high (canonical_combining_class nonstarter) && is_key t.now (start.now ++ nonstarter ∷ [])) }
-    ensures few { IsTrue result → length start.now < MAX_KEY }
-{
-    matching::is_taken(t.stored(), start, high, nonstarter)
-}
-
-// Takes those nonstarters out of a window that make longer keys with its first `start` points, and appends them
-// to the key (UTS #10, 7.2, steps S2.1.1 to S2.1.3). The start stands in the window all along.
-fn take_nonstarters(t: &Table, key: &mut ArrayVec<char, MAX_KEY>, window: &mut Window, start: usize)
+// Takes those nonstarters out of a window that make longer keys with the path of a walk, and steps the walk along them
+// (UTS #10, 7.2, steps S2.1.1 to S2.1.3). The start stands in the window all along.
+fn take_nonstarters(walk: &mut Walk<'_>, window: &mut Window, start: usize)
     requires some { 0 < start }
     requires within { start ≤ window.old.closed }
-    ensures { TakesNonstarters (is_key t.now) start key.old.items window.old key.new.items window.new }
+    ensures takes { TakesNonstarters (is_key (table_of_walk walk.old)) start (path_of walk.old) window.old (path_of walk.new) window.new }
+    ensures table { table_of_walk walk.new ≡ table_of_walk walk.old }
+    ensures longer { length (path_of walk.old) ≤ length (path_of walk.new) }
+    ensures key { is_key (table_of_walk walk.old) (path_of walk.old) ≡ true → is_key (table_of_walk walk.old) (path_of walk.new) ≡ true }
 {
     let mut at = start;
     let mut high = 0;
@@ -47,9 +39,8 @@ fn take_nonstarters(t: &Table, key: &mut ArrayVec<char, MAX_KEY>, window: &mut W
         if class == 0 {
             return;
         }
-        if is_taken(t, key.as_slice(), high, nonstarter) {
+        if takes(walk, high, nonstarter) {
             window.remove(at);
-            key.push(nonstarter);
         } else {
             high = higher(high, class);
             at += 1;
@@ -57,53 +48,46 @@ fn take_nonstarters(t: &Table, key: &mut ArrayVec<char, MAX_KEY>, window: &mut W
     }
 }
 
-// Code points as a key.
-fn key_of(points: &[char]) -> ArrayVec<char, MAX_KEY>
-    requires { length points.now ≤ MAX_KEY }
-    ensures { result.items ≡ points.now }
-{
-    let mut key: ArrayVec<char, MAX_KEY> = ArrayVec::new();
-    let _fits = key.try_extend_from_slice(points);
-    key
-}
-
 // Takes the match at the front out of a window that was filled (UTS #10, 7.2, step S2.1). A code point that begins no
 // key is a match by itself.
-fn take_match(t: &Table, window: &mut Window) -> ArrayVec<char, MAX_KEY>
+fn take_match<'t>(t: &'t Table, window: &mut Window) -> WindowMatch<'t>
     requires some { 0 < window.old.closed }
     requires longest { window.old.longest ≡ longest t.now }
-    ensures { TakesMatch t.now window.old result.items window.new }
+    ensures takes { TakesMatch t.now window.old (points_of result) window.new }
+    ensures found { IsFound t.now result }
 {
     let closed = window.closed();
     let points = window.points();
-    let start = longest_match_len(t, &points[..closed]);
+    let first = points[0];
+    let mut walk = longest_match(t.stored(), &points[..closed]);
+    let start = walk.len();
     if start == 0 {
-        let key = key_of(&points[..1]);
         window.drop_front(1);
-        return key;
+        return WindowMatch { first, walk };
     }
-    let mut key = key_of(&points[..start]);
-    take_nonstarters(t, &mut key, window, start);
+    take_nonstarters(&mut walk, window, start);
     window.drop_front(start);
-    key
+    WindowMatch { first, walk }
 }
 
-/// The code points of the match at the front of a window's rest, which it takes out of it (UTS #10, 7.2, step S2.1).
-/// `None` at the end of the text. Characters are read before the match and none within it.
-pub(crate) fn next_match<S: Source>(
-    t: &Table,
+/// The match at the front of a window's rest, which it takes out of it (UTS #10, 7.2, step S2.1). `None` at the end of
+/// the text. Characters are read before the match and none within it.
+pub(crate) fn next_match<'t, S: Source>(
+    t: &'t Table,
     window: &mut Window,
     source: &mut S,
-) -> Option<ArrayVec<char, MAX_KEY>>
+) -> Option<WindowMatch<'t>>
     requires longest { window.old.longest ≡ longest t.now }
     requires fits { Fits window.old (unread (S.state source.old)) }
     ensures reads { ReadsOn window.old (S.state source.old) window.new (S.state source.new) }
     ensures none { IfNone result ((rest_of window.old (unread (S.state source.old)) ≡ []) × (rest_of window.new (unread (S.state source.new)) ≡ [])) }
     ensures some { OnSome result (0 < length (rest_of window.old (unread (S.state source.old)))) }
-    ensures matched { IfSome result (λ key. (step (is_key t.now) (rest_of window.old (unread (S.state source.old)))).matched.code_points ≡ key.items) }
+    ensures matched { IfSome result (λ m. (step (is_key t.now) (rest_of window.old (unread (S.state source.old)))).matched.code_points ≡ points_of m) }
     ensures rest { OnSome result ((step (is_key t.now) (rest_of window.old (unread (S.state source.old)))).rest ≡ rest_of window.new (unread (S.state source.new))) }
-    ensures held { IfSome result (λ key. is_wanting window.old ≡ false → TakesHeld t.now window.old (S.state source.old) key.items window.new (S.state source.new)) }
+    ensures held { IfSome result (λ m. is_wanting window.old ≡ false → TakesHeld t.now window.old (S.state source.old) (points_of m) window.new (S.state source.new)) }
+    ensures found { IfSome result (IsFound t.now) }
     ensures ends { IfNone result (is_wanting window.old ≡ false → EndsHeld window.old (S.state source.old) window.new (S.state source.new)) }
+    ensures valid { IsWindow window.new }
 {
     window.fill(source);
     if window.closed() == 0 {

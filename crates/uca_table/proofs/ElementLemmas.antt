@@ -8,6 +8,10 @@ use Rattle.uca_model.specs.CollationElements.{step, elements, elements_or_implic
 use Rattle.uca_model.proofs.RewritingLemmas.{elements_parts, elements_empty}
 use Rattle.uca_table.proofs.MovedForward.{rewritten-rest}
 
+-- the match that was put to the front of what is left
+pub match_again : (text new : List ℕ) (at n : ℕ) → at < length text → take (at + n - at) (drop at (put_mid at (length text - at) text new)) ≡ take n new
+match_again text new at n within = let few : at + n - at ≡ n = omega arith in ap₂ take few (rewritten-rest at text new (omega arith))
+
 -- one match further
 pub elements-further : (t : ElementTable) (text new : List ℕ) (at n : ℕ) (out whole : List Element) → at < length text → out ++ elements t (drop at text) ≡ whole
     → (step (is_key t) (take (length text - at) (drop at text))).matched.code_points ≡ take n new → (step (is_key t) (take (length text - at) (drop at text))).rest ≡ drop n new
@@ -17,8 +21,7 @@ elements-further t text new at n out whole within same matched rest =
     let left : take (length text - at) (drop at text) ≡ drop at text = take_rest text at in
     let size : length (drop at text) ≡ length text - at = length-drop at text in
     let behind : drop at after ≡ new = rewritten-rest at text new (omega arith) in
-    let few : at + n - at ≡ n = omega arith in
-    let key : take (at + n - at) (drop at after) ≡ take n new = ap₂ take few behind in
+    let key : take (at + n - at) (drop at after) ≡ take n new = match_again text new at n within in
     let later : drop (at + n) after ≡ drop n new = sym (drop-drop n at after) ∙ ap (drop n) behind in
     let parts : elements_or_implicit t (take n new) ++ elements t (drop n new) ≡ elements t (drop at text)
     = elements_parts t (drop at text) (take n new) (drop n new) (omega arith) (ap (λ xs. (step (is_key t) xs).matched.code_points) (sym left) ∙ matched) (ap (λ xs. (step (is_key t) xs).rest) (sym left) ∙ rest) in

@@ -12,3 +12,6 @@ pub mod MatchLemmas
 pub mod MovedForward
 pub mod ElementLemmas
 pub mod CellLemmas
+pub mod FrontLemmas
+pub mod WalkLemmas
+pub mod FirstsLemmas

@@ -65,7 +65,7 @@ found_nowhere es i q parted = found_not es q (λ k d within. elim (cases_lt k i)
 ])
 
 -- the keys at two places
-in_order : (es : List Entry) (i j : ℕ) (d f : Entry) → T (is_sorted key_cmp (map pair_of es)) → i < j → j < length es → key_cmp (get_or es i d).key.items (get_or es j f).key.items ≡ Less
+pub in_order : (es : List Entry) (i j : ℕ) (d f : Entry) → T (is_sorted key_cmp (map pair_of es)) → i < j → j < length es → key_cmp (get_or es i d).key.items (get_or es j f).key.items ≡ Less
 in_order [] i j d f sorted before within = absurd (omega arith)
 in_order (e ∷ es) i zero d f sorted before within = absurd (omega arith)
 in_order (e ∷ es) zero (suc j) d f sorted before within = below_at e.key.items es j f (left _ _ sorted) (omega arith)

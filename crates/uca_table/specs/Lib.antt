@@ -7,3 +7,6 @@ pub mod Bounds
 pub mod Running
 pub mod Cells
 pub mod Starters
+pub mod Fronts
+pub mod Walk
+pub mod Firsts

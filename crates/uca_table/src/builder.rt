@@ -6,6 +6,7 @@ ghost use Rattle.uca_table.specs.Stored.{pair_in};
 
 use crate::entry::move_entries;
 use crate::fault::{FinishFault, InsertFault, RangeFault};
+use crate::firsts::Firsts;
 use crate::range_map::RangeMap;
 use crate::stored::Stored;
 use crate::table::Table;
@@ -104,10 +105,12 @@ impl TableBuilder {
             return Err(FinishFault { builder: self });
         };
         let (entries, longest_key) = move_entries(self.entries, room);
+        let firsts = Firsts::of(self.alloc, entries.as_slice());
         let stored = Stored {
             entries,
             ranges: self.ranges.finish(range_room),
             longest_key,
+            firsts,
         };
         Ok(Table::of(self.alloc, stored))
     }

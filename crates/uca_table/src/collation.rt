@@ -1,4 +1,5 @@
-ghost use Rattle.std.specs.Prelude.{◌≡◌, ◌<◌, ◌++◌, length, OnOk};
+ghost use Rattle.std.specs.Prelude.{◌≡◌, ◌<◌, ◌++◌, length, option_copied, IfSome, OnOk};
+ghost use Rattle.uca_model.specs.Table.{elements_at};
 ghost use Rattle.uca_model.specs.CollationElements.{elements, elements_or_implicit};
 
 use crate::matching::match_front;
@@ -13,7 +14,23 @@ pub fn push_elements(out: &mut Vec<Element>, t: &Stored, matched: &[char]) -> Re
     ensures elements { OnOk result (out.new.items ≡ out.old.items ++ elements_or_implicit t.now matched.now) }
     ensures some { OnOk result (length out.old.items < length out.new.items) }
 {
-    match t.get(matched) {
+    push_found(out, t, matched, t.get(matched))
+}
+
+// The same with what the table has for the match.
+fn push_found(
+    out: &mut Vec<Element>,
+    t: &Stored,
+    matched: &[char],
+    found: Option<&[Element]>,
+) -> Result<(), AllocError>
+    requires some { 0 < length matched.now }
+    requires found { option_copied found ≡ elements_at t.now matched.now }
+    requires elements { IfSome found (λ es. 0 < length es.now) }
+    ensures elements { OnOk result (out.new.items ≡ out.old.items ++ elements_or_implicit t.now matched.now) }
+    ensures some { OnOk result (length out.old.items < length out.new.items) }
+{
+    match found {
         Some(elements) => out.extend_from_slice(elements),
         None => out.extend_from_slice(&t.implicit(matched[0])),
     }
@@ -27,9 +44,9 @@ pub fn push_matches(out: &mut Vec<Element>, t: &Stored, text: &mut [char]) -> Re
 {
     let mut at = 0;
     'matches: while at < text.len() {
-        let n = match_front(t, &mut text[at..]);
-        push_elements(out, t, &text[at..at + n])?;
-        at += n;
+        let matched = match_front(t, &mut text[at..]);
+        push_found(out, t, &text[at..at + matched.len], matched.elements)?;
+        at += matched.len;
     }
     Ok(())
 }

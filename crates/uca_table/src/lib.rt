@@ -12,6 +12,7 @@ pub mod entries;
 mod entry;
 mod extent;
 pub mod fault;
+mod firsts;
 mod implicit_weights;
 mod key_flags;
 pub mod matching;
@@ -23,6 +24,7 @@ pub mod stored;
 pub mod table;
 #[cfg(test)]
 mod tests;
+pub mod walk;
 pub mod well_formed;
 
 pub use builder::TableBuilder;
@@ -30,4 +32,5 @@ pub use entries::Entries;
 pub use fault::{FinishFault, InsertFault, RangeFault};
 pub use table::Table;
 pub use uca_weights::{Element, Range};
+pub use walk::Walk;
 pub use well_formed::{WellFormed, lint};

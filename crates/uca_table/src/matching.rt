@@ -1,57 +1,53 @@
-ghost use Rattle.std.specs.Prelude.{◌≡◌, ◌+◌, ◌-◌, ◌<◌, ◌≤◌, ◌&&◌, ◌++◌, ◌∷◌, [], nat_lt, max, IsTrue, length, take, drop, slice_index};
-ghost use Rattle.uca_weights.specs.declared.limits.TheConstants.{MAX_KEY};
+ghost use Rattle.std.specs.Prelude.{◌≡◌, ◌+◌, ◌-◌, ◌<◌, ◌≤◌, ◌&&◌, ◌++◌, ◌∷◌, [], cond, nat_lt, max, length, take, drop, slice_index, option_copied, IfSome};
 ghost use Rattle.unicode.specs.CanonicalCombiningClass.{canonical_combining_class};
-ghost use Rattle.uca_model.specs.Table.{is_key, longest};
-ghost use Rattle.uca_model.specs.Match.{longest_match_len, discontiguous_match, took};
+ghost use Rattle.uca_model.specs.Table.{elements_at, is_key};
+ghost use Rattle.uca_model.specs.Match.{longest_match, discontiguous_match, took};
 ghost use Rattle.uca_model.specs.CollationElements.{step};
 ghost use Rattle.uca_table.specs.Running.{brought_forward};
+ghost use Rattle.uca_table.specs.Walk.{path_of, table_of_walk};
 
 use crate::stored::Stored;
-use arrayvec::ArrayVec;
-use uca_weights::MAX_KEY;
+use crate::walk::Walk;
+use uca_weights::Element;
 use unicode_normalization::char::canonical_combining_class;
 
-/// The length of the longest initial substring that is a key, 0 where none is (UTS #10, 7.2, step S2.1). No substring
-/// is looked up that is longer than every key.
-pub fn longest_match_len(t: &Stored, text: &[char]) -> usize
-    ensures value { result ≡ longest_match_len (is_key t.now) text.now }
-    ensures within { result ≤ length text.now }
-    ensures few { result ≤ MAX_KEY }
+/// A walk along the longest initial substring that is a key (UTS #10, 7.2, step S2.1). It was not stepped where none is.
+pub fn longest_match<'t>(t: &'t Stored, text: &[char]) -> Walk<'t>
+    ensures table { table_of_walk result ≡ t.now }
+    ensures path { path_of result ≡ longest_match (is_key t.now) text.now }
 {
-    let mut n = text.len();
-    if n > t.longest() {
-        n = t.longest();
-    }
-    while n > 0 {
-        if t.get(&text[..n]).is_some() {
-            return n;
+    let mut walk = t.walk();
+    let mut longest = walk;
+    for c in text {
+        if !walk.step(*c) {
+            return longest;
         }
-        n -= 1;
+        if walk.elements().is_some() {
+            longest = walk;
+        }
     }
-    0
+    longest
 }
 
-// Whether a start is a key with one more code point after it.
-fn makes_key(t: &Stored, start: &[char], nonstarter: char) -> bool
-    ensures value { result ≡ is_key t.now (start.now ++ nonstarter ∷ []) }
-    ensures few { IsTrue result → length start.now < MAX_KEY }
+/// Whether the path of a walk takes a nonstarter, where `high` is the highest combining class of those that were passed
+/// over (UTS #10, 7.2, steps S2.1.2 and S2.1.3). The walk is stepped along it then, and else stays.
+pub fn takes(walk: &mut Walk<'_>, high: u8, nonstarter: char) -> bool
+    ensures value { result ≡ (nat_lt high (canonical_combining_class nonstarter) && is_key (table_of_walk walk.old) (path_of walk.old ++ nonstarter ∷ [])) }
+    ensures path { path_of walk.new ≡ cond result (path_of walk.old ++ nonstarter ∷ []) (path_of walk.old) }
+    ensures table { table_of_walk walk.new ≡ table_of_walk walk.old }
 {
-    if start.len() >= t.longest() {
+    if high >= canonical_combining_class(nonstarter) {
         return false;
     }
-    let mut key: ArrayVec<char, MAX_KEY> = ArrayVec::new();
-    let _fits = key.try_extend_from_slice(start);
-    key.push(nonstarter);
-    t.get(key.as_slice()).is_some()
-}
-
-/// Whether a start takes a nonstarter, where `high` is the highest combining class of those that were passed over
-/// (UTS #10, 7.2, steps S2.1.2 and S2.1.3).
-pub fn is_taken(t: &Stored, start: &[char], high: u8, nonstarter: char) -> bool
-    ensures value { result ≡ (nat_lt high (canonical_combining_class nonstarter) && is_key t.now (start.now ++ nonstarter ∷ [])) }
-    ensures few { IsTrue result → length start.now < MAX_KEY }
-{
-    high < canonical_combining_class(nonstarter) && makes_key(t, start, nonstarter)
+    let mut longer = *walk;
+    if !longer.step(nonstarter) {
+        return false;
+    }
+    if longer.elements().is_none() {
+        return false;
+    }
+    *walk = longer;
+    true
 }
 
 /// The greater of two numbers.
@@ -72,12 +68,15 @@ fn bring_forward(text: &mut [char], to: usize, from: usize)
 
 // Moves those nonstarters forward to the first `start` code points that make longer keys with them, and returns how
 // many code points the match then has (UTS #10, 7.2, steps S2.1.1 to S2.1.3). Those that were passed over follow it
-// in the order that they had.
-fn extend(t: &Stored, text: &mut [char], start: usize) -> usize
-    requires { start ≤ length text.old }
-    ensures taken { discontiguous_match (is_key t.now) (take start text.old) [] (drop start text.old) ≡ took (take result text.new) (drop result text.new) }
+// in the order that they had. The walk goes along the match.
+fn extend(walk: &mut Walk<'_>, text: &mut [char], start: usize) -> usize
+    requires within { start ≤ length text.old }
+    requires path { path_of walk.old ≡ take start text.old }
+    ensures taken { discontiguous_match (is_key (table_of_walk walk.old)) (take start text.old) [] (drop start text.old) ≡ took (take result text.new) (drop result text.new) }
     ensures some { start ≤ result }
     ensures within { result ≤ length text.old }
+    ensures path { path_of walk.new ≡ take result text.new }
+    ensures table { table_of_walk walk.new ≡ table_of_walk walk.old }
 {
     let mut end = start;
     let mut high = 0;
@@ -87,7 +86,7 @@ fn extend(t: &Stored, text: &mut [char], start: usize) -> usize
         if class == 0 {
             return end;
         }
-        if is_taken(t, &text[..end], high, nonstarter) {
+        if takes(walk, high, nonstarter) {
             bring_forward(text, end, at);
             end += 1;
         } else {
@@ -97,18 +96,37 @@ fn extend(t: &Stored, text: &mut [char], start: usize) -> usize
     end
 }
 
-/// Puts the longest match to the front of a text in NFD, and returns its length. What is left of the text stands
-/// after it (UTS #10, 7.2, step S2.1). A code point that begins no key is a match by itself.
-pub fn match_front(t: &Stored, text: &mut [char]) -> usize
+/// A match at the front of a text.
+#[derive(Clone, Copy, Debug)]
+pub struct Matched<'t> {
+    /// How many code points it has.
+    pub len: usize,
+    /// The elements of the key, where it is one.
+    pub elements: Option<&'t [Element]>,
+}
+
+/// Puts the longest match to the front of a text in NFD. What is left of the text stands after it (UTS #10, 7.2, step
+/// S2.1). A code point that begins no key is a match by itself.
+pub fn match_front<'t>(t: &'t Stored, text: &mut [char]) -> Matched<'t>
     requires { 0 < length text.old }
-    ensures matched { (step (is_key t.now) text.old).matched.code_points ≡ take result text.new }
-    ensures rest { (step (is_key t.now) text.old).rest ≡ drop result text.new }
-    ensures some { 0 < result }
-    ensures within { result ≤ length text.old }
+    ensures matched { (step (is_key t.now) text.old).matched.code_points ≡ take result.len text.new }
+    ensures rest { (step (is_key t.now) text.old).rest ≡ drop result.len text.new }
+    ensures some { 0 < result.len }
+    ensures within { result.len ≤ length text.old }
+    ensures elements { option_copied result.elements ≡ elements_at t.now (take result.len text.new) }
+    ensures some_elements { IfSome result.elements (λ es. 0 < length es.now) }
 {
-    let n = longest_match_len(t, text);
+    let mut walk = longest_match(t, text);
+    let n = walk.len();
     if n == 0 {
-        return 1;
+        return Matched {
+            len: 1,
+            elements: None,
+        };
     }
-    extend(t, text, n)
+    let len = extend(&mut walk, text, n);
+    Matched {
+        len,
+        elements: walk.elements(),
+    }
 }

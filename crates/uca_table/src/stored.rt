@@ -1,10 +1,12 @@
-ghost use Rattle.std.specs.Prelude.{◌≡◌, ◌≤◌, ◌<◌, ◌^◌, false, length, All, option_copied, IfSome, IfOk, OnOk, OnErr};
+ghost use Rattle.std.specs.Prelude.{◌≡◌, ◌≤◌, ◌<◌, ◌^◌, ◌∷◌, [], false, length, map, All, option_copied, IfSome, IfOk, OnOk, OnErr};
 
 use crate::builder::{read_elements, read_key};
 use crate::entries::Entries;
 use crate::entry::{Entry, copies, elements_of, lacks_room, make_room_in_entries, put};
+use crate::firsts::Firsts;
 use crate::implicit_weights;
 use crate::ranges::Ranges;
+use crate::walk::Walk;
 use std::alloc::{AllocError, Global};
 use std::marker::Model;
 use uca_weights::{Element, Range};
@@ -16,6 +18,8 @@ pub struct Stored {
     pub(crate) entries: Vec<Entry>,
     pub(crate) ranges: Ranges,
     pub(crate) longest_key: usize,
+    // Where the entries begin with a code point; none since the last change of the table.
+    pub(crate) firsts: Firsts,
 }
 
 impl Model for Stored {
@@ -23,6 +27,7 @@ impl Model for Stored {
     ghost use Rattle.uca_model.specs.Table.{ElementTable};
     ghost use Rattle.uca_table.specs.Stored.{AreStored, pair_of, table_of, longest_of};
     ghost use Rattle.uca_table.specs.Coded.{coded_table};
+    ghost use Rattle.uca_table.specs.Firsts.{HoldsFirsts};
 
     ghost Value = { ElementTable };
 
@@ -30,7 +35,7 @@ impl Model for Stored {
 
     ghost view = { λ t. table_of (map pair_of t.entries.items) t.ranges };
 
-    ghost invariant = { λ t. AreStored (map pair_of t.entries.items) t.ranges × (t.longest_key ≡ longest_of (map pair_of t.entries.items)) };
+    ghost invariant = { λ t. AreStored (map pair_of t.entries.items) t.ranges × (t.longest_key ≡ longest_of (map pair_of t.entries.items)) × HoldsFirsts t.entries.items t.firsts };
 }
 
 impl Stored {
@@ -41,6 +46,9 @@ impl Stored {
     ghost use Rattle.std.specs.List.{list_any};
     ghost use Rattle.std.specs.FinMap.{entries, values};
     ghost use Rattle.uca_model.specs.Ranges.{AreByFirst};
+    ghost use Rattle.uca_table.specs.Fronts.{entries_from};
+    ghost use Rattle.uca_table.specs.Stored.{pair_of};
+    ghost use Rattle.uca_table.specs.Walk.{path_of, table_of_walk};
 
     /// The collation elements of a key, 1 to `MAX_ELEMENTS` of them (UTS #10, section 3). `None`: it is no key.
     pub fn get(&self, key: &[char]) -> Option<&[Element]>
@@ -50,6 +58,36 @@ impl Stored {
         ensures elements { IfSome result (λ es. All IsElement es.now) }
     {
         elements_of(&self.entries, key)
+    }
+
+    /// The entries by key order, where they lie.
+    fn in_order(&self) -> &[Entry]
+        ensures { map pair_of result.now ≡ entries self.now.entries }
+    {
+        self.entries.as_slice()
+    }
+
+    /// The entries whose keys begin with a code point.
+    pub(crate) fn beginning_with(&self, c: char) -> &[Entry]
+        ensures { map pair_of result.now ≡ entries_from self.now (c ∷ []) }
+    {
+        self.firsts.beginning_with(self.entries.as_slice(), c)
+    }
+
+    /// Makes anew what a first step uses, which `put` and `make_room` drop and a copy has not.
+    pub(crate) fn prepare(&mut self, alloc: Global) -> Result<(), AllocError>
+        ensures { self.new ≡ self.old }
+    {
+        self.firsts = Firsts::new(alloc, self.entries.as_slice())?;
+        Ok(())
+    }
+
+    /// A walk along the keys that was not stepped yet.
+    pub fn walk(&self) -> Walk<'_>
+        ensures table { table_of_walk result ≡ self.now }
+        ensures path { path_of result ≡ [] }
+    {
+        Walk::new(self, self.in_order())
     }
 
     /// The length of the longest key in code points, or 1 where there is no key.
@@ -89,6 +127,7 @@ impl Stored {
             entries,
             ranges,
             longest_key: self.longest_key,
+            firsts: Firsts::none(alloc),
         })
     }
 
@@ -107,6 +146,7 @@ impl Stored {
         ensures ok { OnOk result (self.new ≡ with_entry self.old key.now elements.now) }
         ensures err { OnErr result (self.new ≡ self.old) }
     {
+        self.firsts.clear();
         read_key(key);
         read_elements(elements);
         put(alloc, &mut self.entries, key, elements)?;
@@ -131,6 +171,7 @@ impl Stored {
         requires room { list_any (list_any (has_no_room level w)) (values self.old.entries) ≡ false }
         ensures { self.new ≡ table_with_room level w self.old }
     {
+        self.firsts.clear();
         make_room_in_entries(level, w, &mut self.entries);
     }
 

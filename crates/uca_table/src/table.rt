@@ -1,4 +1,4 @@
-ghost use Rattle.std.specs.Prelude.{◌≡◌, ◌≤◌, ◌<◌, ◌^◌, ◌++◌, false, length, All, option_copied, IfSome, IfOk, OnOk, OnErr};
+ghost use Rattle.std.specs.Prelude.{◌≡◌, ◌≤◌, ◌<◌, ◌^◌, ◌++◌, [], false, length, All, option_copied, IfSome, IfOk, OnOk, OnErr};
 ghost use Rattle.unicode_normalization.specs.Forms.{nfd};
 ghost use Rattle.uca_model.specs.CollationElements.{elements};
 
@@ -6,6 +6,7 @@ use crate::cells::{Cells, push_text};
 use crate::entries::Entries;
 use crate::starters::Starters;
 use crate::stored::Stored;
+use crate::walk::Walk;
 use std::alloc::{AllocError, Global};
 use std::marker::Model;
 use uca_weights::{Element, Range};
@@ -44,6 +45,7 @@ impl Table {
     ghost use Rattle.std.specs.List.{list_any};
     ghost use Rattle.std.specs.FinMap.{entries, values};
     ghost use Rattle.uca_model.specs.Ranges.{AreByFirst};
+    ghost use Rattle.uca_table.specs.Walk.{path_of, table_of_walk};
 
     /// The collation elements of a key, 1 to `MAX_ELEMENTS` of them (UTS #10, section 3). `None`: it is no key.
     pub fn get(&self, key: &[char]) -> Option<&[Element]>
@@ -53,6 +55,14 @@ impl Table {
         ensures elements { IfSome result (λ es. All IsElement es.now) }
     {
         self.stored.get(key)
+    }
+
+    /// A walk along the keys that was not stepped yet.
+    pub fn walk(&self) -> Walk<'_>
+        ensures table { table_of_walk result ≡ self.now }
+        ensures path { path_of result ≡ [] }
+    {
+        self.stored.walk()
     }
 
     /// The length of the longest key in code points, or 1 where there is no key.
@@ -155,6 +165,7 @@ impl Table {
     pub fn prepare(&mut self, alloc: Global) -> Result<(), AllocError>
         ensures { self.new ≡ self.old }
     {
+        self.stored.prepare(alloc)?;
         self.cells = Cells::new(alloc, &self.stored)?;
         self.starters = Starters::new(alloc, &self.stored)?;
         Ok(())

@@ -221,6 +221,35 @@ fn entries_come_by_key_order(rt: HostRuntime) {
     assert_eq!(rt; place, 18);
 }
 
+#[test]
+fn a_walk_stays_where_no_key_goes_on(rt: HostRuntime) {
+    let table = small_table(&rt, rt.alloc());
+    let mut walk = table.walk();
+    assert_eq!(rt; walk.elements(), None);
+    for (c, stepped, primary) in [
+        ('c', true, 0x1002),
+        ('x', false, 0x1002),
+        ('h', true, 0x1007),
+        ('h', false, 0x1007),
+    ] {
+        assert_eq!(rt; walk.step(c), stepped, "{c:?}");
+        let elements = [element(false, [primary, 0x20, 2])];
+        assert_eq!(rt; walk.elements(), Some(elements.as_slice()), "{c:?}");
+    }
+}
+
+#[test]
+fn a_walk_goes_over_fronts_that_are_no_keys(rt: HostRuntime) {
+    let mut builder = TableBuilder::new(rt.alloc());
+    assert_eq!(rt; insert(&mut builder, &['c', 'h'], &[ELEMENT]), Ok(()));
+    let table = finish(builder).expect(&rt, "a table");
+    let mut walk = table.walk();
+    assert!(rt; walk.step('c'));
+    assert_eq!(rt; walk.elements(), None);
+    assert!(rt; walk.step('h'));
+    assert_eq!(rt; walk.elements(), Some([ELEMENT].as_slice()));
+}
+
 /// Puts an entry, once more where memory was refused.
 fn put(table: &mut Table, alloc: Global, key: &[char], elements: &[Element]) -> bool
     requires some_points { 1 ≤ length key.now }

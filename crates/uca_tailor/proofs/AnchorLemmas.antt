@@ -1,5 +1,5 @@
 -- Anchors from their end, and what the absence of a fault says.
-use Rattle.std.proofs.Common.{◌≡◌, ℕ, suc, zero, ◌+◌, ◌-◌, ◌≤◌, ◌<◌, true, false, cond, ◌==◌, List, [], ◌∷◌, ◌++◌, length, take, map, get_or, Option, Some, None, Ok, Err, MatchOption, IsSome, refl, sym, ap, ap₂, subst, ◌∙◌, arith}
+use Rattle.std.proofs.Common.{◌≡◌, ℕ, suc, zero, ◌+◌, ◌-◌, ◌≤◌, ◌<◌, true, false, cond, ◌==◌, List, [], ◌∷◌, ◌++◌, length, take, map, get_or, Option, Some, None, Ok, Err, MatchOption, refl, sym, ap, ap₂, subst, ◌∙◌, arith}
 use Rattle.std.proofs.lemmas.List.{take_more}
 use Rattle.std.specs.List.{list_any}
 use Rattle.std.specs.Option.{option_map_or}
@@ -11,7 +11,7 @@ use Rattle.uca_model.specs.Tailoring.{TailorCause, small_weight, Anchor, alone, 
 use Rattle.uca_model.proofs.AnchorElements.{is_free, any_anchor, below_top}
 use Rattle.uca_tailor.specs.declared.faults.TailorCause.{TailorCause as Cause}
 use Rattle.uca_tailor.specs.Faults.{reported_cause}
-use Rattle.uca_tailor.specs.Steps.{anchor_as, placed_as, IsToldAs, Refuses}
+use Rattle.uca_tailor.specs.Steps.{anchor_as, placed_as, Refuses, Reports}
 
 anchor_of-append_zero : (level : ℕ) (xs : List Element) (e : Element) → (weight level e == 0) ≡ true → anchor_of level (xs ++ e ∷ []) ≡ anchor_of level xs
 anchor_of-append_zero level [] e h = rw h refl
@@ -63,9 +63,9 @@ placed_there level w t u es before base last a is e b moved =
     ap (λ o. option_map_or (placed_at level t es) o (Err small_weight)) a ∙ ap (λ o. option_map_or (λ cause. Err cause) o (Ok (placed_next_to level t (anchor_as before last)))) none
     ∙ ap₂ (λ x y. Ok (placed_as x y)) (sym b) (sym (moved ∙ ap (λ x. table_with_room level x t) is))
 
-refused : (level : ℕ) (t : ElementTable) (es : List Element) (a : Anchor) (cause : Option TailorCause) → anchor_of level es ≡ Some a → fault_at level (weight level a.last) t es ≡ cause → IsSome cause → MatchOption cause (Unit {0}) (λ c. placed_after level t es ≡ Err c)
-refused level t es a None is fault some = tt
-refused level t es a (Some c) is fault some = ap (λ o. option_map_or (placed_at level t es) o (Err small_weight)) is ∙ ap (λ o. option_map_or (λ d. Err d) o (Ok (placed_next_to level t a))) fault
+refused : (level : ℕ) (t : ElementTable) (es : List Element) (a : Anchor) (cause : Option TailorCause) → anchor_of level es ≡ Some a → MatchOption cause (Unit {0}) (λ c. fault_at level (weight level a.last) t es ≡ Some c) → MatchOption cause (Unit {0}) (λ c. placed_after level t es ≡ Err c)
+refused level t es a None is fault = tt
+refused level t es a (Some c) is fault = ap (λ o. option_map_or (placed_at level t es) o (Err small_weight)) is ∙ ap (λ o. option_map_or (λ d. Err d) o (Ok (placed_next_to level t a))) fault
 
-pub placed_refused : (level w : ℕ) (t : ElementTable) (es before : List Element) (last : Element) (cause : Cause) → anchor_of level es ≡ Some (anchor_as before last) → w ≡ weight level last → IsToldAs (fault_at level w t es) cause → Refuses (placed_after level t es) cause
-placed_refused level w t es before last cause a is stated_as = refused level t es (anchor_as before last) (reported_cause cause) a (ap (λ x. fault_at level x t es) (sym is) ∙ stated_as.is) (subst IsSome stated_as.is stated_as.some)
+pub placed_refused : (level w : ℕ) (t : ElementTable) (es before : List Element) (last : Element) (cause : Cause) → anchor_of level es ≡ Some (anchor_as before last) → w ≡ weight level last → Reports (fault_at level w t es) cause → Refuses (placed_after level t es) cause
+placed_refused level w t es before last cause a is reported = refused level t es (anchor_as before last) (reported_cause cause) a (subst (λ x. Reports (fault_at level x t es) cause) is reported)

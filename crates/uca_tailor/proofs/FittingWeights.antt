@@ -59,10 +59,10 @@ base_fits m t es p l h fit =
 
 -- ## The new table
 
-entry_room : (m w : ℕ) (t : ElementTable) (key : List ℕ) (es : List Element) → list_any (list_any (has_no_room m w)) (values t.entries) ≡ false → elements_at t key ≡ Some es → AllHaveRoom m w es
+pub entry_room : (m w : ℕ) (t : ElementTable) (key : List ℕ) (es : List Element) → list_any (list_any (has_no_room m w)) (values t.entries) ≡ false → elements_at t key ≡ Some es → AllHaveRoom m w es
 entry_room m w t key es h e = subst (λ o. AllHaveRoom m w (unwrap_or o [])) (sym (get-entries t.entries key) ∙ e) (found_room m w key (entries t.entries) h [] tt)
 
-shifted_entry_fits : (m w : ℕ) (t : ElementTable) (key : List ℕ) (o : Option (List Element)) (es : List Element) → IsLevel m → Fits t → list_any (list_any (has_no_room m w)) (values t.entries) ≡ false → elements_at t key ≡ o
+pub shifted_entry_fits : (m w : ℕ) (t : ElementTable) (key : List ℕ) (o : Option (List Element)) (es : List Element) → IsLevel m → Fits t → list_any (list_any (has_no_room m w)) (values t.entries) ≡ false → elements_at t key ≡ o
     → option_map (map (with_room m w)) o ≡ Some es → AllByRecursion IsElement es
 shifted_entry_fits m w t key None es l f h is e = absurd (cc)
 shifted_entry_fits m w t key (Some fs) es l f h is e = let found : map (with_room m w) fs ≡ es = cc in subst (AllByRecursion IsElement) found (shifted_fit m w fs l (entry_room m w t key fs h is) (f.entries key fs is))

@@ -23,3 +23,7 @@ pub mod BetweenLists
 pub mod PlainLists
 pub mod NextToAnchor
 pub mod RelatedTables
+pub mod ShiftLemmas
+pub mod TopLemmas
+pub mod RenumberedLemmas
+pub mod CopyLemmas

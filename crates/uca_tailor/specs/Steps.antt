@@ -1,5 +1,5 @@
 -- What the steps of tailoring say, by the words of tailoring.
-use Rattle.std.specs.Prelude.{◌≡◌, List, Option, Result, Err, MatchOption, IsSome}
+use Rattle.std.specs.Prelude.{◌≡◌, List, Option, Some, Result, Err, MatchOption}
 use Rattle.uca_weights.specs.declared.element.Element.{Element}
 use Rattle.uca_model.specs.Table.{ElementTable}
 use Rattle.uca_model.specs.Tailoring as tailoring
@@ -15,10 +15,9 @@ placed_as base t = record { base = base; table = t }
 abbrev pub related_as : ElementTable → List Element → tailoring.Related
 related_as t anchor = record { table = t; anchor = anchor }
 
--- a fault is this cause, which isn't an allocation failure
-pub record IsToldAs (fault : Option tailoring.TailorCause) (cause : TailorCause) : Type 0 where
-  pub is : fault ≡ reported_cause cause
-  pub some : IsSome fault
+-- there is this fault; an allocation failure says nothing of it
+abbrev pub Reports : Option tailoring.TailorCause → TailorCause → Type 0
+Reports fault cause = MatchOption (reported_cause cause) (Unit {0}) (λ c. fault ≡ Some c)
 
 -- a step is refused for this cause; an allocation failure says nothing of it
 abbrev pub Refuses : {A : Type 0} → Result A tailoring.TailorCause → TailorCause → Type 0

@@ -1,14 +1,15 @@
-ghost use Rattle.std.specs.Prelude.{◌≡◌, ◌≤◌, ◌<◌, ◌∷◌, ◌++◌, [], false, None, Some, length, map, IfOk, IfNone, IfSome, MatchOption};
+ghost use Rattle.std.specs.Prelude.{◌≡◌, ◌≤◌, ◌<◌, ◌∷◌, ◌++◌, [], false, None, Some, length, map, IfOk, MatchOption, MatchResult};
 ghost use Rattle.std.specs.List.{list_any};
 ghost use Rattle.uca_weights.specs.Element.{weight};
 ghost use Rattle.uca_model.specs.Room.{with_room, has_no_room};
 ghost use Rattle.uca_model.specs.Tailoring.{anchor_of, least, is_high, is_full, fault_at, raised};
-ghost use Rattle.uca_tailor.specs.Steps.{anchor_as, IsToldAs};
+ghost use Rattle.uca_tailor.specs.Steps.{anchor_as, Reports};
 
 use crate::faults::TailorCause;
+use crate::renumbered::Renumbered;
 use std::alloc::{AllocError, Global};
+use uca_table::Element;
 use uca_table::room::{any_has_no_room, make_room, max_weight};
-use uca_table::{Element, Table};
 
 /// Elements up to the last that has a weight at a level.
 #[derive(Clone, Copy)]
@@ -56,31 +57,48 @@ fn any_high(elements: &[Element]) -> bool
 }
 
 /// Whether there is no room above a weight, in a table and in the elements of an anchor.
-fn is_full(level: u8, w: u16, t: &Table, elements: &[Element]) -> bool
+fn is_full(
+    alloc: Global,
+    level: u8,
+    w: u16,
+    t: &Renumbered<'_>,
+    elements: &[Element],
+) -> Result<bool, AllocError>
     requires first { 1 ≤ level }
     requires last { level ≤ 3 }
-    ensures { result ≡ is_full level w t.now elements.now }
+    ensures { IfOk result (λ full. full ≡ is_full level w t.now elements.now) }
 {
-    w == max_weight(level) || any_has_no_room(level, w, elements) || t.lacks_room(level, w)
+    if w == max_weight(level) {
+        return Ok(true);
+    }
+    if any_has_no_room(level, w, elements) {
+        return Ok(true);
+    }
+    t.lacks_room(alloc, level, w)
 }
 
 /// Why no item can stand after elements whose last weight at a level is `w`.
-pub(crate) fn fault_at(level: u8, w: u16, t: &Table, elements: &[Element]) -> Option<TailorCause>
+pub(crate) fn check_place(
+    alloc: Global,
+    level: u8,
+    w: u16,
+    t: &Renumbered<'_>,
+    elements: &[Element],
+) -> Result<(), TailorCause>
     requires first { 1 ≤ level }
     requires last { level ≤ 3 }
-    ensures none { IfNone result (fault_at level w t.now elements.now ≡ None) }
-    ensures some { IfSome result (IsToldAs (fault_at level w t.now elements.now)) }
+    ensures { MatchResult result (λ _. fault_at level w t.now elements.now ≡ None) (Reports (fault_at level w t.now elements.now)) }
 {
     if w < least(level) {
-        return Some(TailorCause::SmallWeight);
+        return Err(TailorCause::SmallWeight);
     }
     if any_high(elements) {
-        return Some(TailorCause::HighReset);
+        return Err(TailorCause::HighReset);
     }
-    if is_full(level, w, t, elements) {
-        return Some(TailorCause::Full(level));
+    if is_full(alloc, level, w, t, elements)? {
+        return Err(TailorCause::Full(level));
     }
-    None
+    Ok(())
 }
 
 /// The element next to one at a level.

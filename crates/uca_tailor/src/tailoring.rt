@@ -6,18 +6,18 @@ ghost use Rattle.uca_tailor.specs.Chains.{operator_of, relation_of};
 ghost use Rattle.uca_tailor.specs.Faults.{reported_cause, RefusesRelation};
 ghost use Rattle.uca_tailor.specs.Steps.{Refuses, placed_as, related_as};
 
-use crate::anchor::{anchor_of, base_after, fault_at};
+use crate::anchor::{anchor_of, base_after, check_place};
 use crate::faults::{TailorCause, TailorFault};
+use crate::renumbered::{Renumbered, elements_of};
 use crate::rules::{Op, Relation, Rules};
 use std::alloc::{AllocError, Global};
-use uca_match::elements_of_points;
 use uca_table::{Element, Table};
 use uca_weights::MAX_ELEMENTS;
 
 /// Makes room after elements at a level, 1 to 3, and gives the elements of an item that stands there.
 fn place_after(
     alloc: Global,
-    t: &mut Table,
+    t: &mut Renumbered<'_>,
     level: u8,
     elements: &[Element],
 ) -> Result<Vec<Element>, TailorCause>
@@ -30,18 +30,19 @@ fn place_after(
         return Err(TailorCause::SmallWeight);
     };
     let w = anchor.last.weight(level);
-    if let Some(cause) = fault_at(level, w, t, elements) {
-        return Err(cause);
+    match check_place(alloc, level, w, t, elements) {
+        Ok(()) => {}
+        Err(cause) => return Err(cause),
     }
     let base = base_after(alloc, level, anchor.before, anchor.last)?;
-    t.make_room(level, w);
+    t.make_room(level, w)?;
     Ok(base)
 }
 
 /// Makes room where an operator places an item, and gives the item's elements without those of its expansion.
 fn place(
     alloc: Global,
-    t: &mut Table,
+    t: &mut Renumbered<'_>,
     anchor: &[Element],
     op: Op,
 ) -> Result<Vec<Element>, TailorCause>
@@ -60,20 +61,25 @@ fn place(
 /// The elements of an item: those of its place, and those of its expansion (UTS #35, Part 5, section 3.6, Expansions).
 fn whole_of(
     alloc: Global,
-    t: &Table,
+    t: &Renumbered<'_>,
     base: &[Element],
     expansion: &[char],
 ) -> Result<Vec<Element>, AllocError>
     ensures { IfOk result (λ v. v.items ≡ base.now ++ elements t.now expansion.now) }
 {
     let mut whole = base.to_vec(alloc)?;
-    let others = elements_of_points(alloc, t, expansion)?;
+    let others = elements_of(alloc, t, expansion)?;
     whole.extend_from_slice(&others)?;
     Ok(whole)
 }
 
 /// Enters an item with the elements of its place and of its expansion.
-fn enter(alloc: Global, t: &mut Table, base: &[Element], r: &Relation) -> Result<(), TailorCause>
+fn enter(
+    alloc: Global,
+    t: &mut Renumbered<'_>,
+    base: &[Element],
+    r: &Relation,
+) -> Result<(), TailorCause>
     requires some { 0 < length base.now }
     requires valid { IsRelation (relation_of r.now) }
     ensures { let meant = entered r.now.item.items (placed_as base.now t.old) (base.now ++ elements t.old r.now.expansion.items) in MatchResult result (λ _. meant ≡ Ok (related_as t.new base.now)) (Refuses meant) }
@@ -90,7 +96,7 @@ fn enter(alloc: Global, t: &mut Table, base: &[Element], r: &Relation) -> Result
 /// expansion. What the table has after a fault isn't said.
 fn relate(
     alloc: Global,
-    t: &mut Table,
+    t: &mut Renumbered<'_>,
     anchor: &[Element],
     r: &Relation,
 ) -> Result<Vec<Element>, TailorCause>
@@ -118,7 +124,7 @@ fn fault_of(relation: u64, cause: TailorCause) -> TailorFault
 /// Applies the relations of a chain to a table, after others of this number.
 fn relate_all(
     alloc: Global,
-    t: &mut Table,
+    t: &mut Renumbered<'_>,
     reset: Vec<Element>,
     relations: &[Relation],
     before: u64,
@@ -142,18 +148,18 @@ fn relate_all(
 
 /// The table tailored by rules (a profile of UTS #35, Part 5, section 3.5, Orderings), or the fault of the first relation
 /// that has one. The relations are applied in the order of the text; how weights are assigned is this project's own.
+/// The entries are copied once, after the last relation.
 pub fn tailor(alloc: Global, t: &Table, r: &Rules) -> Result<Table, TailorFault>
     ensures { MatchResult result (λ u. tailored t.now r.now ≡ Ok u) (RefusesRelation (tailored t.now r.now)) }
 {
-    let mut tailored = t.try_clone(alloc)?;
+    let mut tailored = Renumbered::new(alloc, t);
     let mut count = 0;
     for chain in r.chains() {
-        let reset = elements_of_points(alloc, &tailored, &chain.reset)?;
+        let reset = elements_of(alloc, &tailored, &chain.reset)?;
         match relate_all(alloc, &mut tailored, reset, &chain.relations, count) {
             Ok(()) => count += chain.relations.len() as u64,
             Err(fault) => return Err(fault),
         }
     }
-    tailored.prepare(alloc)?;
-    Ok(tailored)
+    Ok(tailored.to_table(alloc)?)
 }

@@ -26,17 +26,24 @@ fn element([l1, l2, l3]: [u16; 3]) -> Element {
     }
 }
 
-/// Makes a table, each step once more where memory was refused.
+/// An element as often as an entry may have it.
+fn copies(starred: bool, [l1, l2, l3]: [u16; 3]) -> [Element; 64] {
+    let e = Element {
+        starred,
+        l1,
+        l2,
+        l3,
+    };
+    [e; 64]
+}
+
+/// Makes a table whose entries have their element so often, each step once more where memory was refused.
 fn table(rt: &impl Abort, alloc: Global, entries: &[Entry], count: usize) -> Table
     requires { count ≤ 64 }
 {
     let mut builder = TableBuilder::new(alloc);
     for (key, starred, weights) in entries {
-        let mut elements = [element(*weights); 64];
-        for e in elements.iter_mut() {
-            e.starred = *starred;
-        }
-        let elements = &elements[..count];
+        let elements = &copies(*starred, *weights)[..count];
         let inserted = match builder.insert(key, elements) {
             Err(InsertFault::OutOfMemory) => builder.insert(key, elements),
             answer => answer,
@@ -149,6 +156,17 @@ fn tailored(
     }
 }
 
+/// Stops a test whose table has other entries than these, each with its element so often.
+fn assert_stands(rt: &impl Abort, t: &Table, entries: &[Entry], count: usize)
+    requires { count ≤ 64 }
+{
+    assert!(rt; t.entries().count() == entries.len());
+    for (key, starred, weights) in entries {
+        let elements = &copies(*starred, *weights)[..count];
+        assert!(rt; t.get(key) == Some(elements), "{key:?}");
+    }
+}
+
 /// Tailors the small table, and compares the elements of some keys.
 fn assert_elements(
     rt: &impl Abort,
@@ -168,13 +186,7 @@ fn assert_elements(
         }
     }
     // The lent table stays as it is.
-    for (key, starred, weights) in SMALL_TABLE {
-        let stands = Element {
-            starred,
-            ..element(weights)
-        };
-        assert_eq!(rt; t.get(key), Some([stands].as_slice()), "{key:?}");
-    }
+    assert_stands(rt, &t, &SMALL_TABLE, 1);
 }
 
 #[test]
@@ -403,6 +415,7 @@ fn the_first_relation_at_fault_is_told(rt: HostRuntime) {
         let answer = tailored(&rt, rt.alloc(), &t, plain).err();
         assert_eq!(rt; answer, fault(relation, cause));
     }
+    assert_stands(&rt, &t, &SMALL_TABLE, 1);
 }
 
 const FULL: [(&'static [Entry], &'static [PlainChain], u8, u64); 5] = [
@@ -459,6 +472,7 @@ fn a_level_without_room_is_full(rt: HostRuntime) {
         let t = table(&rt, rt.alloc(), entries, 1);
         let answer = tailored(&rt, rt.alloc(), &t, plain).err();
         assert_eq!(rt; answer, fault(relation, TailorCause::Full(level)));
+        assert_stands(&rt, &t, entries, 1);
     }
 }
 
@@ -521,13 +535,14 @@ fn an_item_has_at_most_sixty_four_elements(rt: HostRuntime) {
     for plain in [&expanded, &twice] {
         let t = table(&rt, rt.alloc(), &entries, 33);
         let answer = tailored(&rt, rt.alloc(), &t, plain).err();
-        assert_eq!(rt; answer, fault(1, TailorCause::TooManyElements));
+        assert!(rt; answer == fault(1, TailorCause::TooManyElements));
+        assert_stands(&rt, &t, &entries, 33);
         let t = table(&rt, rt.alloc(), &entries, 32);
         let u = tailored(&rt, rt.alloc(), &t, plain)
             .ok()
             .expect(&rt, "a tailored table");
         let all = [element([0x1000, 0x20, 2]); 64];
-        assert_eq!(rt; u.get(&['b']), Some(all.as_slice()));
+        assert!(rt; u.get(&['b']) == Some(all.as_slice()));
     }
     // Five times thirteen are one too many.
     let expanded: [PlainChain; 1] = [(&['a', 'a'], &[(Op::Same, &['b'], &['a', 'a', 'a'])])];
@@ -535,7 +550,7 @@ fn an_item_has_at_most_sixty_four_elements(rt: HostRuntime) {
     for plain in [&expanded, &five_times] {
         let t = table(&rt, rt.alloc(), &entries, 13);
         let answer = tailored(&rt, rt.alloc(), &t, plain).err();
-        assert_eq!(rt; answer, fault(1, TailorCause::TooManyElements));
+        assert!(rt; answer == fault(1, TailorCause::TooManyElements));
     }
 }
 

@@ -1,27 +1,48 @@
-use Rattle.std.proofs.Common.{◌+◌, arith}
+use Rattle.std.proofs.Common.{◌≡◌, ◌+◌, ◌++◌, ◌∷◌, [], ◌&&◌, cond, nat_lt, ℕ, take, get_or, sym, ap, ap₂, ◌∙◌, arith}
+use Rattle.std.proofs.lemmas.List.{get_or_read}
+use Rattle.unicode.specs.CanonicalCombiningClass.{canonical_combining_class}
 use Rattle.uca_model.specs.Table.{is_key}
+use Rattle.uca_table.specs.Running.{brought_forward}
+use Rattle.uca_table.specs.Walk.{path_of, table_of_walk}
+use Rattle.uca_table.proofs.MovedForward.{brought-front}
 use Rattle.uca_table.proofs.MatchLemmas.{IsExtending-takes, IsExtending-passes, IsExtending-stops, IsExtending-ends, IsExtending-as}
 use Rattle.uca_table.proofs.matching.extend.Goals as goal
-use Rattle.uca_table.proofs.matching.extend.Goals.{then-is_taken, else-is_taken}
+use Rattle.uca_table.proofs.matching.extend.Goals.{then-takes, else-takes}
 
 pub returns-then-class-eq0-clause-taken : goal.returns-then-class-eq0-clause-taken
 returns-then-class-eq0-clause-taken c =
-    IsExtending-stops (is_key c.args.t.now) c.args.start c.args.text.now c.loop-at.text c.loop-at.end c.loop-at.at c.loop-at.high c.index-text-at.result c.canonical_combining_class-class.result
-    c.loop-at.invariant (omega (arith, c.loop-at.auto.text, c.loop-at-test.true)) c.index-text-at.is c.canonical_combining_class-class.ensures c.if-class-eq0.true
+    IsExtending-stops (is_key (table_of_walk c.args.walk.now)) c.args.start c.args.text.now c.loop-at.text c.loop-at.end c.loop-at.at c.loop-at.high c.index-text-at.result c.canonical_combining_class-class.result
+    c.loop-at.invariant.extending (omega (arith, c.loop-at.auto.text, c.loop-at-test.true)) c.index-text-at.is c.canonical_combining_class-class.ensures c.if-class-eq0.true
 
 pub loop-at-preserved : goal.loop-at-preserved
 loop-at-preserved c =
-    elim c.if-is_taken.branch [
-      | then-is_taken w ↦
-          IsExtending-as (is_key c.args.t.now) c.args.start c.args.text.now w.bring_forward.new.text c.if-is_taken.text (c.loop-at.end + 1) c.if-is_taken.end (c.loop-at.at + 1) c.loop-at.high c.if-is_taken.high w.text-is w.end-is w.high-is
-          (IsExtending-takes (is_key c.args.t.now) c.args.start c.args.text.now c.loop-at.text w.bring_forward.new.text c.loop-at.end c.loop-at.at c.loop-at.high c.index-text-at.result c.canonical_combining_class-class.result c.is_taken.result
-          c.loop-at.invariant (omega (arith, c.loop-at.auto.text, c.loop-at-test.true)) c.index-text-at.is c.canonical_combining_class-class.ensures c.if-class-eq0.false c.is_taken.ensures.value w.if-is_taken.true w.bring_forward.ensures)
-      | else-is_taken w ↦
-          IsExtending-as (is_key c.args.t.now) c.args.start c.args.text.now c.loop-at.text c.if-is_taken.text c.loop-at.end c.if-is_taken.end (c.loop-at.at + 1) w.higher-high.result c.if-is_taken.high w.text-is w.end-is w.high-is
-          (IsExtending-passes (is_key c.args.t.now) c.args.start c.args.text.now c.loop-at.text c.loop-at.end c.loop-at.at c.loop-at.high c.index-text-at.result c.canonical_combining_class-class.result w.higher-high.result c.is_taken.result
-          c.loop-at.invariant (omega (arith, c.loop-at.auto.text, c.loop-at-test.true)) c.index-text-at.is c.canonical_combining_class-class.ensures c.if-class-eq0.false c.is_taken.ensures.value w.if-is_taken.false w.higher-high.ensures)
+    let x : ℕ = c.index-text-at.result in
+    let t = table_of_walk c.args.walk.now in
+    let within = c.loop-at-test.true in
+    let tested : c.takes.result ≡ (nat_lt c.loop-at.high (canonical_combining_class x) && is_key t (take c.loop-at.end c.loop-at.text ++ x ∷ [])) =
+    c.takes.ensures.value ∙ ap₂ (λ s p. nat_lt c.loop-at.high (canonical_combining_class x) && is_key s (p ++ x ∷ [])) c.loop-at.invariant.table c.loop-at.invariant.path in
+    let read : x ≡ get_or c.loop-at.text c.loop-at.at 0 = get_or_read c.loop-at.text c.loop-at.at x (omega (arith, c.loop-at.auto.text, within)) c.index-text-at.is 0 in
+    elim c.if-takes.branch [
+      | then-takes w ↦ record {
+        extending =
+            IsExtending-as (is_key t) c.args.start c.args.text.now w.bring_forward.new.text c.if-takes.text (c.loop-at.end + 1) c.if-takes.end (c.loop-at.at + 1) c.loop-at.high c.if-takes.high w.text-is w.end-is w.high-is
+            (IsExtending-takes (is_key t) c.args.start c.args.text.now c.loop-at.text w.bring_forward.new.text c.loop-at.end c.loop-at.at c.loop-at.high x c.canonical_combining_class-class.result c.takes.result
+            c.loop-at.invariant.extending (omega (arith, c.loop-at.auto.text, within)) c.index-text-at.is c.canonical_combining_class-class.ensures c.if-class-eq0.false tested w.if-takes.true w.bring_forward.ensures);
+        path =
+            c.takes.ensures.path ∙ ap (λ b. cond b (path_of c.loop-at.walk ++ x ∷ []) (path_of c.loop-at.walk)) w.if-takes.true ∙ ap₂ (λ p y. p ++ y ∷ []) c.loop-at.invariant.path read
+            ∙ sym (ap₂ take w.end-is (w.text-is ∙ w.bring_forward.ensures) ∙ brought-front c.loop-at.text c.loop-at.end c.loop-at.at c.loop-at.invariant.extending.upto (omega (arith, c.loop-at.auto.text, within)));
+        table = c.takes.ensures.table ∙ c.loop-at.invariant.table;
+      }
+      | else-takes w ↦ record {
+        extending =
+            IsExtending-as (is_key t) c.args.start c.args.text.now c.loop-at.text c.if-takes.text c.loop-at.end c.if-takes.end (c.loop-at.at + 1) w.higher-high.result c.if-takes.high w.text-is w.end-is w.high-is
+            (IsExtending-passes (is_key t) c.args.start c.args.text.now c.loop-at.text c.loop-at.end c.loop-at.at c.loop-at.high x c.canonical_combining_class-class.result w.higher-high.result c.takes.result
+            c.loop-at.invariant.extending (omega (arith, c.loop-at.auto.text, within)) c.index-text-at.is c.canonical_combining_class-class.ensures c.if-class-eq0.false tested w.if-takes.false w.higher-high.ensures);
+        path = c.takes.ensures.path ∙ ap (λ b. cond b (path_of c.loop-at.walk ++ x ∷ []) (path_of c.loop-at.walk)) w.if-takes.false ∙ c.loop-at.invariant.path ∙ sym (ap₂ take w.end-is w.text-is);
+        table = c.takes.ensures.table ∙ c.loop-at.invariant.table;
+      }
     ]
 
 pub returns-clause-taken : goal.returns-clause-taken
 returns-clause-taken c =
-    IsExtending-ends (is_key c.args.t.now) c.args.start c.args.text.now c.loop-at.text c.loop-at.end c.loop-at.at c.loop-at.high c.loop-at.invariant (omega (arith, c.loop-at.auto.text, c.loop-at-test.false))
+    IsExtending-ends (is_key (table_of_walk c.args.walk.now)) c.args.start c.args.text.now c.loop-at.text c.loop-at.end c.loop-at.at c.loop-at.high c.loop-at.invariant.extending (omega (arith, c.loop-at.auto.text, c.loop-at-test.false))

@@ -2,14 +2,14 @@ use Rattle.std.proofs.Common.{arith}
 use Rattle.uca_tailor.proofs.AnchorLemmas.{next_fits, before_moves, placed_there, placed_refused}
 use Rattle.uca_tailor.proofs.tailoring.place_after.Goals as goal
 
-pub returns-in-Some-fault_at-clause-placed : goal.returns-in-Some-fault_at-clause-placed
-returns-in-Some-fault_at-clause-placed c = placed_refused c.args.level c.weight-w.result c.args.t.now c.args.elements.now c.in-Some.anchor.before.now c.in-Some.anchor.last c.in-Some-fault_at.cause c.in-Some.ensures c.weight-w.ensures c.in-Some-fault_at.ensures.some
+pub returns-in-Err-clause-placed : goal.returns-in-Err-clause-placed
+returns-in-Err-clause-placed c = placed_refused c.args.level c.weight-w.result c.args.t.now c.args.elements.now c.in-Some.anchor.before.now c.in-Some.anchor.last c.in-Err.cause c.in-Some.ensures c.weight-w.ensures c.in-Err.ensures
 
 pub base_after-requires-clause-next : goal.base_after-requires-clause-next
-base_after-requires-clause-next c = next_fits c.args.level c.weight-w.result c.args.t.now c.args.elements.now c.in-Some.anchor.before.now c.in-Some.anchor.last c.requires.first c.requires.last (omega arith) c.in-Some.ensures c.weight-w.ensures c.in_default-fault_at.ensures.none
+base_after-requires-clause-next c = next_fits c.args.level c.weight-w.result c.args.t.now c.args.elements.now c.in-Some.anchor.before.now c.in-Some.anchor.last c.requires.first c.requires.last (omega arith) c.in-Some.ensures c.weight-w.ensures c.in-Ok.ensures
 
 pub base_after-requires-clause-room : goal.base_after-requires-clause-room
-base_after-requires-clause-room c = before_moves c.args.level c.weight-w.result c.args.t.now c.args.elements.now c.in-Some.anchor.before.now c.in-Some.anchor.last c.in-Some.ensures c.weight-w.ensures c.in_default-fault_at.ensures.none
+base_after-requires-clause-room c = before_moves c.args.level c.weight-w.result c.args.t.now c.args.elements.now c.in-Some.anchor.before.now c.in-Some.anchor.last c.in-Some.ensures c.weight-w.ensures c.in-Ok.ensures
 
 pub returns-clause-placed : goal.returns-clause-placed
-returns-clause-placed c = placed_there c.args.level c.weight-w.result c.args.t.now c.make_room.new.self c.args.elements.now c.in-Some.anchor.before.now c.in_ok-base.base.items c.in-Some.anchor.last c.in-Some.ensures c.weight-w.ensures c.in_default-fault_at.ensures.none c.in_ok-base.ensures c.make_room.ensures
+returns-clause-placed c = placed_there c.args.level c.weight-w.result c.args.t.now c.make_room.new.self c.args.elements.now c.in-Some.anchor.before.now c.in_ok-base.base.items c.in-Some.anchor.last c.in-Some.ensures c.weight-w.ensures c.in-Ok.ensures c.in_ok-base.ensures c.in_ok-make_room.ensures

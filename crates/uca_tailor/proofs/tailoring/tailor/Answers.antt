@@ -46,4 +46,4 @@ loop-chain-preserved c =
     }
 
 pub returns : goal.returns
-returns c = sym (ap (tailored_from 0 c.args.t.now) c.chains-chain-items.ensures.value) ∙ chains_done c.loop-chain.count c.loop-chain.tailored c.chains-chain-items.result.now c.loop-chain.chain-index _ c.loop-chain-test.false c.loop-chain.invariant.same ∙ ap Ok (sym c.prepare.ensures)
+returns c = sym (ap (tailored_from 0 c.args.t.now) c.chains-chain-items.ensures.value) ∙ chains_done c.loop-chain.count c.loop-chain.tailored c.chains-chain-items.result.now c.loop-chain.chain-index _ c.loop-chain-test.false c.loop-chain.invariant.same ∙ ap Ok (sym c.in_ok-to_table.ensures)

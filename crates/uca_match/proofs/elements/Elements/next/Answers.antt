@@ -1,13 +1,9 @@
 use Rattle.std.proofs.Common.{◌≡◌, ◌<◌, [], Some, length, refl, sym, ap, subst, ◌∙◌, eqb-true}
-use Rattle.uca_model.specs.Table.{is_key}
-use Rattle.uca_model.specs.CollationElements.{elements_or_implicit}
+use Rattle.uca_match.specs.Found.{points_of}
 use Rattle.uca_match.specs.Yields.{Yields}
 use Rattle.uca_match.specs.RemainingElements.{ElementsState, remaining_elements, window_of, waiting_of}
-use Rattle.uca_match.proofs.RemainingLemmas.{none_waits, length-match, Yields-end, Yields-match}
+use Rattle.uca_match.proofs.RemainingLemmas.{none_waits, Yields-end, Yields-match}
 use Rattle.uca_match.proofs.elements.Elements.next.Goals as goal
-
-pub elements_of_match-given-requires : goal.elements_of_match-given-requires
-elements_of_match-given-requires g c = subst (λ k. 0 < length k) (sym c.as_slice.ensures.value) (length-match (is_key c.self.inside.table.now) _ _ c.in_ok-matched.ensures.some c.in_ok-matched.ensures.matched)
 
 pub returns-in_err-matched-clause-yields : goal.returns-in_err-matched-clause-yields
 returns-in_err-matched-clause-yields g c =
@@ -22,5 +18,5 @@ returns-clause-yields g c =
     let new : ElementsState = record { table = c.self.inside.table.now; waiting = waiting_of c.elements_of_match-given.result.others.now c.elements_of_match-given.result.second; window = c.next_match.new.window } in
     let waits : waiting_of c.self.inside.waiting.now c.self.inside.second ≡ [] = none_waits c.self.inside.waiting.now c.self.inside.second (eqb-true (length c.self.inside.waiting.now) 0 (sym c.is_empty.ensures ∙ c.if-not-is_empty.false)) c.in_default.not-Some in
     subst (λ v. Yields remaining_elements window_of v (g.S.Source.state c.args.source.now) (Some c.elements_of_match-given.result.first) new (g.S.Source.state c.next_match.new.source)) c.self.view_is
-    (Yields-match was new _ _ c.elements_of_match-given.result.first c.in_ok-matched.matched.items waits refl c.in_ok-matched.ensures.reads c.in_ok-matched.ensures.some c.in_ok-matched.ensures.matched c.in_ok-matched.ensures.rest
-    (ap (elements_or_implicit c.self.inside.table.now) (sym c.as_slice.ensures.value) ∙ c.elements_of_match-given.ensures))
+    (Yields-match was new _ _ c.elements_of_match-given.result.first (points_of c.in_ok-matched.matched) waits refl c.in_ok-matched.ensures.reads c.in_ok-matched.ensures.some c.in_ok-matched.ensures.matched c.in_ok-matched.ensures.rest
+    c.elements_of_match-given.ensures)

@@ -29,6 +29,7 @@ invariant_of-self c =
     let free : list_any (λ e. p e.1) es ≡ false = any-map (λ e. p e.1) pair_of c.self.inside.entries.items ∙ sym (any_entry p c.self.inside.entries.items rs c.self.invariant.0.sorted) ∙ ap (λ (t : ElementTable). list_any p (values t.entries)) c.self.view_is ∙ c.requires.room in (
       subst (λ xs. AreStored xs rs) (sym same) (AreStored-with_room c.args.level c.args.w es rs c.requires.first c.requires.last c.self.invariant.0 free),
       c.self.invariant.1 ∙ sym (ap longest_of same ∙ longest-with_room c.args.level c.args.w es),
+      c.clear.ensures _,
     )
 
 pub returns : goal.returns

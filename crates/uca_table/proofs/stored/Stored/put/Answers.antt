@@ -12,6 +12,7 @@ invariant_of-self-2 c =
     let entry : IsEntry (key, es) = record { some_points = c.requires.some_points; few_points = c.requires.few_points; points = c.read_key.ensures; some_elements = c.requires.some_elements; few_elements = c.requires.few_elements; elements = c.read_elements.ensures } in (
       subst (λ xs. AreStored xs rs) (sym c.in_ok-put.ensures.ok) (AreStored-put old rs key es c.self.invariant.0 entry),
       c.max-self-inside.ensures ∙ ap (λ n. max n (length key)) c.self.invariant.1 ∙ sym (ap longest_of c.in_ok-put.ensures.ok ∙ longest-put key es old),
+      c.clear.ensures _,
     )
 
 pub returns-clause-ok : goal.returns-clause-ok

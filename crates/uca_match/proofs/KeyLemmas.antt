@@ -1,0 +1,101 @@
+-- The keys of a table as a set, and prefixes that are longer than every key.
+use Rattle.std.proofs.Common.{◌≡◌, ℕ, ◌-◌, ◌+◌, ◌≤◌, ◌<◌, max, Bool, true, false, ◌||◌, List, [], ◌∷◌, length, take, fold, map, Some, None, is_some, refl, sym, ap, subst, ◌∙◌, arith, lit≤, inl, inr}
+use Rattle.std.proofs.lemmas.Bool.{cases_Bool, cases_lt, cond-false}
+use Rattle.std.proofs.lemmas.List.Elements.{recursion_from_All}
+use Rattle.std.proofs.lemmas.List.{length-take-le}
+use Rattle.std.specs.Prelude.{◌⊎◌}
+use Rattle.std.specs.List.{AllByRecursion, list_any}
+use Rattle.std.specs.Ordering.{eq_by_cmp}
+use Rattle.std.proofs.lemmas.Cmp.{eq_by_cmp_equiv}
+use Rattle.std.specs.Cmp.Lexicographic.{nat_list_cmp_total}
+use Rattle.std.specs.FinMap.{keys, entries, find, get-entries, contains_key-keys}
+use Rattle.std.specs.FinSet.{FinSet, contains, contains-from_list}
+use Rattle.uca_model.specs.Match.{greatest, longest_match_len}
+use Rattle.uca_weights.specs.declared.element.Element.{Element}
+use Rattle.uca_weights.specs.declared.limits.TheConstants.{MAX_KEY}
+use Rattle.uca_model.specs.Table.{ElementTable, key_cmp, is_key, longest, IsEntry, IsTable}
+use Rattle.uca_model.proofs.LongestKey.{longest-covers, longest-some}
+use Rattle.uca_table.proofs.MatchLemmas.{greatest-below}
+use Rattle.uca_match.specs.Keys.{HasLongest, key_set}
+
+-- a key of the set is a key of the table
+pub contains-key_set : (t : ElementTable) (key : List ℕ) → contains (key_set t) key ≡ is_key t key
+contains-key_set t key = contains-from_list nat_list_cmp_total (keys t.entries) key ∙ sym (contains_key-keys t.entries key)
+
+-- what is longer than each key is none
+pub longer_than_keys : (keys : FinSet key_cmp) (m : ℕ) (key : List ℕ) → HasLongest keys m → m < length key → contains keys key ≡ false
+longer_than_keys keys m key has long = elim (cases_Bool (contains keys key)) [
+  | inl holds ↦ let h : length key ≤ m = has.each key holds in absurd (omega arith)
+  | inr fails ↦ fails
+]
+
+-- it is enough to look up what is no longer than the longest key
+pub longest_match_len-short : (keys : FinSet key_cmp) (m : ℕ) (text : List ℕ) (n : ℕ) → HasLongest keys m → n ≤ length text → (n < length text → m ≤ n) → greatest (λ k. contains keys (take k text)) n ≡ longest_match_len (contains keys) text
+longest_match_len-short keys m text n has within short =
+    let whole : n + (length text - n) ≡ length text = omega arith in
+    sym (greatest-below (λ k. contains keys (take k text)) n (length text - n) (λ k above upto.
+    let size : length (take k text) ≡ k = length-take-le k text (omega arith) in
+    let last : m ≤ n = short (omega arith) in
+    longer_than_keys keys m (take k text) has (omega arith)))
+    ∙ ap (greatest (λ k. contains keys (take k text))) whole
+
+-- some key of a list has the greatest length, or it is the least that was allowed
+or_right : (a b : Bool) → b ≡ true → (a || b) ≡ true
+or_right true b e = refl
+or_right false b e = e
+
+record IsLongestOf (ks : List (List ℕ)) (n : ℕ) : Type 0 where
+  key : List ℕ
+  among : list_any (eq_by_cmp key_cmp key) ks ≡ true
+  size : length key ≡ n
+
+later : (k : List ℕ) (ks : List (List ℕ)) (n : ℕ) → IsLongestOf ks n → IsLongestOf (k ∷ ks) n
+later k ks n h = record { key = h.key; among = or_right (eq_by_cmp key_cmp h.key k) (list_any (eq_by_cmp key_cmp h.key) ks) h.among; size = h.size }
+
+here : (k : List ℕ) (ks : List (List ℕ)) → IsLongestOf (k ∷ ks) (length k)
+here k ks = record { key = k; among = ap (λ b. b || list_any (eq_by_cmp key_cmp k) ks) ((eq_by_cmp_equiv nat_list_cmp_total).refl k); size = refl }
+
+fold-reached : (n : ℕ) (ks : List (List ℕ)) → (fold (λ m k. max m (length k)) n ks ≡ n) ⊎ IsLongestOf ks (fold (λ m k. max m (length k)) n ks)
+fold-reached n [] = inl refl
+fold-reached n (k ∷ ks) = elim (cases_lt (length k) n) [
+  | inl low ↦
+      let same : max n (length k) ≡ n = omega arith in
+      elim (fold-reached (max n (length k)) ks) [
+        | inl stays ↦ inl (stays ∙ same)
+        | inr one ↦ inr (later k ks _ one)
+      ]
+  | inr high ↦
+      let same : max n (length k) ≡ length k = omega arith in
+      elim (fold-reached (max n (length k)) ks) [
+        | inl stays ↦ inr (subst (IsLongestOf (k ∷ ks)) (sym (stays ∙ same)) (here k ks))
+        | inr one ↦ inr (later k ks _ one)
+      ]
+]
+
+-- no key of a table is without a code point
+no_empty : (es : List (List ℕ × List Element)) → AllByRecursion IsEntry es → find key_cmp [] es ≡ None
+no_empty [] all = refl
+no_empty (e ∷ es) all = cond-false (eq_by_cmp key_cmp [] e.0) (Some e.1) (find key_cmp [] es) (not_empty e.0 all.0.some_points) ∙ no_empty es all.1 where
+  not_empty : (k : List ℕ) → 1 ≤ length k → eq_by_cmp key_cmp [] k ≡ false
+  not_empty [] h = absurd (omega arith)
+  not_empty (x ∷ k) h = refl
+
+-- and each has at most 32
+few_points : (n : ℕ) (es : List (List ℕ × List Element)) → n ≤ MAX_KEY → AllByRecursion IsEntry es → fold (λ m k. max m (length k)) n (map (λ e. e.0) es) ≤ MAX_KEY
+few_points n [] h all = h
+few_points n (e ∷ es) h all = let few : length e.0 ≤ MAX_KEY = all.0.few_points in few_points (max n (length e.0)) es (omega arith) all.1
+
+-- the longest key of a table is that of the set
+pub HasLongest-table : (t : ElementTable) → IsTable t → HasLongest (key_set t) (longest t)
+HasLongest-table t valid =
+    let entries_fit = recursion_from_All IsEntry (entries t.entries) valid.entries in
+    record {
+      nonempty = contains-key_set t [] ∙ ap is_some (get-entries t.entries [] ∙ no_empty (entries t.entries) entries_fit);
+      each = λ key has. longest-covers t key (sym (contains-key_set t key) ∙ has);
+      some = longest-some t;
+      few = few_points 1 (entries t.entries) (lit≤ tt) entries_fit;
+      reached = elim (fold-reached 1 (keys t.entries)) [
+        | inl one ↦ inl one
+        | inr h ↦ inr (record { key = h.key; has = contains-from_list nat_list_cmp_total (keys t.entries) h.key ∙ h.among; size = h.size })
+      ];
+    }

@@ -1,0 +1,32 @@
+ghost use Rattle.std.specs.Prelude.{◌≡◌};
+ghost use Rattle.std.specs.FinSet.{FinSet, contains};
+ghost use Rattle.uca_model.specs.Table.{key_cmp};
+ghost use Rattle.uca_match.specs.Keys.{HasLongest, key_set};
+
+use uca_table::Table;
+
+/// Keys that are looked for in a text: a finite set of lists of 1 to `MAX_KEY` code points. No call takes memory.
+pub trait Keys {
+    /// The keys.
+    ghost keys: { Self → FinSet key_cmp };
+
+    /// Whether the code points are a key.
+    fn has(&self, key: &[char]) -> bool
+        ensures { result ≡ contains (keys self.now) key.now };
+
+    /// The length of the longest key in code points, or 1 where there is no key.
+    fn longest(&self) -> usize
+        ensures { HasLongest (keys self.now) result };
+}
+
+impl Keys for Table {
+    ghost keys = { key_set };
+
+    fn has(&self, key: &[char]) -> bool {
+        self.get(key).is_some()
+    }
+
+    fn longest(&self) -> usize {
+        self.longest()
+    }
+}

@@ -1,0 +1,33 @@
+use Rattle.std.proofs.Common.{◌≡◌, max, length, subst, sym, ap, ap₂, ◌∙◌, rules, arith}
+use Rattle.std.specs.List.{AllByRecursion}
+use Rattle.uca_model.specs.Table.{with_entry, IsElement}
+use Rattle.uca_table.proofs.EntryLemmas.{vec_cmp}
+use Rattle.std.specs.BTreeMap.{insert_entry}
+use Rattle.uca_tailor.specs.declared.items.Item.{Item}
+use Rattle.uca_tailor.specs.Renumbered.{renumbered, IsRenumbered, IsItem}
+use Rattle.uca_tailor.specs.Tops.{HoldsElements}
+use Rattle.uca_tailor.proofs.RenumberedLemmas.{renumbered-put, IsRenumbered-put, now-past}
+use Rattle.uca_tailor.proofs.renumbered.Renumbered.put.Goals as goal
+
+pub invariant_of-self-2 : goal.invariant_of-self-2
+invariant_of-self-2 c =
+    let m = c.self.inside.moves in let items = c.self.inside.items.entries in let t = c.self.inside.table.now in
+    let k = c.in_ok-own_key.own_key in let i : Item = record { elements = c.in_ok-to_vec.field-0; after = c.now.result } in
+    let key : k.items ≡ c.args.key.now = search rules in
+    let es : c.in_ok-to_vec.field-0.items ≡ c.args.elements.now = search rules in
+    let size : length k.items ≡ length c.args.key.now = ap length key in
+    let count : length c.in_ok-to_vec.field-0.items ≡ length c.args.elements.now = ap length es in
+    let item : IsItem m i = record { past = now-past m c.now.result c.now.ensures; some = omega (arith, count, c.requires.some_elements) } in
+    let now : c.max-self-inside.result ≡ max c.self.inside.longest_key (length k.items) = omega (arith, size, c.max-self-inside.ensures) in
+    subst (λ x. IsRenumbered m x t c.over-self-inside.result c.max-self-inside.result) (sym c.in_ok-insert.ensures.entries)
+    (subst (λ n. IsRenumbered m (insert_entry vec_cmp items k i) t c.over-self-inside.result n) (sym now)
+    (IsRenumbered-put m items t c.self.inside.tops c.over-self-inside.result c.self.inside.longest_key k i c.now.ensures item (subst (AllByRecursion IsElement) (sym es) c.read_elements.ensures)
+    (omega (arith, size, c.requires.some_points)) (omega (arith, size, c.requires.few_points)) (subst (HoldsElements c.over-self-inside.result) (sym es) c.over-self-inside.ensures.elements) c.over-self-inside.ensures.more c.self.invariant))
+
+pub returns : goal.returns
+returns c =
+    let m = c.self.inside.moves in let items = c.self.inside.items.entries in let t = c.self.inside.table.now in
+    let k = c.in_ok-own_key.own_key in let i : Item = record { elements = c.in_ok-to_vec.field-0; after = c.now.result } in
+    let key : k.items ≡ c.args.key.now = search rules in
+    let es : c.in_ok-to_vec.field-0.items ≡ c.args.elements.now = search rules in
+    ap (λ x. renumbered m x t) c.in_ok-insert.ensures.entries ∙ renumbered-put m items t k i c.now.ensures ∙ ap₂ (with_entry (renumbered m items t)) key es ∙ ap (λ u. with_entry u c.args.key.now c.args.elements.now) c.self.view_is

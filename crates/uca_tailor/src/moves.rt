@@ -1,0 +1,97 @@
+//! The rooms that were made at all three levels.
+ghost use Rattle.std.specs.Prelude.{◌≡◌, ◌≤◌, ◌++◌, [], map, OnOk, OnErr};
+ghost use Rattle.uca_tailor.specs.Moves.{IsPast, now_of, with_move, moved_element, cut};
+
+use crate::shifts::Shifts;
+use std::alloc::{AllocError, Global};
+use uca_table::Element;
+
+/// The rooms that were made at each level.
+#[derive(Debug, Drop)]
+pub(crate) struct Moves {
+    pub(crate) first: Shifts,
+    pub(crate) second: Shifts,
+    pub(crate) third: Shifts,
+}
+
+/// How often room had been made at each level.
+#[derive(Clone, Copy, Debug)]
+pub(crate) struct Stamp {
+    pub(crate) first: usize,
+    pub(crate) second: usize,
+    pub(crate) third: usize,
+}
+
+/// Before the first room.
+pub(crate) const START: Stamp = Stamp {
+    first: 0,
+    second: 0,
+    third: 0,
+};
+
+impl Moves {
+    /// No room was made.
+    pub(crate) fn new(alloc: Global) -> Moves
+        ensures { result ≡ record { first = []; second = []; third = [] } }
+    {
+        Moves {
+            first: Shifts::new(alloc),
+            second: Shifts::new(alloc),
+            third: Shifts::new(alloc),
+        }
+    }
+
+    /// How often room was made until now.
+    pub(crate) fn now(&self) -> Stamp
+        ensures { result ≡ now_of self.now }
+    {
+        Stamp {
+            first: self.first.len(),
+            second: self.second.len(),
+            third: self.third.len(),
+        }
+    }
+
+    /// Makes room above a weight of a level, 1 to 3.
+    pub(crate) fn make_room(&mut self, level: u8, w: u16) -> Result<(), AllocError>
+        requires first { 1 ≤ level }
+        requires last { level ≤ 3 }
+        ensures ok { OnOk result (self.new ≡ with_move level w self.old) }
+        ensures err { OnErr result (self.new ≡ self.old) }
+    {
+        match level {
+            1 => self.first.push(w),
+            2 => self.second.push(w),
+            _ => self.third.push(w),
+        }
+    }
+
+    /// What an element has become that was put in after the first rooms.
+    fn moved(&self, after: Stamp, element: Element) -> Element
+        requires { IsPast self.now after }
+        ensures { result ≡ cut (moved_element self.now after element) }
+    {
+        Element {
+            starred: element.starred,
+            l1: self.first.moved(1, after.first, element.l1),
+            l2: self.second.moved(2, after.second, element.l2),
+            l3: self.third.moved(3, after.third, element.l3),
+        }
+    }
+
+    /// Appends what elements have become that were put in after the first rooms.
+    pub(crate) fn push_moved(
+        &self,
+        out: &mut Vec<Element>,
+        after: Stamp,
+        elements: &[Element],
+    ) -> Result<(), AllocError>
+        requires { IsPast self.now after }
+        ensures { OnOk result (out.new.items ≡ out.old.items ++ map cut (map (moved_element self.now after) elements.now)) }
+    {
+        for element in elements {
+            out.push(self.moved(after, *element))?;
+        }
+        Ok(())
+    }
+}

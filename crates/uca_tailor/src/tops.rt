@@ -1,0 +1,106 @@
+//! Weights above which no weight of a table stands, so that a relation need not look at the whole table for room.
+ghost use Rattle.std.specs.Prelude.{◌≡◌, ◌≤◌, min};
+ghost use Rattle.uca_model.specs.Room.{moves, weight_with_room};
+ghost use Rattle.uca_tailor.specs.Renumbered.{IsBelow, HasTop, HaveTops};
+ghost use Rattle.uca_tailor.specs.Tops.{raised, HoldsElements, IsAtMost};
+
+use crate::shifts::with_room;
+use uca_table::{Element, Table};
+
+/// For each level a weight above which no weight of a table stands, but implicit ones.
+#[derive(Clone, Copy, Debug)]
+pub(crate) struct Tops {
+    pub(crate) first: u16,
+    pub(crate) second: u16,
+    pub(crate) third: u16,
+}
+
+/// Whether a weight of a level stands above another one, and is no implicit one.
+fn is_above(level: u8, top: u16, weight: u16) -> bool
+    ensures { result ≡ moves level top weight }
+{
+    top < weight && (level != 1 || weight < 0x8000)
+}
+
+/// A weight, or the greatest one of the elements that stands above it at a level, 1 to 3.
+fn highest(level: u8, elements: &[Element], top: u16) -> u16
+    requires first { 1 ≤ level }
+    requires last { level ≤ 3 }
+    ensures below { IsBelow level result elements.now }
+    ensures more { top ≤ result }
+{
+    let mut highest = top;
+    for element in elements {
+        let weight = element.weight(level);
+        if is_above(level, highest, weight) {
+            highest = weight;
+        }
+    }
+    highest
+}
+
+/// The greatest weight of a level, 1 to 3, in a table.
+fn highest_of(level: u8, t: &Table) -> u16
+    requires first { 1 ≤ level }
+    requires last { level ≤ 3 }
+    ensures { HasTop level result t.now }
+{
+    let mut top = 0;
+    for (_, elements) in t.entries() {
+        top = highest(level, elements, top);
+    }
+    top
+}
+
+impl Tops {
+    /// The greatest weights of a table.
+    pub(crate) fn of(t: &Table) -> Tops
+        ensures { HaveTops result t.now }
+    {
+        Tops {
+            first: highest_of(1, t),
+            second: highest_of(2, t),
+            third: highest_of(3, t),
+        }
+    }
+
+    /// The same, and nothing above them in these elements.
+    pub(crate) fn over(self, elements: &[Element]) -> Tops
+        ensures elements { HoldsElements result elements.now }
+        ensures more { IsAtMost self result }
+    {
+        Tops {
+            first: highest(1, elements, self.first),
+            second: highest(2, elements, self.second),
+            third: highest(3, elements, self.third),
+        }
+    }
+
+    /// The same after room was made above a weight at a level, 1 to 3.
+    pub(crate) fn raised(self, level: u8, w: u16) -> Tops
+        requires first { 1 ≤ level }
+        requires last { level ≤ 3 }
+        ensures { result ≡ raised level w self }
+    {
+        let mut raised = self;
+        match level {
+            1 => raised.first = with_room(1, w, self.first),
+            2 => raised.second = with_room(2, w, self.second),
+            _ => raised.third = with_room(3, w, self.third),
+        }
+        raised
+    }
+
+    /// The greatest weight at a level, 1 to 3.
+    pub(crate) fn at(self, level: u8) -> u16
+        ensures first { level ≡ 1 → result ≡ self.first }
+        ensures second { level ≡ 2 → result ≡ self.second }
+        ensures third { level ≡ 3 → result ≡ self.third }
+    {
+        match level {
+            1 => self.first,
+            2 => self.second,
+            _ => self.third,
+        }
+    }
+}
