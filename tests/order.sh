@@ -98,7 +98,7 @@ if [ -n "$published" ]; then
     done
     for words in tests/rules/*.words; do
         shuf --random-source=<(yes) "$words" >"$work/shuffled"
-        runs order --table "$published" --rules "${words%.words}.rules" <"$work/shuffled"
+        runs order --table "$published" --rules "rules/$(basename "$words" .words).rules" <"$work/shuffled"
         is "the words of $(basename "$words" .words)" "same|0" "$(cmp -s "$work/out" "$words" && echo same)|$status"
     done
     runs lint --table "$published" </dev/null

@@ -27,7 +27,7 @@ published=$(published_table)
 if [ -n "$published" ]; then
     echo "tests/readme.sh: with $published"
     mkdir "$work/room"
-    ln -s "$PWD/uca" "$work/room/uca"
+    ln -s "$PWD/uca" "$PWD/rules" "$work/room/"
     cd "$work/room" || exit 2
     for command in $(find "$work" -name '*.command' | sort -V); do
         line=$(cat "$command")

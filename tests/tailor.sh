@@ -1,6 +1,6 @@
 #!/usr/bin/env bash
-# Rules from end to end: small ones over the built-in table, what is refused, and the languages of tests/rules over the
-# table that Debian's perl ships.
+# Rules from end to end: small ones over the built-in table, what is refused, and as many as may be over the table that Debian's
+# perl ships.
 source "$(dirname "${BASH_SOURCE[0]}")/checks.bash"
 
 is_built
@@ -105,39 +105,7 @@ runs elements --rules "$work/rules" < <(printf 'b\n')
 is "one relation more" "|uca: rules byte 60002: TooManyRelations|3" "$(cat "$work/out")|$(cat "$work/err")|$status"
 
 published=$(published_table)
-[ -n "$published" ] || { echo "tests/tailor.sh: no allkeys.txt in perl's folders, so no language was tried"; sum_up; exit; }
-
-# is_rising NAME RULES..: the words of a language are in the order of its readers, by comparison and by their keys
-is_rising() {
-    local name=$1 words=tests/rules/$1.words wanted
-    wanted=$(($(wc -l <"$words") - 1))
-    runs compare --table "$published" --rules "tests/rules/$name.rules" <"$words"
-    is "$name: neighbours" "$wanted less|0" "$(sort "$work/out" | uniq -c | awk '{ print $1, $2 }')|$status"
-    paste -d' ' <(head -n -1 "$words") <(tail -n +2 "$words") "$work/out" | grep -v ' less$'
-    runs key --table "$published" --rules "tests/rules/$name.rules" <"$words"
-    is "$name: keys" "$((wanted + 1))|rising|0" "$(wc -l <"$work/out")|$(LC_ALL=C sort -cu "$work/out" 2>/dev/null && echo rising)|$status"
-    runs compare --table "$published" <"$words"
-    is "$name: another order without its rules" "other" "$(grep -q greater "$work/out" && echo other)"
-}
-
-# is_rising_in_perl NAME LOCALE: the same words by perl's own rules for the language
-is_rising_in_perl() {
-    is "$1: perl's order" "" "$(perl -MUnicode::Collate::Locale -e '
-        binmode STDIN, ":utf8"; binmode STDOUT, ":utf8";
-        my $c = Unicode::Collate::Locale->new(locale => $ARGV[0], variable => "Non-ignorable");
-        $c->getlocale eq $ARGV[0] or print "perl has no locale $ARGV[0]";
-        while (my $word = <STDIN>) { chomp $word; print "$last $word;" if defined $last && $c->cmp($last, $word) >= 0; $last = $word }
-        ' "$2" <"tests/rules/$1.words")"
-}
-
-languages="croatian=hr czech=cs danish=da estonian=et german-phonebook=de__phonebook lithuanian=lt polish=pl
-    spanish-traditional=es__traditional swedish=sv__reformed turkish=tr welsh=cy"
-for language in $languages; do
-    is_rising "${language%=*}"
-    if perl -MUnicode::Collate::Locale -e1 2>/dev/null; then is_rising_in_perl "${language%=*}" "${language#*=}"; fi
-done
-set -- tests/rules/*.rules
-is "languages that were tried" "$#" "$(wc -w <<<"$languages")"
+[ -n "$published" ] || { echo "tests/tailor.sh: no allkeys.txt in perl's folders, so no large table was tried"; sum_up; exit; }
 
 # As many relations as may be, each of which moves weights of a large table.
 { printf '&a'; printf '<<b%.0s' $(seq 20000); } >"$work/rules"

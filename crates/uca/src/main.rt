@@ -3,10 +3,10 @@
 
 use std::alloc::AllocError;
 use std::fs::File;
-use std::io::{ErrorKind, Read, Stdin, Write};
+use std::io::{ErrorKind, IsTerminal, Read, Stdin, Write};
 use std::process::ExitCode;
 use std::{env, fs, io};
-use uca_cli::{CliFault, Job, JobFault, job_of, perform, status_of};
+use uca_cli::{CliFault, Job, JobFault, Task, job_of, perform, status_of};
 use uca_weights::{Reading, Writing};
 
 /// The status for words that are no job.
@@ -90,6 +90,19 @@ impl Input {
         let is_open = stdin.read(&mut []).is_ok();
         Input { stdin, is_open }
     }
+
+    /// Says on a terminal that the input comes from it. Whether that can be written is of no account.
+    fn announce(&self, rt: &HostRuntime, command: Task) {
+        let is_read = match command {
+            Task::Lint | Task::Table => false,
+            _ => true,
+        };
+        if is_read && self.stdin.is_terminal() {
+            let _ = eprintln!(rt;
+                "uca: reads from the keyboard; Ctrl-D on a line of its own ends the input"
+            );
+        }
+    }
 }
 
 impl Read for Input {
@@ -104,13 +117,15 @@ impl Read for Input {
 
 /// Opens the files that the job names, first that of the table and then that of the rules, and does the job.
 fn do_job(rt: &HostRuntime, job: &Job) -> u8 {
-    let mut input = Reading::new(Input::new(rt));
+    let standard_input = Input::new(rt);
     let Ok(mut table) = reader_of(rt, job.table.as_ref()) else {
         return NOT_DONE;
     };
     let Ok(mut rules) = reader_of(rt, job.rules.as_ref()) else {
         return NOT_DONE;
     };
+    standard_input.announce(rt, job.command);
+    let mut input = Reading::new(standard_input);
     perform_on_streams(rt, job, table.as_mut(), rules.as_mut(), &mut input)
 }
 

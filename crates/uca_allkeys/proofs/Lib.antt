@@ -1,4 +1,1 @@
-pub mod SendLemmas
-pub mod TextLemmas
-pub mod ProgressLemmas
 pub mod ReadingLemmas

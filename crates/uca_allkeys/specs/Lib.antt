@@ -1,4 +1,3 @@
 pub mod Faults
 pub mod Statements
-pub mod Progress
 pub mod Reading

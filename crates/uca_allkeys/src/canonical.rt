@@ -4,36 +4,23 @@ ghost use Rattle.uca_io.specs.OutputBuffer.{accepted, Accepts, FailsPartway};
 ghost use Rattle.uca_io.specs.Writer.{WritesAll, WritesFront};
 ghost use Rattle.uca_model.specs.CanonicalText.{canonical, variable_mark, element_text, ends_text, base_text, entry_line, four_digits, key_text, plane_text, point_text, range_line};
 ghost use Rattle.std.specs.FinMap.{entries};
-ghost use Rattle.uca_model.specs.Output.{hex_digit};
 ghost use Rattle.uca_model.specs.Table.{IsEntry};
 
 use arrayvec::ArrayVec;
 use uca_io::OutputBuffer;
+use uca_io::digits::{hex_digit, hex_pair};
 use uca_table::Table;
 use uca_weights::{Element, MAX_LINE, Range, WriteFault, Writer};
-
-/// An upper-case hexadecimal digit.
-fn hex_digit(n: u16) -> u8
-    requires { n < 16 }
-    ensures { result ≡ hex_digit n }
-{
-    let digit = n as u8;
-    if digit < 10 {
-        b'0' + digit
-    } else {
-        b'A' + (digit - 10)
-    }
-}
 
 /// A number as four digits.
 fn four_digits(n: u16) -> [u8; 4]
     ensures { result ≡ four_digits n }
 {
     [
-        hex_digit(n / 0x1000),
-        hex_digit(n / 0x100 % 16),
-        hex_digit(n / 0x10 % 16),
-        hex_digit(n % 16),
+        hex_digit((n / 0x1000) as u8),
+        hex_digit((n / 0x100 % 16) as u8),
+        hex_digit((n / 0x10 % 16) as u8),
+        hex_digit((n % 16) as u8),
     ]
 }
 
@@ -90,9 +77,9 @@ fn push_plane(line: &mut Line, plane: u16)
         return;
     }
     if plane < 16 {
-        return push(line, &[hex_digit(plane)]);
+        return push(line, &[hex_digit(plane as u8)]);
     }
-    push(line, &[hex_digit(plane / 16), hex_digit(plane % 16)]);
+    push(line, &hex_pair(plane as u8));
 }
 
 /// Appends a code point, with at least four digits and no more than needed.

@@ -10,7 +10,6 @@ pub mod faults;
 pub mod laws;
 mod lines;
 pub mod read;
-mod reading;
 mod statement;
 
 pub use canonical::{element_text, write_table};

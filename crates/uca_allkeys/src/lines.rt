@@ -1,12 +1,15 @@
-ghost use Rattle.std.specs.Prelude.{◌<◌, ◌≤◌, length, IfErr};
+ghost use Rattle.std.specs.Prelude.{◌≡◌, ◌<◌, ◌≤◌, length, IfErr};
+ghost use Rattle.uca_io.specs.LineReader.{Leads};
 ghost use Rattle.uca_weights.specs.declared.limits.TheConstants.{MAX_KEY, MAX_ELEMENTS};
-ghost use Rattle.uca_model.specs.TableText.{add_statement, add_line, version, entry, range as range_said};
-ghost use Rattle.uca_allkeys.specs.Faults.{IsOfText};
-ghost use Rattle.uca_allkeys.specs.Progress.{state_of, Leads};
+ghost use Rattle.uca_model.specs.TableText.{Cause, TextState, add_statement, add_line, no_lines, table_fold, version, entry, range as range_said};
+ghost use Rattle.uca_allkeys.specs.Faults.{told, IsOfText};
+ghost use Rattle.uca_allkeys.specs.Reading.{state_of};
 ghost use Rattle.uca_allkeys.specs.Statements.{said_by, IsSomeEntry};
 
 use crate::faults::ReadCause;
 use crate::statement::{Statement, read_statement};
+use std::alloc::Global;
+use uca_io::LineSink;
 use uca_table::{InsertFault, RangeFault, TableBuilder};
 use uca_weights::{Element, Range};
 
@@ -17,9 +20,19 @@ pub(crate) struct Lines {
     pub(crate) has_version: bool,
 }
 
+/// Before the first line.
+pub(crate) fn no_lines(alloc: Global) -> Lines
+    ensures { state_of result ≡ no_lines }
+{
+    Lines {
+        builder: TableBuilder::new(alloc),
+        has_version: false,
+    }
+}
+
 /// Adds a version, which may stand once.
 fn add_version(lines: &mut Lines) -> Result<(), ReadCause>
-    ensures adds { Leads (add_statement (state_of lines.old) version) (state_of lines.new) result }
+    ensures adds { Leads told (add_statement (state_of lines.old) version) (state_of lines.new) result }
     ensures of_text { IfErr result IsOfText }
 {
     if lines.has_version {
@@ -31,7 +44,7 @@ fn add_version(lines: &mut Lines) -> Result<(), ReadCause>
 
 /// Adds a range of implicit weights.
 fn add_range(lines: &mut Lines, range: Range) -> Result<(), ReadCause>
-    ensures adds { Leads (add_statement (state_of lines.old) (range_said range)) (state_of lines.new) result }
+    ensures adds { Leads told (add_statement (state_of lines.old) (range_said range)) (state_of lines.new) result }
     ensures of_text { IfErr result IsOfText }
 {
     match lines
@@ -50,7 +63,7 @@ fn add_entry(lines: &mut Lines, key: &[char], elements: &[Element]) -> Result<()
     requires few_points { length key.now ≤ MAX_KEY }
     requires some_elements { 0 < length elements.now }
     requires few_elements { length elements.now ≤ MAX_ELEMENTS }
-    ensures adds { Leads (add_statement (state_of lines.old) (entry key.now elements.now)) (state_of lines.new) result }
+    ensures adds { Leads told (add_statement (state_of lines.old) (entry key.now elements.now)) (state_of lines.new) result }
     ensures of_text { IfErr result IsOfText }
 {
     match lines.builder.insert(key, elements) {
@@ -63,7 +76,7 @@ fn add_entry(lines: &mut Lines, key: &[char], elements: &[Element]) -> Result<()
 /// Adds what a line says.
 fn add_statement(lines: &mut Lines, said: Statement) -> Result<(), ReadCause>
     requires { IsSomeEntry said }
-    ensures adds { Leads (add_statement (state_of lines.old) (said_by said)) (state_of lines.new) result }
+    ensures adds { Leads told (add_statement (state_of lines.old) (said_by said)) (state_of lines.new) result }
     ensures of_text { IfErr result IsOfText }
 {
     match said {
@@ -77,12 +90,34 @@ fn add_statement(lines: &mut Lines, said: Statement) -> Result<(), ReadCause>
 }
 
 /// Adds a line.
-pub(crate) fn add_line(lines: &mut Lines, line: &[u8]) -> Result<(), ReadCause>
-    ensures adds { Leads (add_line (state_of lines.old) line.now) (state_of lines.new) result }
+fn add_line(lines: &mut Lines, line: &[u8]) -> Result<(), ReadCause>
+    ensures adds { Leads told (add_line (state_of lines.old) line.now) (state_of lines.new) result }
     ensures of_text { IfErr result IsOfText }
 {
     match read_statement(line) {
         Ok(said) => add_statement(lines, said),
         Err(fault) => Err(fault.cause()),
+    }
+}
+
+impl LineSink for Lines {
+    type Cause = ReadCause;
+
+    ghost State = { TextState };
+
+    ghost Fault = { Cause };
+
+    ghost state = { state_of };
+
+    ghost fold = { table_fold };
+
+    ghost fault_of = { told };
+
+    ghost possible = { IsOfText };
+
+    ghost ready = { λ _ n. Unit {0} };
+
+    fn add(&mut self, _number: u64, line: &[u8]) -> Result<(), ReadCause> {
+        add_line(self, line)
     }
 }

@@ -1,5 +1,5 @@
 -- What a reader gave so far, and a fault that stops it.
-use Rattle.std.proofs.Common.{◌≡◌, ℕ, ◌-◌, ◌<◌, ◌≤◌, List, ◌++◌, length, take, refl, sym, subst, ◌∙◌, arith, length-append}
+use Rattle.std.proofs.Common.{◌≡◌, ℕ, ◌+◌, ◌-◌, ◌<◌, ◌≤◌, List, ◌++◌, length, take, refl, sym, subst, ◌∙◌, arith, length-append}
 use Rattle.std.proofs.lemmas.List.{length-take}
 use Rattle.std.proofs.KnownBytes.{Consumes-trans}
 use Rattle.std.specs.Io.KnownBytes.{Consumes}
@@ -21,9 +21,9 @@ StopsReading-by old new fault cause is stops =
     let made : StopsReading old new (fault_of cause) = record { line = refl; place = refl; cause = stops } in
     subst (StopsReading old new) (sym is) made
 
--- the bytes so far and n more are too many
-pub too_many : (limit : ℕ) (bytes buf : List ℕ) (n : ℕ) → length bytes ≤ limit → n ≤ length buf → limit - length bytes < n → limit < length (bytes ++ take n buf)
-too_many limit bytes buf n within fits more = omega (arith, length-append bytes (take n buf), length-take n buf)
+-- the bytes so far and n more are one too many, where no more were asked for
+pub too_many : (limit : ℕ) (bytes buf : List ℕ) (n : ℕ) → length bytes ≤ limit → n ≤ length buf → length buf ≤ limit - length bytes + 1 → limit - length bytes < n → length (bytes ++ take n buf) ≡ limit + 1
+too_many limit bytes buf n within fits asked more = omega (arith, length-append bytes (take n buf), length-take n buf)
 
 -- the bytes so far and n more are some, and not too many
 pub some_within : (limit : ℕ) (bytes buf : List ℕ) (n : ℕ) → n ≤ length buf → 0 < n → n ≤ limit - length bytes → (0 < length (bytes ++ take n buf)) × (length (bytes ++ take n buf) ≤ limit)

@@ -5,4 +5,5 @@ pub mod CommandLemmas
 pub mod PerformingLemmas
 pub mod SendingLemmas
 pub mod HexLemmas
+pub mod NoLines
 pub mod OrderingLemmas

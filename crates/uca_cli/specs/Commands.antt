@@ -131,14 +131,14 @@ compare_command = record {
   refused_memory = λ t s bytes old new. ⊥;
 }
 
--- `order` takes all memory before it writes
+-- `order` takes all memory before it writes, and none where there are no lines
 abbrev pub order_command : Command
 order_command = record {
   reads = ReadsLines;
   refuses = RefusesLines;
   output = IsOrderOutput;
   status = λ t s bytes status. status ≡ 0;
-  refused_memory = λ t s bytes old new. new ≡ old;
+  refused_memory = λ t s bytes old new. (new ≡ old) × (0 < length bytes);
 }
 
 -- `check` takes no memory

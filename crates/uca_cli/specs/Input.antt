@@ -1,5 +1,5 @@
 -- An input of lines: what was read of it, and why it was refused.
-use Rattle.std.specs.Prelude.{◌≡◌, ℕ, ◌<◌, ◌≤◌, ◌⊎◌, List, length, All}
+use Rattle.std.specs.Prelude.{◌≡◌, ℕ, ◌+◌, ◌<◌, ◌≤◌, ◌⊎◌, List, length, All}
 use Rattle.uca_weights.specs.declared.limits.TheConstants.{MAX_INPUT}
 use Rattle.uca_io.specs.Reader.{ReaderState, Gives, GivesAll, GivesAndFails}
 use Rattle.uca_model.specs.Lines.{lines_of, not_utf8, long_run, HasFault, IsFirstFault, IsTextLine}
@@ -9,10 +9,10 @@ use Rattle.uca_cli.specs.declared.faults.InputFault.{InputFault}
 use Rattle.uca_cli.specs.declared.input.Stop.{Stop}
 use Rattle.uca_cli.specs.declared.input.Stop.TheVariants as stop
 
--- reading did not come to the end: there was a byte too much, or before there was one the reader failed, or memory was wanted
--- for those that it gave
+-- reading did not come to the end: one byte too many was read and nothing after it, or before that the reader failed, or memory was
+-- wanted for the bytes that it gave
 abbrev pub StopsAt : ℕ → Stop → ReaderState → ReaderState → Type 0
-StopsAt limit stop.TooLarge old new = (bytes : List ℕ) × (Gives old new bytes × (limit < length bytes))
+StopsAt limit stop.TooLarge old new = (bytes : List ℕ) × (Gives old new bytes × (length bytes ≡ limit + 1))
 StopsAt limit stop.Read old new = (bytes : List ℕ) × (GivesAndFails old new bytes × (length bytes ≤ limit))
 StopsAt limit stop.OutOfMemory old new = (bytes : List ℕ) × (Gives old new bytes × ((0 < length bytes) × (length bytes ≤ limit)))
 

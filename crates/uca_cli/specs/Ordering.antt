@@ -1,5 +1,5 @@
 -- The lines of an input in the order of their keys: what went out of them, and what stopped it.
-use Rattle.std.specs.Prelude.{◌≡◌, ℕ, List, [], ◌∷◌, length, map, flat_map, take, drop}
+use Rattle.std.specs.Prelude.{◌≡◌, ℕ, ◌<◌, List, [], ◌∷◌, length, map, flat_map, take, drop}
 use Rattle.uca_weights.specs.declared.settings.Settings.{Settings}
 use Rattle.uca_io.specs.declared.writer.WriteFault.{WriteFault}
 use Rattle.uca_io.specs.WriterState.{WriterState}
@@ -39,10 +39,10 @@ pub record StopsLines (t : ElementTable) (s : Settings) (bytes : List ℕ) (old 
   pub made : IsOrderOutput t s bytes output
   pub writes : WritesFront old new output f
 
--- what stopped them; all memory is taken before the first byte is written
+-- what stopped them; all memory is taken before the first byte is written, and none where there are no lines
 abbrev pub StopsInOrder : ElementTable → Settings → List ℕ → WriterState → WriterState → CliFault → Type 0
 StopsInOrder t s bytes old new (fault.Output f) = StopsLines t s bytes old new f
-StopsInOrder t s bytes old new fault.OutOfMemory = new ≡ old
+StopsInOrder t s bytes old new fault.OutOfMemory = (new ≡ old) × (0 < length bytes)
 StopsInOrder t s bytes old new _ = ⊥
 
 -- ---- of an input in a reader

@@ -1,10 +1,11 @@
 ghost use Rattle.std.specs.Prelude.{◌≡◌, ◌+◌, ◌*◌, ◌^◌, ◌<◌, ◌≤◌, ◌∷◌, ◌++◌, [], length, MatchResult};
-ghost use Rattle.uca_model.specs.Output.{hex_digit, hex_pair, hex_text};
+ghost use Rattle.uca_model.specs.Output.{hex_text};
 ghost use Rattle.uca_io.specs.OutputBuffer.{accepted, Accepts, FailsPartway};
 ghost use Rattle.uca_cli.specs.Sending.{spaced_pairs};
 
 use arrayvec::ArrayVec;
 use uca_io::OutputBuffer;
+use uca_io::digits::{hex_digit, hex_pair};
 use uca_weights::{WriteFault, Writer};
 
 /// How many bytes are written as digits at once.
@@ -12,21 +13,6 @@ const PIECE: usize = 256;
 
 /// Room for the digits of a piece, and a blank before each pair.
 const PAIRS: usize = 3 * PIECE;
-
-/// An upper-case hexadecimal digit.
-fn hex_digit(n: u8) -> u8
-    requires { n < 16 }
-    ensures { result ≡ hex_digit n }
-{
-    if n < 10 { b'0' + n } else { b'A' + (n - 10) }
-}
-
-/// A byte as two digits.
-fn hex_pair(byte: u8) -> [u8; 2]
-    ensures { result ≡ hex_pair byte }
-{
-    [hex_digit(byte / 16), hex_digit(byte % 16)]
-}
 
 /// The bytes of a piece as pairs of digits, with a blank before each.
 fn spaced_pairs(bytes: &[u8]) -> ArrayVec<u8, PAIRS>

@@ -1,4 +1,4 @@
-ghost use Rattle.std.specs.Prelude.{◌≡◌, ◌≤◌, length, MatchResult};
+ghost use Rattle.std.specs.Prelude.{◌≡◌, ◌+◌, ◌<◌, ◌≤◌, length, MatchResult};
 ghost use Rattle.uca_io.specs.Reader.{GivesAll};
 ghost use Rattle.uca_cli.specs.Input.{StopsAt, StopsReading};
 
@@ -6,7 +6,7 @@ use crate::faults::{InputCause, InputFault};
 use std::alloc::Global;
 use uca_weights::{MAX_INPUT, Reader};
 
-/// How many bytes a reader is asked for at once.
+/// How many bytes a reader is asked for at most at once.
 const CHUNK: usize = 65_536;
 
 /// A fault that no line has.
@@ -31,7 +31,16 @@ pub enum Stop {
     OutOfMemory,
 }
 
-/// Reads bytes to their end, which are at most `limit`.
+/// How many bytes to ask for where so many may still come: one more shows that there are too many.
+fn asked_for(room: usize) -> usize
+    ensures some { 0 < result }
+    ensures most { result ≤ CHUNK }
+    ensures few { result ≤ room + 1 }
+{
+    if room < CHUNK { room + 1 } else { CHUNK }
+}
+
+/// Reads bytes to their end, which are at most `limit`. It never asks for more than the first byte past the limit.
 pub fn read_whole<R: Reader>(alloc: Global, reader: &mut R, limit: usize) -> Result<Vec<u8>, Stop>
     ensures { MatchResult result
         (λ v. GivesAll (R.state reader.old) (R.state reader.new) v.items × (length v.items ≤ limit))
@@ -40,13 +49,15 @@ pub fn read_whole<R: Reader>(alloc: Global, reader: &mut R, limit: usize) -> Res
     let mut bytes = Vec::new(alloc);
     let mut chunk = [0; CHUNK];
     loop {
-        match reader.pull(&mut chunk) {
+        let room = limit - bytes.len();
+        let piece = &mut chunk[..asked_for(room)];
+        match reader.pull(piece) {
             Ok(0) => return Ok(bytes),
             Ok(n) => {
-                if n > limit - bytes.len() {
+                if n > room {
                     return Err(Stop::TooLarge);
                 }
-                if bytes.extend_from_slice(&chunk[..n]).is_err() {
+                if bytes.extend_from_slice(&piece[..n]).is_err() {
                     return Err(Stop::OutOfMemory);
                 }
             }

@@ -1,16 +1,15 @@
 -- What test lines amount to when they are taken one by one: the report of all of them.
-use Rattle.std.proofs.Common.{◌≡◌, ℕ, ◌+◌, Bool, true, false, List, [], ◌∷◌, ◌++◌, length, take, filter, Option, Some, None, nat_lt, refl, sym, ap, ap₂, ◌∙◌, arith, inl, inr, if◌then◌else◌}
+use Rattle.std.proofs.Common.{◌≡◌, ℕ, ◌+◌, Bool, true, false, List, [], ◌∷◌, ◌++◌, length, filter, Option, Some, None, refl, sym, ap, ap₂, ◌∙◌, arith, inl, inr, if◌then◌else◌}
 use Rattle.std.proofs.lemmas.Bool.{cond-true, cond-false, cases_Bool}
-use Rattle.std.specs.List.{slice_split}
 use Rattle.std.specs.Ordering.{is_gt}
 use Rattle.std.specs.Prelude.{Result, Ok, Err}
-use Rattle.uca_weights.specs.declared.limits.TheConstants.{MAX_INPUT, MAX_LINE}
+use Rattle.uca_io.specs.LineFold.{End, FaultAt, KeepsSteps, map_ok, with_text as with_lines_of}
+use Rattle.uca_io.proofs.MapLemmas.{text-mapped}
 use Rattle.uca_weights.specs.declared.settings.Settings.{Settings}
 use Rattle.uca_model.specs.SortKey.{key_order, sort_key}
 use Rattle.uca_model.specs.Table.{ElementTable}
-use Rattle.uca_model.specs.TableText.{◌>>=◌, is_line_feed}
-use Rattle.uca_model.specs.TestFile.{Report, TestCause, TestEnd, TestFault, TestLine, at_line, end_within, first_below, first_failure, is_checked, line_too_long, report, report_of, reported, test_lines, tests_after, tests_of_last, tests_of_line}
-use Rattle.uca_conform.specs.Comparing.{Compared, failure_with, is_below, none_compared, report_part, with_bytes, with_lines, with_more, with_skipped, with_test, with_tests, with_text}
+use Rattle.uca_model.specs.TestFile.{Report, TestCause, TestLine, first_below, first_failure, is_checked, report, report_of, test_lines, tests_fold, tests_of_line}
+use Rattle.uca_conform.specs.Comparing.{Compared, Comparing, comparing, comparing_fold, failure_with, is_below, none_compared, with_skipped, with_test, with_tests, with_text}
 
 compared : (t : ElementTable) (s : Settings) (sum : Compared) (test : TestLine) → is_checked test ≡ true → with_test t s sum test ≡ with_text t s test.number sum test.points
 compared t s sum test is = cond-true _ _ _ is
@@ -50,11 +49,11 @@ counts_skipped t s sum (test ∷ more) =
           omega (arith, later, one, count)
     ]
 
--- what was said of the first failure
+-- the first failure
 abbrev failure : Compared → Option ℕ
 failure sum = sum.report.first_failure
 
--- behind a first failure there is no other one
+-- after a first failure there is no other one
 keeps_failure : (t : ElementTable) (s : Settings) (sum : Compared) (n : ℕ) (tests : List TestLine) → failure sum ≡ Some n → failure (with_tests t s sum tests) ≡ Some n
 keeps_failure t s sum n [] is = is
 keeps_failure t s sum n (test ∷ more) is =
@@ -114,37 +113,28 @@ with_tests-append : (t : ElementTable) (s : Settings) (sum : Compared) (tests mo
 with_tests-append t s sum [] more = refl
 with_tests-append t s sum (test ∷ tests) more = with_tests-append t s (with_test t s sum test) tests more
 
--- what the test lines that were collected amount to, or the fault
-abbrev collected : ElementTable → Settings → Result (List TestLine) TestFault → Result Compared TestFault
-collected t s (Ok tests) = Ok (with_tests t s none_compared tests)
-collected t s (Err fault) = Err fault
+-- the lines of a file give the same, each compared at once or all test lines collected
+comparing-keeps : (t : ElementTable) (s : Settings) → KeepsSteps (comparing t s) tests_fold comparing_fold
+comparing-keeps t s = record {
+  step = λ n tests line. by_line n tests (tests_of_line n line);
+  long = refl;
+  large = refl;
+}
+  where
+    by_line : (n : ℕ) (tests : List TestLine) (r : Result (List TestLine) TestCause)
+        → map_ok (λ (sum : Compared). (let c : Comparing = record { table = t; settings = s; sum = sum } in c)) (map_ok (with_tests t s (with_tests t s none_compared tests)) r) ≡ map_ok (comparing t s) (map_ok (λ more. tests ++ more) r)
+    by_line n tests (Err cause) = refl
+    by_line n tests (Ok more) = ap (λ (sum : Compared). Ok (let c : Comparing = record { table = t; settings = s; sum = sum } in c)) (sym (with_tests-append t s none_compared tests more))
 
--- a line and what follows it
-collects_line : (t : ElementTable) (s : Settings) (n : ℕ) (tests : List TestLine) (long : Bool) (r : Result (List TestLine) TestCause) (next : List TestLine → Result (List TestLine) TestFault) (go : Compared → Result Compared TestFault)
-    → ((all : List TestLine) → collected t s (next all) ≡ go (with_tests t s none_compared all))
-    → collected t s (at_line n (if long then Err line_too_long else r) >>= (λ more. next (tests ++ more))) ≡ (at_line n (if long then Err line_too_long else with_more t s (with_tests t s none_compared tests) r) >>= go)
-collects_line t s n tests true r next go later = refl
-collects_line t s n tests false (Err cause) next go later = refl
-collects_line t s n tests false (Ok more) next go later = later (tests ++ more) ∙ ap go (with_tests-append t s none_compared tests more)
+-- the report in what was compared
+abbrev pub report_part : Comparing → Report
+report_part c = c.sum.report
 
-ends_so : (r : Result Compared TestFault) → (r >>= (λ sum. Ok sum)) ≡ r
-ends_so (Ok sum) = refl
-ends_so (Err fault) = refl
+reported : (t : ElementTable) (s : Settings) (r : Result (List TestLine) (FaultAt TestCause)) → map_ok (report t s) r ≡ map_ok report_part (map_ok (comparing t s) r)
+reported t s (Ok tests) = ap Ok (report-with_tests t s tests)
+reported t s (Err fault) = refl
 
-collects_lines : (t : ElementTable) (s : Settings) (end : TestEnd) (n : ℕ) (tests : List TestLine) (lines : List (List ℕ)) → collected t s (tests_after end n tests lines) ≡ with_lines t s end n (with_tests t s none_compared tests) lines
-collects_lines t s end n tests [] = refl
-collects_lines t s end n tests (last ∷ []) =
-    collects_line t s n tests (nat_lt MAX_LINE (length last)) (tests_of_last end n last) (λ all. Ok all) (λ sum. Ok sum) (λ all. refl) ∙ ends_so _
-collects_lines t s end n tests (line ∷ next ∷ others) =
-    collects_line t s n tests (nat_lt MAX_LINE (length line)) (tests_of_line n line) (λ all. tests_after end (n + 1) all (next ∷ others)) (λ sum. with_lines t s end (n + 1) sum (next ∷ others)) (λ all. collects_lines t s end (n + 1) all (next ∷ others))
-
--- the report of what was collected
-report_collected : (t : ElementTable) (s : Settings) (r : Result (List TestLine) TestFault) → reported t s r ≡ report_part (collected t s r)
-report_collected t s (Ok tests) = ap Ok (report-with_tests t s tests)
-report_collected t s (Err fault) = refl
-
--- the report of a file is that of what its bytes amount to
-pub report_of-bytes : (t : ElementTable) (s : Settings) (end : TestEnd) (bytes : List ℕ) → report_of t s end bytes ≡ report_part (with_bytes t s (end_within end bytes) 1 none_compared (take MAX_INPUT bytes))
-unfolding test_lines with_bytes
-report_of-bytes t s end bytes =
-    report_collected t s (test_lines end bytes) ∙ ap report_part (collects_lines t s (end_within end bytes) 1 [] (slice_split is_line_feed (take MAX_INPUT bytes)))
+-- the report of a file is that of its lines, each compared at once
+pub report_of-compared : (t : ElementTable) (s : Settings) (end : End TestCause) (bytes : List ℕ) → report_of t s end bytes ≡ map_ok report_part (with_lines_of comparing_fold (comparing t s []) end bytes)
+report_of-compared t s end bytes =
+    reported t s (test_lines end bytes) ∙ ap (map_ok report_part) (sym (text-mapped (comparing t s) tests_fold comparing_fold [] end bytes (comparing-keeps t s)))

@@ -1,5 +1,3 @@
 pub mod ComparingLemmas
 pub mod TestLineLemmas
-pub mod TestBytesLemmas
-pub mod TestProgressLemmas
-pub mod TestReadingLemmas
+pub mod ReportLemmas

@@ -14,9 +14,10 @@ use Rattle.uca_model.specs.SafeText.{is_safe, longest_run, IsSafe}
 use Rattle.uca_weights.specs.declared.settings.Settings.{Settings}
 use Rattle.uca_io.specs.Lines.{carriage_return, without_return}
 use Rattle.uca_model.specs.Table.{ElementTable}
+use Rattle.uca_io.specs.LineFold.{map_ok}
 use Rattle.uca_model.specs.TableText.{◌>>=◌, skip_blanks, words}
 use Rattle.uca_model.specs.TestFile.{TestCause, TestLine, bad_line, is_test, points_after, points_of, some_points, test_point, tests_of_line}
-use Rattle.uca_conform.specs.Comparing.{Compared, can_compare, with_line, with_more, with_skipped, with_text}
+use Rattle.uca_conform.specs.Comparing.{Compared, can_compare, with_line, with_skipped, with_tests, with_text}
 use Rattle.uca_conform.specs.TestReading.{HasPoints, SaysPoints}
 use Rattle.uca_conform.specs.declared.test_text.TestText.{TestText}
 use lib.Utf8.{scalar, scalars}
@@ -156,16 +157,16 @@ length-without_return (b ∷ c ∷ line) = let later : length (without_return (c
 -- a line that is no test line
 pub line-other : (t : ElementTable) (s : Settings) (n : ℕ) (sum : Compared) (line text : List ℕ) → text ≡ without_return line → false ≡ is_test (skip_blanks text) → with_line t s n sum line ≡ Ok sum
 unfolding tests_of_line
-line-other t s n sum line text is other = ap (with_more t s sum) (cond-false _ _ _ (ap (λ (xs : List ℕ). is_test (skip_blanks xs)) (sym is) ∙ sym other))
+line-other t s n sum line text is other = ap (map_ok (with_tests t s sum)) (cond-false _ _ _ (ap (λ (xs : List ℕ). is_test (skip_blanks xs)) (sym is) ∙ sym other))
 
 abbrev one_test : ℕ → List ℕ → List TestLine
 one_test n points = record { number = n; points = points } ∷ []
 
 line-test : (t : ElementTable) (s : Settings) (n : ℕ) (sum : Compared) (line text : List ℕ) (r : Result (List ℕ) TestCause) → text ≡ without_return line → true ≡ is_test (skip_blanks text) → points_of text ≡ r
-    → with_line t s n sum line ≡ with_more t s sum (r >>= (λ points. Ok (one_test n points)))
+    → with_line t s n sum line ≡ map_ok (with_tests t s sum) (r >>= (λ points. Ok (one_test n points)))
 unfolding tests_of_line
 line-test t s n sum line text r is test says =
-    ap (with_more t s sum) (cond-true _ _ _ (ap (λ (xs : List ℕ). is_test (skip_blanks xs)) (sym is) ∙ sym test)
+    ap (map_ok (with_tests t s sum)) (cond-true _ _ _ (ap (λ (xs : List ℕ). is_test (skip_blanks xs)) (sym is) ∙ sym test)
     ∙ ap (λ (x : Result (List ℕ) TestCause). x >>= (λ points. Ok (one_test n points))) (ap points_of (sym is) ∙ says))
 
 -- a test line that is at fault

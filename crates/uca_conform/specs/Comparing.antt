@@ -1,14 +1,14 @@
--- What the test lines of a file amount to, one behind the other.
+-- What the test lines of a file amount to, one after the other.
 use Rattle.std.specs.Prelude.{ℕ, ◌+◌, Bool, false, ◌&&◌, List, [], ◌∷◌, Option, Some, None, Result, Ok, Err, if◌then◌else◌}
-use Rattle.std.specs.List.{list_all, slice_split}
+use Rattle.std.specs.List.{list_all}
 use Rattle.std.specs.Ordering.{is_gt}
 use lib.Utf8.{scalar}
+use Rattle.uca_io.specs.LineFold.{Fold, map_ok}
 use Rattle.uca_weights.specs.declared.settings.Settings.{Settings}
 use Rattle.uca_model.specs.SafeText.{is_safe}
 use Rattle.uca_model.specs.SortKey.{key_order, sort_key}
 use Rattle.uca_model.specs.Table.{ElementTable}
-use Rattle.uca_model.specs.TableText.{◌>>=◌, is_line_feed}
-use Rattle.uca_model.specs.TestFile.{Report, TestCause, TestEnd, TestFault, TestLine, at_line, is_checked, tests_of_last, tests_of_line, unless_long}
+use Rattle.uca_model.specs.TestFile.{Report, TestCause, TestLine, is_checked, line_too_long, read, tests_of_line, too_large}
 
 -- what test lines amount to: their report, and the text that was compared last
 pub record Compared : Type 0 where
@@ -53,32 +53,24 @@ abbrev pub with_tests : ElementTable → Settings → Compared → List TestLine
 with_tests t s sum [] = sum
 with_tests t s sum (test ∷ more) = with_tests t s (with_test t s sum test) more
 
--- with the test lines that a line has, or its fault
-abbrev pub with_more : ElementTable → Settings → Compared → Result (List TestLine) TestCause → Result Compared TestCause
-with_more t s sum (Ok tests) = Ok (with_tests t s sum tests)
-with_more t s sum (Err cause) = Err cause
-
 -- with the line of a number
 abbrev pub with_line : ElementTable → Settings → ℕ → Compared → List ℕ → Result Compared TestCause
-with_line t s n sum line = with_more t s sum (tests_of_line n line)
+with_line t s n sum line = map_ok (with_tests t s sum) (tests_of_line n line)
 
--- with the bytes behind the last LF
-abbrev pub with_last : ElementTable → Settings → TestEnd → ℕ → Compared → List ℕ → Result Compared TestCause
-with_last t s end n sum line = with_more t s sum (tests_of_last end n line)
+-- the table and the settings by which test lines are compared, and what the lines so far amount to
+pub record Comparing : Type 0 where
+  pub table : ElementTable
+  pub settings : Settings
+  pub sum : Compared
 
--- with the lines from a number on, of which the last one has no LF; the first fault decides
-abbrev pub with_lines : ElementTable → Settings → TestEnd → ℕ → Compared → List (List ℕ) → Result Compared TestFault
-with_lines t s end n sum [] = Ok sum
-with_lines t s end n sum (last ∷ []) = at_line n (unless_long last (with_last t s end n sum last))
-with_lines t s end n sum (line ∷ next ∷ others) = do
-  after ← at_line n (unless_long line (with_line t s n sum line))
-  with_lines t s end (n + 1) after (next ∷ others)
+-- with some test lines
+abbrev pub comparing : ElementTable → Settings → List TestLine → Comparing
+comparing t s tests = record { table = t; settings = s; sum = with_tests t s none_compared tests }
 
--- with the bytes from the line of a number on
-unfoldable pub with_bytes : ElementTable → Settings → TestEnd → ℕ → Compared → List ℕ → Result Compared TestFault
-with_bytes t s end n sum bytes = with_lines t s end n sum (slice_split is_line_feed bytes)
+-- with the line of a number
+abbrev pub compare_line : ℕ → Comparing → List ℕ → Result Comparing TestCause
+compare_line n c line = map_ok (λ sum. record { table = c.table; settings = c.settings; sum = sum }) (with_line c.table c.settings n c.sum line)
 
--- the report of what test lines amount to, or their fault
-abbrev pub report_part : Result Compared TestFault → Result Report TestFault
-report_part (Ok sum) = Ok sum.report
-report_part (Err fault) = Err fault
+-- what each line adds, and the causes of a file that cannot be read
+abbrev pub comparing_fold : Fold Comparing TestCause
+comparing_fold = record { step = compare_line; long = line_too_long; large = too_large; failed = read }

@@ -1,7 +1,8 @@
 ghost use Rattle.std.specs.Prelude.{◌≡◌, ◌≤◌, ◌<◌, ◌+◌, ◌^◌, length, chars, IfErr};
 ghost use Rattle.uca_weights.specs.declared.limits.TheConstants.{MAX_LINE};
+ghost use Rattle.uca_io.specs.LineReader.{Leads};
 ghost use Rattle.uca_conform.specs.Comparing.{is_below, none_compared, with_line, with_skipped, with_text};
-ghost use Rattle.uca_conform.specs.TestReading.{state_of, IsCounted, IsOfFile, Leads};
+ghost use Rattle.uca_conform.specs.TestReading.{fault_of, state_of, IsCounted, IsOfFile};
 
 use crate::conforming::{ConformCause, Conformance};
 use crate::test_line::{is_test, text_of_test};
@@ -77,7 +78,7 @@ pub(crate) fn add_line(
 ) -> Result<(), ConformCause>
     requires short { length line.now ≤ MAX_LINE }
     requires counted { IsCounted comparison.old number }
-    ensures adds { Leads (with_line t.now s number (state_of comparison.old) line.now) (state_of comparison.new) result }
+    ensures adds { Leads fault_of (with_line t.now s number (state_of comparison.old) line.now) (state_of comparison.new) result }
     ensures counted { IsCounted comparison.new (number + 1) }
     ensures of_file { IfErr result IsOfFile }
 {

@@ -5,7 +5,6 @@
 
 mod comparison;
 pub mod conforming;
-mod progress;
 mod test_line;
 mod test_text;
 

@@ -17,6 +17,13 @@ lines-more : {A C : Type 0} (f : Fold A C) (end : End C) (n : ℕ) (a : A) (line
 lines-more f end n a line [] some = absurd (omega arith)
 lines-more f end n a line (next ∷ more) some = refl
 
+-- a line that is short enough, before others
+pub lines-added : {A C : Type 0} (f : Fold A C) (end : End C) (n : ℕ) (a after : A) (line : List ℕ) (parts : List (List ℕ)) → 0 < length parts → length line ≤ MAX_LINE → f.step n a line ≡ Ok after
+    → with_lines f end n a (line ∷ parts) ≡ with_lines f end (n + 1) after parts
+lines-added {A} {C} f end n a after line parts some short is =
+    lines-more f end n a line parts some
+    ∙ ap (λ (r : Result A C). then_with (λ b. with_lines f end (n + 1) b parts) (at_line n r)) (cond-false _ (Err f.long) (f.step n a line) (le-ltb MAX_LINE (length line) short) ∙ is)
+
 -- the same with the bytes after it
 bytes-line : {A C : Type 0} (f : Fold A C) (end : End C) (n : ℕ) (a : A) (line rest : List ℕ) → IsOpen line
     → with_bytes f end n a (line ++ line_feed ∷ rest) ≡ then_with (λ after. with_bytes f end (n + 1) after rest) (at_line n (unless_long f line (f.step n a line)))
@@ -51,19 +58,19 @@ bytes-last f end n a line clear short =
     ap (with_lines f end n a) (slice_split_none is_line_feed line clear.line) ∙ ap (at_line n) (cond-false _ (Err f.long) (with_last f end n a line) (le-ltb MAX_LINE (length line) short))
 
 -- a text that is not too large
-pub text-within : {A C : Type 0} (f : Fold A C) (end : End C) (a : A) (bytes : List ℕ) → length bytes ≤ MAX_INPUT → with_text f end a bytes ≡ with_bytes f end 1 a bytes
+pub text-within : {A C : Type 0} (f : Fold A C) (end : End C) (a : A) (bytes : List ℕ) → length bytes ≤ MAX_INPUT → with_text f a end bytes ≡ with_bytes f end 1 a bytes
 unfolding with_text
 text-within {A} {C} f end a bytes few = ap₂ (λ (e : End C) (bs : List ℕ). with_bytes f e 1 a bs) (cond-false _ (stops f.large) end (le-ltb MAX_INPUT (length bytes) few)) (take_all MAX_INPUT bytes few)
 
 -- the front of a text is at fault, whatever follows
 pub text-front : {A C : Type 0} (f : Fold A C) (a : A) (bytes : List ℕ) (room : ℕ) (fault : Result A (FaultAt C)) → length bytes + room ≡ MAX_INPUT → ((end : End C) (more : List ℕ) → with_bytes f end 1 a (bytes ++ more) ≡ fault)
-    → (end : End C) (more : List ℕ) → with_text f end a (bytes ++ more) ≡ fault
+    → (end : End C) (more : List ℕ) → with_text f a end (bytes ++ more) ≡ fault
 unfolding with_text
 text-front f a bytes room fault is faulty end more =
     ap (with_bytes f (end_within f end (bytes ++ more)) 1 a) (take-room bytes more MAX_INPUT room is) ∙ faulty (end_within f end (bytes ++ more)) (take room more)
 
 -- a text with a byte too much
-pub text-large : {A C : Type 0} (f : Fold A C) (a : A) (bytes rest : List ℕ) → length bytes ≡ MAX_INPUT → 0 < length rest → (end : End C) (more : List ℕ) → with_text f end a ((bytes ++ rest) ++ more) ≡ with_bytes f (stops f.large) 1 a bytes
+pub text-large : {A C : Type 0} (f : Fold A C) (a : A) (bytes rest : List ℕ) → length bytes ≡ MAX_INPUT → 0 < length rest → (end : End C) (more : List ℕ) → with_text f a end ((bytes ++ rest) ++ more) ≡ with_bytes f (stops f.large) 1 a bytes
 unfolding with_text
 text-large {A} {C} f a bytes rest is some end more =
     let whole : (bytes ++ rest) ++ more ≡ bytes ++ (rest ++ more) = append_assoc bytes rest more in

@@ -1,9 +1,11 @@
 pub mod WriteLemmas
 pub mod BufferLemmas
+pub mod SendLemmas
 pub mod DigitLemmas
 pub mod WordLemmas
 pub mod LineLemmas
 pub mod ReaderLemmas
 pub mod FoldLemmas
+pub mod MapLemmas
 pub mod ProgressLemmas
 pub mod ReadLemmas

@@ -6,7 +6,7 @@ use Rattle.std.specs.Io.KnownBytes.{Consumes}
 use Rattle.std.specs.Prelude.{Result, Ok, Err, Option, MatchOption, MatchResult, IfErr}
 use Rattle.uca_io.specs.LineFold.{Fold, End, ends, stops, fault_at, with_bytes, with_text}
 use Rattle.uca_io.specs.LineProgress.{fault_by, remaining, GoesOn, HasRead, IsOfText, StopsAt}
-use Rattle.uca_io.specs.LineReader.{FailsFirst, GivesLines, GivesSome, IsFaulty, StopsBy, StopsLines}
+use Rattle.uca_io.specs.LineReader.{FailsFirst, GivesText, IsFaulty, StopsBy, StopsLines}
 use Rattle.uca_io.specs.Reader.{ReaderState, Gives, GivesAll, GivesAndFails}
 use Rattle.uca_io.specs.declared.limits.TheConstants.{MAX_INPUT}
 use Rattle.uca_io.specs.declared.line_reader.LineCause.{LineCause}
@@ -51,28 +51,28 @@ HasRead-chunk f a b d old mid new left n p q buf has given failures fits within 
     subst (λ (m : ℕ). HasRead f a old new (left - m) q d) count (HasRead-more f a b d old mid new left p q (take n buf) has given failures (omega arith) goes)
 
 -- a fault of the text, by its cause
-refused : {A C K : Type 0} (f : Fold A C) (fault_of : K → Option C) (possible : K → Type 0) (a : A) (old new : ReaderState) (line : ℕ) (cause : LineCause K) (bytes : List ℕ) → Gives old new bytes → IsOfText possible cause
-    → MatchOption (fault_by f fault_of cause) (Unit {0}) (IsFaulty f a old new line) → StopsBy f fault_of possible a old new line cause
-refused f fault_of possible a old new line LineTooLong bytes gives mine says = says
-refused f fault_of possible a old new line TooLarge bytes gives mine says = says
-refused f fault_of possible a old new line Read bytes gives mine says = absurd mine
-refused f fault_of possible a old new line (Refused cause) bytes gives mine says = (mine, (record { bytes = bytes; gives = gives }, says))
+refused : {A C K : Type 0} (f : Fold A C) (fault_of : K → Option C) (possible : K → Type 0) (a : A) (old new : ReaderState) (line : ℕ) (cause : LineCause K) (bytes : List ℕ) → length bytes ≤ MAX_INPUT + 1 → Gives old new bytes → IsOfText possible cause
+    → MatchOption (fault_by f fault_of cause) (Unit {0}) (IsFaulty (with_text f a) old new line) → StopsBy f fault_of possible a old new line cause
+refused f fault_of possible a old new line LineTooLong bytes within gives mine says = says
+refused f fault_of possible a old new line TooLarge bytes within gives mine says = says
+refused f fault_of possible a old new line Read bytes within gives mine says = absurd mine
+refused f fault_of possible a old new line (Refused cause) bytes within gives mine says = (mine, (record { bytes = bytes; within = within; gives = gives }, says))
 
 -- what the lines amount to, or the fault at the end of a text
 pub at_end : {A C K B : Type 0} (f : Fold A C) (fault_of : K → Option C) (possible : K → Type 0) (a b d : A) (old mid new : ReaderState) (left : ℕ) (p : Progress) (result : Result B (LineFault K)) (has : HasRead f a old mid left p b) → GivesAll old new has.bytes
     → MatchResult result (λ _. remaining f ends p b [] ≡ Ok d) (λ fault. MatchOption (fault_by f fault_of fault.cause) (Unit {0}) (λ c. remaining f ends p b [] ≡ fault_at fault.line c)) → IfErr result (λ fault. IsOfText possible fault.cause)
-    → MatchResult result (λ _. GivesLines f a old new d) (StopsLines f fault_of possible a old new)
+    → MatchResult result (λ _. GivesText (with_text f a) old new d) (StopsLines f fault_of possible a old new)
 at_end {A} {C} {K} {B} f fault_of possible a b d old mid new left p result has all says mine =
     let bytes = has.bytes in
     let within : length bytes ≤ MAX_INPUT = omega (arith, has.room) in
-    let same : with_text f ends a bytes ≡ remaining f ends p b [] = text-within f ends a bytes within ∙ ap (with_bytes f ends 1 a) (sym (append-nil bytes)) ∙ has.same ends [] in
+    let same : with_text f a ends bytes ≡ remaining f ends p b [] = text-within f ends a bytes within ∙ ap (with_bytes f ends 1 a) (sym (append-nil bytes)) ∙ has.same ends [] in
     by_result result says mine same
   where
     by_result : (r : Result B (LineFault K)) → MatchResult r (λ _. remaining f ends p b [] ≡ Ok d) (λ fault. MatchOption (fault_by f fault_of fault.cause) (Unit {0}) (λ c. remaining f ends p b [] ≡ fault_at fault.line c)) → IfErr r (λ fault. IsOfText possible fault.cause)
-        → with_text f ends a has.bytes ≡ remaining f ends p b [] → MatchResult r (λ _. GivesLines f a old new d) (StopsLines f fault_of possible a old new)
-    by_result (Ok x) says mine same = record { bytes = has.bytes; gives = all; says = same ∙ says }
-    by_result (Err fault) says mine same = refused f fault_of possible a old new fault.line fault.cause has.bytes all.gives mine
-        (fault-change (fault_by f fault_of fault.cause) (λ c. remaining f ends p b [] ≡ fault_at fault.line c) (IsFaulty f a old new fault.line) (λ c faulty. inr (record { bytes = has.bytes; gives = all; says = same ∙ faulty })) says)
+        → with_text f a ends has.bytes ≡ remaining f ends p b [] → MatchResult r (λ _. GivesText (with_text f a) old new d) (StopsLines f fault_of possible a old new)
+    by_result (Ok x) says mine same = record { bytes = has.bytes; within = omega (arith, has.room); gives = all; says = same ∙ says }
+    by_result (Err fault) says mine same = refused f fault_of possible a old new fault.line fault.cause has.bytes (omega (arith, has.room)) all.gives mine
+        (fault-change (fault_by f fault_of fault.cause) (λ c. remaining f ends p b [] ≡ fault_at fault.line c) (IsFaulty (with_text f a) old new fault.line) (λ c faulty. inr (record { bytes = has.bytes; within = omega (arith, has.room); gives = all; says = same ∙ faulty })) says)
 
 -- a piece that is at fault
 pub in_piece : {A C K : Type 0} (f : Fold A C) (fault_of : K → Option C) (possible : K → Type 0) (a b : A) (old mid new : ReaderState) (left : ℕ) (p : Progress) (piece : List ℕ) (fault : LineFault K) (has : HasRead f a old mid left p b) → Consumes mid.coming new.coming piece → new.failures ≡ mid.failures → length piece ≤ left
@@ -81,46 +81,50 @@ in_piece {A} {C} f fault_of possible a b old mid new left p piece fault has give
     let bytes = has.bytes ++ piece in
     let gives : Gives old new bytes = Gives-more old mid new has.bytes piece has.gives given failures in
     let room : length bytes + (left - length piece) ≡ MAX_INPUT = omega (arith, has.room, length-append has.bytes piece) in
-    refused f fault_of possible a old new fault.line fault.cause bytes gives mine
-    (fault-change (fault_by f fault_of fault.cause) (λ c. (end : End C) (more : List ℕ) → remaining f end p b (piece ++ more) ≡ fault_at fault.line c) (IsFaulty f a old new fault.line)
+    refused f fault_of possible a old new fault.line fault.cause bytes (omega (arith, room)) gives mine
+    (fault-change (fault_by f fault_of fault.cause) (λ c. (end : End C) (more : List ℕ) → remaining f end p b (piece ++ more) ≡ fault_at fault.line c) (IsFaulty (with_text f a) old new fault.line)
     (λ c faulty. inl (record {
       bytes = bytes;
+      within = omega (arith, room);
       gives = gives;
       says = λ end more. text-front f a bytes (left - length piece) (fault_at fault.line c) room
           (λ e m. ap (with_bytes f e 1 a) (append_assoc has.bytes piece m) ∙ has.same e (piece ++ m) ∙ faulty e m) end more;
     })) stop)
 
 -- a piece with a byte too much
-in_large : {A C K : Type 0} (f : Fold A C) (fault_of : K → Option C) (possible : K → Type 0) (a b : A) (old mid new : ReaderState) (left : ℕ) (p : Progress) (front rest : List ℕ) (fault : LineFault K) (has : HasRead f a old mid left p b) → Consumes mid.coming new.coming (front ++ rest) → new.failures ≡ mid.failures → length front ≡ left → 0 < length rest
+in_large : {A C K : Type 0} (f : Fold A C) (fault_of : K → Option C) (possible : K → Type 0) (a b : A) (old mid new : ReaderState) (left : ℕ) (p : Progress) (front rest : List ℕ) (fault : LineFault K) (has : HasRead f a old mid left p b) → Consumes mid.coming new.coming (front ++ rest) → new.failures ≡ mid.failures → length front ≡ left → 0 < length rest → length rest ≤ 1
     → MatchOption (fault_by f fault_of fault.cause) (Unit {0}) (λ c. remaining f (stops f.large) p b front ≡ fault_at fault.line c) → IsOfText possible fault.cause → StopsLines f fault_of possible a old new fault
-in_large f fault_of possible a b old mid new left p front rest fault has given failures fits some stop mine =
+in_large f fault_of possible a b old mid new left p front rest fault has given failures fits some one stop mine =
     let gives : Gives old new (has.bytes ++ (front ++ rest)) = Gives-more old mid new has.bytes (front ++ rest) has.gives given failures in
     let full : length (has.bytes ++ front) ≡ MAX_INPUT = omega (arith, has.room, length-append has.bytes front) in
     let whole : has.bytes ++ (front ++ rest) ≡ (has.bytes ++ front) ++ rest = sym (append_assoc has.bytes front rest) in
-    refused f fault_of possible a old new fault.line fault.cause (has.bytes ++ (front ++ rest)) gives mine
-    (fault-change (fault_by f fault_of fault.cause) (λ c. remaining f (stops f.large) p b front ≡ fault_at fault.line c) (IsFaulty f a old new fault.line)
+    let within : length (has.bytes ++ (front ++ rest)) ≤ MAX_INPUT + 1 = omega (arith, has.room, length-append has.bytes (front ++ rest), length-append front rest) in
+    refused f fault_of possible a old new fault.line fault.cause (has.bytes ++ (front ++ rest)) within gives mine
+    (fault-change (fault_by f fault_of fault.cause) (λ c. remaining f (stops f.large) p b front ≡ fault_at fault.line c) (IsFaulty (with_text f a) old new fault.line)
     (λ c faulty. inl (record {
       bytes = has.bytes ++ (front ++ rest);
+      within = within;
       gives = gives;
-      says = λ end more. ap (λ (xs : List ℕ). with_text f end a (xs ++ more)) whole
+      says = λ end more. ap (λ (xs : List ℕ). with_text f a end (xs ++ more)) whole
           ∙ text-large f a (has.bytes ++ front) rest full some end more ∙ has.same (stops f.large) front ∙ faulty;
     })) stop)
 
 -- the front of a chunk has a byte too much
-pub in_large_chunk : {A C K : Type 0} (f : Fold A C) (fault_of : K → Option C) (possible : K → Type 0) (a b : A) (old mid new : ReaderState) (left n : ℕ) (p : Progress) (buf : List ℕ) (fault : LineFault K) (has : HasRead f a old mid left p b) → Consumes mid.coming new.coming (take n buf) → new.failures ≡ mid.failures → left < n → n ≤ length buf
+pub in_large_chunk : {A C K : Type 0} (f : Fold A C) (fault_of : K → Option C) (possible : K → Type 0) (a b : A) (old mid new : ReaderState) (left n : ℕ) (p : Progress) (buf : List ℕ) (fault : LineFault K) (has : HasRead f a old mid left p b) → Consumes mid.coming new.coming (take n buf) → new.failures ≡ mid.failures → left < n → n ≤ left + 1 → n ≤ length buf
     → MatchOption (fault_by f fault_of fault.cause) (Unit {0}) (λ c. remaining f (stops f.large) p b (take left buf) ≡ fault_at fault.line c) → IsOfText possible fault.cause → StopsLines f fault_of possible a old new fault
-in_large_chunk f fault_of possible a b old mid new left n p buf fault has given failures more within stop mine =
+in_large_chunk f fault_of possible a b old mid new left n p buf fault has given failures more one within stop mine =
     let front : length (take left buf) ≡ left = omega (arith, length-take left buf) in
     let count : length (take n buf) ≡ n = omega (arith, length-take n buf) in
-    in_large f fault_of possible a b old mid new left p (take left buf) (drop left (take n buf)) fault has (subst (λ (xs : List ℕ). Consumes mid.coming new.coming xs) (cut_chunk left n buf (omega arith)) given) failures front (omega (arith, length-drop left (take n buf))) stop mine
+    in_large f fault_of possible a b old mid new left p (take left buf) (drop left (take n buf)) fault has (subst (λ (xs : List ℕ). Consumes mid.coming new.coming xs) (cut_chunk left n buf (omega arith)) given) failures front (omega (arith, length-drop left (take n buf))) (omega (arith, length-drop left (take n buf))) stop mine
 
 -- a reader that fails
-pub at_failure : {A C : Type 0} (f : Fold A C) (a b : A) (old mid new : ReaderState) (left : ℕ) (p : Progress) (has : HasRead f a old mid left p b) → GivesAndFails old new has.bytes → FailsFirst f a old new p.number
+pub at_failure : {A C : Type 0} (f : Fold A C) (a b : A) (old mid new : ReaderState) (left : ℕ) (p : Progress) (has : HasRead f a old mid left p b) → GivesAndFails old new has.bytes → FailsFirst (with_text f a) old new p.number f.failed
 at_failure f a b old mid new left p has fails =
     let bytes = has.bytes in
     let within : length bytes ≤ MAX_INPUT = omega (arith, has.room) in
     record {
       bytes = bytes;
+      within = within;
       gives = fails;
       says = text-within f (stops f.failed) a bytes within ∙ ap (with_bytes f (stops f.failed) 1 a) (sym (append-nil bytes)) ∙ has.same (stops f.failed) [] ∙ last_line f (stops f.failed) p.number b p.held.items has.held has.short;
     }

@@ -1,5 +1,5 @@
 -- What the lines of a text amount to, one after the other.
-use Rattle.std.specs.Prelude.{ℕ, ◌+◌, nat_lt, List, [], ◌∷◌, length, take, Result, Ok, Err, if◌then◌else◌}
+use Rattle.std.specs.Prelude.{◌≡◌, ℕ, ◌+◌, nat_lt, List, [], ◌∷◌, length, take, Result, Ok, Err, if◌then◌else◌}
 use Rattle.std.specs.List.{slice_split}
 use Rattle.uca_io.specs.Lines.{is_line_feed}
 use Rattle.uca_io.specs.declared.limits.TheConstants.{MAX_INPUT, MAX_LINE}
@@ -59,5 +59,16 @@ abbrev pub end_within : {A C : Type 0} → Fold A C → End C → List ℕ → E
 end_within f end bytes = if nat_lt MAX_INPUT (length bytes) then stops f.large else end
 
 -- what all lines of a text amount to, or its first fault in the order of its bytes
-unfoldable pub with_text : {A C : Type 0} → Fold A C → End C → A → List ℕ → Result A (FaultAt C)
-with_text f end a bytes = with_bytes f (end_within f end bytes) 1 a (take MAX_INPUT bytes)
+unfoldable pub with_text : {A C : Type 0} → Fold A C → A → End C → List ℕ → Result A (FaultAt C)
+with_text f a end bytes = with_bytes f (end_within f end bytes) 1 a (take MAX_INPUT bytes)
+
+-- a value that is mapped, and a fault as it is
+abbrev pub map_ok : {A B E : Type 0} → (A → B) → Result A E → Result B E
+map_ok h (Ok a) = Ok (h a)
+map_ok h (Err e) = Err e
+
+-- a map takes what each line adds by one fold to what it adds by another
+pub record KeepsSteps {A B C : Type 0} (h : A → B) (f : Fold A C) (g : Fold B C) : Type 0 where
+  pub step : (n : ℕ) (a : A) (line : List ℕ) → g.step n (h a) line ≡ map_ok h (f.step n a line)
+  pub long : g.long ≡ f.long
+  pub large : g.large ≡ f.large

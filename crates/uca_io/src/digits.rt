@@ -1,6 +1,6 @@
 //! Numbers in hexadecimal digits.
 ghost use Rattle.std.specs.Prelude.{◌≡◌, ◌≤◌, ◌<◌, ◌^◌, length, IfSome};
-ghost use Rattle.uca_io.specs.Digits.{number};
+ghost use Rattle.uca_io.specs.Digits.{hex_digit, hex_pair, number};
 
 /// The number that at most six hexadecimal digits say.
 pub fn number(digits: &[u8]) -> Option<u32>
@@ -16,4 +16,19 @@ pub fn number(digits: &[u8]) -> Option<u32>
         }
     }
     Some(said)
+}
+
+/// An upper-case hexadecimal digit.
+pub fn hex_digit(n: u8) -> u8
+    requires { n < 16 }
+    ensures { result ≡ hex_digit n }
+{
+    if n < 10 { b'0' + n } else { b'A' + (n - 10) }
+}
+
+/// A byte as two digits.
+pub fn hex_pair(byte: u8) -> [u8; 2]
+    ensures { result ≡ hex_pair byte }
+{
+    [hex_digit(byte / 16), hex_digit(byte % 16)]
 }

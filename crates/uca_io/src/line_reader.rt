@@ -1,8 +1,8 @@
 //! Lines of a reader, one after the other.
 ghost use Rattle.std.specs.Prelude.{◌≡◌, ◌<◌, ◌≤◌, ◌+◌, ◌^◌, ◌++◌, ◌∷◌, [], length, List, ℕ, Option, Result, Ok, IfErr, IfOk, MatchOption, MatchResult};
-ghost use Rattle.uca_io.specs.LineFold.{Fold, ends, stops, at_line, fault_at, unless_long, with_last};
+ghost use Rattle.uca_io.specs.LineFold.{Fold, ends, stops, at_line, fault_at, unless_long, with_last, with_text};
 ghost use Rattle.uca_io.specs.LineProgress.{fault_by, remaining, GoesOn, StopsAt, IsOfText};
-ghost use Rattle.uca_io.specs.LineReader.{Leads, GivesLines, StopsLines};
+ghost use Rattle.uca_io.specs.LineReader.{Leads, GivesText, StopsLines};
 ghost use Rattle.uca_io.specs.Lines.{line_feed, IsOpen};
 
 use crate::limits::{MAX_INPUT, MAX_LINE};
@@ -11,7 +11,7 @@ use crate::reader::Reader;
 use arrayvec::ArrayVec;
 
 /// How many bytes a reader is asked for at once.
-const CHUNK: usize = 65_536;
+const CHUNK: usize = 4_096;
 
 /// What is made of the lines of a text, one after the other.
 pub trait LineSink {
@@ -231,27 +231,31 @@ fn too_large<S: LineSink>(
 }
 
 /// Reads a text to its end or to its first fault, and adds its lines to a sink. Each line is without its LF, and the
-/// last one may have none. What the reader still holds after a fault isn't said.
+/// last one may have none. At most one byte past `MAX_INPUT` is taken from a reader that states its bytes, and at most
+/// `MAX_INPUT` + 1 calls are made of one that counts its calls. What the reader still holds after a fault isn't said.
 pub fn read_lines<R: Reader, S: LineSink>(
     reader: &mut R,
     sink: &mut S,
 ) -> Result<(), LineFault<S::Cause>>
     requires { S.ready sink.old 1 }
-    ensures { MatchResult result
-        (λ _. GivesLines S.fold (S.state sink.old) (R.state reader.old) (R.state reader.new) (S.state sink.new))
+    ensures reads { MatchResult result
+        (λ _. GivesText (with_text S.fold (S.state sink.old)) (R.state reader.old) (R.state reader.new) (S.state sink.new))
         (StopsLines S.fold S.fault_of S.possible (S.state sink.old) (R.state reader.old) (R.state reader.new)) }
+    ensures calls { R.calls reader.new ≤ R.calls reader.old + (MAX_INPUT + 1) }
 {
     let mut progress = start();
     let mut left = MAX_INPUT;
     let mut chunk = [0; CHUNK];
     loop {
-        match reader.pull(&mut chunk) {
+        let room = left.saturating_add(1).min(CHUNK);
+        let piece = &mut chunk[..room];
+        match reader.pull(piece) {
             Ok(0) => return take_last(&progress, sink),
             Ok(n) => {
                 if n > left {
-                    return Err(too_large(&mut progress, sink, &chunk[..left]));
+                    return Err(too_large(&mut progress, sink, &piece[..left]));
                 }
-                match take_piece(&mut progress, sink, &chunk[..n]) {
+                match take_piece(&mut progress, sink, &piece[..n]) {
                     Ok(()) => left -= n,
                     Err(fault) => return Err(fault),
                 }

@@ -1,4 +1,4 @@
-ghost use Rattle.std.specs.Prelude.{◌≡◌, is_err};
+ghost use Rattle.std.specs.Prelude.{◌≡◌, ℕ, ◌+◌, ◌≤◌, is_err};
 ghost use Rattle.std.specs.Io.{ReadsAtMost};
 ghost use Rattle.std.specs.Io.KnownBytes.{ReadConsumes};
 ghost use Rattle.uca_io.specs.Counts.{counted};
@@ -14,13 +14,16 @@ pub struct Refused;
 pub trait Reader {
     /// The bytes still to come, where they are known, and how many of its calls failed.
     ghost state: { Self → ReaderState };
+    /// How many calls of `pull` it counts, if it counts them.
+    ghost calls: { Self → ℕ } = { λ _. 0 };
 
     /// Reads into the front of a buffer, and returns how many bytes it read. It returns 0 for a buffer that is
     /// not empty only where no byte is left. An error takes no byte.
     fn pull(&mut self, buf: &mut [u8]) -> Result<usize, Refused>
         ensures bound { ReadsAtMost result buf.new }
         ensures bytes { ReadConsumes (state self.old).coming (state self.new).coming result buf.new }
-        ensures failures { (state self.new).failures ≡ counted (is_err result) (state self.old).failures };
+        ensures failures { (state self.new).failures ≡ counted (is_err result) (state self.old).failures }
+        ensures calls { calls self.new ≤ calls self.old + 1 };
 }
 
 /// A [`Reader`] over any reader of std.

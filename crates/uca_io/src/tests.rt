@@ -1,4 +1,4 @@
-use crate::{Reader, Reading, Refused, WriteCause, Writing, write_whole};
+use crate::{MAX_INPUT, MAX_LINE, Reader, Reading, Refused, WriteCause, Writing, write_whole};
 use std::io;
 use std::io::{Read, Write};
 use std::test::Fail;
@@ -98,4 +98,10 @@ fn causes_have_their_names(rt: HostRuntime) -> Result<(), Fail> {
     let text = format!(in rt.alloc(); "{} {}", WriteCause::Failed, WriteCause::Zero)?;
     assert_eq!(rt; text.as_str(), "Failed Zero");
     Ok(())
+}
+
+#[test]
+fn limits_are_these_numbers(rt: HostRuntime) {
+    assert!(rt; MAX_LINE == 4_096);
+    assert!(rt; MAX_INPUT == 67_108_864);
 }

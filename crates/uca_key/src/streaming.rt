@@ -9,11 +9,10 @@ ghost use Rattle.uca_model.specs.Source.{unread};
 ghost use Rattle.uca_window.specs.Passage.{text_of};
 
 use uca_io::OutputBuffer;
-use uca_levels::Weights;
-use uca_levels::points::next_point;
+use uca_levels::{Points, Weights};
 use uca_table::Table;
 use uca_weights::{Settings, Variable, WriteFault, Writer};
-use uca_window::{Passage, PassageSource, Source, Window};
+use uca_window::{Passage, PassageSource, Source};
 
 /// How far the bytes of a key came, and why they stopped.
 pub type KeyFault = WriteFault;
@@ -91,8 +90,8 @@ fn send_points<W: Writer, S: Source>(
         (λ f. FailsPartway (W.state w.old) out.old (W.state w.new) (bytes_at 5 (level_list t.now v (unread (S.state source.old)) 5)) f) }
     ensures text { (S.state source.new).text ≡ (S.state source.old).text }
 {
-    let mut window = Window::new(1);
-    'each: while let Some(point) = next_point(&mut window, source) {
+    let mut points = Points::new();
+    'each: while let Some(point) = points.next(source) {
         match send_point(w, out, point) {
             Ok(()) => {}
             Err(fault) => return Err(fault),
@@ -176,6 +175,10 @@ fn show_room(t: &Table, s: Settings, p: &Passage)
 
 /// Writes the sort key of a text, and returns its length in bytes (UTS #10, section 7.3). On a fault exactly the first
 /// `written` bytes of the key went out. It takes no memory, and does not flush the writer.
+///
+/// The text is read level after level, through a [`Weights`] or through [`Points`]. So at most `MAX_LOOKAHEAD` of its code
+/// points more than the longest key has are held at a time: the clauses `bound` of `Weights::new` and `next`, and of
+/// `Points::new` and `next`, say so.
 pub fn write_key<W: Writer>(
     w: &mut W,
     t: &Table,

@@ -1,4 +1,4 @@
-pub mod WeighingLemmas
 pub mod ReadsLemmas
+pub mod PointLemmas
 pub mod CommonLemmas
 pub mod LevelsFromCut

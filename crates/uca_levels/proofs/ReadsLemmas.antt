@@ -16,7 +16,7 @@ use Rattle.uca_model.specs.Source.{SourceState, unread}
 use Rattle.uca_model.specs.Window.{WindowState, empty_window, Fits, ReadsOn}
 use Rattle.uca_match.specs.Yields.{Yields, YieldsFirst}
 use Rattle.uca_levels.specs.RemainingWeights.{WeightsState, new_weights, remaining_with_zeros, remaining_weights, window_of_weights}
-use Rattle.uca_levels.proofs.WeighingLemmas.{weighted-from}
+use Rattle.uca_weights.proofs.WeighingLemmas.{weighted-from}
 use Rattle.uca_levels.specs.Reads.{ReadsRest, RestUnderWay, InStep}
 
 -- ---- weights that are not zero

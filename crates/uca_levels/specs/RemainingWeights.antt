@@ -4,10 +4,10 @@ use Rattle.std.specs.Coded.{Coded, code_by, coded×, coded_ℕ}
 use Rattle.uca_weights.specs.declared.element.Element.{Element}
 use Rattle.uca_weights.specs.declared.settings.Variable.{Variable}
 use Rattle.uca_weights.specs.VariableWeighting.{weights}
-use Rattle.uca_weights.specs.Weigher.{WeigherState, after_element}
+use Rattle.uca_weights.specs.Weigher.{WeigherState, after_element, weighted_from}
 use Rattle.uca_weights.specs.Coded.{coded_weigher}
 use Rattle.uca_model.specs.Table.{ElementTable}
-use Rattle.uca_model.specs.Window.{WindowState, after_read}
+use Rattle.uca_model.specs.Window.{WindowState, IsWindow, after_read}
 use Rattle.uca_model.specs.Source.{SourceState}
 use Rattle.uca_match.specs.RemainingElements.{yielded_held, after_held, ElementsState, new_elements, remaining_elements, coded_elements}
 
@@ -25,11 +25,6 @@ new_weights t v level = record { elements = new_elements t; weigher = record { w
 abbrev pub window_of_weights : WeightsState → WindowState
 window_of_weights w = w.elements.window
 
--- the four weights of each element that a weigher is given from now on
-abbrev pub weighted_from : WeigherState → List Element → List (List ℕ)
-weighted_from w [] = []
-weighted_from w (e ∷ es) = weights w.weighting w.after e ∷ weighted_from (record w { after = after_element w.after e }) es
-
 -- the remaining weights of the level over unread characters, zeros among them
 abbrev pub remaining_with_zeros : WeightsState → List ℕ → List ℕ
 remaining_with_zeros w left = map (λ ws. slice_index ws (w.level - 1)) (weighted_from w.weigher (remaining_elements w.elements left))
@@ -37,6 +32,11 @@ remaining_with_zeros w left = map (λ ws. slice_index ws (w.level - 1)) (weighte
 -- the remaining weights over unread characters
 abbrev pub remaining_weights : WeightsState → List ℕ → List ℕ
 remaining_weights w left = filter (λ weight. not (weight == 0)) (remaining_with_zeros w left)
+
+-- what is true of the code points of the fifth level: their window is one for keys of a single code point
+pub record IsPoints (w : WindowState) : Type 0 where
+  pub window : IsWindow w
+  pub longest : w.longest ≡ 1
 
 -- a window by itself, whose rest remains
 abbrev pub itself : WindowState → WindowState

@@ -18,6 +18,10 @@ use uca_window::{Passage, PassageSource, Source};
 /// marks they have. With `d` the first level at which the texts differ, or the last one where they do not, each source
 /// goes back at most `d` times, and is asked at most `d * (n + 1)` times where its text has `n` characters. Later levels
 /// begin at the safe cut `m` of the texts, so that it is asked at most `(n + 1) + (d - 1) * (n - m + 1)` times.
+///
+/// It takes no memory. Each level is read through a [`Weights`](crate::Weights) for each text, or through a
+/// [`Points`](crate::Points), so that of either text at most `MAX_LOOKAHEAD` code points more than the longest key has are
+/// held at a time: the clauses `bound` of `Weights::new` and `next`, and of `Points::new` and `next`, say so.
 pub fn compare_sources<S: Source, T: Source>(
     t: &Table,
     s: Settings,

@@ -7,12 +7,12 @@ ghost use Rattle.uca_model.specs.Window.{Fits};
 ghost use Rattle.uca_levels.specs.RemainingWeights.{remaining_weights};
 ghost use Rattle.uca_levels.specs.Reads.{ReadsRest, ReadsUp};
 
-use crate::points::next_point;
+use crate::points::Points;
 use crate::weights::Weights;
 use std::cmp::Ordering;
 use uca_table::Table;
 use uca_weights::Variable;
-use uca_window::{Source, Window};
+use uca_window::Source;
 
 // The order of the remaining weights of two texts.
 pub(crate) fn order_of_remaining<'t, S: Source, T: Source>(
@@ -73,11 +73,11 @@ fn order_of_points<S: Source, T: Source>(t: &Table, v: Variable, a: &mut S, b: &
     ensures reads_a { ReadsRest (S.state a.old) (S.state a.new) }
     ensures reads_b { ReadsRest (T.state b.old) (T.state b.new) }
 {
-    let mut left = Window::new(1);
-    let mut right = Window::new(1);
+    let mut one = Points::new();
+    let mut other = Points::new();
     loop {
-        let x = next_point(&mut left, a);
-        let y = next_point(&mut right, b);
+        let x = one.next(a);
+        let y = other.next(b);
         match (x, y) {
             (Some(x), Some(y)) => {
                 if x != y {

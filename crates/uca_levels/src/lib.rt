@@ -1,6 +1,6 @@
 //! The order of texts (UTS #10, section 7.4, Compare Sort Keys, step S4), found level by level.
 //!
-//! [`Weights`] gives the weights of one level one by one. [`compare`] and [`compare_sources`] return the order of two
+//! [`Weights`] gives the weights of one level one by one, and [`Points`] the code points of the fifth. [`compare`] and [`compare_sources`] return the order of two
 //! sort keys without making them: each text is read once for each level up to the first one that decides, and at later
 //! levels only from the safe cut of the two texts on. Nothing here takes memory.
 #![tactic(auto)]
@@ -13,6 +13,7 @@ pub mod points;
 pub mod weights;
 
 pub use comparison::{compare, compare_sources};
+pub use points::Points;
 pub use weights::Weights;
 
 #[cfg(test)]

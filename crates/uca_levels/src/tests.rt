@@ -2,7 +2,7 @@ ghost use Rattle.std.specs.Prelude.{◌≤◌};
 ghost use Rattle.uca_model.specs.SafeText.{IsSafe};
 ghost use Rattle.uca_model.specs.Source.{unread};
 
-use crate::{Weights, compare, compare_sources};
+use crate::{Points, Weights, compare, compare_sources};
 use std::alloc::{AllocError, Global};
 use std::cmp::Ordering;
 use std::process::Abort;
@@ -112,6 +112,11 @@ fn texts_are_in_the_order_of_their_keys(rt: HostRuntime) {
         ("", "\u{1}", Strength::Quaternary, Ordering::Equal),
         ("", "\u{1}", Strength::Identical, Ordering::Less),
         ("\u{1EA1}", "a\u{323}", Strength::Identical, Ordering::Equal),
+        ("\u{E9}", "e", Strength::Primary, Ordering::Equal),
+        ("\u{E9}", "e", Strength::Secondary, Ordering::Greater),
+        ("\u{E9}", "e", Strength::Tertiary, Ordering::Greater),
+        ("\u{E9}", "e", Strength::Quaternary, Ordering::Greater),
+        ("\u{E9}", "e", Strength::Identical, Ordering::Greater),
     ];
     for (a, b, strength, wanted) in cases {
         let order = compare(
@@ -250,6 +255,7 @@ fn what_reads_a_text_is_small(rt: HostRuntime) {
     assert!(rt; size_of::<Window>() <= 1024);
     assert!(rt; size_of::<Elements>() <= 1024);
     assert!(rt; size_of::<Weights>() <= 1024);
+    assert!(rt; size_of::<Points>() <= 1024);
 }
 
 #[test]

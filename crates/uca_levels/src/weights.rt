@@ -1,7 +1,9 @@
-ghost use Rattle.std.specs.Prelude.{◌≡◌, ℕ, List, true, false, ◌-◌, ◌<◌, ◌≤◌, ◌^◌, slice_index, IfSome};
+ghost use Rattle.std.specs.Prelude.{◌≡◌, ℕ, List, true, false, ◌+◌, ◌-◌, ◌<◌, ◌≤◌, ◌^◌, length, slice_index, IfSome};
+ghost use Rattle.uca_weights.specs.declared.limits.TheConstants.{MAX_LOOKAHEAD};
 ghost use Rattle.uca_model.specs.LevelWeights.{level_list};
 ghost use Rattle.uca_model.specs.SafeText.{IsSafe};
 ghost use Rattle.uca_model.specs.Source.{GivesNext, unread};
+ghost use Rattle.uca_model.specs.Table.{longest};
 ghost use Rattle.uca_model.specs.Window.{Fits, ReadsOn, credit};
 ghost use Rattle.uca_match.specs.Yields.{Yields};
 ghost use Rattle.uca_match.specs.RemainingElements.{is_asking};
@@ -14,7 +16,8 @@ use uca_weights::{Variable, Weigher};
 use uca_window::Source;
 
 /// The weights of one level of a text that are not zero, one by one (UTS #10, section 7.3, Form Sort Keys, step S3). It
-/// borrows a source at each call that reads. It takes no memory.
+/// borrows a source at each call that reads. It takes no memory. Of the text it holds at most `MAX_LOOKAHEAD` code points
+/// more than the longest key has: `bound`.
 #[derive(Drop)]
 pub struct Weights<'t> {
     elements: Elements<'t>,
@@ -54,6 +57,7 @@ impl<'t> Weights<'t> {
         ensures value { result ≡ new_weights t.now v level }
         ensures fits { (left : List ℕ) → IsSafe left → Fits result.elements.window left }
         ensures remaining { (left : List ℕ) → remaining_weights result left ≡ level_list t.now v left level }
+        ensures bound { length result.elements.window.points ≤ longest t.now + MAX_LOOKAHEAD }
     {
         Weights {
             elements: Elements::new(t),
@@ -89,6 +93,8 @@ impl<'t> Weights<'t> {
         ensures small { IfSome result (λ weight. weight < 2 ^ 16) }
         ensures held { is_asking self.old.elements ≡ false → WeighsHeld self.old (S.state source.old) result self.new (S.state source.new) }
         ensures level { self.new.level ≡ self.old.level }
+        ensures table { self.new.elements.table ≡ self.old.elements.table }
+        ensures bound { length self.new.elements.window.points ≤ longest self.new.elements.table + MAX_LOOKAHEAD }
     {
         let element = self.elements.next(source)?;
         let weights = self.weigher.weigh(element);
@@ -101,6 +107,8 @@ impl<'t> Weights<'t> {
         ensures yields { Yields remaining_weights window_of_weights self.old (S.state source.old) result self.new (S.state source.new) }
         ensures weight { IfSome result (λ weight. (0 < weight) × (weight < 2 ^ 16)) }
         ensures level { self.new.level ≡ self.old.level }
+        ensures table { self.new.elements.table ≡ self.old.elements.table }
+        ensures bound { length self.new.elements.window.points ≤ longest self.new.elements.table + MAX_LOOKAHEAD }
     {
         while let Some(weight) = self.next_of_all(source) {
             if weight != 0 {

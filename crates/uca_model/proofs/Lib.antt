@@ -15,7 +15,6 @@ pub mod LevelLemmas
 pub mod CanonicalLemmas
 pub mod NumberLemmas
 pub mod PartLemmas
-pub mod TableTextLines
 pub mod TextSteps
 pub mod ByteCuts
 pub mod CanonicalLines

@@ -7,11 +7,13 @@ use Rattle.std.specs.FinMap.{FinMap, empty, entries, entries_sorted, entries-ins
 use Rattle.std.specs.List.{AllByRecursion}
 use Rattle.std.specs.Option.{is_some}
 use Rattle.std.specs.Prelude.{T, Ok, Option}
+use Rattle.uca_io.specs.LineFold.{map_ok, with_bytes, with_lines}
+use Rattle.uca_io.proofs.FoldLemmas.{lines-added, text-within}
 use Rattle.uca_weights.specs.declared.element.Element.{Element}
 use Rattle.uca_weights.specs.declared.range.Range.{Range}
 use Rattle.uca_model.specs.Table.{ElementTable, key_cmp, is_key, IsEntry, IsRange, IsTable, AreRanges}
 use Rattle.uca_model.specs.Ranges.{AreByFirst}
-use Rattle.uca_model.specs.TableText.{TextState, ends, no_lines, add_statement, add_line, add_lines, add_bytes, table_part}
+use Rattle.uca_model.specs.TableText.{TextState, ends, no_lines, add_statement, add_line, table_fold, table_part}
 use Rattle.uca_model.specs.CanonicalText.{canonical}
 use Rattle.uca_model.specs.Laws.{CanonicalTextIsReadBack}
 use Rattle.uca_model.proofs.CanonicalLemmas.{no_entries}
@@ -20,7 +22,7 @@ use Rattle.uca_model.proofs.CanonicalEntries.{statement-entry}
 use Rattle.uca_model.proofs.CanonicalRanges.{statement-range}
 use Rattle.uca_model.proofs.AddedRanges.{after_front, good_range, put_range-last}
 use Rattle.uca_model.proofs.SortedLemmas.{IsAbove, above_front, find-above, put-above}
-use Rattle.uca_model.proofs.TextSteps.{step_done, line_read, read_text-within}
+use Rattle.uca_model.proofs.TextSteps.{step_done}
 
 -- what some lines have said, with no version among them
 abbrev so_far : FinMap key_cmp (List Element) → List Range → TextState
@@ -38,29 +40,29 @@ entry_added m rs key es is above =
 
 module _ (t : ElementTable) (table : IsTable t) where
   entries_added : (n : ℕ) (m : FinMap key_cmp (List Element)) (es : List (List ℕ × List Element)) → entries m ++ es ≡ entries t.entries → AllByRecursion IsEntry es
-      → add_lines ends n (so_far m t.ranges) (map entry_said es ++ [] ∷ []) ≡ Ok (so_far t.entries t.ranges)
+      → with_lines table_fold ends n (so_far m t.ranges) (map entry_said es ++ [] ∷ []) ≡ Ok (so_far t.entries t.ranges)
   entries_added n m [] is all = ap (λ (k : FinMap key_cmp (List Element)). Ok (so_far k t.ranges)) (same_entries_map m t.entries (sym (append-nil (entries m)) ∙ is))
   entries_added n m (e ∷ es) is all =
       let above : IsAbove e.0 (entries m) = above_front (entries m) e es (subst (λ (l : List (List ℕ × List Element)). T (is_sorted key_cmp l)) (sym is) (entries_sorted t.entries)) in
       let more : entries (insert m e.0 e.1) ≡ entries m ++ e ∷ [] = entries-insert nat_list_cmp_total m e.0 e.1 ∙ put-above e.0 e.1 (entries m) above in
       let rest : entries (insert m e.0 e.1) ++ es ≡ entries t.entries = ap (λ (l : List (List ℕ × List Element)). l ++ es) more ∙ append_assoc (entries m) (e ∷ []) es ∙ is in
-      line_read ends n (so_far m t.ranges) (so_far (insert m e.0 e.1) t.ranges) (entry_said e) (map entry_said es ++ [] ∷ []) (omega (arith, length-append (map entry_said es) ([] ∷ []))) (length-entry e all.0) (entry_added m t.ranges e.0 e.1 all.0 above)
+      lines-added table_fold ends n (so_far m t.ranges) (so_far (insert m e.0 e.1) t.ranges) (entry_said e) (map entry_said es ++ [] ∷ []) (omega (arith, length-append (map entry_said es) ([] ∷ []))) (length-entry e all.0) (entry_added m t.ranges e.0 e.1 all.0 above)
       ∙ entries_added (n + 1) (insert m e.0 e.1) es rest all.1
 
   ranges_added : (n : ℕ) (front rs : List Range) → front ++ rs ≡ t.ranges → AreByFirst t.ranges
-      → add_lines ends n (so_far empty front) (map range_said rs ++ (map entry_said (entries t.entries) ++ [] ∷ [])) ≡ Ok (so_far t.entries t.ranges)
+      → with_lines table_fold ends n (so_far empty front) (map range_said rs ++ (map entry_said (entries t.entries) ++ [] ∷ [])) ≡ Ok (so_far t.entries t.ranges)
   ranges_added n front [] is by_first =
-      ap (λ (l : List Range). add_lines ends n (so_far empty l) (map entry_said (entries t.entries) ++ [] ∷ [])) (sym (append-nil front) ∙ is)
+      ap (λ (l : List Range). with_lines table_fold ends n (so_far empty l) (map entry_said (entries t.entries) ++ [] ∷ [])) (sym (append-nil front) ∙ is)
       ∙ entries_added n empty (entries t.entries) (ap (λ (l : List (List ℕ × List Element)). l ++ entries t.entries) (sym no_entries)) (recursion_from_All IsEntry (entries t.entries) table.entries)
   ranges_added n front (r ∷ rs) is by_first =
       let parts : List (List ℕ) = map range_said rs ++ (map entry_said (entries t.entries) ++ [] ∷ []) in
       let some : 0 < length parts = omega (arith, length-append (map range_said rs) (map entry_said (entries t.entries) ++ [] ∷ []), length-append (map entry_said (entries t.entries)) ([] ∷ [])) in
-      line_read ends n (so_far empty front) (so_far empty (front ++ r ∷ [])) (range_said r) parts some (length-range r) (range_added empty front r rs (subst AreRanges (sym is) table.ranges) (subst AreByFirst (sym is) by_first))
+      lines-added table_fold ends n (so_far empty front) (so_far empty (front ++ r ∷ [])) (range_said r) parts some (length-range r) (range_added empty front r rs (subst AreRanges (sym is) table.ranges) (subst AreByFirst (sym is) by_first))
       ∙ ranges_added (n + 1) (front ++ r ∷ []) rs (append_assoc front (r ∷ []) rs ∙ is) by_first
 
-  lines_added : AreByFirst t.ranges → add_bytes ends 1 no_lines (canonical t) ≡ Ok (so_far t.entries t.ranges)
-  unfolding add_bytes
-  lines_added by_first = ap (add_lines ends 1 no_lines) (lines_of_canonical t) ∙ ranges_added 1 [] t.ranges refl by_first
+  lines_added : AreByFirst t.ranges → with_bytes table_fold ends 1 no_lines (canonical t) ≡ Ok (so_far t.entries t.ranges)
+  unfolding with_bytes
+  lines_added by_first = ap (with_lines table_fold ends 1 no_lines) (lines_of_canonical t) ∙ ranges_added 1 [] t.ranges refl by_first
 
 pub canonical-read_back : CanonicalTextIsReadBack
-canonical-read_back t table by_first few = ap table_part (read_text-within ends (canonical t) few ∙ lines_added t table by_first)
+canonical-read_back t table by_first few = ap (map_ok table_part) (text-within table_fold ends no_lines (canonical t) few ∙ lines_added t table by_first)

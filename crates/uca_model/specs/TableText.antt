@@ -6,14 +6,15 @@ use Rattle.std.specs.FinMap.{insert, empty}
 use Rattle.std.specs.Str.{bytes_eq}
 use lib.Utf8.{scalar}
 pub use Rattle.uca_io.specs.Digits.{number_after, number}
-pub use Rattle.uca_io.specs.Lines.{is_line_feed}
+use Rattle.uca_io.specs.LineFold.{Fold, FaultAt, End, map_ok, with_text}
+pub use Rattle.uca_io.specs.LineFold.{ends, stops}
 pub use Rattle.uca_io.specs.Words.{tab, is_blank, skip_blanks, trim_end, words}
 use Rattle.uca_weights.specs.declared.element.Element.{Element}
-use Rattle.uca_weights.specs.declared.limits.TheConstants.{MAX_KEY, MAX_ELEMENTS, MAX_LINE, MAX_INPUT}
+use Rattle.uca_weights.specs.declared.limits.TheConstants.{MAX_KEY, MAX_ELEMENTS}
 use Rattle.uca_weights.specs.declared.range.Range.{Range}
 use Rattle.uca_model.specs.Table.{ElementTable, is_key}
 use Rattle.uca_model.specs.Ranges.{is_bad_range, put_range}
-use Rattle.uca_model.specs.Lines.{line_feed, without_return}
+use Rattle.uca_model.specs.Lines.{without_return}
 
 -- why a text is refused
 pub data Cause : Type 0 where
@@ -257,61 +258,20 @@ add_statement s version = if s.has_version then Err bad_directive else Ok (recor
 add_statement s (range r) = if is_bad_range s.table.ranges r then Err bad_range else Ok (with_table s (record { entries = s.table.entries; ranges = put_range r s.table.ranges }))
 add_statement s (entry key es) = if is_key s.table key then Err repeated else Ok (with_table s (record { entries = insert s.table.entries key es; ranges = s.table.ranges }))
 
--- the line at fault, counted from 1, and why
-pub record TextFault : Type 0 where
-  pub line : ℕ
-  pub cause : Cause
-
-abbrev pub at_line : {A : Type 0} → ℕ → Result A Cause → Result A TextFault
-at_line n (Ok a) = Ok a
-at_line n (Err cause) = Err (record { line = n; cause = cause })
-
--- a line, which may not be too long
+-- what a line says, added
 abbrev pub add_line : TextState → List ℕ → Result TextState Cause
 add_line s line = do
   said ← statement line
   add_statement s said
 
--- what follows the bytes of a text: their end, or a fault of reading
-pub data TextEnd : Type 0 where
-  ends : TextEnd
-  stops : Cause → TextEnd
-
--- the bytes after the last LF: they are a line if the text ends there, and there are any
-abbrev pub add_last : TextEnd → TextState → List ℕ → Result TextState Cause
-add_last (stops cause) s line = Err cause
-add_last ends s [] = Ok s
-add_last ends s (b ∷ bytes) = add_line s (b ∷ bytes)
-
--- a line with at most so many bytes, a CR among them
-abbrev pub unless_long : {A : Type 0} → List ℕ → Result A Cause → Result A Cause
-unless_long line r = if nat_lt MAX_LINE (length line) then Err line_too_long else r
-
--- the lines from a number on, of which the last one has no LF
-abbrev pub add_lines : TextEnd → ℕ → TextState → List (List ℕ) → Result TextState TextFault
-add_lines end n s [] = Ok s
-add_lines end n s (last ∷ []) = at_line n (unless_long last (add_last end s last))
-add_lines end n s (line ∷ next ∷ more) = do
-  after ← at_line n (unless_long line (add_line s line))
-  add_lines end (n + 1) after (next ∷ more)
-
--- the same, of the bytes from the line with that number on
-unfoldable pub add_bytes : TextEnd → ℕ → TextState → List ℕ → Result TextState TextFault
-add_bytes end n s bytes = add_lines end n s (slice_split is_line_feed bytes)
-
--- what follows the first MAX_INPUT bytes of a text: the byte after them is one too many
-abbrev pub end_within : TextEnd → List ℕ → TextEnd
-end_within end bytes = if nat_lt MAX_INPUT (length bytes) then stops too_large else end
-
--- what all lines of a text say, or its first fault in the order of its bytes
-unfoldable pub read_text : TextEnd → List ℕ → Result TextState TextFault
-read_text end bytes = add_bytes (end_within end bytes) 1 no_lines (take MAX_INPUT bytes)
+-- what each line adds, and the causes of a text that cannot be read
+abbrev pub table_fold : Fold TextState Cause
+table_fold = record { step = λ n s line. add_line s line; long = line_too_long; large = too_large; failed = read }
 
 -- the table, without what else the lines have said
-abbrev pub table_part : Result TextState TextFault → Result ElementTable TextFault
-table_part (Ok s) = Ok s.table
-table_part (Err fault) = Err fault
+abbrev pub table_part : TextState → ElementTable
+table_part s = s.table
 
--- the table that a text says, or its first fault
-abbrev pub table_of_text : TextEnd → List ℕ → Result ElementTable TextFault
-table_of_text end bytes = table_part (read_text end bytes)
+-- the table that all lines of a text say, or its first fault in the order of its bytes
+abbrev pub table_of_text : End Cause → List ℕ → Result ElementTable (FaultAt Cause)
+table_of_text end bytes = map_ok table_part (with_text table_fold no_lines end bytes)

@@ -6,13 +6,14 @@ use Rattle.std.specs.List.{before_first, list_all, slice_split}
 use Rattle.std.specs.Option.{ok_or}
 use Rattle.std.specs.Ordering.{is_gt}
 use lib.Utf8.{scalar}
-use Rattle.uca_weights.specs.declared.limits.TheConstants.{MAX_INPUT, MAX_LINE}
+use Rattle.uca_io.specs.LineFold.{Fold, FaultAt, End, map_ok, with_text}
+pub use Rattle.uca_io.specs.LineFold.{ends, stops}
 use Rattle.uca_weights.specs.declared.settings.Settings.{Settings}
 use Rattle.uca_model.specs.Lines.{line_feed, without_return}
 use Rattle.uca_model.specs.SafeText.{is_safe}
 use Rattle.uca_model.specs.SortKey.{key_order, sort_key}
 use Rattle.uca_model.specs.Table.{ElementTable}
-use Rattle.uca_model.specs.TableText.{◌>>=◌, is_four_to_six, is_line_feed, number, number_sign, semicolon, skip_blanks, words}
+use Rattle.uca_model.specs.TableText.{◌>>=◌, is_four_to_six, number, number_sign, semicolon, skip_blanks, words}
 
 -- why a test file is refused
 pub data TestCause : Type 0 where
@@ -20,16 +21,6 @@ pub data TestCause : Type 0 where
   bad_line : TestCause
   too_large : TestCause
   read : TestCause
-
--- the line at fault, counted from 1, and why
-pub record TestFault : Type 0 where
-  pub line : ℕ
-  pub cause : TestCause
-
--- what follows the bytes of a file: their end, or a fault of reading
-pub data TestEnd : Type 0 where
-  ends : TestEnd
-  stops : TestCause → TestEnd
 
 -- a test line: which of all lines of the file it is, counted from 1, and its code points, surrogates among them
 pub record TestLine : Type 0 where
@@ -75,37 +66,17 @@ tests_of_line n line =
       Ok (record { number = n; points = points } ∷ []))
     else Ok []
 
--- the bytes after the last LF: they are a line if the file ends there, and there are any
-abbrev pub tests_of_last : TestEnd → ℕ → List ℕ → Result (List TestLine) TestCause
-tests_of_last (stops cause) n line = Err cause
-tests_of_last ends n [] = Ok []
-tests_of_last ends n (b ∷ bytes) = tests_of_line n (b ∷ bytes)
+-- some test lines, and those of the line of a number
+abbrev pub add_tests : ℕ → List TestLine → List ℕ → Result (List TestLine) TestCause
+add_tests n tests line = map_ok (λ more. tests ++ more) (tests_of_line n line)
 
--- a line with at most so many bytes, a CR among them
-abbrev pub unless_long : {A : Type 0} → List ℕ → Result A TestCause → Result A TestCause
-unless_long line r = if nat_lt MAX_LINE (length line) then Err line_too_long else r
-
-abbrev pub at_line : {A : Type 0} → ℕ → Result A TestCause → Result A TestFault
-at_line n (Ok a) = Ok a
-at_line n (Err cause) = Err (record { line = n; cause = cause })
-
--- some test lines and those of the lines from a number on, of which the last one has no LF; the first fault decides
-abbrev pub tests_after : TestEnd → ℕ → List TestLine → List (List ℕ) → Result (List TestLine) TestFault
-tests_after end n tests [] = Ok tests
-tests_after end n tests (last ∷ []) = do
-  more ← at_line n (unless_long last (tests_of_last end n last))
-  Ok (tests ++ more)
-tests_after end n tests (line ∷ next ∷ others) = do
-  more ← at_line n (unless_long line (tests_of_line n line))
-  tests_after end (n + 1) (tests ++ more) (next ∷ others)
-
--- what follows the first MAX_INPUT bytes of a file: the byte after them is one too many
-abbrev pub end_within : TestEnd → List ℕ → TestEnd
-end_within end bytes = if nat_lt MAX_INPUT (length bytes) then stops too_large else end
+-- what each line adds, and the causes of a file that cannot be read
+abbrev pub tests_fold : Fold (List TestLine) TestCause
+tests_fold = record { step = add_tests; long = line_too_long; large = too_large; failed = read }
 
 -- all test lines of a file, or its first fault in the order of its bytes
-unfoldable pub test_lines : TestEnd → List ℕ → Result (List TestLine) TestFault
-test_lines end bytes = tests_after (end_within end bytes) 1 [] (slice_split is_line_feed (take MAX_INPUT bytes))
+abbrev pub test_lines : End TestCause → List ℕ → Result (List TestLine) (FaultAt TestCause)
+test_lines end bytes = with_text tests_fold [] end bytes
 
 -- Report
 
@@ -136,13 +107,9 @@ report t s tests = record {
   first_failure = first_failure t s (filter is_checked tests);
 }
 
-abbrev pub reported : ElementTable → Settings → Result (List TestLine) TestFault → Result Report TestFault
-reported t s (Ok tests) = Ok (report t s tests)
-reported t s (Err fault) = Err fault
-
 -- what a table makes of a file, or the file's first fault
-abbrev pub report_of : ElementTable → Settings → TestEnd → List ℕ → Result Report TestFault
-report_of t s end bytes = reported t s (test_lines end bytes)
+abbrev pub report_of : ElementTable → Settings → End TestCause → List ℕ → Result Report (FaultAt TestCause)
+report_of t s end bytes = map_ok (report t s) (test_lines end bytes)
 
 -- `check`
 

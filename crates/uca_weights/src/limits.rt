@@ -14,10 +14,10 @@ pub const MAX_DECOMPOSITION: usize = 4;
 pub const MAX_LOOKAHEAD: usize = 64;
 
 /// The most bytes of a line of a table or of a test file, before its LF.
-pub const MAX_LINE: usize = 4_096;
+pub const MAX_LINE: usize = uca_io::MAX_LINE;
 
 /// The most bytes of a table, a test file or an input of lines.
-pub const MAX_INPUT: usize = 67_108_864;
+pub const MAX_INPUT: usize = uca_io::MAX_INPUT;
 
 /// The most bytes of a rule file.
 pub const MAX_RULES: usize = 1_048_576;

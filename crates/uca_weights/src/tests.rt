@@ -1,4 +1,7 @@
-use crate::{Element, Settings, Strength, Variable};
+use crate::{
+    Element, MAX_DECOMPOSITION, MAX_ELEMENTS, MAX_INPUT, MAX_KEY, MAX_LINE, MAX_LOOKAHEAD,
+    MAX_RELATIONS, MAX_RULES, MAX_RUN, Settings, Strength, Variable,
+};
 
 #[test]
 fn weights_by_level(rt: HostRuntime) {
@@ -26,4 +29,17 @@ fn levels_of_strengths(rt: HostRuntime) {
         };
         assert_eq!(rt; settings.levels(), want);
     }
+}
+
+#[test]
+fn limits_are_these_numbers(rt: HostRuntime) {
+    assert!(rt; MAX_KEY == 32);
+    assert!(rt; MAX_ELEMENTS == 64);
+    assert!(rt; MAX_RUN == 30);
+    assert!(rt; MAX_DECOMPOSITION == 4);
+    assert!(rt; MAX_LOOKAHEAD == 64);
+    assert!(rt; MAX_LINE == 4_096);
+    assert!(rt; MAX_INPUT == 67_108_864);
+    assert!(rt; MAX_RULES == 1_048_576);
+    assert!(rt; MAX_RELATIONS == 20_000);
 }

@@ -1,7 +1,7 @@
 ghost use Rattle.std.specs.Prelude.{◌≡◌, false, List, [], ◌∷◌, ◌++◌};
 ghost use Rattle.uca_weights.specs.declared.element.Element.{Element};
 ghost use Rattle.uca_weights.specs.declared.settings.Variable.{Variable};
-ghost use Rattle.uca_weights.specs.VariableWeighting.{is_after_variable, weights};
+ghost use Rattle.uca_weights.specs.VariableWeighting.{is_after_variable, weighted, weights};
 
 use crate::{Element, Variable};
 use std::marker::Model;
@@ -25,12 +25,14 @@ impl Model for Weigher {
 }
 
 impl Weigher {
-    ghost use Rattle.uca_weights.specs.Weigher.{HasSeen, after_element};
+    ghost use Rattle.uca_weights.specs.Weigher.{HasSeen, after_element, weighted_from};
 
-    /// A weigher that was accepted no element yet.
+    /// A weigher that was given no element yet. Given the elements of a list one after the other, it returns the weights of
+    /// that list.
     pub fn new(v: Variable) -> Weigher
         ensures value { result ≡ record { weighting = v; after = false } }
         ensures seen { HasSeen v result [] }
+        ensures list { (es : List Element) → weighted_from result es ≡ weighted v es }
     {
         Weigher {
             weighting: v,
@@ -43,6 +45,7 @@ impl Weigher {
     pub fn weigh(&mut self, e: Element) -> [u16; 4]
         ensures weights { result ≡ weights self.old.weighting self.old.after e }
         ensures moved { self.new ≡ record self.old { after = after_element self.old.after e } }
+        ensures first { (es : List Element) → weighted_from self.old (e ∷ es) ≡ result ∷ weighted_from self.new es }
 
         // Over a list of elements, these are the weights of its definition.
         ensures in_order { (v : Variable) (seen : List Element) → HasSeen v self.old seen → result ≡ weights v (is_after_variable seen) e }

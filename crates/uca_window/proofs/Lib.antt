@@ -5,3 +5,4 @@ pub mod FormLemmas
 pub mod PlacedPoints
 pub mod SegmentLemmas
 pub mod WindowCalls
+pub mod FillingLemmas

@@ -2,3 +2,4 @@ pub mod Passage
 pub mod Scan
 pub mod PassageSource
 pub mod Segment
+pub mod Filling

@@ -33,6 +33,7 @@ impl Model for Window {
 impl Window {
     ghost use Rattle.uca_model.specs.SafeText.{IsSafe};
     ghost use Rattle.uca_model.specs.Window.{empty_window, rest_of, Fits, is_wanting, after_read, credit, ShowsFront, ReadsOn, ChangesRest, IsWindow};
+    ghost use Rattle.uca_window.specs.Filling.{times_asked, filled, IsAsked};
 
     /// A window that has read nothing, for keys of up to `longest` code points. It fits each source whose unread
     /// characters are a safe text.
@@ -71,14 +72,18 @@ impl Window {
         self.closed
     }
 
-    /// Reads on until at least `longest` points are closed, or to the end of the text. It leaves the rest as it is, and
-    /// reads nothing where that many are closed.
+    /// Reads on until at least `longest` points are closed, or to the end of the text, and no further: it asks for a
+    /// character only while fewer are closed. So what it holds follows from what it held and from the unread characters.
+    /// It leaves the rest as it is.
     pub fn fill<S: Source>(&mut self, source: &mut S)
         requires { Fits self.old (unread (S.state source.old)) }
         ensures reads { ReadsOn self.old (S.state source.old) self.new (S.state source.new) }
         ensures rest { rest_of self.new (unread (S.state source.new)) ≡ rest_of self.old (unread (S.state source.old)) }
         ensures enough { self.new.closed < self.new.longest → self.new.closed ≡ length (rest_of self.new (unread (S.state source.new))) }
         ensures idle { is_wanting self.old ≡ false → (self.new ≡ self.old) × (S.state source.new ≡ S.state source.old) }
+        ensures holds { self.new ≡ filled self.old (unread (S.state source.old)) }
+        ensures asks { IsAsked (times_asked self.old (unread (S.state source.old))) (S.state source.old) (S.state source.new) }
+        ensures valid { IsWindow self.new }
     {
         while self.wants() {
             let _given = self.read(source);
@@ -101,6 +106,7 @@ impl Window {
         requires closed { at < self.old.closed }
         requires nonstarter { 0 < canonical_combining_class (slice_index self.old.points at) }
         ensures points { self.new ≡ record self.old { points = remove self.old.points at; closed = self.old.closed - 1 } }
+        ensures valid { IsWindow self.new }
         ensures rest { ChangesRest (λ rest. remove rest at) self.old self.new }
     {
         self.points.remove(at);
@@ -125,6 +131,7 @@ impl Window {
         ensures given { GivesNext (S.state source.old) result (S.state source.new) }
         ensures next { self.new ≡ after_read self.old result }
         ensures fewer { credit self.new (unread (S.state source.new)) < credit self.old (unread (S.state source.old)) }
+        ensures valid { IsWindow self.new }
     {
         let given = source.next();
         match given {

@@ -223,6 +223,7 @@ fn no_bytes_give_an_empty_table(rt: HostRuntime) {
     let table = read(rt.alloc(), b"").expect(&rt, "a table");
     assert_eq!(rt; table.longest(), 1);
     assert_eq!(rt; table.entries().count(), 0);
+    assert!(rt; table.ranges().is_empty());
 }
 
 #[test]

@@ -131,7 +131,7 @@ fn write_keyed<W: Writer>(lines: &[KeyedLine<'_>], w: &mut W) -> Result<(), Writ
 }
 
 /// Writes the lines of an input, which was checked, in the order of their sort keys, and returns how many there are.
-/// All memory is taken before the first byte is written.
+/// All memory is taken before the first byte is written, and none where there are no lines.
 pub fn write_in_order<W: Writer>(
     alloc: Global,
     t: &Table,
@@ -145,6 +145,9 @@ pub fn write_in_order<W: Writer>(
         (WritesInOrder t.now s bytes.now (W.state w.old) (W.state w.new))
         (StopsInOrder t.now s bytes.now (W.state w.old) (W.state w.new)) }
 {
+    if bytes.is_empty() {
+        return Ok(0);
+    }
     let Ok(keys) = keys_of(alloc, t, s, bytes) else {
         return Err(CliFault::OutOfMemory);
     };
@@ -163,8 +166,8 @@ pub fn write_in_order<W: Writer>(
 /// Writes the lines of an input in the order of their sort keys (UTS #10, section 7.4), each with LF. Lines of equal keys
 /// stay in the order that they had. It returns how many lines there are.
 ///
-/// The input is read whole and checked before the first byte is written, and all memory is taken. It does not flush the
-/// writer.
+/// The input is read whole and checked before the first byte is written, and all memory is taken. An input without lines
+/// takes none. It does not flush the writer.
 pub fn order<R: Reader, W: Writer>(
     alloc: Global,
     t: &Table,

@@ -3,9 +3,7 @@ use super::{PLAIN, input_refused, plain_job, stops_at, wants_memory};
 use crate::{CliFault, InputCause, Job, Task, perform};
 use std::alloc::Global;
 use uca_testing::{Expecting, Pieces, Repeating, repeated};
-use uca_weights::{
-    MAX_INPUT, Reader, Reading, Settings, Strength, Variable, WriteCause, Writer, Writing,
-};
+use uca_weights::{Reader, Reading, Settings, Strength, Variable, WriteCause, Writer, Writing};
 
 /// The key of `a`.
 const KEY: &[u8] = &[0x10, 0, 0, 0, 0, 0x20, 0, 0, 0, 2];
@@ -128,7 +126,7 @@ fn other_faults_of_the_input_come_before_the_number_of_lines(rt: HostRuntime) {
 
 #[test]
 fn an_input_past_the_limit_is_too_large_and_not_many_lines(rt: HostRuntime) {
-    let mut reader = Repeating::new(0, MAX_INPUT + 1, false);
+    let mut reader = Repeating::new(0, 67_108_865, false);
     let mut writer = Expecting::new(b"", 0, WriteCause::Failed);
     let answer = perform_raw(rt.alloc(), Task::Key, PLAIN, &mut reader, &mut writer);
     let want = Err(input_refused(0, 0, InputCause::TooLarge));

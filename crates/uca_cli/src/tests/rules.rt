@@ -5,7 +5,7 @@ use std::alloc::Global;
 use uca_allkeys::{ReadCause, ReadFault};
 use uca_tailor::{RuleCause, RuleFault, TailorCause, TailorFault};
 use uca_testing::{Expecting, Pieces, Repeating};
-use uca_weights::{MAX_RULES, Reader, Reading, WriteCause, Writer};
+use uca_weights::{Reader, Reading, WriteCause, Writer};
 
 /// Does a job with these readers of its table and its rules, and with the input in memory.
 fn perform_tailored<T: Reader, U: Reader, W: Writer>(
@@ -62,12 +62,25 @@ fn no_text(at: usize, cause: RulesTextCause) -> CliFault {
 #[test]
 fn rules_tailor_the_table_of_each_command(rt: HostRuntime) {
     let alloc = rt.alloc();
-    let cases: [(Task, &str, &str, &[u8]); 6] = [
+    let cases: [(Task, &str, &str, &[u8]); 8] = [
         (
             Task::Key,
             "&c<<\u{E7}",
             "\u{E7}",
             b"10 02 00 00 00 21 00 00 00 02\n",
+        ),
+        // An implicit weight is the same before and after.
+        (
+            Task::Key,
+            "",
+            "\u{4E00}",
+            b"FB 40 CE 00 00 00 00 20 00 00 00 02\n",
+        ),
+        (
+            Task::Key,
+            "&c<<\u{E7}",
+            "\u{4E00}",
+            b"FB 40 CE 00 00 00 00 20 00 00 00 02\n",
         ),
         (Task::Key, "", "a", b"10 00 00 00 00 20 00 00 00 02\n"),
         (
@@ -144,17 +157,11 @@ fn bytes_of_rules_that_are_no_text_are_refused(rt: HostRuntime) {
 fn rules_past_the_limit_are_refused(rt: HostRuntime) {
     let alloc = rt.alloc();
     let large = no_text(1_048_576, RulesTextCause::TooLarge);
-    assert!(rt;
-        is_refused(
-            alloc,
-            &mut Repeating::new(b' ', MAX_RULES + 1, false),
-            large
-        )
-    );
+    assert!(rt; is_refused(alloc, &mut Repeating::new(b' ', 1_048_577, false), large));
     // The byte too many comes before the failure, or the failure before it.
-    assert!(rt; is_refused(alloc, &mut Repeating::new(b' ', MAX_RULES + 1, true), large));
+    assert!(rt; is_refused(alloc, &mut Repeating::new(b' ', 1_048_577, true), large));
     let failed = no_text(0, RulesTextCause::Read);
-    assert!(rt; is_refused(alloc, &mut Repeating::new(b' ', MAX_RULES, true), failed));
+    assert!(rt; is_refused(alloc, &mut Repeating::new(b' ', 1_048_576, true), failed));
     assert!(rt; is_refused(alloc, &mut Pieces::new(b"&a<b", 1, 3), failed));
 }
 

@@ -2,7 +2,7 @@ ghost use Rattle.std.specs.Prelude.{None, Ok};
 ghost use Rattle.uca_io.specs.LineFold.{Fold};
 
 use super::{LineCause, LineFault, LineSink, read_lines};
-use crate::{MAX_LINE, Reading};
+use crate::{MAX_INPUT, MAX_LINE, Reader, Reading, Refused};
 use std::io;
 use std::io::Read;
 
@@ -69,6 +69,63 @@ impl<'a> Read for OneByOne<'a> {
     }
 }
 
+/// Takes each line, and keeps none.
+#[derive(Drop)]
+struct Taken;
+
+impl LineSink for Taken {
+    type Cause = Bad;
+
+    ghost State = { Unit {0} };
+
+    ghost Fault = { Unit {0} };
+
+    ghost state = { λ _. tt };
+
+    ghost fold = { record { step = λ n a line. Ok a; long = tt; large = tt; failed = tt } };
+
+    ghost fault_of = { λ _. None };
+
+    ghost possible = { λ _. Unit {0} };
+
+    ghost ready = { λ _ n. Unit {0} };
+
+    fn add(&mut self, _number: u64, _line: &[u8]) -> Result<(), Bad> {
+        Ok(())
+    }
+}
+
+/// Gives lines of `MAX_LINE` bytes without end, and counts its calls and its bytes.
+#[derive(Drop)]
+struct Endless {
+    column: usize,
+    calls: u64,
+    bytes: u64,
+}
+
+impl Reader for Endless {
+    ghost state = { λ _. record { coming = None; failures = 0 } };
+
+    ghost calls = { λ s. s.calls };
+
+    fn pull(&mut self, buf: &mut [u8]) -> Result<usize, Refused> {
+        let mut column = self.column;
+        for byte in &mut *buf {
+            if column < MAX_LINE {
+                *byte = b'x';
+                column += 1;
+            } else {
+                *byte = b'\n';
+                column = 0;
+            }
+        }
+        self.column = column;
+        self.calls = self.calls.saturating_add(1);
+        self.bytes = self.bytes.saturating_add(buf.len() as u64);
+        Ok(buf.len())
+    }
+}
+
 fn numbers_at_once(text: &[u8]) -> Result<u64, LineFault<Bad>> {
     let mut sum = Sum {
         numbers: 0,
@@ -117,4 +174,20 @@ fn a_line_may_have_max_line_bytes(rt: HostRuntime) {
     assert!(rt; numbers_at_once(&long[1..]) == Ok(1));
     assert!(rt; numbers_at_once(&long) == fault(1, LineCause::LineTooLong));
     assert!(rt; numbers_one_by_one(&long) == fault(1, LineCause::LineTooLong));
+}
+
+#[test]
+fn an_endless_text_is_refused_at_the_first_byte_past_the_limit(rt: HostRuntime) {
+    let mut reader = Endless {
+        column: 0,
+        calls: 0,
+        bytes: 0,
+    };
+    let large = LineFault {
+        line: 16_381,
+        cause: LineCause::TooLarge,
+    };
+    assert!(rt; read_lines(&mut reader, &mut Taken) == Err(large));
+    assert!(rt; reader.bytes == MAX_INPUT as u64 + 1);
+    assert!(rt; reader.calls == 16_385);
 }

@@ -153,6 +153,18 @@ fn marks_are_put_in_order_and_taken_out(rt: HostRuntime) {
 }
 
 #[test]
+fn marks_of_one_character_at_the_start_are_shown(rt: HostRuntime) {
+    let Some(chars) = safe_chars(rt.alloc(), "\u{344}a") else {
+        return;
+    };
+    let mut source = source_of(&chars);
+    let mut window = Window::new(1);
+    window.fill(&mut source);
+    assert!(rt; window.points() == ['\u{308}', '\u{301}', 'a'].as_slice());
+    assert!(rt; window.closed() == 2);
+}
+
+#[test]
 fn a_window_that_was_told_the_end_asks_no_more(rt: HostRuntime) {
     let Some(chars) = safe_chars(rt.alloc(), "ab") else {
         return;

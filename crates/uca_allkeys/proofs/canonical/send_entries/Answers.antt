@@ -8,7 +8,7 @@ use Rattle.uca_io.specs.OutputBuffer.{accepted}
 use Rattle.uca_io.proofs.BufferLemmas.{Accepts-none, accepted-Accepts}
 use Rattle.uca_model.specs.Table.{IsEntry}
 use Rattle.uca_model.specs.CanonicalText.{entry_line}
-use Rattle.uca_allkeys.proofs.SendLemmas.{sent_more, stopped_there}
+use Rattle.uca_io.proofs.SendLemmas.{sent_more, stopped_there}
 use Rattle.uca_allkeys.proofs.canonical.send_entries.Goals as goal
 
 pub loop-key-init : goal.loop-key-init

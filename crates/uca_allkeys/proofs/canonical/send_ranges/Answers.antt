@@ -5,7 +5,7 @@ use Rattle.uca_weights.specs.declared.range.Range.{Range}
 use Rattle.uca_io.specs.OutputBuffer.{accepted}
 use Rattle.uca_io.proofs.BufferLemmas.{accepted-Accepts}
 use Rattle.uca_model.specs.CanonicalText.{range_line}
-use Rattle.uca_allkeys.proofs.SendLemmas.{sent_more, stopped_there}
+use Rattle.uca_io.proofs.SendLemmas.{sent_more, stopped_there}
 use Rattle.uca_allkeys.proofs.canonical.send_ranges.Goals as goal
 
 pub returns-in_err-write-clause-lines : goal.returns-in_err-write-clause-lines

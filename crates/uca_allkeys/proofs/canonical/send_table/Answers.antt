@@ -2,7 +2,7 @@ use Rattle.std.proofs.Common.{List, ℕ, flat_map, ap, subst}
 use Rattle.std.specs.FinMap.{entries}
 use Rattle.uca_io.specs.OutputBuffer.{Accepts}
 use Rattle.uca_model.specs.CanonicalText.{range_line, entry_line}
-use Rattle.uca_allkeys.proofs.SendLemmas.{both_sent}
+use Rattle.uca_io.proofs.SendLemmas.{both_sent}
 use Rattle.uca_allkeys.proofs.canonical.send_table.Goals as goal
 
 pub returns-clause-lines : goal.returns-clause-lines

@@ -1,5 +1,5 @@
 use Rattle.std.proofs.lemmas.Result.{err_from_is_err_and}
-use Rattle.uca_allkeys.proofs.SendLemmas.{stopped_last}
+use Rattle.uca_io.proofs.SendLemmas.{stopped_last}
 use Rattle.uca_allkeys.proofs.canonical.write_table.Goals as goal
 
 pub returns-in_err-flush : goal.returns-in_err-flush

@@ -3,7 +3,7 @@ use Rattle.std.proofs.lemmas.Result.{err_from_is_err_and}
 use Rattle.uca_model.specs.Output.{hex_pair, hex_text}
 use Rattle.uca_io.specs.OutputBuffer.{accepted, Accepts, FailsPartway}
 use Rattle.uca_io.proofs.BufferLemmas.{FailsPartway-longer, accepted-Accepts}
-use Rattle.uca_allkeys.proofs.SendLemmas.{both_sent}
+use Rattle.uca_io.proofs.SendLemmas.{both_sent}
 use Rattle.uca_cli.specs.Sending.{spaced_pairs}
 use Rattle.uca_cli.proofs.HexLemmas.{hex_text-first}
 use Rattle.uca_cli.proofs.hex.send_hex.Goals as goal

@@ -6,7 +6,7 @@ use Rattle.uca_io.specs.OutputBuffer.{accepted}
 use Rattle.uca_io.proofs.BufferLemmas.{accepted-Accepts}
 use Rattle.uca_model.specs.CanonicalText.{element_text}
 use Rattle.uca_model.proofs.CanonicalLines.{length-element_text}
-use Rattle.uca_allkeys.proofs.SendLemmas.{sent_more, stopped_there}
+use Rattle.uca_io.proofs.SendLemmas.{sent_more, stopped_there}
 use Rattle.uca_cli.proofs.output.send_each.Goals as goal
 
 -- an element that stands nowhere

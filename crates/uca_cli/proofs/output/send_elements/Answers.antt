@@ -1,7 +1,7 @@
 use Rattle.std.proofs.Common.{◌≡◌, ◌+◌, [], ◌∷◌, length, flat_map, arith}
 use Rattle.uca_io.specs.OutputBuffer.{accepted}
 use Rattle.uca_io.proofs.BufferLemmas.{accepted-Accepts}
-use Rattle.uca_allkeys.proofs.SendLemmas.{both_sent}
+use Rattle.uca_io.proofs.SendLemmas.{both_sent}
 use Rattle.uca_model.specs.Lines.{line_feed}
 use Rattle.uca_model.specs.CanonicalText.{element_text}
 use Rattle.uca_model.proofs.CanonicalLines.{length-elements}

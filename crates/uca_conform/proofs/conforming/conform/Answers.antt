@@ -1,64 +1,16 @@
-use Rattle.std.proofs.Common.{[], ◌++◌, ◌<◌, ◌≤◌, length, length-take, take, arith, rules, sym, refl, ap, ap₂, ◌∙◌, ℕ, List}
-use Rattle.std.proofs.KnownBytes.{Consumes-nil}
-use Rattle.std.specs.Io.KnownBytes.{IsAtEnd}
-use Rattle.uca_io.specs.Reader.{ReaderState, Gives}
-use Rattle.uca_io.proofs.LineLemmas.{open_nil}
-use Rattle.uca_io.proofs.ReaderLemmas.{Gives-none, Gives-fails}
-use Rattle.uca_conform.specs.Comparing.{Compared, with_bytes}
+use Rattle.std.proofs.Common.{refl, subst}
+use Rattle.uca_io.specs.LineFold.{with_text}
+use Rattle.uca_io.specs.LineReader.{GivesText}
+use Rattle.uca_io.specs.Reader.{ReaderState}
+use Rattle.uca_conform.specs.Comparing.{Compared, Comparing, comparing_fold}
 use Rattle.uca_conform.specs.TestReading.{state_of}
-use Rattle.uca_conform.proofs.TestReadingLemmas.{HasRead-chunk, at_end, at_failure, in_piece, in_large_chunk}
+use Rattle.uca_conform.proofs.ReportLemmas.{gives_report}
 use Rattle.uca_conform.proofs.conforming.conform.Goals as goal
 
-pub returns-in-Ok-eq0 : goal.returns-in-Ok-eq0
-returns-in-Ok-eq0 g c =
-    let has = c.loop-progress.invariant in
+pub returns-in-Ok-clause-reads : goal.returns-in-Ok-clause-reads
+returns-in-Ok-clause-reads g c =
     let old : ReaderState = g.R.Reader.state c.args.r.now in
-    let mid : ReaderState = g.R.Reader.state c.loop-progress.r in
-    let new : ReaderState = g.R.Reader.state c.pull.new.self in
-    let some : 0 < length c.pull.new.buf = search rules in
-    let gives : Gives old new has.bytes = Gives-none old mid new has.bytes c.pull.new.buf c.in-Ok-eq0.field-0 (search rules) has.gives c.in-Ok-eq0.ensures.bytes.0 c.in-Ok-eq0.ensures.failures in
-    let ended : IsAtEnd new.coming = c.in-Ok-eq0.ensures.bytes.1 (search rules) some in
-    at_end c.args.t.now c.args.s old mid new c.loop-progress.left c.loop-progress.progress c.finish.result has (record { gives = gives; ends = ended }) c.finish.ensures.report c.finish.ensures.of_file
-
-pub returns-then-n-left : goal.returns-then-n-left
-returns-then-n-left g c =
-    let old : ReaderState = g.R.Reader.state c.args.r.now in
-    let mid : ReaderState = g.R.Reader.state c.loop-progress.r in
-    let new : ReaderState = g.R.Reader.state c.pull.new.self in
-    in_large_chunk c.args.t.now c.args.s old mid new c.loop-progress.left c.in-Ok.n c.loop-progress.progress c.pull.new.buf c.too_large.result c.loop-progress.invariant c.in-Ok.ensures.bytes.0 c.in-Ok.ensures.failures c.if-n-left.true c.in-Ok.ensures.bound.0 c.too_large.ensures.fault c.too_large.ensures.of_file
-
-pub loop-progress-preserved : goal.loop-progress-preserved
-loop-progress-preserved g c =
-    let old : ReaderState = g.R.Reader.state c.args.r.now in
-    let mid : ReaderState = g.R.Reader.state c.loop-progress.r in
-    let new : ReaderState = g.R.Reader.state c.pull.new.self in
-    HasRead-chunk c.args.t.now c.args.s old mid new c.loop-progress.left c.in-Ok.n c.loop-progress.progress c.take_piece.new.progress c.pull.new.buf c.loop-progress.invariant c.in-Ok.ensures.bytes.0 c.in-Ok.ensures.failures c.if-n-left.false c.in-Ok.ensures.bound.0 c.in-Ok-take_piece.ensures.goes
-
-pub returns-in-Err-take_piece : goal.returns-in-Err-take_piece
-returns-in-Err-take_piece g c =
-    let old : ReaderState = g.R.Reader.state c.args.r.now in
-    let mid : ReaderState = g.R.Reader.state c.loop-progress.r in
-    let new : ReaderState = g.R.Reader.state c.pull.new.self in
-    let fits : length (take c.in-Ok.n c.pull.new.buf) ≤ c.loop-progress.left = omega (arith, length-take c.in-Ok.n c.pull.new.buf) in
-    in_piece c.args.t.now c.args.s old mid new c.loop-progress.left c.loop-progress.progress (take c.in-Ok.n c.pull.new.buf) c.in-Err-take_piece.fault c.loop-progress.invariant c.in-Ok.ensures.bytes.0 c.in-Ok.ensures.failures fits c.in-Err-take_piece.ensures.goes c.in-Err-take_piece.ensures.of_file
-
-pub returns-in-Err : goal.returns-in-Err
-returns-in-Err g c =
-    let old : ReaderState = g.R.Reader.state c.args.r.now in
-    let mid : ReaderState = g.R.Reader.state c.loop-progress.r in
-    let new : ReaderState = g.R.Reader.state c.pull.new.self in
-    let has = c.loop-progress.invariant in
-    at_failure c.args.t.now c.args.s old mid new c.loop-progress.left c.loop-progress.progress has (Gives-fails old mid new has.bytes has.gives c.in-Err.ensures.bytes c.in-Err.ensures.failures)
-
-pub loop-progress-init : goal.loop-progress-init
-loop-progress-init g c = record {
-  bytes = [];
-  gives = record { given = Consumes-nil _; failures = refl };
-  room = refl;
-  same = λ end more. ap₂ (λ (sum : Compared) (bytes : List ℕ). with_bytes c.args.t.now c.args.s end 1 sum bytes) (sym c.start-progress.ensures.comparison) (ap (λ (xs : List ℕ). xs ++ more) (sym c.start-progress.ensures.held))
-      ∙ ap (λ (n : ℕ). with_bytes c.args.t.now c.args.s end n (state_of c.start-progress.result.comparison) (c.start-progress.result.held.items ++ more)) (sym c.start-progress.ensures.number);
-  held = open_nil _ c.start-progress.ensures.held;
-  short = omega (arith, ap (length {A = ℕ}) c.start-progress.ensures.held);
-  count = omega (arith, c.start-progress.ensures.number, ap (length {A = ℕ}) c.start-progress.ensures.held);
-  counted = c.start-progress.ensures.counted;
-}
+    let new : ReaderState = g.R.Reader.state c.read_lines.new.reader in
+    let after : Comparing = record { table = c.read_lines.new.sink.table.now; settings = c.read_lines.new.sink.settings; sum = state_of c.read_lines.new.sink.comparison } in
+    gives_report c.args.t.now c.args.s old new after c.read_lines.new.sink.comparison.report
+    (subst (λ (sum : Compared). GivesText (with_text comparing_fold (record { table = c.args.t.now; settings = c.args.s; sum = sum })) old new after) c.nothing_compared.ensures.state c.in-Ok.ensures.reads) refl

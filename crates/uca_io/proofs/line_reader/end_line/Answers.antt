@@ -1,6 +1,5 @@
-use Rattle.std.proofs.Common.{◌∷◌, [], ◌++◌, ℕ, arith, length-append, ap, length, sym, ◌∙◌}
-use Rattle.std.specs.Prelude.{Err}
-use Rattle.uca_io.specs.LineFold.{fault_at, unless_long}
+use Rattle.std.proofs.Common.{◌∷◌, [], ℕ, arith, length-append, ap, length, sym, ◌∙◌}
+use Rattle.uca_io.specs.LineFold.{fault_at}
 use Rattle.uca_io.specs.LineProgress.{fault_by}
 use Rattle.uca_io.specs.Lines.{line_feed}
 use Rattle.uca_io.proofs.LineLemmas.{open_nil}

@@ -10,30 +10,30 @@ pub each-init : goal.each-init
 each-init g c =
     record {
       text = refl;
-      fits = c.new-window.ensures.fits (unread (g.S.Source.state c.args.source.now)) c.requires.safe;
-      sending = IsSending-start _ _ _ _ (ap (λ (w : WindowState). flat_map code_point_bytes (rest_of w (unread (g.S.Source.state c.args.source.now)))) c.new-window.ensures.value);
+      fits = c.new-points.ensures.fits (unread (g.S.Source.state c.args.source.now)) c.requires.safe;
+      sending = IsSending-start _ _ _ _ (ap (λ (w : WindowState). flat_map code_point_bytes (rest_of w (unread (g.S.Source.state c.args.source.now)))) c.new-points.ensures.value);
     }
 
 pub send_point-requires : goal.send_point-requires
 send_point-requires g c =
-    let first = given_some _ _ c.next_point.result c.in-Some.point c.next_point.ensures.yields.first c.in-Some.is in
+    let first = given_some _ _ c.next.result c.in-Some.point c.next.ensures.yields.first c.in-Some.is in
     IsSending-room _ _ _ _ _ _ c.each.invariant.sending (code_point_bytes c.in-Some.point) _ _ (ap (flat_map code_point_bytes) first) c.requires.room
 
 pub each-preserved : goal.each-preserved
 each-preserved g c =
-    let first = given_some _ _ c.next_point.result c.in-Some.point c.next_point.ensures.yields.first c.in-Some.is in
+    let first = given_some _ _ c.next.result c.in-Some.point c.next.ensures.yields.first c.in-Some.is in
     record {
-      text = c.next_point.ensures.yields.reads.text ∙ c.each.invariant.text;
-      fits = c.next_point.ensures.yields.reads.fits;
+      text = c.next.ensures.yields.reads.text ∙ c.each.invariant.text;
+      fits = c.next.ensures.yields.reads.fits;
       sending = IsSending-more _ _ _ _ _ _ c.each.invariant.sending _ _ (code_point_bytes c.in-Some.point) _ (ap (flat_map code_point_bytes) first) c.in-Ok.ensures;
     }
 
 pub returns-in-Err-clause-bytes : goal.returns-in-Err-clause-bytes
 returns-in-Err-clause-bytes g c =
-    let first = given_some _ _ c.next_point.result c.in-Some.point c.next_point.ensures.yields.first c.in-Some.is in
+    let first = given_some _ _ c.next.result c.in-Some.point c.next.ensures.yields.first c.in-Some.is in
     IsSending-stops _ _ _ _ _ _ c.each.invariant.sending _ (code_point_bytes c.in-Some.point) _ _ (ap (flat_map code_point_bytes) first) c.in-Err.ensures
 
 pub returns-clause-bytes : goal.returns-clause-bytes
 returns-clause-bytes g c =
-    let last = given_none _ _ c.next_point.result c.next_point.ensures.yields.first (none_from c.next_point.result c.in_default.not-Some) in
+    let last = given_none _ _ c.next.result c.next.ensures.yields.first (none_from c.next.result c.in_default.not-Some) in
     IsSending-ends _ _ _ _ _ _ c.each.invariant.sending (ap (flat_map code_point_bytes) last.0)

@@ -11,44 +11,44 @@ IsPoint w = w < 2 ^ 24
 pub loop-x-init : goal.loop-x-init
 loop-x-init g c =
     record {
-      left = RestUnderWay-start _ _ _ c.requires.safe_a c.new-left.ensures.value;
-      right = RestUnderWay-start _ _ _ c.requires.safe_b c.new-right.ensures.value;
-      lists = InStep-start _ _ _ _ (ap (λ (w : WindowState). rest_of w (unread (g.S.Source.state c.args.a.now))) c.new-left.ensures.value) (ap (λ (w : WindowState). rest_of w (unread (g.T.Source.state c.args.b.now))) c.new-right.ensures.value);
+      left = RestUnderWay-start _ _ _ c.requires.safe_a c.new-one.ensures.value;
+      right = RestUnderWay-start _ _ _ c.requires.safe_b c.new-other.ensures.value;
+      lists = InStep-start _ _ _ _ (ap (λ (w : WindowState). rest_of w (unread (g.S.Source.state c.args.a.now))) c.new-one.ensures.value) (ap (λ (w : WindowState). rest_of w (unread (g.T.Source.state c.args.b.now))) c.new-other.ensures.value);
     }
 
 pub loop-x-preserved : goal.loop-x-preserved
 loop-x-preserved g c =
-    let first = given_some _ _ c.next_point-x.result c.in-Some-Some.x c.next_point-x.ensures.yields.first c.in-Some-Some.is-0 in
-    let second = given_some _ _ c.next_point-y.result c.in-Some-Some.y c.next_point-y.ensures.yields.first c.in-Some-Some.is-1 in
+    let first = given_some _ _ c.next-x.result c.in-Some-Some.x c.next-x.ensures.yields.first c.in-Some-Some.is-0 in
+    let second = given_some _ _ c.next-y.result c.in-Some-Some.y c.next-y.ensures.yields.first c.in-Some-Some.is-1 in
     record {
-      left = RestUnderWay-more _ _ _ _ _ c.loop-x.invariant.left c.next_point-x.ensures.yields.reads;
-      right = RestUnderWay-more _ _ _ _ _ c.loop-x.invariant.right c.next_point-y.ensures.yields.reads;
+      left = RestUnderWay-more _ _ _ _ _ c.loop-x.invariant.left c.next-x.ensures.yields.reads;
+      right = RestUnderWay-more _ _ _ _ _ c.loop-x.invariant.right c.next-y.ensures.yields.reads;
       lists = InStep-more _ _ _ _ _ _ _ _ c.loop-x.invariant.lists first second c.if-x-y.false;
     }
 
 pub returns-then-x-y-clause-order : goal.returns-then-x-y-clause-order
 returns-then-x-y-clause-order g c =
-    let first = given_some _ _ c.next_point-x.result c.in-Some-Some.x c.next_point-x.ensures.yields.first c.in-Some-Some.is-0 in
-    let second = given_some _ _ c.next_point-y.result c.in-Some-Some.y c.next_point-y.ensures.yields.first c.in-Some-Some.is-1 in
-    let x = if_some IsPoint c.next_point-x.result c.in-Some-Some.x c.next_point-x.ensures.point c.in-Some-Some.is-0 in
-    let y = if_some IsPoint c.next_point-y.result c.in-Some-Some.y c.next_point-y.ensures.point c.in-Some-Some.is-1 in
+    let first = given_some _ _ c.next-x.result c.in-Some-Some.x c.next-x.ensures.yields.first c.in-Some-Some.is-0 in
+    let second = given_some _ _ c.next-y.result c.in-Some-Some.y c.next-y.ensures.yields.first c.in-Some-Some.is-1 in
+    let x = if_some IsPoint c.next-x.result c.in-Some-Some.x c.next-x.ensures.point c.in-Some-Some.is-0 in
+    let y = if_some IsPoint c.next-y.result c.in-Some-Some.y c.next-y.ensures.point c.in-Some-Some.is-1 in
     rw c.cmp.ensures (InStep-orders 5 _ _ _ _ _ _ _ c.loop-x.invariant.lists first second
     (OrdersLevel-points_differ c.in-Some-Some.x c.in-Some-Some.y _ _ c.if-x-y.true x y))
 
 pub returns-in-None-None-clause-order : goal.returns-in-None-None-clause-order
 returns-in-None-None-clause-order g c =
-    let first = given_none _ _ c.next_point-x.result c.next_point-x.ensures.yields.first c.in-None-None.is-0 in
-    let second = given_none _ _ c.next_point-y.result c.next_point-y.ensures.yields.first c.in-None-None.is-1 in
+    let first = given_none _ _ c.next-x.result c.next-x.ensures.yields.first c.in-None-None.is-0 in
+    let second = given_none _ _ c.next-y.result c.next-y.ensures.yields.first c.in-None-None.is-1 in
     InStep-orders 5 _ _ _ _ _ _ _ c.loop-x.invariant.lists first.0 second.0 (OrdersLevel-ends 5)
 
 pub returns-in-None-Some-clause-order : goal.returns-in-None-Some-clause-order
 returns-in-None-Some-clause-order g c =
-    let first = given_none _ _ c.next_point-x.result c.next_point-x.ensures.yields.first c.in-None-Some.is-0 in
-    let second = given_some _ _ c.next_point-y.result c.in-None-Some.field-0-1 c.next_point-y.ensures.yields.first c.in-None-Some.is-1 in
+    let first = given_none _ _ c.next-x.result c.next-x.ensures.yields.first c.in-None-Some.is-0 in
+    let second = given_some _ _ c.next-y.result c.in-None-Some.field-0-1 c.next-y.ensures.yields.first c.in-None-Some.is-1 in
     InStep-orders 5 _ _ _ _ _ _ _ c.loop-x.invariant.lists first.0 second (OrdersLevel-points_shorter c.in-None-Some.field-0-1 _)
 
 pub returns-in-Some-None-clause-order : goal.returns-in-Some-None-clause-order
 returns-in-Some-None-clause-order g c =
-    let first = given_some _ _ c.next_point-x.result c.in-Some-None.field-0-0 c.next_point-x.ensures.yields.first c.in-Some-None.is-0 in
-    let second = given_none _ _ c.next_point-y.result c.next_point-y.ensures.yields.first c.in-Some-None.is-1 in
+    let first = given_some _ _ c.next-x.result c.in-Some-None.field-0-0 c.next-x.ensures.yields.first c.in-Some-None.is-0 in
+    let second = given_none _ _ c.next-y.result c.next-y.ensures.yields.first c.in-Some-None.is-1 in
     InStep-orders 5 _ _ _ _ _ _ _ c.loop-x.invariant.lists first second.0 (OrdersLevel-points_longer c.in-Some-None.field-0-0 _)

@@ -7,11 +7,11 @@ use Rattle.uca_levels.proofs.level_order.order_of_points.Given as goal
 
 abbrev pub invariant-loop-x : goal.invariant-loop-x
 invariant-loop-x g l = record {
-  left : RestUnderWay (g.S.Source.state l.fn.a) l.left (g.S.Source.state l.a);
-  right : RestUnderWay (g.T.Source.state l.fn.b) l.right (g.T.Source.state l.b);
+  left : RestUnderWay (g.S.Source.state l.fn.a) l.one (g.S.Source.state l.a);
+  right : RestUnderWay (g.T.Source.state l.fn.b) l.other (g.T.Source.state l.b);
   lists : InStep (level_list l.t l.fn.v (unread (g.S.Source.state l.fn.a)) 5) (level_list l.t l.fn.v (unread (g.T.Source.state l.fn.b)) 5)
-      (rest_of l.left (unread (g.S.Source.state l.a))) (rest_of l.right (unread (g.T.Source.state l.b)));
+      (rest_of l.one (unread (g.S.Source.state l.a))) (rest_of l.other (unread (g.T.Source.state l.b)));
 }
 
 abbrev pub decreases-loop-x : goal.decreases-loop-x
-decreases-loop-x g l = length (rest_of l.left (unread (g.S.Source.state l.a)))
+decreases-loop-x g l = length (rest_of l.one (unread (g.S.Source.state l.a)))

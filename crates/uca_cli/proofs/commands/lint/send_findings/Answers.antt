@@ -3,7 +3,7 @@ use Rattle.std.proofs.lemmas.List.{drop_more, length-drop}
 use Rattle.std.proofs.lemmas.Result.{err_from_is_err_and}
 use Rattle.uca_io.specs.OutputBuffer.{accepted}
 use Rattle.uca_io.proofs.BufferLemmas.{accepted-Accepts}
-use Rattle.uca_allkeys.proofs.SendLemmas.{sent_more, stopped_there}
+use Rattle.uca_io.proofs.SendLemmas.{sent_more, stopped_there}
 use Rattle.uca_table.specs.Bounds.{condition_of}
 use Rattle.uca_table.specs.declared.well_formed.WellFormed.{WellFormed}
 use Rattle.uca_table.specs.declared.well_formed.WellFormed.TheVariants.{WF1}

@@ -1,6 +1,6 @@
 use Rattle.std.proofs.Common.{◌≡◌, ℕ, List, length, flat_map, map, ap, subst, ◌∙◌, arith}
 use Rattle.uca_io.specs.Writer.{WritesFront}
-use Rattle.uca_allkeys.proofs.SendLemmas.{stopped_last}
+use Rattle.uca_io.proofs.SendLemmas.{stopped_last}
 use Rattle.uca_model.specs.WellFormed.{lint_output}
 use Rattle.uca_table.specs.Bounds.{condition_of}
 use Rattle.uca_cli.specs.Sending.{finding_line}

@@ -2,7 +2,7 @@ use Rattle.std.proofs.Common.{◌≡◌, ℕ, ◌+◌, List, ◌++◌, length, s
 use Rattle.std.proofs.lemmas.Result.{err_from_is_err_and}
 use Rattle.uca_io.specs.OutputBuffer.{accepted}
 use Rattle.uca_io.proofs.BufferLemmas.{accepted-Accepts}
-use Rattle.uca_allkeys.proofs.SendLemmas.{both_sent, sent_more, stopped_there}
+use Rattle.uca_io.proofs.SendLemmas.{both_sent, sent_more, stopped_there}
 use Rattle.uca_cli.proofs.commands.order.send_bytes.Goals as goal
 
 pub returns-in_err-write : goal.returns-in_err-write

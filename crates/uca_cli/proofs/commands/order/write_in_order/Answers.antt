@@ -1,6 +1,6 @@
-use Rattle.std.proofs.Common.{◌≡◌, ℕ, List, [], length, map, IsPermutation, IsSortedByKey, sym, ap, refl, ◌∙◌, arith}
+use Rattle.std.proofs.Common.{◌≡◌, ℕ, List, [], length, map, IsPermutation, IsSortedByKey, sym, ap, refl, ◌∙◌, arith, eqb-true}
 use Rattle.std.specs.List.Sorted.{IsStableByKey}
-use Rattle.std.proofs.lemmas.List.{length-map}
+use Rattle.std.proofs.lemmas.List.{length-map, nil_from_length}
 use Rattle.std.proofs.lemmas.List.Sorted.{length_permutation}
 use Rattle.uca_weights.specs.declared.settings.Settings.{Settings}
 use Rattle.uca_model.specs.Lines.{lines_of}
@@ -9,12 +9,16 @@ use Rattle.uca_model.specs.SortKey.{key_order}
 use Rattle.uca_model.specs.Table.{ElementTable}
 use Rattle.uca_cli.specs.Ordering.{cut_up, AreKeys}
 use Rattle.uca_cli.specs.declared.commands.order.KeyedLine.{KeyedLine}
+use Rattle.uca_cli.proofs.NoLines.{WritesInOrder-none}
 use Rattle.uca_cli.proofs.OrderingLemmas.{AreKeys-cut_up, AreKeys-within, IsInOrder-from_keyed, length-lines_of}
 use Rattle.uca_cli.proofs.commands.order.write_in_order.Goals as goal
 
 -- an element with this key
 abbrev with_key : List ℕ → KeyedLine
 with_key key = record { key = record { ref_ptr = (0, 0); now = key }; line = record { ref_ptr = (0, 0); now = [] } }
+
+pub returns-then-is_empty : goal.returns-then-is_empty
+returns-then-is_empty g c = WritesInOrder-none c.args.t.now c.args.s c.args.bytes.now _ (nil_from_length c.args.bytes.now (eqb-true (length c.args.bytes.now) 0 (sym c.is_empty.ensures ∙ c.if-is_empty.true)))
 
 pub keyed_lines-requires-clause-within : goal.keyed_lines-requires-clause-within
 keyed_lines-requires-clause-within g c = AreKeys-within c.args.t.now c.args.s (lines_of c.args.bytes.now) c.in-Ok.keys.bytes.items c.in-Ok.keys.lengths.items c.in-Ok.ensures

@@ -7,7 +7,7 @@ use Rattle.uca_io.specs.OutputBuffer.{Accepts, FailsPartway}
 use Rattle.uca_io.specs.BufferState.{BufferState}
 use Rattle.uca_io.specs.declared.writer.WriteFault.{WriteFault}
 use Rattle.uca_io.proofs.BufferLemmas.{Accepts-more, Accepts-none, Accepts-all, FailsPartway-front}
-use Rattle.uca_allkeys.proofs.SendLemmas.{sent_more, stopped_there, stopped_last}
+use Rattle.uca_io.proofs.SendLemmas.{sent_more, stopped_there, stopped_last}
 use Rattle.uca_model.specs.Lines.{line_feed}
 use Rattle.uca_model.specs.OrderOutput.{text_of_lines}
 use Rattle.uca_cli.specs.declared.commands.order.KeyedLine.{KeyedLine}

@@ -5,7 +5,11 @@ use Rattle.uca_levels.proofs.ReadsLemmas.{Passes}
 use Rattle.uca_levels.proofs.weights.Weights.next.Given as goal
 
 abbrev pub invariant-loop-weight : goal.invariant-loop-weight
-invariant-loop-weight g l = (l.self.level ≡ l.fn.self.level) × Passes l.fn.self (g.S.Source.state l.fn.source) l.self (g.S.Source.state l.source)
+invariant-loop-weight g l = record {
+  level : l.self.level ≡ l.fn.self.level;
+  table : l.self.elements.table ≡ l.fn.self.elements.table;
+  passes : Passes l.fn.self (g.S.Source.state l.fn.source) l.self (g.S.Source.state l.source);
+}
 
 abbrev pub decreases-loop-weight : goal.decreases-loop-weight
 decreases-loop-weight g l = length (remaining_with_zeros l.self (unread (g.S.Source.state l.source)))

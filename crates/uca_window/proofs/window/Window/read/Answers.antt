@@ -25,6 +25,9 @@ invariant_of-self g c =
     let runs : w.ended ≡ false = (wants-few w (ap is_wanting c.self.view_is ∙ c.requires.wants)).1 in
     (Steps-char w c.in-Some.c _ _ _ c.self.invariant fits few runs c.push_decomposed-self-inside.ensures.points c.push_decomposed-self-inside.ensures.segments).window
 
+pub returns-in-Some-clause-valid : goal.returns-in-Some-clause-valid
+returns-in-Some-clause-valid g c = invariant_of-self g c
+
 pub returns-in-Some-clause-reads : goal.returns-in-Some-clause-reads
 returns-in-Some-clause-reads g c =
     let w = window_of c.self.inside.points.items c.self.inside.closed c.self.inside.longest c.self.inside.ended in

@@ -12,6 +12,9 @@ invariant_of-self c =
     let mark : 0 < canonical_combining_class (get_or w.points c.args.at 0) = subst (λ v. 0 < canonical_combining_class (get_or v.points c.args.at 0)) (sym c.self.view_is) c.requires.nonstarter in
     subst (λ l. IsWindow (window_of l (w.closed - 1) w.longest w.ended)) (sym c.remove.ensures.items) (IsWindow-remove w c.args.at c.self.invariant lt mark)
 
+pub returns-clause-valid : goal.returns-clause-valid
+returns-clause-valid c = invariant_of-self c
+
 pub returns-clause-rest : goal.returns-clause-rest
 returns-clause-rest c =
     let w = window_of c.self.inside.points.items c.self.inside.closed c.self.inside.longest c.self.inside.ended in
