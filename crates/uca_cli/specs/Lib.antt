@@ -1,4 +1,3 @@
-pub mod Input
 pub mod BuiltIn
 pub mod Borrowed
 pub mod RuleFile

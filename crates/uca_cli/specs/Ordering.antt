@@ -8,7 +8,7 @@ use Rattle.uca_model.specs.Lines.{lines_of}
 use Rattle.uca_model.specs.OrderOutput.{IsOrderOutput, line_key}
 use Rattle.uca_model.specs.Table.{ElementTable}
 use Rattle.uca_cli.specs.Commands.{Ends}
-use Rattle.uca_cli.specs.Input.{ReadsLines, RefusesInput}
+use Rattle.uca_lines.specs.Input.{ReadsLines, RefusesInput}
 use Rattle.uca_cli.specs.declared.faults.CliFault.{CliFault}
 use Rattle.uca_cli.specs.declared.faults.CliFault.TheVariants as fault
 

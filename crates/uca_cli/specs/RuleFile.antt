@@ -3,6 +3,7 @@ use Rattle.std.specs.Prelude.{◌≡◌, ℕ, ◌≤◌, List, length, Option, S
 use Rattle.std.specs.Str.Lossy.{utf8_valid_len}
 use Rattle.uca_weights.specs.declared.limits.TheConstants.{MAX_RULES}
 use Rattle.uca_io.specs.Reader.{ReaderState, GivesAll}
+use Rattle.uca_io.specs.ReadWhole.{StopsAt}
 use Rattle.uca_model.specs.Rules.{Chain}
 use Rattle.uca_model.specs.RuleText.{rules_of}
 use Rattle.uca_model.specs.Table.{ElementTable}
@@ -10,12 +11,11 @@ use Rattle.uca_model.specs.Tailoring.{tailored}
 use Rattle.uca_tailor.specs.Faults.{RefusesText, RefusesRelation}
 use Rattle.uca_tailor.specs.declared.faults.RuleFault.{RuleFault}
 use Rattle.uca_tailor.specs.declared.faults.TailorFault.{TailorFault}
-use Rattle.uca_cli.specs.Input.{StopsAt}
 use Rattle.uca_cli.specs.declared.faults.CliFault.{CliFault}
 use Rattle.uca_cli.specs.declared.faults.CliFault.TheVariants as fault
 use Rattle.uca_cli.specs.declared.faults.RulesTextCause.{RulesTextCause}
 use Rattle.uca_cli.specs.declared.faults.RulesTextCause.TheVariants as cause
-use Rattle.uca_cli.specs.declared.input.Stop.TheVariants as stop
+use Rattle.uca_io.specs.declared.reading.Stop.TheVariants as stop
 
 -- ---- the rules in a reader
 

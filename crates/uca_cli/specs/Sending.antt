@@ -7,7 +7,7 @@ use Rattle.uca_io.specs.BufferState.{BufferState}
 use Rattle.uca_weights.specs.declared.settings.Settings.{Settings}
 use Rattle.uca_model.specs.ElementsOutput.{elements_line}
 use Rattle.uca_model.specs.Lines.{line_feed, lines_of}
-use Rattle.uca_model.specs.Output.{blank, hex_pair, key_line}
+use Rattle.uca_model.specs.Output.{key_line}
 use Rattle.uca_model.specs.Table.{ElementTable}
 use Rattle.uca_model.specs.WellFormed.{Condition, condition_name}
 use Rattle.uca_cli.specs.Commands.{WritesSome}
@@ -24,10 +24,6 @@ line_text Key t s line = key_line t s line
 -- what goes out for all lines
 abbrev pub lines_text : LineForm → ElementTable → Settings → List ℕ → List ℕ
 lines_text form t s bytes = flat_map (line_text form t s) (lines_of bytes)
-
--- bytes as pairs of digits, with a blank before each
-abbrev pub spaced_pairs : List ℕ → List ℕ
-spaced_pairs bytes = flat_map (λ b. blank ∷ hex_pair b) bytes
 
 -- the line of a condition that a table breaks
 abbrev pub finding_line : Condition → List ℕ

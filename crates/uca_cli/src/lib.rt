@@ -7,9 +7,6 @@
 mod built_in_table;
 pub mod commands;
 pub mod faults;
-mod hex;
-mod input;
-mod lines;
 mod output;
 pub mod performing;
 mod rule_file;
@@ -18,7 +15,8 @@ mod tests;
 
 pub use built_in_table::built_in;
 pub use commands::order::order;
-pub use faults::{CliFault, InputCause, InputFault, RulesTextCause};
+pub use faults::{CliFault, RulesTextCause};
 pub use performing::{perform, status_of};
 pub use uca_conform::{ConformCause, ConformFault, Conformance, conform};
 pub use uca_job::{Job, JobFault, Task, job_of};
+pub use uca_lines::{InputCause, InputFault};

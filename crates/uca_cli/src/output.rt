@@ -10,8 +10,8 @@ ghost use Rattle.uca_window.specs.Passage.{text_of};
 ghost use Rattle.uca_cli.specs.Sending.{line_text, lines_text, StopsLine, StopsOutput};
 
 use crate::faults::CliFault;
-use crate::hex::send_hex;
-use crate::lines::first_line;
+use uca_lines::send_hex;
+use uca_lines::first_line;
 use std::alloc::Global;
 use std::str::from_utf8_unchecked;
 use uca_allkeys::element_text;

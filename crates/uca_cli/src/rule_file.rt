@@ -2,7 +2,7 @@ ghost use Rattle.std.specs.Prelude.{IfErr, IfOk};
 ghost use Rattle.uca_cli.specs.RuleFile.{ReadsRuleBytes, ReadsRules, RefusesRules, StopsTailoring, TailorsBy};
 
 use crate::faults::{CliFault, RulesTextCause};
-use crate::input::{Stop, read_whole};
+use uca_io::{Stop, read_whole};
 use simdutf8::compat::from_utf8;
 use std::alloc::Global;
 use uca_table::Table;

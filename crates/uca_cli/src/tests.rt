@@ -6,7 +6,7 @@ mod raw;
 mod rules;
 mod tables;
 
-use crate::input::read_input;
+use uca_lines::read_input;
 use crate::{CliFault, InputCause, InputFault, Job, Task, perform, status_of};
 use std::alloc::{AllocError, Global};
 use uca_allkeys::ReadCause;

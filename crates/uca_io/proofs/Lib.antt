@@ -9,3 +9,4 @@ pub mod FoldLemmas
 pub mod MapLemmas
 pub mod ProgressLemmas
 pub mod ReadLemmas
+pub mod WholeLemmas

@@ -10,3 +10,4 @@ pub mod Digits
 pub mod LineFold
 pub mod LineReader
 pub mod LineProgress
+pub mod ReadWhole

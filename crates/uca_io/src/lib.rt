@@ -10,6 +10,7 @@ pub mod line_reader;
 pub mod lines;
 pub mod output_buffer;
 pub mod reader;
+pub mod reading;
 pub mod words;
 pub mod writer;
 pub mod writing;
@@ -18,6 +19,7 @@ pub use limits::{MAX_INPUT, MAX_LINE};
 pub use line_reader::{LineCause, LineFault, LineSink, read_lines};
 pub use output_buffer::OutputBuffer;
 pub use reader::{Reader, Reading, Refused};
+pub use reading::{Stop, read_whole};
 pub use writer::{WriteCause, WriteFault, Writer, Writing};
 pub use writing::write_whole;
 

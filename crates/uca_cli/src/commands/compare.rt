@@ -7,7 +7,7 @@ ghost use Rattle.uca_model.specs.Lines.{lines_of, IsTextLine};
 ghost use Rattle.uca_cli.specs.Commands.{Does, Fails, compare_command};
 
 use crate::faults::CliFault;
-use crate::lines::{first_line, read_lines};
+use uca_lines::{first_line, read_lines};
 use crate::output::text_of_line;
 use std::alloc::Global;
 use std::cmp::Ordering;

@@ -2,10 +2,10 @@ ghost use Rattle.std.specs.Prelude.{All, IfErr, IfOk, MatchResult};
 ghost use Rattle.uca_io.specs.Writer.{WritesAll, WritesFront};
 ghost use Rattle.uca_model.specs.Lines.{lines_of, IsTextLine};
 ghost use Rattle.uca_cli.specs.Commands.{Does, Fails, key_command, raw_key_command, raw_key_output};
-ghost use Rattle.uca_cli.specs.Input.{IsOneLine};
+ghost use Rattle.uca_lines.specs.Input.{IsOneLine};
 
 use crate::faults::CliFault;
-use crate::lines::{first_line, read_lines, read_one_line};
+use uca_lines::{first_line, read_lines, read_one_line};
 use crate::output::{LineForm, text_of_line, write_lines};
 use std::alloc::Global;
 use uca_key::write_key;

@@ -10,7 +10,7 @@ ghost use Rattle.uca_cli.specs.Ordering.{cut_up, AreKeys, Orders, RefusesOrder, 
 ghost use Rattle.uca_cli.specs.Commands.{Does, Fails, order_command};
 
 use crate::faults::CliFault;
-use crate::lines::{first_line, read_lines};
+use uca_lines::{first_line, read_lines};
 use crate::output::text_of_line;
 use std::alloc::{AllocError, Global};
 use uca_io::OutputBuffer;

@@ -1,0 +1,33 @@
+ghost use Rattle.std.specs.Prelude.{◌≡◌, ◌≤◌, length, MatchResult};
+ghost use Rattle.uca_io.specs.Reader.{GivesAll};
+ghost use Rattle.uca_lines.specs.Input.{StopsReading};
+
+use crate::faults::{InputCause, InputFault};
+use std::alloc::Global;
+use uca_io::{Stop, read_whole};
+use uca_weights::{MAX_INPUT, Reader};
+
+/// A fault that no line has.
+pub fn refused(cause: InputCause) -> InputFault
+    ensures { result ≡ record { line = 0; at = 0; cause = cause } }
+{
+    InputFault {
+        line: 0,
+        at: 0,
+        cause,
+    }
+}
+
+/// Reads an input of lines to its end.
+pub fn read_input<I: Reader>(alloc: Global, input: &mut I) -> Result<Vec<u8>, InputFault>
+    ensures { MatchResult result
+        (λ v. GivesAll (I.state input.old) (I.state input.new) v.items × (length v.items ≤ MAX_INPUT))
+        (λ f. StopsReading (I.state input.old) (I.state input.new) f) }
+{
+    match read_whole(alloc, input, MAX_INPUT) {
+        Ok(bytes) => Ok(bytes),
+        Err(Stop::TooLarge) => Err(refused(InputCause::TooLarge)),
+        Err(Stop::Read) => Err(refused(InputCause::Read)),
+        Err(Stop::OutOfMemory) => Err(refused(InputCause::OutOfMemory)),
+    }
+}

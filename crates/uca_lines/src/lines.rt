@@ -1,0 +1,115 @@
+ghost use Rattle.std.specs.Prelude.{◌≡◌, ◌≢◌, ◌∷◌, ℕ, ◌+◌, ◌<◌, ◌≤◌, length, drop, slice_index, All, IfErr, IfOk, IsFalse, IsTrue, MatchResult};
+ghost use Rattle.uca_model.specs.Lines.{line_feed, lines_of, IsTextLine};
+ghost use Rattle.uca_lines.specs.Input.{HasInputFault, HasFaultAt, IsOneLine, ReadsLines, ReadsOneLine, RefusesInput, RefusesOneLine};
+
+use crate::faults::{InputCause, InputFault};
+use crate::input::{read_input, refused};
+use memchr::memchr;
+use simdutf8::compat::from_utf8;
+use std::alloc::Global;
+use uca_io::lines::without_return;
+use uca_weights::Reader;
+use uca_window::Passage;
+
+/// Where the first line ends: at its LF, or at the end of the input.
+fn line_end(bytes: &[u8]) -> usize
+    ensures within { result ≤ length bytes.now }
+    ensures before { (k : ℕ) → k < result → slice_index bytes.now k ≢ line_feed }
+    ensures there { result < length bytes.now → slice_index bytes.now result ≡ line_feed }
+{
+    match memchr(b'\n', bytes) {
+        Some(at) => at,
+        None => bytes.len(),
+    }
+}
+
+/// What stands after the byte at `end`.
+fn behind(bytes: &[u8], end: usize) -> &[u8]
+    ensures { result.now ≡ drop (end + 1) bytes.now }
+{
+    if end < bytes.len() {
+        &bytes[end + 1..]
+    } else {
+        &bytes[..0]
+    }
+}
+
+/// The first line of an input, without what ends it, and the bytes after that.
+pub fn first_line(bytes: &[u8]) -> (&[u8], &[u8])
+    requires { 0 < length bytes.now }
+    ensures parts { lines_of bytes.now ≡ result.0.now ∷ lines_of result.1.now }
+    ensures shorter { length result.1.now < length bytes.now }
+{
+    let end = line_end(bytes);
+    (without_return(&bytes[..end]), behind(bytes, end))
+}
+
+/// Whether an input is one line.
+pub fn is_one_line(bytes: &[u8]) -> bool
+    ensures one { IsTrue result → IsOneLine bytes.now }
+    ensures other { IsFalse result → ¬ IsOneLine bytes.now }
+{
+    if bytes.is_empty() {
+        return false;
+    }
+    let (_, others) = first_line(bytes);
+    others.is_empty()
+}
+
+/// What is wrong with a line, and at which of its bytes.
+fn line_fault(line: &[u8]) -> Result<(), (InputCause, usize)>
+    ensures { MatchResult result (λ _. IsTextLine line.now) (λ f. HasFaultAt f.0 line.now f.1) }
+{
+    match from_utf8(line) {
+        Ok(text) => match Passage::check(text) {
+            Ok(_) => Ok(()),
+            Err(run) => Err((InputCause::LongRun, run.at)),
+        },
+        Err(error) => Err((InputCause::NotUtf8, error.valid_up_to())),
+    }
+}
+
+/// Looks at each line of an input: it must be a safe text in UTF-8.
+pub fn check_lines(bytes: &[u8]) -> Result<(), InputFault>
+    ensures { MatchResult result (λ _. All IsTextLine (lines_of bytes.now)) (HasInputFault (lines_of bytes.now)) }
+{
+    let mut number = 0;
+    let mut left = bytes;
+    while !left.is_empty() {
+        let (line, rest) = first_line(left);
+        number += 1;
+        match line_fault(line) {
+            Ok(()) => left = rest,
+            Err((cause, at)) => {
+                return Err(InputFault {
+                    line: number,
+                    at,
+                    cause,
+                });
+            }
+        }
+    }
+    Ok(())
+}
+
+/// Reads an input of lines to its end, and looks at each line.
+pub fn read_lines<I: Reader>(alloc: Global, input: &mut I) -> Result<Vec<u8>, InputFault>
+    ensures ok { IfOk result (λ v. ReadsLines (I.state input.old) (I.state input.new) v.items) }
+    ensures err { IfErr result (RefusesInput (I.state input.old) (I.state input.new)) }
+{
+    let bytes = read_input(alloc, input)?;
+    check_lines(&bytes)?;
+    Ok(bytes)
+}
+
+/// Reads an input of lines to its end, looks at each line, and then whether it is a single one.
+pub fn read_one_line<I: Reader>(alloc: Global, input: &mut I) -> Result<Vec<u8>, InputFault>
+    ensures ok { IfOk result (λ v. ReadsOneLine (I.state input.old) (I.state input.new) v.items) }
+    ensures err { IfErr result (RefusesOneLine (I.state input.old) (I.state input.new)) }
+{
+    let bytes = read_lines(alloc, input)?;
+    if !is_one_line(&bytes) {
+        return Err(refused(InputCause::NotOneLine));
+    }
+    Ok(bytes)
+}
