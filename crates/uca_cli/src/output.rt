@@ -10,13 +10,12 @@ ghost use Rattle.uca_window.specs.Passage.{text_of};
 ghost use Rattle.uca_cli.specs.Sending.{line_text, lines_text, StopsLine, StopsOutput};
 
 use crate::faults::CliFault;
-use uca_lines::send_hex;
-use uca_lines::first_line;
 use std::alloc::Global;
 use std::str::from_utf8_unchecked;
 use uca_allkeys::element_text;
 use uca_io::OutputBuffer;
 use uca_key::key_of;
+use uca_lines::{first_line, send_hex};
 use uca_match::elements_of;
 use uca_table::Table;
 use uca_weights::{Element, Settings, WriteFault, Writer};

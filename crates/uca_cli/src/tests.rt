@@ -6,10 +6,10 @@ mod raw;
 mod rules;
 mod tables;
 
-use uca_lines::read_input;
 use crate::{CliFault, InputCause, InputFault, Job, Task, perform, status_of};
 use std::alloc::{AllocError, Global};
 use uca_allkeys::ReadCause;
+use uca_lines::read_input;
 use uca_tailor::{RuleCause, TailorCause};
 use uca_testing::{Expecting, Pieces, Repeating, repeated};
 use uca_weights::{

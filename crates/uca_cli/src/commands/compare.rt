@@ -7,12 +7,12 @@ ghost use Rattle.uca_model.specs.Lines.{lines_of, IsTextLine};
 ghost use Rattle.uca_cli.specs.Commands.{Does, Fails, compare_command};
 
 use crate::faults::CliFault;
-use uca_lines::{first_line, read_lines};
 use crate::output::text_of_line;
 use std::alloc::Global;
 use std::cmp::Ordering;
 use uca_io::OutputBuffer;
 use uca_levels::compare;
+use uca_lines::{first_line, read_lines};
 use uca_table::Table;
 use uca_weights::{Reader, Settings, WriteFault, Writer};
 

@@ -2,9 +2,9 @@ ghost use Rattle.std.specs.Prelude.{IfErr, IfOk};
 ghost use Rattle.uca_cli.specs.Commands.{Does, Fails, elements_command};
 
 use crate::faults::CliFault;
-use uca_lines::read_lines;
 use crate::output::{LineForm, write_lines};
 use std::alloc::Global;
+use uca_lines::read_lines;
 use uca_table::Table;
 use uca_weights::{Reader, Settings, Writer};
 

@@ -5,10 +5,10 @@ ghost use Rattle.uca_cli.specs.Commands.{Does, Fails, key_command, raw_key_comma
 ghost use Rattle.uca_lines.specs.Input.{IsOneLine};
 
 use crate::faults::CliFault;
-use uca_lines::{first_line, read_lines, read_one_line};
 use crate::output::{LineForm, text_of_line, write_lines};
 use std::alloc::Global;
 use uca_key::write_key;
+use uca_lines::{first_line, read_lines, read_one_line};
 use uca_table::Table;
 use uca_weights::{Reader, Settings, WriteFault, Writer};
 

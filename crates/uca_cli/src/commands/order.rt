@@ -10,12 +10,12 @@ ghost use Rattle.uca_cli.specs.Ordering.{cut_up, AreKeys, Orders, RefusesOrder, 
 ghost use Rattle.uca_cli.specs.Commands.{Does, Fails, order_command};
 
 use crate::faults::CliFault;
-use uca_lines::{first_line, read_lines};
 use crate::output::text_of_line;
 use std::alloc::{AllocError, Global};
 use uca_io::OutputBuffer;
 use uca_io::output_buffer::ROOM;
 use uca_key::key_of;
+use uca_lines::{first_line, read_lines};
 use uca_table::Table;
 use uca_weights::{Reader, Settings, WriteFault, Writer};
 
