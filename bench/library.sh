@@ -1,5 +1,6 @@
 #!/usr/bin/env bash
-# The C library beside ICU's C API over generated lines, in one run: bench/library.sh [LINES]
+# The C library beside ICU's C API over generated lines, in one run: bench/library.sh [LINES]. Then SQLite's index and order by
+# uca_key beside those by ICU's keys, over 1,000,000 generated lines, where Debian's libsqlite3-dev is there.
 # It needs Debian's libicu-dev and the table of Debian's perl. It is no test.
 set -eu
 cd "$(dirname "${BASH_SOURCE[0]}")/.."
@@ -16,3 +17,10 @@ for lines in ${1:-"$work/mixed" "$work/latin"}; do
         "$work/library" "$table" "$lines" $setting
     done
 done
+
+echo '#include <sqlite3ext.h>' | cc -E - >/dev/null 2>&1 || exit 0
+cc -O2 -shared -fPIC -Iinclude -o "$work/uca_sqlite.so" bindings/sqlite/uca_sqlite.c "$work/c/libuca.a"
+cc -std=gnu11 -Wall -Wextra -O2 -o "$work/sqlite" bench/sqlite.c -lsqlite3 -licui18n -licuuc
+perl tests/texts.pl 1000000 >"$work/rows"
+echo "SQLite, 1,000,000 rows"
+"$work/sqlite" "$table" "$work/rows" "$work/uca_sqlite.so"

@@ -52,6 +52,11 @@ compiles test_shared bindings/c/tests/test.c -L"$usr/lib" -luca
 is "every call of C, with the shared library" "well" "$(LD_LIBRARY_PATH=$usr/lib "$work/test_shared" "$small" 2>&1)"
 compiles refused bindings/c/tests/refused.c "$usr/lib/libuca.a" -Wl,--wrap=malloc,--wrap=realloc,--wrap=free
 is "allocations that are refused" "well" "$("$work/refused" 2>&1 | sed 's/,.*//')"
+compiles stack bindings/c/tests/stack.c "$usr/lib/libuca.a" -lpthread
+"$work/stack" "$table" rules/sv.rules >"$work/stacks"
+is "stack that calls take" "0|7 calls, uca_open and uca_fingerprint at most 24 KiB, the others at most 8" \
+    "$?|$(awk '$2 > ($1 == "uca_open" || $1 == "uca_fingerprint" ? 24576 : 8192) { print; bad = 1 } END { if (!bad) print NR " calls, uca_open and uca_fingerprint at most 24 KiB, the others at most 8" }' "$work/stacks")"
+echo "$script: bytes of stack: $(paste -sd' ' "$work/stacks")"
 compiles threads bindings/c/tests/threads.c "$usr/lib/libuca.a" -lpthread
 is "clones in threads" "well" "$("$work/threads" 2>&1)"
 if command -v c++ >/dev/null; then

@@ -1,0 +1,101 @@
+// SQLite over rows of a file: an index and an order by uca_key beside the same by ICU's keys: sqlite TABLE LINES EXTENSION
+// Each figure is the processor time of the faster of two rounds, which are interleaved.
+#include <sqlite3.h>
+#include <stdio.h>
+#include <stdlib.h>
+#include <string.h>
+#include <time.h>
+#include <unicode/ucol.h>
+#include <unicode/ustring.h>
+
+#define ROUNDS 2
+
+static UCollator *icu;
+
+static double now(void) {
+    struct timespec time;
+    clock_gettime(CLOCK_PROCESS_CPUTIME_ID, &time);
+    return time.tv_sec + time.tv_nsec / 1e9;
+}
+
+static void icu_key(sqlite3_context *context, int count, sqlite3_value **values) {
+    static UChar wide[1 << 16];
+    static uint8_t key[1 << 18];
+    UErrorCode error = U_ZERO_ERROR;
+    int32_t points;
+    (void)count;
+    u_strFromUTF8(wide, 1 << 16, &points, (const char *)sqlite3_value_text(values[0]), sqlite3_value_bytes(values[0]), &error);
+    int32_t size = ucol_getSortKey(icu, wide, points, key, sizeof key);
+    sqlite3_result_blob(context, key, size, SQLITE_TRANSIENT);
+}
+
+static sqlite3 *database;
+
+static void run(const char *form, const char *a, const char *b) {
+    char *error = NULL, *text = sqlite3_mprintf(form, a, b);
+    if (sqlite3_exec(database, text, NULL, NULL, &error)) {
+        fprintf(stderr, "%s: %s\n", text, error);
+        exit(3);
+    }
+    sqlite3_free(text);
+}
+
+// The seconds that a statement takes.
+static double seconds(const char *form, const char *a) {
+    double from = now();
+    run(form, a, "");
+    return now() - from;
+}
+
+static void load_lines(const char *path) {
+    FILE *file = fopen(path, "rb");
+    sqlite3_stmt *insert;
+    char *line = NULL;
+    size_t room = 0;
+    if (!file) exit(2);
+    run("CREATE TABLE w (n INTEGER PRIMARY KEY, t TEXT)", "", "");
+    run("BEGIN", "", "");
+    sqlite3_prepare_v2(database, "INSERT INTO w (t) VALUES (?)", -1, &insert, NULL);
+    for (ssize_t size; (size = getline(&line, &room, file)) > 0;) {
+        sqlite3_bind_text(insert, 1, line, (int)(size - (line[size - 1] == '\n')), SQLITE_STATIC);
+        sqlite3_step(insert);
+        sqlite3_reset(insert);
+    }
+    sqlite3_finalize(insert);
+    run("COMMIT", "", "");
+    free(line);
+    fclose(file);
+}
+
+int main(int count, char **words) {
+    static const char *const names[] = {"uca_key", "icu_key"};
+    static const char *const what[] = {"CREATE INDEX i ON w (%s(t))", "SELECT count(*) FROM (SELECT t FROM w ORDER BY %s(t) LIMIT -1 OFFSET 1)",
+        "DROP INDEX i", "SELECT count(*) FROM (SELECT t FROM w ORDER BY %s(t) LIMIT -1 OFFSET 1)"};
+    static const char *const titles[] = {"an index is built", "ORDER BY with it", NULL, "ORDER BY without it"};
+    double best[4][2];
+    UErrorCode error = U_ZERO_ERROR;
+    if (count != 4) return 2;
+    icu = ucol_open("", &error);
+    ucol_setAttribute(icu, UCOL_NORMALIZATION_MODE, UCOL_ON, &error);
+    if (U_FAILURE(error) || sqlite3_open("", &database)) return 3;
+    sqlite3_enable_load_extension(database, 1);
+    if (sqlite3_load_extension(database, words[3], "sqlite3_ucasqlite_init", NULL)) return 3;
+    sqlite3_create_function(database, "icu_key", 1, SQLITE_UTF8 | SQLITE_DETERMINISTIC | SQLITE_INNOCUOUS, NULL, icu_key, NULL, NULL);
+    run("SELECT uca_load('uca', %Q)", words[1], "");
+    load_lines(words[2]);
+    run("PRAGMA cache_size = -1000000", "", "");
+    for (int round = 0; round < ROUNDS; round++) {
+        for (int by = 0; by < 2; by++) {
+            for (int step = 0; step < 4; step++) {
+                double took = seconds(what[step], names[by]);
+                if (round == 0 || took < best[step][by]) best[step][by] = took;
+            }
+        }
+    }
+    for (int step = 0; step < 4; step++) {
+        if (titles[step]) printf("%s: %.2f s (ICU %.2f, %.2f times)\n", titles[step], best[step][0], best[step][1], best[step][0] / best[step][1]);
+    }
+    sqlite3_close(database);
+    ucol_close(icu);
+    return 0;
+}

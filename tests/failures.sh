@@ -1,0 +1,241 @@
+#!/usr/bin/env bash
+# Every failure in turn. In each run of a row one step fails: one growth of memory is refused, one read of the table, the rules or the
+# input fails or gives a single byte, or the output stops after so many bytes, by an error or by taking none. The answer has to be
+# the right one or to report that failure and its place, with nothing written but the front of the right output.
+#
+# tests/failures.c makes these runs out of one, as copies of the process at each step. The rows are the commands of the program with
+# their options, their refusals, and each test of the crates that allocates. Of more than 2 x 400 steps the first 400, the last 400 and
+# every 211th between fail; over the published table the first 60, the last 60 and every 4001st.
+source "$(dirname "${BASH_SOURCE[0]}")/checks.bash"
+
+command -v cc >/dev/null || { echo "$script: left out, since there is no C compiler"; sum_up; exit; }
+is_built
+cc -std=c11 -Wall -Wextra -Werror -O2 -shared -fPIC -o "$work/failures.so" tests/failures.c &&
+    cc -std=c11 -Wall -Wextra -Werror -O1 -o "$work/careless" tests/careless.c || { echo "$script: could not be compiled"; exit 1; }
+export work
+mkdir "$work/rows"
+jobs=$work/jobs
+
+# row NAME INPUT WORDS..: a row, of which the files of INPUT are copied; leaves its folder in $folder
+row() {
+    folder=$work/rows/$1
+    mkdir "$folder"
+    cp "$2" "$folder/input"
+    shift 2
+    printf '%s\n' "$@" >"$folder/words"
+    echo 400 211 >"$folder/rule"
+    printf 'uca: OutOfMemory\n' >"$folder/refused"
+    echo 3 >"$folder/refused-status"
+    : >"$folder/notes"
+}
+
+# notes NAME=VALUE..: what failures.c has to know of this row
+notes() { printf '%s\n' "$@" >>"$folder/notes"; }
+
+# tries KIND..: kinds of steps that fail in this row
+tries() { for kind in "$@"; do echo "$folder $kind"; done >>"$jobs"; }
+
+# preloaded FOLDER KIND NOTES..: the program of a row with failures.c; leaves KIND.out, KIND.err and KIND.report
+preloaded() {
+    local folder=$1 kind=$2 words status
+    shift 2
+    mapfile -t words <"$folder/words"
+    env FAILURES_KIND="$kind" FAILURES_RIGHT="$folder" FAILURES_REPORT="$folder/$kind.report" "$@" LD_PRELOAD="$work/failures.so" \
+        "${words[@]}" <"$folder/input" >"$folder/$kind.out" 2>"$folder/$kind.err"
+    status=$?
+    echo "$status" >"$folder/$kind.status"
+}
+
+# rightly FOLDER: the right answer of a row, and how many growths and reads there are
+rightly() {
+    preloaded "$1" count
+    mv "$1/count.out" "$1/out"
+    mv "$1/count.err" "$1/err"
+    mv "$1/count.status" "$1/status"
+}
+
+# fails_in_turn FOLDER KIND: each step of this kind fails; KIND.result says how that went
+fails_in_turn() {
+    local folder=$1 kind=$2 notes growths reads whole each every
+    mapfile -t notes <"$folder/notes"
+    read -r growths reads <"$folder/count.report"
+    read -r each every <"$folder/rule"
+    case $kind in
+    growths) whole=$growths ;;
+    *-reads | reads) whole=$reads ;;
+    *) whole=$(stat -c %s "$folder/out") ;;
+    esac
+    [ "$whole" -gt $((2 * each)) ] || whole=0
+    preloaded "$folder" "$kind" FAILURES_WHOLE="$whole" FAILURES_EACH="$each" FAILURES_EVERY="$every" "${notes[@]}"
+    for file in out err status; do
+        cmp -s "$folder/$kind.$file" "$folder/$file" || echo "! without a failure: another $file" >>"$folder/$kind.report"
+    done
+    tail -n 1 "$folder/$kind.report" | grep -q '^[=!]' || echo "! the run did not end" >>"$folder/$kind.report"
+}
+export -f preloaded rightly fails_in_turn
+
+# in_parallel FUNCTION: it is called with each line of the input as its words
+in_parallel() { xargs -P "$(nproc)" -I@ bash -c "$1 @"; }
+
+# run_rows: the rows that there are
+run_rows() {
+    cut -d' ' -f1 "$jobs" | sort -u | in_parallel rightly
+    in_parallel fails_in_turn <"$jobs"
+}
+
+# said_of REPORT: what was wrong
+said_of() {
+    if [ -s "$1" ]; then grep '^!' "$1"; else echo "! there is no report"; fi
+}
+
+# all_rows WHAT: runs the rows that there are, each of which has to be without a wrong answer, counts them, and forgets them
+all_rows() {
+    local from=$SECONDS folder kind
+    run_rows
+    while read -r folder kind; do
+        is "$(basename "$folder"), $(tail -n 1 "$folder/words"): $kind" "" "$(said_of "$folder/$kind.report")"
+    done <"$jobs"
+    awk -v what="$script: $1" -v took=$((SECONDS - from)) '
+        /^=/ { failed += $2; right += $4; reported += $6 }
+        END { printf "%s: %d failures in turn in %d s, %d of them right answers, %d reported\n", what, failed, took, right, reported }' "$work"/rows/*/*.report
+    forget_rows
+}
+
+forget_rows() {
+    rm -rf "$work/rows" "$jobs"
+    mkdir "$work/rows"
+}
+
+# What the checks see: a program that makes a mistake has steps with a wrong answer, and one that makes none has none.
+number=0
+while read -r kinds mistake; do
+    number=$((number + 1))
+    printf 'some lines of an input\nthat is read in pieces\n' >"$work/input"
+    row "careless$number" "$work/input" "$work/careless" "$mistake"
+    # shellcheck disable=SC2086
+    tries ${kinds//,/ }
+    echo "$folder" "$kinds" "$mistake" >>"$work/mistakes"
+done <<'END'
+growths,reads,short-reads,failed-writes,empty-writes none
+growths goes on without memory
+growths takes it for the end
+growths writes other bytes first
+growths does not look
+reads takes a failed read for the end
+reads reports another fault
+reads reads again
+short-reads takes a short read for the last
+failed-writes drops the rest of its output
+empty-writes takes no byte for all
+failed-writes takes a short write for a whole one
+failed-writes,empty-writes counts a byte too many
+END
+run_rows
+while read -r folder kinds mistake; do
+    for kind in ${kinds//,/ }; do
+        is "a mistake is seen: $mistake, $kind" "$([ "$mistake" = none ] && echo no || echo yes)" "$(grep -q '^!' "$folder/$kind.report" && echo yes || echo no)"
+    done
+done <"$work/mistakes"
+forget_rows
+
+# The commands. Their lines hold contractions, marks between, an ideograph, an empty line, CR and LF, and none at the end.
+program=$PWD/crates/uca/out/uca
+./uca table >"$work/table"
+printf '&a<b<c &e<<a/x\n&h<<<H=\\u0048\n# and no more' >"$work/rules"
+printf 'ch\n\xc3\xa0b-c\r\n\n\xe1\xba\xa1\xcc\x81\n\xe4\xb8\x80-\ncx\xcc\xa3h hhz' >"$work/lines"
+printf 'a\xcc\xa3-ch\n' >"$work/line"
+printf '# lines\n0061;\n0063 0068\n0062 0301 0308;# x\nD800\n0041\n' >"$work/test"
+: >"$work/none"
+both=(--table "$work/table" --rules "$work/rules")
+
+# command NAME INPUT WORDS..: a row of the program, under each set of tables and rules
+command() {
+    local name=$1 input=$2 read=$3 set
+    shift 3
+    for set in plain table rules both all; do
+        case $set in
+        plain) row "$name-$set" "$input" "$program" "$@" ;;
+        table) row "$name-$set" "$input" "$program" "$@" "${both[@]:0:2}" ;;
+        rules) row "$name-$set" "$input" "$program" "$@" "${both[@]:2}" ;;
+        both) row "$name-$set" "$input" "$program" "$@" "${both[@]}" ;;
+        all) row "$name-$set" "$input" "$program" "$@" "${both[@]}" --strength identical --variable shifted ;;
+        esac
+        notes FAILURES_TABLE="$work/table" FAILURES_RULES="$work/rules" $read
+        tries growths reads short-reads failed-writes empty-writes
+    done
+}
+
+command elements "$work/lines" "" elements
+command key "$work/lines" "" key
+command raw "$work/line" "" key --raw
+command compare "$work/lines" "" compare
+command order "$work/lines" "" order
+command check "$work/test" FAILURES_LINES=1 check
+command lint "$work/none" FAILURES_UNREAD=1 lint
+command table "$work/none" FAILURES_UNREAD=1 table
+
+# What is refused without any failure is still refused.
+refused() {
+    local name=$1 input=$2
+    shift 2
+    row "$name" "$input" "$program" "$@"
+    tries growths
+}
+printf '0061 ; [.1000.0020.0002]\n0061 0062 ; [.10\n' >"$work/bad-table"
+printf '&a<b<[c' >"$work/bad-rules"
+printf '&a<b &\xe4\xb8\x80<c' >"$work/bad-relation"
+printf 'a\nb\xff\n' >"$work/bad-line"
+printf '0061\n;x\n' >"$work/bad-test"
+refused bad-table "$work/lines" key --table "$work/bad-table" --rules "$work/rules"
+refused bad-rules "$work/lines" key --table "$work/table" --rules "$work/bad-rules"
+refused bad-relation "$work/lines" order --table "$work/table" --rules "$work/bad-relation"
+refused bad-line "$work/bad-line" compare --table "$work/table"
+refused bad-test "$work/bad-test" check --table "$work/table"
+refused two-lines "$work/lines" key --raw
+refused no-job "$work/none" order --strength third
+refused no-command "$work/none"
+refused no-file "$work/lines" key --table "$work/there-is-none"
+row bad-message "$work/bad-line" "$program" key
+tries failed-messages
+
+# The published table, and rules of a language over it.
+published=$(published_table)
+if [ -n "$published" ]; then
+    perl tests/texts.pl 40 >"$work/texts"
+    for name in elements key compare order table lint; do
+        for set in table rules; do
+            words=("$name" --table "$published")
+            [ "$set" = rules ] && words+=(--rules rules/sv.rules)
+            row "published-$name-$set" "$work/texts" "$program" "${words[@]}"
+            echo 60 4001 >"$folder/rule"
+            notes FAILURES_TABLE="$published" FAILURES_RULES=rules/sv.rules
+            case $name in
+            table | lint) notes FAILURES_UNREAD=1 ;;
+            esac
+            tries growths reads failed-writes
+        done
+    done
+else
+    echo "$script: left out: the published table, which is not there"
+fi
+all_rows "the program"
+
+# The tests of the crates, which ask once more where a growth was refused, or end by that failure.
+for folder in crates/*/; do
+    crate=$(basename "$folder")
+    grep -rqs '#\[test\]' "$folder/src" || continue
+    tests=$folder/out/${crate}_tests
+    if [ ! -x "$tests" ] || [ -n "$(find "$folder/src" crates.txt -newer "$tests" -print -quit)" ]; then
+        (cd "$folder" && rt test) >"$work/log" 2>&1 || { cat "$work/log"; echo "$script: the tests of $crate could not be built"; failed=$((failed + 1)); continue; }
+    fi
+    number=0
+    for name in $("$tests" --list | sed -n 's/: test$//p'); do
+        number=$((number + 1))
+        row "$crate-$number" "$work/none" "$PWD/$tests" "$name"
+        printf 'error: AllocError\nthe test failed: its result gives status 1\n' >"$folder/refused"
+        echo 101 >"$folder/refused-status"
+        tries growths
+    done
+done
+all_rows "the tests of the crates"
+sum_up
