@@ -30,3 +30,5 @@ pub mod RoomLookups
 pub mod AnchorElements
 pub mod RuleTextLemmas
 pub mod SafeCutLemmas
+pub mod PrefixLemmas
+pub mod PrefixKeys

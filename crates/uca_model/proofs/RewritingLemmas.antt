@@ -12,7 +12,7 @@ either : (b : Bool) (x y : Step) (n : ℕ) → length x.rest ≤ n → length y.
 either true x y n h g = h
 either false x y n h g = g
 
-discontiguous_match-shorter : (is_key : List ℕ → Bool) (s passed cs : List ℕ) → length (discontiguous_match is_key s passed cs).rest ≤ length passed + length cs
+pub discontiguous_match-shorter : (is_key : List ℕ → Bool) (s passed cs : List ℕ) → length (discontiguous_match is_key s passed cs).rest ≤ length passed + length cs
 unfolding discontiguous_match
 discontiguous_match-shorter is_key s passed [] = omega arith
 discontiguous_match-shorter is_key s passed (c ∷ cs) =

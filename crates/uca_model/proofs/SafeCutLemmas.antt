@@ -45,7 +45,7 @@ pub record IsSafeStarter (t : ElementTable) (s : ℕ) : Type 0 where
   pub first : (before after : List ℕ) → 0 < length before → is_key t (before ++ s ∷ after) ≡ false
   pub primary : (after : List ℕ) (es : List Element) → elements_at t (s ∷ after) ≡ Some es → begins_with_primary es ≡ true
 
-each_passes : {A : Type 0} (p : A → Bool) (xs : List A) → list_all p xs ≡ true → AllByRecursion (λ x. p x ≡ true) xs
+pub each_passes : {A : Type 0} (p : A → Bool) (xs : List A) → list_all p xs ≡ true → AllByRecursion (λ x. p x ≡ true) xs
 each_passes p [] h = tt
 each_passes p (x ∷ xs) h = let both = and_parts (p x) (list_all p xs) h in (both.0, each_passes p xs both.1)
 
@@ -67,7 +67,7 @@ second_of true false true h g = cc
 second_of true false false h g = cc
 second_of false b c h g = cc
 
-some_or_none : {A : Type 0} (P : Type 0) (o : Option A) → ((a : A) → o ≡ Some a → ⊥) → is_some o ≡ false
+pub some_or_none : {A : Type 0} (P : Type 0) (o : Option A) → ((a : A) → o ≡ Some a → ⊥) → is_some o ≡ false
 some_or_none P None h = refl
 some_or_none P (Some a) h = absurd (h a refl)
 
@@ -115,7 +115,7 @@ greatest-more p q m (suc n) h none =
     (let e : suc n + m ≡ suc (n + m) = omega arith in ap (greatest p) e)
     ∙ cond-false _ _ _ (none (suc (n + m)) (omega arith)) ∙ greatest-more p q m n h none
 
-greatest-within : (p : ℕ → Bool) (m : ℕ) → greatest p m ≤ m
+pub greatest-within : (p : ℕ → Bool) (m : ℕ) → greatest p m ≤ m
 greatest-within p zero = omega arith
 greatest-within p (suc m) =
     elim (cases_Bool (p (suc m))) [
@@ -133,17 +133,12 @@ take_some s ys zero h = absurd (omega arith)
 take_some s ys (suc n) h = let e : n ≡ suc n - 1 = omega arith in ap (λ k. s ∷ take k ys) e
 
 -- what stands after a rest
-abbrev with_more : List ℕ → Step → Step
+abbrev pub with_more : List ℕ → Step → Step
 with_more ys r = record r { rest = r.rest ++ ys }
 
-module _ (key : List ℕ → Bool) (s : ℕ) (ys : List ℕ) (starter : is_starter s ≡ true) (across : (before after : List ℕ) → 0 < length before → key (before ++ s ∷ after) ≡ false) where
-  longest_match_len-cut : (xs : List ℕ) → 0 < length xs → longest_match_len key (xs ++ s ∷ ys) ≡ longest_match_len key xs
-  longest_match_len-cut xs some =
-      (let e : length (xs ++ s ∷ ys) ≡ suc (length ys) + length xs = omega (arith, length-append xs (s ∷ ys)) in ap (greatest (λ n. key (take n (xs ++ s ∷ ys)))) e)
-      ∙ greatest-more (λ n. key (take n (xs ++ s ∷ ys))) (λ n. key (take n xs)) (length xs) (suc (length ys)) (λ k le. ap key (take-append-le k xs (s ∷ ys) le))
-      (λ k more. ap key (take_past xs (s ∷ ys) k (omega arith) ∙ ap (λ l. xs ++ l) (take_some s ys (k - length xs) (omega arith))) ∙ across xs (take (k - length xs - 1) ys) some)
-
-  discontiguous_match-cut : (front passed cs : List ℕ) → discontiguous_match key front passed (cs ++ s ∷ ys) ≡ with_more (s ∷ ys) (discontiguous_match key front passed cs)
+-- a match ends before a starter
+module _ (key : List ℕ → Bool) (s : ℕ) (ys : List ℕ) (starter : is_starter s ≡ true) where
+  pub discontiguous_match-cut : (front passed cs : List ℕ) → discontiguous_match key front passed (cs ++ s ∷ ys) ≡ with_more (s ∷ ys) (discontiguous_match key front passed cs)
   unfolding discontiguous_match
   discontiguous_match-cut front passed [] = cond-true _ _ _ starter
   discontiguous_match-cut front passed (c ∷ cs) =
@@ -156,6 +151,13 @@ module _ (key : List ℕ → Bool) (s : ℕ) (ys : List ℕ) (starter : is_start
               | inr leaves ↦ cond-false _ _ _ mark ∙ cond-false _ _ _ leaves ∙ discontiguous_match-cut front (passed ++ c ∷ []) cs ∙ sym (ap (with_more (s ∷ ys)) (cond-false _ _ _ mark ∙ cond-false _ _ _ leaves))
             ]
       ]
+
+module _ (key : List ℕ → Bool) (s : ℕ) (ys : List ℕ) (starter : is_starter s ≡ true) (across : (before after : List ℕ) → 0 < length before → key (before ++ s ∷ after) ≡ false) where
+  longest_match_len-cut : (xs : List ℕ) → 0 < length xs → longest_match_len key (xs ++ s ∷ ys) ≡ longest_match_len key xs
+  longest_match_len-cut xs some =
+      (let e : length (xs ++ s ∷ ys) ≡ suc (length ys) + length xs = omega (arith, length-append xs (s ∷ ys)) in ap (greatest (λ n. key (take n (xs ++ s ∷ ys)))) e)
+      ∙ greatest-more (λ n. key (take n (xs ++ s ∷ ys))) (λ n. key (take n xs)) (length xs) (suc (length ys)) (λ k le. ap key (take-append-le k xs (s ∷ ys) le))
+      (λ k more. ap key (take_past xs (s ∷ ys) k (omega arith) ∙ ap (λ l. xs ++ l) (take_some s ys (k - length xs) (omega arith))) ∙ across xs (take (k - length xs - 1) ys) some)
 
   -- a step before the cut does not see what stands after it
   step-cut : (xs : List ℕ) → 0 < length xs → step key (xs ++ s ∷ ys) ≡ with_more (s ∷ ys) (step key xs)
@@ -171,7 +173,7 @@ module _ (key : List ℕ → Bool) (s : ℕ) (ys : List ℕ) (starter : is_start
             cond-false _ _ _ (ap (λ k. nat_eq k 0) same ∙ found)
             ∙ ap (λ k. discontiguous_match key (take k (all ++ s ∷ ys)) [] (drop k (all ++ s ∷ ys))) same
             ∙ ap₂ (λ f r. discontiguous_match key f [] r) (take-append-le n all (s ∷ ys) within) (drop-append-le n all (s ∷ ys) within)
-            ∙ discontiguous_match-cut (take n all) [] (drop n all)
+            ∙ discontiguous_match-cut key s ys starter (take n all) [] (drop n all)
             ∙ sym (ap (with_more (s ∷ ys)) (cond-false _ _ _ found))
       ]
 
@@ -292,9 +294,9 @@ begins-implicit rs c ranges = begins-cond (is_assigned c) _ _ (by_range (range_o
     by_range (Some r) e = begins-pair r.base (c - lowest_first rs r.base r.first + 0x8000) (let at : IsRange r = (found IsRange (λ q. is_between q.first q.last c) rs r ranges.each e).0 in omega (arith, at.above))
 
 -- a match begins with what it began with
-record BeginsLike (front xs : List ℕ) : Type 0 where
-  after : List ℕ
-  same : xs ≡ front ++ after
+pub record BeginsLike (front xs : List ℕ) : Type 0 where
+  pub after : List ℕ
+  pub same : xs ≡ front ++ after
 
 with_cond : (b : Bool) (front : List ℕ) (x y : Step) → BeginsLike front x.matched.code_points → BeginsLike front y.matched.code_points → BeginsLike front (cond b x y).matched.code_points
 with_cond true front x y h g = h
@@ -310,7 +312,7 @@ discontiguous_match-begins key front passed (c ∷ cs) =
     (record { after = c ∷ taken.after; same = taken.same ∙ append_assoc front (c ∷ []) taken.after })
     (discontiguous_match-begins key front (passed ++ c ∷ []) cs))
 
-step-begins : (key : List ℕ → Bool) (s : ℕ) (ys : List ℕ) → BeginsLike (s ∷ []) (step key (s ∷ ys)).matched.code_points
+pub step-begins : (key : List ℕ → Bool) (s : ℕ) (ys : List ℕ) → BeginsLike (s ∷ []) (step key (s ∷ ys)).matched.code_points
 step-begins key s ys =
     let n = longest_match_len key (s ∷ ys) in
     elim (cases_Bool (nat_eq n 0)) [
@@ -519,7 +521,7 @@ at_place [] k h = absurd (omega arith)
 at_place (x ∷ xs) zero h = refl
 at_place (x ∷ xs) (suc k) h = at_place xs k (omega arith)
 
-greatest-holds : (p : ℕ → Bool) (n : ℕ) → (greatest p n ≡ 0) ⊎ ((p (greatest p n) ≡ true) × (greatest p n ≤ n))
+pub greatest-holds : (p : ℕ → Bool) (n : ℕ) → (greatest p n ≡ 0) ⊎ ((p (greatest p n) ≡ true) × (greatest p n ≤ n))
 greatest-holds p zero = inl refl
 greatest-holds p (suc n) =
     elim (cases_Bool (p (suc n))) [

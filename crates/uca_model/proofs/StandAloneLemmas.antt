@@ -108,7 +108,7 @@ take_some s ys zero h = absurd (omega arith)
 take_some s ys (suc n) h = let e : n ≡ suc n - 1 = omega arith in ap (λ k. s ∷ take k ys) e
 
 -- no more than `xs` is looked at where nothing longer is a key
-longest_match_len-front : (key : List ℕ → Bool) (xs : List ℕ) (s : ℕ) (ys : List ℕ) → ((after : List ℕ) → key (xs ++ s ∷ after) ≡ false) → longest_match_len key (xs ++ s ∷ ys) ≡ longest_match_len key xs
+pub longest_match_len-front : (key : List ℕ → Bool) (xs : List ℕ) (s : ℕ) (ys : List ℕ) → ((after : List ℕ) → key (xs ++ s ∷ after) ≡ false) → longest_match_len key (xs ++ s ∷ ys) ≡ longest_match_len key xs
 longest_match_len-front key xs s ys across =
     (let e : length (xs ++ s ∷ ys) ≡ suc (length ys) + length xs = omega (arith, length-append xs (s ∷ ys)) in ap (greatest (λ n. key (take n (xs ++ s ∷ ys)))) e)
     ∙ greatest-more (λ n. key (take n (xs ++ s ∷ ys))) (λ n. key (take n xs)) (length xs) (suc (length ys)) (λ k le. ap key (take-append-le k xs (s ∷ ys) le))

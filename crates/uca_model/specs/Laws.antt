@@ -1,5 +1,5 @@
 -- Laws of the definitions, which public functions with no body have as their contracts.
-use Rattle.std.specs.Prelude.{◌≡◌, ℕ, ◌<◌, ◌≤◌, ◌^◌, List, ◌++◌, All, map, flat_map, length, take, drop, Ok}
+use Rattle.std.specs.Prelude.{◌≡◌, ◌↔◌, ℕ, true, ◌<◌, ◌≤◌, ◌^◌, List, ◌++◌, All, map, flat_map, length, take, drop, Ok}
 use Rattle.std.specs.Char.{IsScalar}
 use Rattle.std.specs.List.{AllByRecursion}
 use Rattle.std.specs.Cmp.Lexicographic.{slice_cmp}
@@ -13,6 +13,7 @@ use Rattle.uca_model.specs.Table.{ElementTable, IsTable}
 use Rattle.uca_model.specs.LevelWeights.{level_list}
 use Rattle.uca_model.specs.CollationElements.{elements}
 use Rattle.uca_model.specs.SafeCut.{cut_of}
+use Rattle.uca_model.specs.Prefix.{is_complete, primary_key, end_of_prefix, IsBetween}
 use Rattle.unicode_normalization.specs.Forms.{nfd}
 use Rattle.uca_model.specs.SortKey.{weight_bytes, joined, key_order, sort_key}
 use Rattle.uca_model.specs.DecidingLevel.{list_order, deciding_level}
@@ -67,3 +68,15 @@ pub record AreCutApart (t : ElementTable) (v : Variable) (a b : List ℕ) : Type
 -- under every table, two texts are cut apart at their safe cut
 abbrev pub TextsAreCutApart : Type 0
 TextsAreCutApart = (t : ElementTable) (v : Variable) (a b : List ℕ) → IsTable t → AreCutApart t v a b
+
+-- under every table, where a text is complete, the key of each text that begins with it begins with its key at the strength Primary, at every strength and option
+abbrev pub KeysBeginWithCompleteTexts : Type 0
+KeysBeginWithCompleteTexts = (t : ElementTable) (s : Settings) (p x : List ℕ) → is_complete t p ≡ true → BeginsWith (sort_key t s (p ++ x)) (primary_key t s.weighting p)
+
+-- the bytes of a byte string
+abbrev pub AreBytes : List ℕ → Type 0
+AreBytes = AllByRecursion (λ b. b < 256)
+
+-- the byte strings that begin with another are just those from it up to the end of its prefix
+abbrev pub PrefixesAreRanges : Type 0
+PrefixesAreRanges = (front bytes : List ℕ) → AreBytes bytes → IsBetween front (end_of_prefix front) bytes ↔ BeginsWith bytes front

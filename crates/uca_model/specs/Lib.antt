@@ -12,6 +12,7 @@ pub mod StandAlone
 pub mod LevelWeights
 pub mod SortKey
 pub mod SafeCut
+pub mod Prefix
 pub mod DecidingLevel
 pub mod Source
 pub mod Window

@@ -1,4 +1,4 @@
-ghost use Rattle.uca_model.specs.Laws.{KeysFollowLevels, KeyOrderIsDecided, CanonicalTextIsReadBack, KeysGrowByLevels, TextsAreCutApart};
+ghost use Rattle.uca_model.specs.Laws.{KeysFollowLevels, KeyOrderIsDecided, CanonicalTextIsReadBack, KeysGrowByLevels, TextsAreCutApart, KeysBeginWithCompleteTexts, PrefixesAreRanges};
 
 /// Keys of weights are in the byte order in which their level lists are (UTS #10, section 7.4).
 pub fn keys_follow_levels()
@@ -27,4 +27,16 @@ pub fn canonical_text_is_read_back()
 /// their weights at each level by themselves. So a comparison may begin its later levels at the cut.
 pub fn texts_are_cut_apart()
     ensures { TextsAreCutApart }
+{}
+
+/// Where a text is complete, the key of every text that begins with it begins with its key at the strength `Primary`,
+/// under every table, at every strength and option. So the keys of all these texts lie between two byte strings.
+pub fn keys_begin_with_complete_texts()
+    ensures { KeysBeginWithCompleteTexts }
+{}
+
+/// The byte strings that begin with another are just those from it up to the end of its prefix: what two ends of an
+/// index range say.
+pub fn prefixes_are_ranges()
+    ensures { PrefixesAreRanges }
 {}
