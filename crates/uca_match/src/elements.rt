@@ -1,4 +1,4 @@
-ghost use Rattle.std.specs.Prelude.{◌≡◌, ℕ, List, true, false, ◌+◌, ◌<◌, ◌≤◌, ◌++◌, ◌∷◌, length, chars, IfOk, OnOk};
+ghost use Rattle.std.specs.Prelude.{◌≡◌, ℕ, List, true, false, ◌+◌, ◌<◌, ◌≤◌, ◌++◌, ◌∷◌, [], length, chars, IfOk, IsOk, OnOk};
 ghost use Rattle.unicode_normalization.specs.Forms.{nfd};
 ghost use Rattle.uca_model.specs.CollationElements.{elements, elements_or_implicit};
 ghost use Rattle.uca_weights.specs.declared.limits.TheConstants.{MAX_LOOKAHEAD};
@@ -6,7 +6,7 @@ ghost use Rattle.uca_model.specs.SafeText.{IsSafe};
 ghost use Rattle.uca_model.specs.Source.{GivesNext, unread};
 ghost use Rattle.uca_model.specs.Table.{longest};
 ghost use Rattle.uca_model.specs.Window.{Fits, ReadsOn, after_read, credit};
-ghost use Rattle.uca_window.specs.Passage.{text_of};
+ghost use Rattle.uca_window.specs.Passage.{bytes_of, text_of};
 ghost use Rattle.uca_model.specs.ImplicitWeights.{implicit};
 ghost use Rattle.uca_match.specs.Found.{IsFound, points_of};
 ghost use Rattle.uca_match.specs.Yields.{Yields};
@@ -20,10 +20,15 @@ use uca_table::collation::push_matches;
 use uca_weights::Element;
 use uca_window::{Passage, Source, Window};
 
-/// The collation elements of a text (UTS #10, sections 7.1 and 7.2, steps S1 and S2).
+/// The collation elements of a text (UTS #10, sections 7.1 and 7.2, steps S1 and S2). Those of the empty text take no
+/// memory. `AllocError`: an allocation was refused.
 pub fn elements_of(alloc: Global, t: &Table, p: &Passage) -> Result<Vec<Element>, AllocError>
-    ensures { IfOk result (λ v. v.items ≡ elements t.now (nfd (text_of p.now))) }
+    ensures value { IfOk result (λ v. v.items ≡ elements t.now (nfd (text_of p.now))) }
+    ensures empty { bytes_of p.now ≡ [] → IsOk result }
 {
+    if p.as_str().is_empty() {
+        return Ok(Vec::new(alloc));
+    }
     let text = chars_of(alloc, p.as_str())?;
     let mut elements = Vec::with_capacity(alloc, text.len())?;
     t.push_elements(alloc, &mut elements, &text)?;

@@ -1,6 +1,6 @@
-use Rattle.std.proofs.Common.{◌≡◌, ◌<◌, length, sym, ap, ◌∙◌, arith}
+use Rattle.std.proofs.Common.{◌<◌, length, sym, ap, ◌∙◌, arith}
 use Rattle.uca_model.specs.Table.{elements_at}
-use Rattle.uca_table.specs.Walk.{path_of, table_of_walk}
+use Rattle.uca_table.specs.Walk.{path_of}
 use Rattle.uca_match.proofs.FoundLemmas.{elements-alone, elements-key, key_without_elements}
 use Rattle.uca_match.proofs.elements.elements_of_match.Goals as goal
 

@@ -3,7 +3,7 @@ use Rattle.std.proofs.lemmas.List.{nil_from_length}
 use Rattle.uca_model.specs.Table.{is_key}
 use Rattle.uca_model.specs.CollationElements.{step}
 use Rattle.uca_model.specs.Source.{unread}
-use Rattle.uca_model.specs.Window.{rest_of, Fits}
+use Rattle.uca_model.specs.Window.{rest_of}
 use Rattle.uca_match.specs.Found.{points_of}
 use Rattle.uca_match.proofs.WindowMatches.{ReadsOn-match, closed-within, TakesHeld-filled}
 use Rattle.uca_match.proofs.window_match.next_match.Goals as goal

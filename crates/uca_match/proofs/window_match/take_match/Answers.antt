@@ -1,6 +1,6 @@
-use Rattle.std.proofs.Common.{◌≡◌, ◌≤◌, ◌<◌, ℕ, ◌∷◌, [], eqb, length, take, get_or, true, false, cond, refl, sym, ap, ap₂, subst, ◌∙◌, arith, take-take}
+use Rattle.std.proofs.Common.{◌≡◌, ◌≤◌, ◌<◌, ◌∷◌, [], length, take, get_or, true, sym, ap, ap₂, subst, ◌∙◌, arith, take-take}
 use Rattle.std.proofs.lemmas.List.{length-take-le}
-use Rattle.uca_model.specs.Table.{is_key, elements_at, longest}
+use Rattle.uca_model.specs.Table.{is_key, elements_at}
 use Rattle.uca_model.specs.Match.{longest_match, longest_match_len}
 use Rattle.uca_table.specs.Walk.{path_of, table_of_walk}
 use Rattle.uca_table.proofs.WalkLemmas.{no_elements, longest_match-size, longest_match-key, longest_match_len-le}
