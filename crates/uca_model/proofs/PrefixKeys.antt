@@ -1,5 +1,5 @@
 -- Keys of texts that begin with a complete one, and the byte strings that begin with a key.
-use Rattle.std.proofs.Common.{◌⊎◌, ◌≡◌, ◌≢◌, ◌↔◌, ℕ, ◌+◌, ◌≤◌, ◌<◌, Bool, true, false, cond, ◌==◌, nat_le, List, [], ◌∷◌, ◌++◌, map, flat_map, take, Option, Some, None, MatchOption, refl, sym, ap, ap₂, subst, ◌∙◌, arith, inl, inr, append_assoc, eqb-true}
+use Rattle.std.proofs.Common.{◌⊎◌, ◌≡◌, ◌≢◌, ◌↔◌, ℕ, ◌+◌, ◌/◌, ◌%◌, ◌≤◌, ◌<◌, Bool, true, false, cond, ◌==◌, nat_le, List, [], ◌∷◌, ◌++◌, map, flat_map, take, Option, Some, None, MatchOption, refl, sym, ap, ap₂, subst, ◌∙◌, arith, inl, inr, append_assoc, append-nil, eqb-true}
 use Rattle.std.proofs.lemmas.Bool.{cases_Bool, eqb-false, leb-true, leb-false}
 use Rattle.std.proofs.lemmas.List.Concat.{flat_map-append}
 use Rattle.std.specs.Option.{option_map_or}
@@ -16,12 +16,13 @@ use Rattle.uca_weights.specs.Settings.{levels}
 use Rattle.uca_weights.specs.VariableWeighting.{weighted}
 use Rattle.uca_model.specs.Table.{ElementTable}
 use Rattle.uca_model.specs.CollationElements.{elements}
-use Rattle.uca_model.specs.LevelWeights.{level_weights}
+use Rattle.uca_model.specs.LevelWeights.{level_weights, level_list}
 use Rattle.uca_model.specs.SortKey.{weight_bytes, level_bytes, key_order, sort_key}
 use Rattle.uca_model.specs.Prefix.{is_complete, primary_key, end_of_prefix, IsBetween}
-use Rattle.uca_model.specs.Laws.{BeginsWith, AreBytes, KeysBeginWithCompleteTexts, PrefixesAreRanges}
+use Rattle.uca_model.specs.Laws.{BeginsWith, AreBytes, AreWeights, KeysBeginWithCompleteTexts, PrefixesAreRanges, KeysBeginWithPrimaryWeights}
 use Rattle.uca_model.proofs.GrowingLemmas.{keys-grow}
 use Rattle.uca_model.proofs.PrefixLemmas.{complete-begins}
+use Rattle.uca_model.proofs.WeightLemmas.{HasWeights-IsTable}
 
 -- ---- keys
 
@@ -138,3 +139,51 @@ begins-between (c ∷ front) rest =
 
 pub prefixes-ranges : PrefixesAreRanges
 prefixes-ranges front bytes are = (between-begins front bytes are, λ begins. subst (IsBetween front (end_of_prefix front)) (sym begins.parts) (begins-between front begins.rest))
+
+-- ---- what begins with a key
+
+-- nothing, or a separator
+abbrev EndsLevel : List ℕ → Type 0
+EndsLevel tail = (tail ≡ []) ⊎ BeginsWith tail (0 ∷ 0 ∷ [])
+
+weights-begin : (ws vs tail more : List ℕ) → AreWeights ws → AreWeights vs → EndsLevel tail → flat_map weight_bytes ws ++ tail ≡ flat_map weight_bytes vs ++ more → BeginsWith ws vs
+weights-begin ws [] tail more p q ends h = record { rest = ws; parts = refl }
+weights-begin [] (v ∷ vs) tail more p q ends h = elim ends [
+  | inl none ↦ let e : [] ≡ v / 256 % 256 ∷ v % 256 ∷ (flat_map weight_bytes vs ++ more) = sym none ∙ h in cc
+  | inr separator ↦
+      let e : 0 ∷ 0 ∷ separator.rest ≡ v / 256 % 256 ∷ v % 256 ∷ (flat_map weight_bytes vs ++ more) = sym separator.parts ∙ h in
+      let first : 0 ≡ v / 256 % 256 = cc in
+      let second : 0 ≡ v % 256 = cc in
+      absurd (omega (arith, q.0.0, q.0.1))
+]
+weights-begin (w ∷ ws) (v ∷ vs) tail more p q ends h =
+    let e : w / 256 % 256 ∷ w % 256 ∷ (flat_map weight_bytes ws ++ tail) ≡ v / 256 % 256 ∷ v % 256 ∷ (flat_map weight_bytes vs ++ more) = h in
+    let first : w / 256 % 256 ≡ v / 256 % 256 = cc in
+    let second : w % 256 ≡ v % 256 = cc in
+    let others : flat_map weight_bytes ws ++ tail ≡ flat_map weight_bytes vs ++ more = cc in
+    let later = weights-begin ws vs tail more p.1 q.1 ends others in
+    record { rest = later.rest; parts = ap₂ (λ x l. x ∷ l) (omega (arith, p.0.1, q.0.1)) later.parts }
+
+-- a key after its first level
+record AfterLevel (key level : List ℕ) : Type 0 where
+  tail : List ℕ
+  same : key ≡ level ++ tail
+  ends : EndsLevel tail
+
+separated : (level others : List ℕ) → AfterLevel (level ++ 0 ∷ 0 ∷ others) level
+separated level others = record { tail = 0 ∷ 0 ∷ others; same = refl; ends = inr (record { rest = others; parts = refl }) }
+
+first-level : (t : ElementTable) (v : Variable) (strength : Strength) (text : List ℕ) → AfterLevel (sort_key t (record { strength = strength; weighting = v }) text) (flat_map weight_bytes (level_list t v text 1))
+unfolding sort_key
+first-level t v Primary text = record { tail = []; same = sym (append-nil _); ends = inl refl }
+first-level t v Secondary text = separated _ _
+first-level t v Tertiary text = separated _ _
+first-level t v Quaternary text = separated _ _
+first-level t v Identical text = separated _ _
+
+pub keys-alike : KeysBeginWithPrimaryWeights
+keys-alike t s p x table of_p of_x h =
+    let level = first-level t s.weighting s.strength x in
+    weights-begin (level_list t s.weighting x 1) (level_list t s.weighting p 1) level.tail h.rest
+    ((HasWeights-IsTable t s x table of_x).weights 1 (omega arith) (omega arith)) ((HasWeights-IsTable t s p table of_p).weights 1 (omega arith) (omega arith))
+    level.ends (sym level.same ∙ h.parts ∙ ap (λ l. l ++ h.rest) (primary_key-is t s.weighting p))

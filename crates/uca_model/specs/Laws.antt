@@ -80,3 +80,8 @@ AreBytes = AllByRecursion (λ b. b < 256)
 -- the byte strings that begin with another are just those from it up to the end of its prefix
 abbrev pub PrefixesAreRanges : Type 0
 PrefixesAreRanges = (front bytes : List ℕ) → AreBytes bytes → IsBetween front (end_of_prefix front) bytes ↔ BeginsWith bytes front
+
+-- under every table, a key that begins with that of another text at the strength Primary is that of a text whose primary weights begin with those of the other
+abbrev pub KeysBeginWithPrimaryWeights : Type 0
+KeysBeginWithPrimaryWeights = (t : ElementTable) (s : Settings) (p x : List ℕ) → IsTable t → All IsScalar p → All IsScalar x
+    → BeginsWith (sort_key t s x) (primary_key t s.weighting p) → BeginsWith (level_list t s.weighting x 1) (level_list t s.weighting p 1)

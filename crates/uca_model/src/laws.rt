@@ -1,4 +1,4 @@
-ghost use Rattle.uca_model.specs.Laws.{KeysFollowLevels, KeyOrderIsDecided, CanonicalTextIsReadBack, KeysGrowByLevels, TextsAreCutApart, KeysBeginWithCompleteTexts, PrefixesAreRanges};
+ghost use Rattle.uca_model.specs.Laws.{KeysFollowLevels, KeyOrderIsDecided, CanonicalTextIsReadBack, KeysGrowByLevels, TextsAreCutApart, KeysBeginWithCompleteTexts, PrefixesAreRanges, KeysBeginWithPrimaryWeights};
 
 /// Keys of weights are in the byte order in which their level lists are (UTS #10, section 7.4).
 pub fn keys_follow_levels()
@@ -39,4 +39,10 @@ pub fn keys_begin_with_complete_texts()
 /// index range say.
 pub fn prefixes_are_ranges()
     ensures { PrefixesAreRanges }
+{}
+
+/// A key that begins with the key of a text at the strength `Primary` belongs to a text whose primary weights begin with
+/// those of the other. So between the two byte strings stand no keys of other texts.
+pub fn keys_begin_with_primary_weights()
+    ensures { KeysBeginWithPrimaryWeights }
 {}
