@@ -157,7 +157,7 @@ in_postgresql() {
     sed 's/"/""/g; s/.*/"&"/' "$work/ordered" >"$work/ordered.csv"
     [ "$(id -u)" -eq 0 ] && chown nobody:nogroup "$data"
     as_nobody "$bin/initdb" -D "$data" -U tester --encoding=UTF8 --locale=C --no-sync >"$work/log" 2>&1 || { cat "$work/log"; return 1; }
-    (cd / && as_nobody "$bin/postgres" -D "$data" -k "$data" -c listen_addresses= -c fsync=off -c "uca.table=$table") >"$work/pglog" 2>&1 &
+    (cd / && as_nobody "$bin/postgres" -D "$data" -k "$data" -c listen_addresses= -c fsync=off -c "uca.table_file=$table") >"$work/pglog" 2>&1 &
     for _ in $(seq 100); do
         [ -f "$data/postmaster.pid" ] && psql -h "$data" -U tester -d postgres -c 'SELECT 1' >/dev/null 2>&1 && break
         sleep 0.1
@@ -167,6 +167,10 @@ in_postgresql() {
     psql -qX -h "$data" -U tester -d postgres -f "$work/pg.sql" >"$work/pgout" 2>"$work/pgerrors"
     is "PostgreSQL: another session, whose fingerprint is the one that was fixed" "-1" \
         "$(psql -qXAt -h "$data" -U tester -d postgres -c "SELECT uca_cmp('a', 'b')" 2>&1)"
+    sed -n '/^### An index in PostgreSQL/,/^## /s/^    //p' README.md | grep -v '^\$' >"$work/readme"
+    psql -qX -h "$data" -U tester -d postgres -c 'CREATE DATABASE readme'
+    is "PostgreSQL: what the README says" "$(grep -v '^postgres=#' "$work/readme")" \
+        "$(sed -n 's/^postgres=# //p' "$work/readme" | sed "s,'/.*allkeys.txt,'$table,; s/DATABASE postgres/DATABASE readme/" | psql -qXAt -h "$data" -U tester -d readme 2>&1)"
     stop_server
     wait
     is "PostgreSQL: by key" "" "$(cmp "$work/by_key.csv" "$work/ordered.csv" 2>&1)"
