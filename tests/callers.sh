@@ -150,8 +150,9 @@ in_postgresql() {
     data=$work/pgdata
     mkdir -p "$pg/usr/lib/postgresql" "$pg/usr/share/postgresql" "$data"
     cp -r "/usr/lib/postgresql/$release" "$pg/usr/lib/postgresql/" && cp -rL "/usr/share/postgresql/$release" "$pg/usr/share/postgresql/" 2>/dev/null
-    cc -O2 -Wall -shared -fPIC -I"$server" -I"$usr/include" -o "$pg/usr/lib/postgresql/$release/lib/uca.so" bindings/postgresql/uca_pg.c "$usr/lib/libuca.a" || return 1
-    cp bindings/postgresql/uca.control bindings/postgresql/uca--1.0.sql "$pg/usr/share/postgresql/$release/extension/"
+    cp -r bindings/postgresql "$work/extension"
+    make -s -C "$work/extension" install UCA="$usr" DESTDIR="$pg" PG_CONFIG="$(command -v pg_config || echo "$work/dev/usr/bin/pg_config")" \
+        COPT="-I$server -Wall -Werror" with_llvm=no >"$work/log" 2>&1 || { cat "$work/log"; return 1; }
     chmod -R a+rX "$pg" && chmod 644 "$work/lines" "$work/ordered"
     sed 's/"/""/g; s/.*/"&"/' "$work/lines" >"$work/lines.csv"
     sed 's/"/""/g; s/.*/"&"/' "$work/ordered" >"$work/ordered.csv"
