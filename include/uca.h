@@ -146,17 +146,17 @@ uint32_t uca_unicode_version(void);
 /*
  * Gives a collator the table that two texts say: `table` in the format of allkeys.txt (UTS #10), and `rules` that tailor it
  * (a profile of UTS #35, Part 5; no bytes for none). Both are read whole before the call returns. If the collator had a
- * table, it lets go of it. The published table takes about 12 MB.
+ * table, it gives that one up. The published table takes about 12 MB.
  * Returns UCA_OK, UCA_BAD_TABLE, UCA_BAD_RULES, UCA_BAD_TAILORING or UCA_NO_MEMORY.
  */
 uint32_t uca_open(uca_collator *collator, const uint8_t *table, size_t table_size, const uint8_t *rules, size_t rules_size,
                   uca_fault *fault);
 
-/* Lets go of a collator's table, which is freed with the last collator that has it. A closed one stays closed. */
+/* Gives up a collator's table, which is freed with the last collator that has it. A closed one stays closed. */
 void uca_close(uca_collator *collator);
 
 /*
- * Gives `other` the table of `collator`, as a share and not as a copy. If `other` had a table, it lets go of it. The two
+ * Gives `other` the table of `collator`, as a share and not as a copy. If `other` had a table, it gives that one up. The two
  * may not be one collator.
  * Returns UCA_OK, UCA_NOT_OPEN or UCA_NO_MEMORY.
  */

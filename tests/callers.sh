@@ -150,14 +150,15 @@ in_postgresql() {
     data=$work/pgdata
     mkdir -p "$pg/usr/lib/postgresql" "$pg/usr/share/postgresql" "$data"
     cp -r "/usr/lib/postgresql/$release" "$pg/usr/lib/postgresql/" && cp -rL "/usr/share/postgresql/$release" "$pg/usr/share/postgresql/" 2>/dev/null
-    cc -O2 -Wall -shared -fPIC -I"$server" -I"$usr/include" -o "$pg/usr/lib/postgresql/$release/lib/uca.so" bindings/postgresql/uca_pg.c "$usr/lib/libuca.a" || return 1
-    cp bindings/postgresql/uca.control bindings/postgresql/uca--1.0.sql "$pg/usr/share/postgresql/$release/extension/"
+    cp -r bindings/postgresql "$work/extension"
+    make -s -C "$work/extension" install UCA="$usr" DESTDIR="$pg" PG_CONFIG="$(command -v pg_config || echo "$work/dev/usr/bin/pg_config")" \
+        COPT="-I$server -Wall -Werror" with_llvm=no >"$work/log" 2>&1 || { cat "$work/log"; return 1; }
     chmod -R a+rX "$pg" && chmod 644 "$work/lines" "$work/ordered"
     sed 's/"/""/g; s/.*/"&"/' "$work/lines" >"$work/lines.csv"
     sed 's/"/""/g; s/.*/"&"/' "$work/ordered" >"$work/ordered.csv"
     [ "$(id -u)" -eq 0 ] && chown nobody:nogroup "$data"
     as_nobody "$bin/initdb" -D "$data" -U tester --encoding=UTF8 --locale=C --no-sync >"$work/log" 2>&1 || { cat "$work/log"; return 1; }
-    (cd / && as_nobody "$bin/postgres" -D "$data" -k "$data" -c listen_addresses= -c fsync=off -c "uca.table=$table") >"$work/pglog" 2>&1 &
+    (cd / && as_nobody "$bin/postgres" -D "$data" -k "$data" -c listen_addresses= -c fsync=off -c "uca.table_file=$table") >"$work/pglog" 2>&1 &
     for _ in $(seq 100); do
         [ -f "$data/postmaster.pid" ] && psql -h "$data" -U tester -d postgres -c 'SELECT 1' >/dev/null 2>&1 && break
         sleep 0.1
@@ -167,6 +168,10 @@ in_postgresql() {
     psql -qX -h "$data" -U tester -d postgres -f "$work/pg.sql" >"$work/pgout" 2>"$work/pgerrors"
     is "PostgreSQL: another session, whose fingerprint is the one that was fixed" "-1" \
         "$(psql -qXAt -h "$data" -U tester -d postgres -c "SELECT uca_cmp('a', 'b')" 2>&1)"
+    sed -n '/^### An index in PostgreSQL/,/^## /s/^    //p' README.md | grep -v '^\$' >"$work/readme"
+    psql -qX -h "$data" -U tester -d postgres -c 'CREATE DATABASE readme'
+    is "PostgreSQL: what the README says" "$(grep -v '^postgres=#' "$work/readme")" \
+        "$(sed -n 's/^postgres=# //p' "$work/readme" | sed "s,'/.*allkeys.txt,'$table,; s/DATABASE postgres/DATABASE readme/" | psql -qXAt -h "$data" -U tester -d readme 2>&1)"
     stop_server
     wait
     is "PostgreSQL: by key" "" "$(cmp "$work/by_key.csv" "$work/ordered.csv" 2>&1)"

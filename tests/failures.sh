@@ -4,8 +4,8 @@
 # the right one or to report that failure and its place, with nothing written but the front of the right output.
 #
 # tests/failures.c makes these runs out of one, as copies of the process at each step. The rows are the commands of the program with
-# their options, their refusals, and each test of the crates that allocates. Of more than 2 x 400 steps the first 400, the last 400 and
-# every 211th between fail; over the published table the first 60, the last 60 and every 4001st.
+# their options, their refusals, and the tests of the crates. Of a row with more than 800 steps the first 400, the last 400 and every
+# 211th between fail; of a test with more than 240, 120, 120 and every 997th; over the published table 60, 60 and every 4001st.
 source "$(dirname "${BASH_SOURCE[0]}")/checks.bash"
 
 command -v cc >/dev/null || { echo "$script: left out, since there is no C compiler"; sum_up; exit; }
@@ -225,13 +225,14 @@ for folder in crates/*/; do
     crate=$(basename "$folder")
     grep -rqs '#\[test\]' "$folder/src" || continue
     tests=$folder/out/${crate}_tests
-    if [ ! -x "$tests" ] || [ -n "$(find "$folder/src" crates.txt -newer "$tests" -print -quit)" ]; then
+    if [ ! -x "$tests" ] || [ -n "$(find crates/*/src crates.txt -newer "$tests" -print -quit)" ]; then
         (cd "$folder" && rt test) >"$work/log" 2>&1 || { cat "$work/log"; echo "$script: the tests of $crate could not be built"; failed=$((failed + 1)); continue; }
     fi
     number=0
     for name in $("$tests" --list | sed -n 's/: test$//p'); do
         number=$((number + 1))
         row "$crate-$number" "$work/none" "$PWD/$tests" "$name"
+        echo 120 997 >"$folder/rule"
         printf 'error: AllocError\nthe test failed: its result gives status 1\n' >"$folder/refused"
         echo 101 >"$folder/refused-status"
         tries growths

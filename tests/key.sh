@@ -101,19 +101,19 @@ printf 'x' >>"$work/large"
 runs key <"$work/large"
 is "one byte more than 64 MiB" "0|uca: input: TooLarge|3" "$(wc -c <"$work/out")|$(cat "$work/err")|$status"
 
-# Want of memory, at each step that many words take, and for the input. The program alone, since bash has no room there.
+# Allocation failures, at each step that many words take, and for the input. The program alone, since bash has no room there.
 if command -v prlimit >/dev/null; then
     mapfile -t many < <(yes a | head -n 40000)
     for limit in $(seq 2000000 250000 20000000); do
         prlimit --data="$limit" crates/uca/out/uca key "${many[@]}" </dev/null >"$work/out" 2>"$work/err"
         echo "$?|$(wc -c <"$work/out")|$(head -n 1 "$work/err")"
     done >"$work/answers"
-    is "want of memory for the words" "2|0|error: unexpected argument 'a' found 3|0|uca: OutOfMemory" "$(sort -u "$work/answers" | paste -sd' ')"
+    is "an allocation failure for the words" "2|0|error: unexpected argument 'a' found 3|0|uca: OutOfMemory" "$(sort -u "$work/answers" | paste -sd' ')"
     prlimit --data=48000000 crates/uca/out/uca key <"$work/large" >"$work/out" 2>"$work/err"
     status=$?
-    is "want of memory for the input" "0|uca: OutOfMemory|3" "$(wc -c <"$work/out")|$(cat "$work/err")|$status"
+    is "an allocation failure for the input" "0|uca: OutOfMemory|3" "$(wc -c <"$work/out")|$(cat "$work/err")|$status"
 else
-    echo "tests/key.sh: there is no prlimit, so no memory was wanted"
+    echo "tests/key.sh: there is no prlimit, so no allocation failed"
 fi
 
 # A line of letters with thirty marks each takes time near to linear, too.

@@ -7,6 +7,7 @@ is "the example stands in its crate" "yes" "$(perl -0777 -e '
     my ($readme, $code) = map { local @ARGV = $_; <> } @ARGV;
     my ($example) = $readme =~ /^```rust\n(.*?)^```$/ms;
     print defined $example && index($code, $example) >= 0 ? "yes" : "no"' README.md crates/uca_example/src/main.rt)"
+is "the C program stands in bindings/c" "yes" "$(perl -0777 -ne '/^```c\n(.*?)^```$/ms and print $1' README.md | cmp -s - bindings/c/compare.c && echo yes)"
 
 # Each command, and what the README prints below it: the files N.command and N.wanted.
 perl -e '
@@ -23,17 +24,40 @@ perl -e '
         }
     }' "$work" README.md
 
+# runs_with_compiler LINE WANTED: make says much; SQLite gets what stands after its prompt
+runs_with_compiler() {
+    case $1 in
+    make*)
+        eval "$1" >"$work/out" 2>&1
+        is "$1" "0" "$?"
+        ;;
+    sqlite3*)
+        sed -n "s,^sqlite> ,,p" "$2" | sed "s,'/.*allkeys.txt,'$published," | eval "$1" >"$work/out" 2>&1
+        is "$1" "$(grep -v '^sqlite> ' "$2")" "$(cat "$work/out")"
+        ;;
+    *)
+        eval "$1" >"$work/out" 2>&1
+        is "$1" "$(cat "$2")" "$(cat "$work/out")"
+        ;;
+    esac
+}
+
 published=$(published_table)
 if [ -n "$published" ]; then
     echo "tests/readme.sh: with $published"
     mkdir "$work/room"
-    ln -s "$PWD/uca" "$PWD/rules" "$work/room/"
+    ln -s "$PWD/uca" "$PWD/rules" "$PWD/bindings" "$PWD/Makefile" "$work/room/"
     cd "$work/room" || exit 2
+    has_compiler=yes
+    for program in cc make objcopy pkg-config sqlite3; do command -v "$program" >/dev/null || has_compiler=; done
+    echo '#include <sqlite3ext.h>' | cc -E - >/dev/null 2>&1 || has_compiler=
+    [ -n "$has_compiler" ] || echo "tests/readme.sh: left out: C and SQLite, since their compiler, headers or programs are not there"
     for command in $(find "$work" -name '*.command' | sort -V); do
         line=$(cat "$command")
         case $line in
-        .ci/run) ;;
+        .ci/run | psql* | "make -C bindings/postgresql"*) ;; # those of PostgreSQL: tests/callers.sh
         table=*) table=$published ;;
+        make* | cc* | ./compare* | sqlite3* | export*) [ -z "$has_compiler" ] || runs_with_compiler "$line" "${command%.command}.wanted" ;;
         *)
             eval "$line" >"$work/out" 2>&1
             is "$line" "$(cat "${command%.command}.wanted")" "$(cat "$work/out")"

@@ -6,7 +6,7 @@
 #include <sys/types.h>
 #include <uca.h>
 
-struct line { char *text; uint8_t *key; size_t size; };
+struct line { char *text; size_t bytes; uint8_t *key; size_t size; };
 
 static uint8_t *contents(const char *path, size_t *size) {
     FILE *file = fopen(path, "rb");
@@ -37,7 +37,7 @@ int main(int count, char **words) {
     for (ssize_t size; status == UCA_OK && (size = getline(&text, &room, stdin)) > 0; lines++, text = NULL, room = 0) {
         size_t bytes = size - (text[size - 1] == '\n');
         all = realloc(all, (lines + 1) * sizeof *all);
-        all[lines] = (struct line){text, NULL, 0};
+        all[lines] = (struct line){text, bytes, NULL, 0};
         status = uca_sort_key(&collator, &settings, (uint8_t *)text, bytes, NULL, 0, &all[lines].size, &fault);
         all[lines].key = malloc(all[lines].size + 1);
         if (status == UCA_OK) status = uca_sort_key(&collator, &settings, (uint8_t *)text, bytes, all[lines].key, all[lines].size, &all[lines].size, &fault);
@@ -45,7 +45,10 @@ int main(int count, char **words) {
     if (status != UCA_OK) fprintf(stderr, "%s, kind %u, at %llu\n", uca_status_name(status), fault.kind, (unsigned long long)fault.at);
     else if (lines) qsort(all, lines, sizeof *all, by_key);
     for (size_t i = 0; i < lines; i++) {
-        if (status == UCA_OK) fputs(all[i].text, stdout);
+        if (status == UCA_OK) {
+            fwrite(all[i].text, 1, all[i].bytes, stdout);
+            putchar('\n');
+        }
         free(all[i].text);
         free(all[i].key);
     }

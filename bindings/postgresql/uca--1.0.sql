@@ -1,6 +1,6 @@
 \echo Use "CREATE EXTENSION uca" to load this file. \quit
 
--- The sort key of a text, under the table and the settings of uca.table, uca.rules, uca.strength and uca.variable.
+-- The sort key of a text, under the table and the settings of uca.table_file, uca.rules_file, uca.strength and uca.variable.
 CREATE FUNCTION uca_key(text) RETURNS bytea
     AS 'MODULE_PATHNAME', 'uca_pg_key' LANGUAGE C IMMUTABLE STRICT PARALLEL SAFE;
 

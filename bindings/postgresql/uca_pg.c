@@ -1,7 +1,7 @@
 /*
  * An extension of PostgreSQL that sorts and indexes text by libuca: sort keys as bytea, and an operator class for text.
  *
- * The table and the settings are those of the server's settings uca.table, uca.rules, uca.strength and uca.variable. Only a
+ * The table and the settings are those of the server's settings uca.table_file, uca.rules_file, uca.strength and uca.variable. Only a
  * superuser may set them, since each index depends on them. Where uca_fix() has stored their fingerprint, a session that has
  * another one is refused at its first use.
  */
@@ -39,8 +39,8 @@ static void setting_changed(int value, void *extra) { is_fixed_checked = false; 
 void _PG_init(void);
 
 void _PG_init(void) {
-    DefineCustomStringVariable("uca.table", "The file of the collation element table.", NULL, &table_path, "", PGC_SUSET, 0, NULL, path_changed, NULL);
-    DefineCustomStringVariable("uca.rules", "The file of the rules that tailor it; none if empty.", NULL, &rules_path, "", PGC_SUSET, 0, NULL, path_changed, NULL);
+    DefineCustomStringVariable("uca.table_file", "The file of the collation element table.", NULL, &table_path, "", PGC_SUSET, 0, NULL, path_changed, NULL);
+    DefineCustomStringVariable("uca.rules_file", "The file of the rules that tailor it; none if empty.", NULL, &rules_path, "", PGC_SUSET, 0, NULL, path_changed, NULL);
     DefineCustomEnumVariable("uca.strength", "How many levels are compared.", NULL, &strength, UCA_TERTIARY, strengths, PGC_SUSET, 0, NULL, setting_changed, NULL);
     DefineCustomEnumVariable("uca.variable", "How punctuation is weighted.", NULL, &variable, UCA_NON_IGNORABLE, variables, PGC_SUSET, 0, NULL, setting_changed, NULL);
 }
@@ -84,7 +84,7 @@ static void open_collator(void) {
     uint32_t status;
     if (GetDatabaseEncoding() != PG_UTF8)
         ereport(ERROR, (errcode(ERRCODE_FEATURE_NOT_SUPPORTED), errmsg("uca: the database is not in UTF-8")));
-    if (!*table_path) ereport(ERROR, (errcode(ERRCODE_CONFIG_FILE_ERROR), errmsg("uca: uca.table is not set")));
+    if (!*table_path) ereport(ERROR, (errcode(ERRCODE_CONFIG_FILE_ERROR), errmsg("uca: uca.table_file is not set")));
     table = contents(table_path, &table_size);
     if (*rules_path) rules = contents(rules_path, &rules_size);
     status = uca_open(&collator, table, table_size, rules, rules_size, &fault);
@@ -115,7 +115,7 @@ static void check_fixed(void) {
     SPI_finish();
     if (is_other)
         ereport(ERROR, (errcode(ERRCODE_INDEX_CORRUPTED), errmsg("uca: the table or the settings are not those that were fixed"),
-                        errhint("Set uca.table, uca.rules, uca.strength and uca.variable as they were; or call uca_fix() and REINDEX.")));
+                        errhint("Set uca.table_file, uca.rules_file, uca.strength and uca.variable as they were; or call uca_fix() and REINDEX.")));
 }
 
 static void make_ready(void) {
