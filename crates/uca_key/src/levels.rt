@@ -1,24 +1,75 @@
-ghost use Rattle.std.specs.Prelude.{◌≡◌, ◌≤◌, ◌++◌, ◌∷◌, [], ℕ, List, flat_map, take, IfOk, OnOk};
-ghost use Rattle.uca_weights.specs.VariableWeighting.{weighted};
-ghost use Rattle.uca_model.specs.SortKey.{level_bytes, joined, all_levels, code_point_bytes};
+ghost use Rattle.std.specs.Prelude.{◌≡◌, ◌==◌, ◌+◌, ◌*◌, ◌≤◌, ◌++◌, ◌∷◌, [], ℕ, List, not, filter, flat_map, length, take, vec_len, vec_capacity, OnOk};
+ghost use Rattle.uca_weights.specs.declared.settings.Variable.TheVariants.{NonIgnorable};
+ghost use Rattle.uca_weights.specs.VariableWeighting.{unchanged, weighted};
+ghost use Rattle.uca_model.specs.SortKey.{weight_bytes, level_bytes, joined, all_levels, code_point_bytes};
 
-use std::alloc::{AllocError, Global};
+use std::alloc::AllocError;
 use uca_weights::{Element, Variable, Weigher};
 
-// Appends the weight of one level, from 1 to 4, unless it is zero.
-fn push_weight(key: &mut Vec<u8>, weights: &[u16; 4], level: u8) -> Result<(), AllocError>
-    requires first { 1 ≤ level }
-    requires last { level ≤ 4 }
-    ensures { OnOk result (key.new.items ≡ key.old.items ++ level_bytes (weights.now ∷ []) level) }
+// Appends a weight unless it is zero. There is room for it.
+fn push_weight(key: &mut Vec<u8>, weight: u16)
+    requires { vec_len key.old + 2 ≤ vec_capacity key.old }
+    ensures bytes { key.new.items ≡ key.old.items ++ flat_map weight_bytes (filter (λ w. not (w == 0)) (weight ∷ [])) }
+    ensures len { vec_len key.new ≤ vec_len key.old + 2 }
+    ensures capacity { vec_capacity key.new ≡ vec_capacity key.old }
 {
-    let weight = weights[level as usize - 1];
     if weight == 0 {
-        return Ok(());
+        return;
     }
     let bytes = weight.to_be_bytes();
-    key.push(bytes[0])?;
-    key.push(bytes[1])?;
-    Ok(())
+    key.push_reserved(bytes[0]);
+    key.push_reserved(bytes[1]);
+}
+
+// Appends the weight of one level, from 1 to 4, unless it is zero.
+fn push_weight_of(key: &mut Vec<u8>, weights: &[u16; 4], level: u8)
+    requires first { 1 ≤ level }
+    requires last { level ≤ 4 }
+    requires room { vec_len key.old + 2 ≤ vec_capacity key.old }
+    ensures bytes { key.new.items ≡ key.old.items ++ level_bytes (weights.now ∷ []) level }
+    ensures len { vec_len key.new ≤ vec_len key.old + 2 }
+    ensures capacity { vec_capacity key.new ≡ vec_capacity key.old }
+{
+    push_weight(key, weights[level as usize - 1]);
+}
+
+// Appends the weight of an element as the table has it, at a level from 1 to 3, unless it is zero.
+fn push_unchanged(key: &mut Vec<u8>, element: &Element, level: u8)
+    requires first { 1 ≤ level }
+    requires last { level ≤ 3 }
+    requires room { vec_len key.old + 2 ≤ vec_capacity key.old }
+    ensures bytes { key.new.items ≡ key.old.items ++ level_bytes (unchanged element.now 0 ∷ []) level }
+    ensures len { vec_len key.new ≤ vec_len key.old + 2 }
+    ensures capacity { vec_capacity key.new ≡ vec_capacity key.old }
+{
+    push_weight(key, element.weight(level));
+}
+
+// Appends the bytes of one level, from 1 to 3, of elements that keep their weights. It is a loop of its own, since most texts
+// come this way.
+fn push_unchanged_level(key: &mut Vec<u8>, elements: &[Element], level: u8)
+    requires first { 1 ≤ level }
+    requires last { level ≤ 3 }
+    requires room { vec_len key.old + 2 * length elements.now ≤ vec_capacity key.old }
+    ensures { key.new.items ≡ key.old.items ++ level_bytes (weighted NonIgnorable elements.now) level }
+{
+    for element in elements {
+        push_unchanged(key, element, level);
+    }
+}
+
+// Appends the bytes of one level, from 1 to 4, of elements by their variable weighting.
+fn push_weighted_level(key: &mut Vec<u8>, v: Variable, elements: &[Element], level: u8)
+    requires first { 1 ≤ level }
+    requires last { level ≤ 4 }
+    requires room { vec_len key.old + 2 * length elements.now ≤ vec_capacity key.old }
+    ensures { key.new.items ≡ key.old.items ++ level_bytes (weighted v elements.now) level }
+{
+    let mut weigher = Weigher::new(v);
+    for element in elements {
+        let weights = weigher.weigh(*element);
+        push_weight_of(key, &weights, level);
+    }
 }
 
 // Appends the bytes of one level, from 1 to 4 (UTS #10, section 7.3, step S3).
@@ -32,10 +83,10 @@ fn push_level(
     requires last { level ≤ 4 }
     ensures { OnOk result (key.new.items ≡ key.old.items ++ level_bytes (weighted v elements.now) level) }
 {
-    let mut weigher = Weigher::new(v);
-    for element in elements {
-        let weights = weigher.weigh(*element);
-        push_weight(key, &weights, level)?;
+    key.reserve(2 * elements.len())?;
+    match v {
+        Variable::NonIgnorable if level < 4 => push_unchanged_level(key, elements, level),
+        _ => push_weighted_level(key, v, elements, level),
     }
     Ok(())
 }
@@ -57,23 +108,23 @@ pub(crate) fn push_code_points(key: &mut Vec<u8>, points: &[char]) -> Result<(),
     Ok(())
 }
 
-/// The first levels, of four, with separators between them. No level takes memory but for its bytes.
-pub(crate) fn weighted_levels(
-    alloc: Global,
+/// Appends the first levels, of four, with separators between them. Room for all of them is taken at once.
+pub(crate) fn push_levels(
+    key: &mut Vec<u8>,
     v: Variable,
     elements: &[Element],
     levels: u8,
-) -> Result<Vec<u8>, AllocError>
+) -> Result<(), AllocError>
     requires first { 1 ≤ levels }
     requires last { levels ≤ 4 }
-    ensures { IfOk result (λ key. (points : List ℕ) → key.items ≡ joined (take levels (all_levels (weighted v elements.now) points))) }
+    ensures { OnOk result ((points : List ℕ) → key.new.items ≡ key.old.items ++ joined (take levels (all_levels (weighted v elements.now) points))) }
 {
-    let room = elements.len().saturating_mul(8).saturating_add(8);
-    let mut key = Vec::with_capacity(alloc, room)?;
-    push_level(&mut key, v, elements, 1)?;
+    let count = levels as usize;
+    key.reserve(2 * elements.len() * count + 2 * (count - 1))?;
+    push_level(key, v, elements, 1)?;
     for level in 1..levels {
-        push_separator(&mut key)?;
-        push_level(&mut key, v, elements, level + 1)?;
+        push_separator(key)?;
+        push_level(key, v, elements, level + 1)?;
     }
-    Ok(key)
+    Ok(())
 }

@@ -1,13 +1,15 @@
 //! Sort keys (UTS #10, section 7.3, Form Sort Keys).
 //!
-//! [`key_of`] makes the key of a text at all strengths, and under all options of variable weighting. [`write_key`]
-//! writes the same bytes to a writer, and takes no memory.
+//! [`key_of`] makes the key of a text at all strengths, and under all options of variable weighting; a [`KeyMaker`] makes
+//! the keys of many texts. [`write_key`] writes the same bytes to a writer, and takes no memory.
 #![tactic(auto)]
 
+pub mod key_maker;
 pub mod keys;
 mod levels;
 pub mod streaming;
 
+pub use key_maker::KeyMaker;
 pub use keys::key_of;
 pub use streaming::{KeyFault, write_key};
 

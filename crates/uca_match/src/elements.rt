@@ -29,17 +29,35 @@ pub fn elements_of(alloc: Global, t: &Table, p: &Passage) -> Result<Vec<Element>
     if p.as_str().is_empty() {
         return Ok(Vec::new(alloc));
     }
-    let text = chars_of(alloc, p.as_str())?;
-    let mut elements = Vec::with_capacity(alloc, text.len())?;
-    t.push_elements(alloc, &mut elements, &text)?;
+    let mut text = Vec::new(alloc);
+    let mut elements = Vec::new(alloc);
+    read_elements(alloc, t, p, &mut text, &mut elements)?;
     Ok(elements)
 }
 
-// The characters of a text.
-fn chars_of(alloc: Global, text: &str) -> Result<Vec<char>, AllocError>
-    ensures { IfOk result (λ v. v.items ≡ chars text.now) }
+/// Makes `out` the collation elements of a text, and `text` its characters, whatever they were before. Where both have room from
+/// a text before, most texts take no memory.
+pub fn read_elements(
+    alloc: Global,
+    t: &Table,
+    p: &Passage,
+    text: &mut Vec<char>,
+    out: &mut Vec<Element>,
+) -> Result<(), AllocError>
+    ensures { OnOk result (out.new.items ≡ elements t.now (nfd (text_of p.now))) }
 {
-    text.chars().collect(alloc)
+    text.clear();
+    push_chars(text, p.as_str())?;
+    out.clear();
+    out.reserve(text.len())?;
+    t.push_elements(alloc, out, text)
+}
+
+// Appends the characters of a text.
+fn push_chars(out: &mut Vec<char>, text: &str) -> Result<(), AllocError>
+    ensures { OnOk result (out.new.items ≡ out.old.items ++ chars text.now) }
+{
+    out.extend(text.chars())
 }
 
 /// The collation elements of a text in NFD, of which there are some where it has a code point (UTS #10, section 7.2,

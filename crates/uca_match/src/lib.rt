@@ -9,7 +9,7 @@ pub mod keys;
 pub mod matches;
 mod window_match;
 
-pub use elements::{Elements, elements_of, elements_of_points};
+pub use elements::{Elements, elements_of, elements_of_points, read_elements};
 pub use keys::Keys;
 pub use matches::{Match, matches_of, matches_of_points};
 
