@@ -1,17 +1,15 @@
 -- Cells of characters, and texts that go character by character where the elements stand alone.
-use Rattle.std.proofs.Common.{◌≡◌, ℕ, zero, suc, ◌+◌, ◌-◌, ◌≤◌, ◌<◌, Bool, true, false, ◌||◌, ◌==◌, not, cond, nat_le, List, [], ◌∷◌, ◌++◌, length, take, drop, get_or, refl, sym, ap, ap₂, subst, ◌∙◌, arith, inl, inr, append_assoc, append-nil, length-append}
+use Rattle.std.proofs.Common.{◌≡◌, ℕ, zero, suc, ◌+◌, ◌-◌, ◌≤◌, ◌<◌, Bool, true, false, ◌||◌, cond, List, [], ◌∷◌, ◌++◌, length, take, drop, get_or, refl, sym, ap, ◌∙◌, arith, inl, inr, append_assoc, append-nil, length-append}
 use Rattle.std.proofs.lemmas.Bool.{le-leb, cases_lt}
-use Rattle.std.proofs.lemmas.List.{take-append-le, drop-append-le, length-drop, take-append-drop, drop_more, drop-drop, drop_all, drop_at, take_all}
-use Rattle.std.specs.List.{list_any, list_all}
+use Rattle.std.proofs.lemmas.List.{take-append-le, drop-append-le, length-drop, take-append-drop, drop_more, drop-drop, drop_all, drop_at}
 use Rattle.std.specs.Prelude.{Result, Ok, Err}
 use Rattle.std.specs.Result.{OnOk, is_ok}
-use Rattle.unicode_normalization.specs.Decompose.{decompose_canonical}
 use Rattle.unicode_normalization.specs.Forms.{nfd}
 use Rattle.uca_weights.specs.declared.element.Element.{Element}
 use Rattle.uca_model.specs.Table.{ElementTable}
 use Rattle.uca_model.specs.CollationElements.{elements}
-use Rattle.uca_model.specs.StandAlone.{joining, bearing, stands_alone, is_longer_from, is_inside}
-use Rattle.uca_model.proofs.StandAloneLemmas.{apart-alone, apart-before, apart-end, joining-most, elements_none}
+use Rattle.uca_model.specs.StandAlone.{joining, bearing}
+use Rattle.uca_model.proofs.StandAloneLemmas.{apart-alone, apart-before, apart-end, elements_none}
 use Rattle.uca_table.specs.declared.cells.Cell.{Cell}
 use Rattle.uca_table.specs.Cells.{IsCell, AreCells, Grows}
 

@@ -1,23 +1,19 @@
 -- Keys that begin with the same code points.
-use Rattle.std.proofs.Common.{◌≡◌, ℕ, zero, suc, ◌+◌, ◌-◌, ◌≤◌, ◌<◌, Bool, true, false, cond, ◌&&◌, eqb, T, List, [], ◌∷◌, ◌++◌, map, length, take, drop, get_or, Some, None, is_some, refl, sym, ap, subst, ◌∙◌, arith, inl, inr, eqb-true, eq-eqb, ne_eqb, lt-ltb, ltb-true, ltb-false, nat_lt, not, ◌||◌, length-drop, get_or-drop, le_trans}
+use Rattle.std.proofs.Common.{◌≡◌, ℕ, zero, suc, ◌+◌, ◌-◌, ◌≤◌, ◌<◌, Bool, true, false, cond, ◌&&◌, eqb, T, List, [], ◌∷◌, ◌++◌, length, take, drop, get_or, Some, None, refl, sym, ap, subst, ◌∙◌, arith, inl, inr, eqb-true, eq-eqb, ne_eqb, lt-ltb, ltb-true, ltb-false, nat_lt, not, ◌||◌, length-drop, get_or-drop, le_trans}
 use Rattle.std.proofs.lemmas.Bool.{cases_Bool, cases_lt, and_parts}
-use Rattle.std.proofs.lemmas.List.{get_or-map, length-map}
 use Rattle.std.proofs.lemmas.List.Elements.{filter_passes, All-same, All-filter}
 use Rattle.std.specs.declared.cmp.Ordering.{Ordering}
 use Rattle.std.specs.declared.cmp.Ordering.TheVariants.{Less, Equal, Greater}
 use Rattle.std.specs.List.{filter, list_any, All}
 use Rattle.std.specs.List.Sorted.{IsNonDecreasingBy, IsPartitionPoint}
 use Rattle.std.specs.Cmp.{tied_itself, nat_cmp_total}
-use Rattle.std.specs.Cmp.Lexicographic.{slice_cmp, nat_list_cmp_total}
 use Rattle.std.specs.Ordering.{nat_cmp, is_lt, ordering_then, ordering_reverse}
-use Rattle.std.specs.FinMap.{find, get, get-entries, entries, entries_sorted, is_sorted, nat_cmp-IsAntisymmetric, slice_cmp-IsAntisymmetric}
+use Rattle.std.specs.FinMap.{find, get-entries, entries, entries_sorted, is_sorted, nat_cmp-IsAntisymmetric, slice_cmp-IsAntisymmetric}
 use Rattle.std.specs.FinMap.Entries.{where_key, is_sorted-where_key, find-where_key}
 use Rattle.uca_weights.specs.declared.element.Element.{Element}
 use Rattle.uca_weights.specs.declared.limits.TheConstants.{MAX_KEY}
 use Rattle.uca_model.specs.Table.{ElementTable, key_cmp, elements_at, IsEntry, IsTable}
-use Rattle.uca_table.specs.declared.entry.Entry.{Entry}
 use Rattle.uca_table.specs.Fronts.{is_front, begins_key, entries_from, code_at, first_path}
-use Rattle.uca_table.specs.Stored.{pair_of}
 use Rattle.uca_table.proofs.SearchLemmas.{in_order, found_at, found_nowhere, higher_after}
 
 -- a test that both halves of a conjunction hold
@@ -129,59 +125,58 @@ pub entries_from-none : (t : ElementTable) → entries_from t [] ≡ entries t.e
 entries_from-none t = all_pass (entries t.entries)
 
 -- each of them begins with the path
-pub front_at : (t : ElementTable) (p : List ℕ) (es : List Entry) (i : ℕ) (d : Entry) → map pair_of es ≡ entries_from t p → i < length es → is_front p (get_or es i d).key.items ≡ true
+pub front_at : (t : ElementTable) (p : List ℕ) (es : List (List ℕ × List Element)) (i : ℕ) (d : List ℕ × List Element) → es ≡ entries_from t p → i < length es → is_front p (get_or es i d).0 ≡ true
 front_at t p es i d same within =
-    let passes : All (λ e. is_front p e.0 ≡ true) (map pair_of es) = All-same (λ e. is_front p e.0 ≡ true) _ _ same (filter_passes (λ e. is_front p e.0) (entries t.entries)) in
-    let size : length (map pair_of es) ≡ length es = length-map es pair_of in
-    subst (λ (e : List ℕ × List Element). is_front p e.0 ≡ true) (get_or-map pair_of es i d (pair_of d) within) (passes i (pair_of d) (omega arith))
+    let passes : All (λ e. is_front p e.0 ≡ true) es = All-same (λ e. is_front p e.0 ≡ true) _ _ same (filter_passes (λ e. is_front p e.0) (entries t.entries)) in
+    passes i d within
 
 -- they are in order
-pub sorted_from : (t : ElementTable) (p : List ℕ) (es : List Entry) → map pair_of es ≡ entries_from t p → T (is_sorted key_cmp (map pair_of es))
+pub sorted_from : (t : ElementTable) (p : List ℕ) (es : List (List ℕ × List Element)) → es ≡ entries_from t p → T (is_sorted key_cmp es)
 sorted_from t p es same = subst (λ xs. T (is_sorted key_cmp xs)) (sym same) (is_sorted-where_key key_cmp (is_front p) (entries t.entries) (entries_sorted t.entries))
 
 -- and so are the code points after the path
-pub codes_rise : (t : ElementTable) (p : List ℕ) (es : List Entry) → map pair_of es ≡ entries_from t p → IsNonDecreasingBy (λ e. code_at (length p) e.key.items) es
+pub codes_rise : (t : ElementTable) (p : List ℕ) (es : List (List ℕ × List Element)) → es ≡ entries_from t p → IsNonDecreasingBy (λ e. code_at (length p) e.0) es
 codes_rise t p es same i j d upto within = elim (cases_lt i j) [
   | inl before ↦ code_rises p _ _ (front_at t p es i d same (omega arith)) (front_at t p es j d same within) (in_order es i j d d (sorted_from t p es same) before within)
-  | inr here ↦ let e : i ≡ j = omega arith in let s : code_at (length p) (get_or es i d).key.items ≡ code_at (length p) (get_or es j d).key.items = ap (λ k. code_at (length p) (get_or es k d).key.items) e in omega arith
+  | inr here ↦ let e : i ≡ j = omega arith in let s : code_at (length p) (get_or es i d).0 ≡ code_at (length p) (get_or es j d).0 = ap (λ k. code_at (length p) (get_or es k d).0) e in omega arith
 ]
 
 -- what passes at some places side by side, and nowhere else
-pub filter_part : (q : List ℕ × List Element → Bool) (es : List Entry) (lo n : ℕ) → ((k : ℕ) (d : Entry) → k < lo → k < length es → q (pair_of (get_or es k d)) ≡ false) → ((k : ℕ) (d : Entry) → lo ≤ k → k < lo + n → k < length es → q (pair_of (get_or es k d)) ≡ true)
-    → ((k : ℕ) (d : Entry) → lo + n ≤ k → k < length es → q (pair_of (get_or es k d)) ≡ false) → map pair_of (take n (drop lo es)) ≡ filter q (map pair_of es)
+pub filter_part : (q : List ℕ × List Element → Bool) (es : List (List ℕ × List Element)) (lo n : ℕ) → ((k : ℕ) (d : List ℕ × List Element) → k < lo → k < length es → q (get_or es k d) ≡ false) → ((k : ℕ) (d : List ℕ × List Element) → lo ≤ k → k < lo + n → k < length es → q (get_or es k d) ≡ true)
+    → ((k : ℕ) (d : List ℕ × List Element) → lo + n ≤ k → k < length es → q (get_or es k d) ≡ false) → take n (drop lo es) ≡ filter q es
 filter_part q [] zero zero below inside above = refl
 filter_part q [] zero (suc n) below inside above = refl
 filter_part q [] (suc lo) zero below inside above = refl
 filter_part q [] (suc lo) (suc n) below inside above = refl
 filter_part q (e ∷ es) zero zero below inside above =
     filter_part q es zero zero (λ k d before within. below (suc k) d (omega arith) (omega arith)) (λ k d from upto within. inside (suc k) d (omega arith) (omega arith) (omega arith)) (λ k d from within. above (suc k) d (omega arith) (omega arith))
-    ∙ sym (ap (λ b. cond b (pair_of e ∷ filter q (map pair_of es)) (filter q (map pair_of es))) (above 0 e (omega arith) (omega arith)))
+    ∙ sym (ap (λ b. cond b (e ∷ filter q es) (filter q es)) (above 0 e (omega arith) (omega arith)))
 filter_part q (e ∷ es) zero (suc n) below inside above =
-    ap (λ xs. pair_of e ∷ xs) (filter_part q es zero n (λ k d before within. below (suc k) d (omega arith) (omega arith)) (λ k d from upto within. inside (suc k) d (omega arith) (omega arith) (omega arith)) (λ k d from within. above (suc k) d (omega arith) (omega arith)))
-    ∙ sym (ap (λ b. cond b (pair_of e ∷ filter q (map pair_of es)) (filter q (map pair_of es))) (inside 0 e (omega arith) (omega arith) (omega arith)))
+    ap (λ xs. e ∷ xs) (filter_part q es zero n (λ k d before within. below (suc k) d (omega arith) (omega arith)) (λ k d from upto within. inside (suc k) d (omega arith) (omega arith) (omega arith)) (λ k d from within. above (suc k) d (omega arith) (omega arith)))
+    ∙ sym (ap (λ b. cond b (e ∷ filter q es) (filter q es)) (inside 0 e (omega arith) (omega arith) (omega arith)))
 filter_part q (e ∷ es) (suc lo) n below inside above =
     filter_part q es lo n (λ k d before within. below (suc k) d (omega arith) (omega arith)) (λ k d from upto within. inside (suc k) d (omega arith) (omega arith) (omega arith)) (λ k d from within. above (suc k) d (omega arith) (omega arith))
-    ∙ sym (ap (λ b. cond b (pair_of e ∷ filter q (map pair_of es)) (filter q (map pair_of es))) (below 0 e (omega arith) (omega arith)))
+    ∙ sym (ap (λ b. cond b (e ∷ filter q es) (filter q es)) (below 0 e (omega arith) (omega arith)))
 
-there : (es : List Entry) (n lo k : ℕ) (d : Entry) → lo ≤ k → code_at n (get_or (drop lo es) (k - lo) d).key.items ≡ code_at n (get_or es k d).key.items
-there es n lo k d from = let same : lo + (k - lo) ≡ k = omega arith in ap (λ (e : Entry). code_at n e.key.items) (get_or-drop lo es (k - lo) d ∙ ap (λ i. get_or es i d) same)
+there : (es : List (List ℕ × List Element)) (n lo k : ℕ) (d : List ℕ × List Element) → lo ≤ k → code_at n (get_or (drop lo es) (k - lo) d).0 ≡ code_at n (get_or es k d).0
+there es n lo k d from = let same : lo + (k - lo) ≡ k = omega arith in ap (λ (e : List ℕ × List Element). code_at n e.0) (get_or-drop lo es (k - lo) d ∙ ap (λ i. get_or es i d) same)
 
 -- those with a code point at a place stand after those below it and before those above
-pub having_part : (es : List Entry) (n code lo m : ℕ) → lo ≤ length es → IsPartitionPoint (λ (e : Entry). nat_lt (code_at n e.key.items) code ≡ true) (λ (e : Entry). nat_lt (code_at n e.key.items) code ≡ false) es lo
-    → IsPartitionPoint (λ (e : Entry). nat_lt (code_at n e.key.items) (code + 1) ≡ true) (λ (e : Entry). nat_lt (code_at n e.key.items) (code + 1) ≡ false) (drop lo es) m
-    → map pair_of (take m (drop lo es)) ≡ where_key key_cmp (λ k. eqb (code_at n k) code) (map pair_of es)
+pub having_part : (es : List (List ℕ × List Element)) (n code lo m : ℕ) → lo ≤ length es → IsPartitionPoint (λ (e : List ℕ × List Element). nat_lt (code_at n e.0) code ≡ true) (λ (e : List ℕ × List Element). nat_lt (code_at n e.0) code ≡ false) es lo
+    → IsPartitionPoint (λ (e : List ℕ × List Element). nat_lt (code_at n e.0) (code + 1) ≡ true) (λ (e : List ℕ × List Element). nat_lt (code_at n e.0) (code + 1) ≡ false) (drop lo es) m
+    → take m (drop lo es) ≡ where_key key_cmp (λ k. eqb (code_at n k) code) es
 having_part es n code lo m within low rest =
     filter_part (λ e. eqb (code_at n e.0) code) es lo m
-    (λ k d before inside. let h : code_at n (get_or es k d).key.items < code = ltb-true _ _ (low.0 k d (omega arith) before) in ne_eqb _ code (λ e. absurd (omega arith)))
+    (λ k d before inside. let h : code_at n (get_or es k d).0 < code = ltb-true _ _ (low.0 k d (omega arith) before) in ne_eqb _ code (λ e. absurd (omega arith)))
     (λ k d from upto inside.
-    let h : code ≤ code_at n (get_or es k d).key.items = ltb-false _ _ (low.1 k d from inside) in
-    let g : code_at n (get_or (drop lo es) (k - lo) d).key.items < code + 1 = ltb-true _ _ (rest.0 (k - lo) d (omega arith) (omega arith)) in
-    let same : code_at n (get_or (drop lo es) (k - lo) d).key.items ≡ code_at n (get_or es k d).key.items = there es n lo k d from in
+    let h : code ≤ code_at n (get_or es k d).0 = ltb-false _ _ (low.1 k d from inside) in
+    let g : code_at n (get_or (drop lo es) (k - lo) d).0 < code + 1 = ltb-true _ _ (rest.0 (k - lo) d (omega arith) (omega arith)) in
+    let same : code_at n (get_or (drop lo es) (k - lo) d).0 ≡ code_at n (get_or es k d).0 = there es n lo k d from in
     eq-eqb _ code (omega arith))
     (λ k d from inside.
     let size : length (drop lo es) ≡ length es - lo = length-drop lo es in
-    let g : code + 1 ≤ code_at n (get_or (drop lo es) (k - lo) d).key.items = ltb-false _ _ (rest.1 (k - lo) d (omega arith) (omega arith)) in
-    let same : code_at n (get_or (drop lo es) (k - lo) d).key.items ≡ code_at n (get_or es k d).key.items = there es n lo k d (omega arith) in
+    let g : code + 1 ≤ code_at n (get_or (drop lo es) (k - lo) d).0 = ltb-false _ _ (rest.1 (k - lo) d (omega arith) (omega arith)) in
+    let same : code_at n (get_or (drop lo es) (k - lo) d).0 ≡ code_at n (get_or es k d).0 = there es n lo k d (omega arith) in
     ne_eqb _ code (λ e. absurd (omega arith)))
 
 -- no entry is left exactly where no key begins with the path
@@ -195,29 +190,29 @@ any_filter p (x ∷ xs) n size = elim (cases_Bool (p x)) [
       ap (λ b. b || list_any p xs) fails ∙ any_filter p xs n (sym (ap (λ b. length (cond b (x ∷ filter p xs) (filter p xs))) fails) ∙ size)
 ]
 
-pub begins_key-entries : (t : ElementTable) (p : List ℕ) (es : List Entry) → map pair_of es ≡ entries_from t p → begins_key t p ≡ not (eqb (length es) 0)
-begins_key-entries t p es same = any_filter (λ e. is_front p e.0) (entries t.entries) (length es) (ap length (sym same) ∙ length-map es pair_of)
+pub begins_key-entries : (t : ElementTable) (p : List ℕ) (es : List (List ℕ × List Element)) → es ≡ entries_from t p → begins_key t p ≡ not (eqb (length es) 0)
+begins_key-entries t p es same = any_filter (λ e. is_front p e.0) (entries t.entries) (length es) (ap length (sym same))
 
 -- the path of some entries is what their first key begins with
-pub first_path-is : (t : ElementTable) (p : List ℕ) (es : List Entry) (n : ℕ) → map pair_of es ≡ entries_from t p → 0 < length es → length p ≡ n → first_path (map pair_of es) n ≡ p
+pub first_path-is : (t : ElementTable) (p : List ℕ) (es : List (List ℕ × List Element)) (n : ℕ) → es ≡ entries_from t p → 0 < length es → length p ≡ n → first_path es n ≡ p
 first_path-is t p [] n same some size = absurd (omega arith)
-first_path-is t p (e ∷ es) n same some size = ap (λ m. take m e.key.items) (sym size) ∙ take_front p e.key.items (front_at t p (e ∷ es) 0 e same (omega arith))
+first_path-is t p (e ∷ es) n same some size = ap (λ m. take m e.0) (sym size) ∙ take_front p e.0 (front_at t p (e ∷ es) 0 e same (omega arith))
 
 itself : (p : List ℕ) → is_front p p ≡ true
 itself [] = refl
 itself (x ∷ p) = ap (λ b. b && is_front p p) (eq-eqb x x refl) ∙ itself p
 
 -- a key that begins with the path is found among them as it is found among all
-same_found : (t : ElementTable) (p : List ℕ) (es : List Entry) → map pair_of es ≡ entries_from t p → elements_at t p ≡ find key_cmp p (map pair_of es)
+same_found : (t : ElementTable) (p : List ℕ) (es : List (List ℕ × List Element)) → es ≡ entries_from t p → elements_at t p ≡ find key_cmp p es
 same_found t p es same =
     get-entries t.entries p
     ∙ sym (ap (find key_cmp p) same ∙ find-where_key key_cmp (is_front p) p (λ x e. ap (is_front p) (sym (slice_cmp-IsAntisymmetric nat_cmp-IsAntisymmetric p x e))) (entries t.entries) ∙ ap (λ b. cond b (find key_cmp p (entries t.entries)) None) (itself p))
 
 -- the first of them has the path itself as its key
-pub elements_first : (t : ElementTable) (p : List ℕ) (e : Entry) (es : List Entry) → map pair_of (e ∷ es) ≡ entries_from t p → length e.key.items ≡ length p → elements_at t p ≡ Some e.elements.items
+pub elements_first : (t : ElementTable) (p : List ℕ) (e : List ℕ × List Element) (es : List (List ℕ × List Element)) → e ∷ es ≡ entries_from t p → length e.0 ≡ length p → elements_at t p ≡ Some e.1
 elements_first t p e es same whole =
     same_found t p (e ∷ es) same
-    ∙ found_at (e ∷ es) 0 p e (sorted_from t p (e ∷ es) same) (omega arith) (front_whole p e.key.items (front_at t p (e ∷ es) 0 e same (omega arith)) whole)
+    ∙ found_at (e ∷ es) 0 p e (sorted_from t p (e ∷ es) same) (omega arith) (front_whole p e.0 (front_at t p (e ∷ es) 0 e same (omega arith)) whole)
 
 strict : (a b : ℕ) → a ≤ b → (a ≡ b → ⊥) → a < b
 strict a b h f = elim (cases_lt a b) [
@@ -226,26 +221,26 @@ strict a b h f = elim (cases_lt a b) [
 ]
 
 -- or else none has
-pub elements_longer : (t : ElementTable) (p : List ℕ) (e : Entry) (es : List Entry) → map pair_of (e ∷ es) ≡ entries_from t p → (length e.key.items ≡ length p → ⊥) → elements_at t p ≡ None
+pub elements_longer : (t : ElementTable) (p : List ℕ) (e : List ℕ × List Element) (es : List (List ℕ × List Element)) → e ∷ es ≡ entries_from t p → (length e.0 ≡ length p → ⊥) → elements_at t p ≡ None
 elements_longer t p e es same other =
     let front = front_at t p (e ∷ es) 0 e same (omega arith) in
-    let short : length p ≤ length e.key.items = front_short p e.key.items front in
-    let above : key_cmp e.key.items p ≡ Greater = front_longer p e.key.items front (strict (length p) (length e.key.items) short (λ s. other (sym s))) in
+    let short : length p ≤ length e.0 = front_short p e.0 front in
+    let above : key_cmp e.0 p ≡ Greater = front_longer p e.0 front (strict (length p) (length e.0) short (λ s. other (sym s))) in
     same_found t p (e ∷ es) same
     ∙ found_nowhere (e ∷ es) 0 p (λ k d from before. absurd (omega arith), λ k d from within. higher_after (e ∷ es) 0 k p e d (sorted_from t p (e ∷ es) same) above from within)
 
-pub elements_nowhere : (t : ElementTable) (p : List ℕ) (es : List Entry) → map pair_of es ≡ entries_from t p → length es ≡ 0 → elements_at t p ≡ None
+pub elements_nowhere : (t : ElementTable) (p : List ℕ) (es : List (List ℕ × List Element)) → es ≡ entries_from t p → length es ≡ 0 → elements_at t p ≡ None
 elements_nowhere t p [] same none = same_found t p [] same
 elements_nowhere t p (e ∷ es) same none = absurd (omega arith)
 
 -- the same of the entry that stands first
-pub elements_at_first : (t : ElementTable) (p : List ℕ) (es : List Entry) (e : Entry) → map pair_of es ≡ entries_from t p → 0 < length es → e ≡ get_or es 0 e → length e.key.items ≡ length p → elements_at t p ≡ Some e.elements.items
+pub elements_at_first : (t : ElementTable) (p : List ℕ) (es : List (List ℕ × List Element)) (e : List ℕ × List Element) → es ≡ entries_from t p → 0 < length es → e ≡ get_or es 0 e → length e.0 ≡ length p → elements_at t p ≡ Some e.1
 elements_at_first t p [] e same some is whole = absurd (omega arith)
-elements_at_first t p (x ∷ es) e same some is whole = elements_first t p x es same (ap (λ (f : Entry). length f.key.items) (sym is) ∙ whole) ∙ ap (λ (f : Entry). Some f.elements.items) (sym is)
+elements_at_first t p (x ∷ es) e same some is whole = elements_first t p x es same (ap (λ (f : List ℕ × List Element). length f.0) (sym is) ∙ whole) ∙ ap (λ (f : List ℕ × List Element). Some f.1) (sym is)
 
-pub elements_at_longer : (t : ElementTable) (p : List ℕ) (es : List Entry) (e : Entry) → map pair_of es ≡ entries_from t p → 0 < length es → e ≡ get_or es 0 e → (length e.key.items ≡ length p → ⊥) → elements_at t p ≡ None
+pub elements_at_longer : (t : ElementTable) (p : List ℕ) (es : List (List ℕ × List Element)) (e : List ℕ × List Element) → es ≡ entries_from t p → 0 < length es → e ≡ get_or es 0 e → (length e.0 ≡ length p → ⊥) → elements_at t p ≡ None
 elements_at_longer t p [] e same some is other = absurd (omega arith)
-elements_at_longer t p (x ∷ es) e same some is other = elements_longer t p x es same (λ s. other (ap (λ (f : Entry). length f.key.items) is ∙ s))
+elements_at_longer t p (x ∷ es) e same some is other = elements_longer t p x es same (λ s. other (ap (λ (f : List ℕ × List Element). length f.0) is ∙ s))
 
 -- the code point at a place
 pub code_at-some : (key : List ℕ) (n x : ℕ) → n < length key → x ≡ get_or key n x → code_at n key ≡ x + 1
@@ -259,21 +254,21 @@ code_at-none (y ∷ key) zero past = absurd (omega arith)
 code_at-none (y ∷ key) (suc n) past = code_at-none key n (omega arith)
 
 -- entries that are not none
-pub some_of : (es : List Entry) → eqb (length es) 0 ≡ false → 0 < length es
+pub some_of : (es : List (List ℕ × List Element)) → eqb (length es) 0 ≡ false → 0 < length es
 some_of [] h = cc
 some_of (e ∷ es) h = omega arith
 
 -- each entry is as in a table
-pub entry_first : (t : ElementTable) (p : List ℕ) (es : List Entry) (e : Entry) → IsTable t → map pair_of es ≡ entries_from t p → 0 < length es → e ≡ get_or es 0 e → IsEntry (pair_of e)
+pub entry_first : (t : ElementTable) (p : List ℕ) (es : List (List ℕ × List Element)) (e : List ℕ × List Element) → IsTable t → es ≡ entries_from t p → 0 < length es → e ≡ get_or es 0 e → IsEntry e
 entry_first t p [] e table same some is = absurd (omega arith)
 entry_first t p (x ∷ es) e table same some is =
-    let all : All IsEntry (map pair_of (x ∷ es)) = All-same IsEntry _ _ same (All-filter (λ e. is_front p e.0) IsEntry (entries t.entries) table.entries) in
-    subst (λ (f : Entry). IsEntry (pair_of f)) (sym is) (all 0 (pair_of x) (omega arith))
+    let all : All IsEntry (x ∷ es) = All-same IsEntry _ _ same (All-filter (λ e. is_front p e.0) IsEntry (entries t.entries) table.entries) in
+    subst (λ (f : List ℕ × List Element). IsEntry f) (sym is) (all 0 x (omega arith))
 
 -- so a path is no longer than a key may be
-pub path_short : (t : ElementTable) (p : List ℕ) (es : List Entry) → IsTable t → map pair_of es ≡ entries_from t p → 0 < length es → length p ≤ MAX_KEY
+pub path_short : (t : ElementTable) (p : List ℕ) (es : List (List ℕ × List Element)) → IsTable t → es ≡ entries_from t p → 0 < length es → length p ≤ MAX_KEY
 path_short t p [] table same some = absurd (omega arith)
 path_short t p (x ∷ es) table same some =
-    let few : length x.key.items ≤ MAX_KEY = (entry_first t p (x ∷ es) x table same some refl).few_points in
-    let short : length p ≤ length x.key.items = front_short p x.key.items (front_at t p (x ∷ es) 0 x same (omega arith)) in
+    let few : length x.0 ≤ MAX_KEY = (entry_first t p (x ∷ es) x table same some refl).few_points in
+    let short : length p ≤ length x.0 = front_short p x.0 (front_at t p (x ∷ es) 0 x same (omega arith)) in
     le_trans short few

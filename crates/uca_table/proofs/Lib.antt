@@ -15,3 +15,4 @@ pub mod CellLemmas
 pub mod FrontLemmas
 pub mod WalkLemmas
 pub mod FirstsLemmas
+pub mod FlatLemmas

@@ -1,6 +1,5 @@
 -- What a new entry in its place does to entries whose keys rise, and to the longest key.
-use Rattle.std.proofs.Common.{◌≡◌, ℕ, suc, zero, ◌≤◌, ◌<◌, max, T, List, [], ◌∷◌, ◌++◌, length, take, drop, fold, map, get_or, slice_set, refl, sym, ap, ◌∙◌, arith}
-use Rattle.std.proofs.lemmas.List.{map-append, take-map, drop-map}
+use Rattle.std.proofs.Common.{◌≡◌, ℕ, suc, zero, ◌≤◌, ◌<◌, max, T, List, [], ◌∷◌, length, fold, get_or, slice_set, refl, sym, ap, ◌∙◌, arith}
 use Rattle.std.specs.declared.cmp.Ordering.{Ordering}
 use Rattle.std.specs.declared.cmp.Ordering.TheVariants.{Less, Equal, Greater}
 use Rattle.std.specs.List.{insert}
@@ -10,9 +9,8 @@ use Rattle.std.specs.FinMap.{put, is_sorted, nat_cmp-IsAntisymmetric, slice_cmp-
 use Rattle.std.specs.FinMap.Entries.{by_order}
 use Rattle.uca_weights.specs.declared.element.Element.{Element}
 use Rattle.uca_model.specs.Table.{key_cmp}
-use Rattle.uca_table.specs.declared.entry.Entry.{Entry}
 use Rattle.uca_table.specs.Place.{BelongsAt}
-use Rattle.uca_table.specs.Stored.{pair_of, longest_of}
+use Rattle.uca_table.specs.Stored.{longest_of}
 use Rattle.uca_table.proofs.SearchLemmas.{below_at, left, right}
 
 -- the other way round
@@ -20,40 +18,32 @@ turned : (x q : List ℕ) (o : Ordering) → key_cmp x q ≡ o → key_cmp q x �
 turned x q o e = nat_list_cmp_total.antisymm q x ∙ ap ordering_reverse e
 
 -- a key that an entry has already gets new elements there
-pub put_at : (es : List Entry) (i : ℕ) (q : List ℕ) (d new : Entry) → T (is_sorted key_cmp (map pair_of es)) → i < length es → key_cmp (get_or es i d).key.items q ≡ Equal → new.key.items ≡ (get_or es i d).key.items
-    → map pair_of (slice_set es i new) ≡ put key_cmp q new.elements.items (map pair_of es)
+pub put_at : (es : List (List ℕ × List Element)) (i : ℕ) (q : List ℕ) (d new : List ℕ × List Element) → T (is_sorted key_cmp es) → i < length es → key_cmp (get_or es i d).0 q ≡ Equal → new.0 ≡ (get_or es i d).0
+    → slice_set es i new ≡ put key_cmp q new.1 es
 put_at [] i q d new sorted within here same = absurd (omega arith)
 put_at (e ∷ es) zero q d new sorted within here same =
-    ap (λ k. (k, new.elements.items) ∷ map pair_of es) same
-    ∙ sym (ap (λ o. by_order o ((q, new.elements.items) ∷ pair_of e ∷ map pair_of es) ((e.key.items, new.elements.items) ∷ map pair_of es) (pair_of e ∷ put key_cmp q new.elements.items (map pair_of es))) (turned e.key.items q Equal here))
+    ap (λ k. (k, new.1) ∷ es) same
+    ∙ sym (ap (λ o. by_order o ((q, new.1) ∷ e ∷ es) ((e.0, new.1) ∷ es) (e ∷ put key_cmp q new.1 es)) (turned e.0 q Equal here))
 put_at (e ∷ es) (suc i) q d new sorted within here same =
-    let x = (get_or es i d).key.items in
-    let above : key_cmp x e.key.items ≡ Greater = turned e.key.items x Less (below_at e.key.items es i d (left _ _ sorted) (omega arith)) in
-    let other : key_cmp q e.key.items ≡ Greater = sym (nat_list_cmp_total.congr x q e.key.items here) ∙ above in
-    ap (λ xs. pair_of e ∷ xs) (put_at es i q d new (right _ _ sorted) (omega arith) here same)
-    ∙ sym (ap (λ o. by_order o ((q, new.elements.items) ∷ pair_of e ∷ map pair_of es) ((e.key.items, new.elements.items) ∷ map pair_of es) (pair_of e ∷ put key_cmp q new.elements.items (map pair_of es))) other)
+    let x = (get_or es i d).0 in
+    let above : key_cmp x e.0 ≡ Greater = turned e.0 x Less (below_at e.0 es i d (left _ _ sorted) (omega arith)) in
+    let other : key_cmp q e.0 ≡ Greater = sym (nat_list_cmp_total.congr x q e.0 here) ∙ above in
+    ap (λ xs. e ∷ xs) (put_at es i q d new (right _ _ sorted) (omega arith) here same)
+    ∙ sym (ap (λ o. by_order o ((q, new.1) ∷ e ∷ es) ((e.0, new.1) ∷ es) (e ∷ put key_cmp q new.1 es)) other)
 
 -- a key that none has is inserted between those that are lower and those that are higher
-put_between : (es : List Entry) (i : ℕ) (q : List ℕ) (v : List Element) → i ≤ length es → ((k : ℕ) (d : Entry) → k < i → key_cmp (get_or es k d).key.items q ≡ Less) → ((k : ℕ) (d : Entry) → i ≤ k → k < length es → key_cmp (get_or es k d).key.items q ≡ Greater)
-    → put key_cmp q v (map pair_of es) ≡ insert (map pair_of es) i (q, v)
+put_between : (es : List (List ℕ × List Element)) (i : ℕ) (q : List ℕ) (v : List Element) → i ≤ length es → ((k : ℕ) (d : List ℕ × List Element) → k < i → key_cmp (get_or es k d).0 q ≡ Less) → ((k : ℕ) (d : List ℕ × List Element) → i ≤ k → k < length es → key_cmp (get_or es k d).0 q ≡ Greater)
+    → put key_cmp q v es ≡ insert es i (q, v)
 put_between [] zero q v within lower higher = refl
 put_between [] (suc i) q v within lower higher = absurd (omega arith)
 put_between (e ∷ es) zero q v within lower higher =
-    ap (λ o. by_order o ((q, v) ∷ pair_of e ∷ map pair_of es) ((e.key.items, v) ∷ map pair_of es) (pair_of e ∷ put key_cmp q v (map pair_of es))) (turned e.key.items q Greater (higher 0 e (omega arith) (omega arith)))
+    ap (λ o. by_order o ((q, v) ∷ e ∷ es) ((e.0, v) ∷ es) (e ∷ put key_cmp q v es)) (turned e.0 q Greater (higher 0 e (omega arith) (omega arith)))
 put_between (e ∷ es) (suc i) q v within lower higher =
-    ap (λ o. by_order o ((q, v) ∷ pair_of e ∷ map pair_of es) ((e.key.items, v) ∷ map pair_of es) (pair_of e ∷ put key_cmp q v (map pair_of es))) (turned e.key.items q Less (lower 0 e (omega arith)))
-    ∙ ap (λ xs. pair_of e ∷ xs) (put_between es i q v (omega arith) (λ k d before. lower (suc k) d (omega arith)) (λ k d behind inside. higher (suc k) d (omega arith) (omega arith)))
+    ap (λ o. by_order o ((q, v) ∷ e ∷ es) ((e.0, v) ∷ es) (e ∷ put key_cmp q v es)) (turned e.0 q Less (lower 0 e (omega arith)))
+    ∙ ap (λ xs. e ∷ xs) (put_between es i q v (omega arith) (λ k d before. lower (suc k) d (omega arith)) (λ k d behind inside. higher (suc k) d (omega arith) (omega arith)))
 
-pub put_before : (es : List Entry) (i : ℕ) (q : List ℕ) (v : List Element) → BelongsAt q es i → put key_cmp q v (map pair_of es) ≡ insert (map pair_of es) i (q, v)
+pub put_before : (es : List (List ℕ × List Element)) (i : ℕ) (q : List ℕ) (v : List Element) → BelongsAt q es i → put key_cmp q v es ≡ insert es i (q, v)
 put_before es i q v here = put_between es i q v here.within (λ k d before. here.parted.0 k d (omega (arith, here.within)) before) (λ k d behind inside. here.parted.1 k d behind inside)
-
--- an inserted entry without where it lies in memory
-pub pairs-insert : (es : List Entry) (i : ℕ) (new : Entry) (q : List ℕ) → new.key.items ≡ q → map pair_of (insert es i new) ≡ insert (map pair_of es) i (q, new.elements.items)
-pairs-insert es i new q same =
-    map-append pair_of (take i es) (new ∷ drop i es)
-    ∙ ap (λ xs. xs ++ pair_of new ∷ map pair_of (drop i es)) (sym (take-map pair_of i es))
-    ∙ ap (λ xs. take i (map pair_of es) ++ pair_of new ∷ xs) (sym (drop-map pair_of i es))
-    ∙ ap (λ k. take i (map pair_of es) ++ (k, new.elements.items) ∷ drop i (map pair_of es)) same
 
 -- a greatest length is none below the one that it began with
 fold-some : (n : ℕ) (es : List (List ℕ × List Element)) → n ≤ fold (λ m e. max m (length e.0)) n es

@@ -1,12 +1,11 @@
 -- Lists whose elements are changed one after the other, and the weights of a table that move together.
 use Rattle.std.proofs.Common.{◌≡◌, ℕ, suc, zero, ◌+◌, ◌≤◌, ◌<◌, Bool, true, false, T, ◌||◌, ◌&&◌, ◌==◌, max, fold, List, [], ◌∷◌, ◌++◌, length, take, drop, map, get_or, slice_set, refl, sym, ap, subst, ◌∙◌, arith}
-use Rattle.std.proofs.lemmas.List.{map-set, get_or-map, length-map, take_at}
+use Rattle.std.proofs.lemmas.List.{length-map}
 use Rattle.std.specs.List.{AllByRecursion, list_any}
 use Rattle.std.specs.Cmp.Lexicographic.{nat_list_cmp_total}
 use Rattle.std.specs.FinMap.{values, get, from_entries, is_sorted, same_map, entries-from_sorted, get-from_sorted, get-from_entries, nat_cmp-IsAntisymmetric, slice_cmp-IsAntisymmetric}
 use Rattle.std.specs.FinMap.Entries.{below_all}
 use Rattle.std.specs.Ordering.{is_lt}
-use Rattle.std.specs.Vec.{with_items}
 use Rattle.std.proofs.lemmas.Bool.Decides.{nat_tests}
 use Rattle.std.proofs.lemmas.List.Elements.{All-from_recursion, recursion_from_All}
 use Rattle.uca_weights.specs.declared.element.Element.{Element}
@@ -14,8 +13,7 @@ use Rattle.uca_weights.specs.declared.limits.TheConstants.{MAX_ELEMENTS}
 use Rattle.uca_weights.specs.declared.range.Range.{Range}
 use Rattle.uca_model.specs.Room.{moves, weight_with_room, with_room, entry_with_room, table_with_room, has_no_room, max_weight}
 use Rattle.uca_model.specs.Table.{key_cmp, IsEntry, IsElement}
-use Rattle.uca_table.specs.declared.entry.Entry.{Entry}
-use Rattle.uca_table.specs.Stored.{AreStored, pair_of, table_of, longest_of}
+use Rattle.uca_table.specs.Stored.{AreStored, table_of, longest_of}
 
 -- a test that no element passes fails at each
 pub none_at : {A : Type 0} (p : A → Bool) (xs : List A) (i : ℕ) (d : A) → list_any p xs ≡ false → i < length xs → p (get_or xs i d) ≡ false
@@ -64,23 +62,10 @@ changed_all f zero (x ∷ xs) h = absurd (omega arith)
 changed_all f (suc i) [] h = refl
 changed_all f (suc i) (x ∷ xs) h = ap (λ ys. f x ∷ ys) (changed_all f i xs (omega arith))
 
--- the same of what is seen of each
-pub seen_more : {A B : Type 0} (v : A → B) (f : B → B) (now : List A) (old : List B) (i : ℕ) (d next : A) → i < length now → map v now ≡ changed_to f i old → v next ≡ f (v (get_or now i d)) → map v (slice_set now i next) ≡ changed_to f (i + 1) old
-seen_more v f now old i d next h same is =
-    let count : length now ≡ length old = sym (length-map now v) ∙ ap length same ∙ length-changed f i old in
-    let here : v (get_or now i d) ≡ get_or old i (v d) = sym (get_or-map v now i d (v d) h) ∙ ap (λ xs. get_or xs i (v d)) same ∙ changed_at f old i (v d) (omega arith) in
-    map-set v now i next ∙ ap (λ xs. slice_set xs i (v next)) same ∙ ap (slice_set (changed_to f i old) i) (is ∙ ap f here) ∙ changed_more f old i (v d) (omega arith)
-
-pub seen_at : {A B : Type 0} (v : A → B) (f : B → B) (now : List A) (old : List B) (i : ℕ) (d : A) → i < length now → map v now ≡ changed_to f i old → v (get_or now i d) ≡ get_or old i (v d)
-seen_at v f now old i d h same =
-    let count : length now ≡ length old = sym (length-map now v) ∙ ap length same ∙ length-changed f i old in
-    sym (get_or-map v now i d (v d) h) ∙ ap (λ xs. get_or xs i (v d)) same ∙ changed_at f old i (v d) (omega arith)
-
--- a test of all values of a table, on the vector that has its entries
-pub any_entry : (p : List Element → Bool) (es : List Entry) (rs : List Range) → T (is_sorted key_cmp (map pair_of es)) → list_any p (values (table_of (map pair_of es) rs).entries) ≡ list_any (λ e. p e.elements.items) es
+-- a test of all values of a table, on the entries
+pub any_entry : (p : List Element → Bool) (es : List (List ℕ × List Element)) (rs : List Range) → T (is_sorted key_cmp es) → list_any p (values (table_of es rs).entries) ≡ list_any (λ e. p e.1) es
 any_entry p es rs sorted =
-    ap (λ (xs : List (List ℕ × List Element)). list_any p (map (λ x. x.1) xs)) (entries-from_sorted key_cmp (map pair_of es) sorted)
-    ∙ any-map p (λ (x : List ℕ × List Element). x.1) (map pair_of es) ∙ any-map (λ (x : List ℕ × List Element). p x.1) pair_of es
+    ap (λ (xs : List (List ℕ × List Element)). list_any p (map (λ x. x.1) xs)) (entries-from_sorted key_cmp es sorted) ∙ any-map p (λ (x : List ℕ × List Element). x.1) es
 
 -- one more of a list that is changed itself
 pub step_more : {A : Type 0} (f : A → A) (now old : List A) (i : ℕ) (d next : A) → i < length now → now ≡ changed_to f i old → next ≡ f (get_or now i d) → slice_set now i next ≡ changed_to f (i + 1) old
@@ -88,13 +73,6 @@ step_more f now old i d next h same is =
     let count : length now ≡ length old = ap length same ∙ length-changed f i old in
     let here : get_or now i d ≡ get_or old i d = ap (λ xs. get_or xs i d) same ∙ changed_at f old i d (omega arith) in
     ap (λ xs. slice_set xs i next) same ∙ ap (slice_set (changed_to f i old) i) (is ∙ ap f here) ∙ changed_more f old i d (omega arith)
-
--- an entry whose vector of elements was rewritten
-pub entry_shifted : (level w : ℕ) (e : Entry) (new : List Element) → new ≡ map (with_room level w) e.elements.items → pair_of (record { key = e.key; elements = with_items e.elements new }) ≡ entry_with_room level w (pair_of e)
-entry_shifted level w e new same =
-    let size : length new ≡ length e.elements.items = ap length same ∙ length-map e.elements.items (with_room level w) in
-    let k = e.elements.ok.0 in
-    ap (λ xs. (e.key.items, xs)) (take_at new (drop (length new) e.elements.items) e.elements.len (omega (arith, size, k)) ∙ same)
 
 -- each weight still has sixteen bits
 shift_fits : (level w x : ℕ) → x < 65536 → (moves level w x && x == max_weight level) ≡ false → weight_with_room level w x < 65536

@@ -1,5 +1,5 @@
 -- What a binary search finds among entries whose keys rise.
-use Rattle.std.proofs.Common.{◌≡◌, ℕ, suc, zero, ◌+◌, ◌≤◌, ◌<◌, Bool, true, false, cond, T, List, [], ◌∷◌, length, map, get_or, Some, None, refl, sym, ap, ◌∙◌, ◌&&◌, inl, inr, arith}
+use Rattle.std.proofs.Common.{◌≡◌, ℕ, suc, zero, ◌+◌, ◌≤◌, ◌<◌, Bool, true, false, cond, T, List, [], ◌∷◌, length, get_or, Some, None, refl, sym, ap, ◌∙◌, ◌&&◌, inl, inr, arith}
 use Rattle.std.proofs.lemmas.Bool.{cases_lt}
 use Rattle.std.proofs.lemmas.List.{get_or_default}
 use Rattle.std.specs.declared.cmp.Ordering.{Ordering}
@@ -10,8 +10,7 @@ use Rattle.std.specs.Cmp.Lexicographic.{slice_cmp, nat_list_cmp_total}
 use Rattle.std.specs.FinMap.{find, is_sorted}
 use Rattle.std.specs.FinMap.Entries.{below_all}
 use Rattle.uca_model.specs.Table.{key_cmp}
-use Rattle.uca_table.specs.declared.entry.Entry.{Entry}
-use Rattle.uca_table.specs.Stored.{pair_of}
+use Rattle.uca_weights.specs.declared.element.Element.{Element}
 
 -- an answer that tests as `Less`
 less : (o : Ordering) → T (is_lt o) → o ≡ Less
@@ -30,64 +29,64 @@ right true b h = h
 right false b h = absurd h
 
 -- keys below all later ones are below the one at a place
-pub below_at : (k : List ℕ) (es : List Entry) (i : ℕ) (d : Entry) → T (below_all key_cmp k (map pair_of es)) → i < length es → key_cmp k (get_or es i d).key.items ≡ Less
+pub below_at : (k : List ℕ) (es : List (List ℕ × List Element)) (i : ℕ) (d : List ℕ × List Element) → T (below_all key_cmp k es) → i < length es → key_cmp k (get_or es i d).0 ≡ Less
 below_at k [] i d h within = absurd (omega arith)
 below_at k (e ∷ es) zero d h within = less _ (left _ _ h)
 below_at k (e ∷ es) (suc i) d h within = below_at k es i d (right _ _ h) (omega arith)
 
 -- the key at a place is found there
-pub found_at : (es : List Entry) (i : ℕ) (q : List ℕ) (d : Entry) → T (is_sorted key_cmp (map pair_of es)) → i < length es → slice_cmp nat_cmp (get_or es i d).key.items q ≡ Equal → find key_cmp q (map pair_of es) ≡ Some (get_or es i d).elements.items
+pub found_at : (es : List (List ℕ × List Element)) (i : ℕ) (q : List ℕ) (d : List ℕ × List Element) → T (is_sorted key_cmp es) → i < length es → slice_cmp nat_cmp (get_or es i d).0 q ≡ Equal → find key_cmp q es ≡ Some (get_or es i d).1
 found_at [] i q d sorted within here = absurd (omega arith)
 found_at (e ∷ es) zero q d sorted within here =
-    let same : key_cmp q e.key.items ≡ Equal = nat_list_cmp_total.antisymm q e.key.items ∙ ap ordering_reverse here in
-    ap (λ o. cond (is_eq o) (Some e.elements.items) (find key_cmp q (map pair_of es))) same
+    let same : key_cmp q e.0 ≡ Equal = nat_list_cmp_total.antisymm q e.0 ∙ ap ordering_reverse here in
+    ap (λ o. cond (is_eq o) (Some e.1) (find key_cmp q es)) same
 found_at (e ∷ es) (suc i) q d sorted within here =
-    let x = (get_or es i d).key.items in
-    let below : key_cmp e.key.items x ≡ Less = below_at e.key.items es i d (left _ _ sorted) (omega arith) in
-    let above : key_cmp x e.key.items ≡ Greater = nat_list_cmp_total.antisymm x e.key.items ∙ ap ordering_reverse below in
-    let other : key_cmp q e.key.items ≡ Greater = sym (nat_list_cmp_total.congr x q e.key.items here) ∙ above in
-    ap (λ o. cond (is_eq o) (Some e.elements.items) (find key_cmp q (map pair_of es))) other ∙ found_at es i q d (right _ _ sorted) (omega arith) here
+    let x = (get_or es i d).0 in
+    let below : key_cmp e.0 x ≡ Less = below_at e.0 es i d (left _ _ sorted) (omega arith) in
+    let above : key_cmp x e.0 ≡ Greater = nat_list_cmp_total.antisymm x e.0 ∙ ap ordering_reverse below in
+    let other : key_cmp q e.0 ≡ Greater = sym (nat_list_cmp_total.congr x q e.0 here) ∙ above in
+    ap (λ o. cond (is_eq o) (Some e.1) (find key_cmp q es)) other ∙ found_at es i q d (right _ _ sorted) (omega arith) here
 
 -- a key that ties with no entry is found nowhere
-found_not : (es : List Entry) (q : List ℕ) → ((k : ℕ) (d : Entry) → k < length es → eq_by_cmp key_cmp q (get_or es k d).key.items ≡ false) → find key_cmp q (map pair_of es) ≡ None
+found_not : (es : List (List ℕ × List Element)) (q : List ℕ) → ((k : ℕ) (d : List ℕ × List Element) → k < length es → eq_by_cmp key_cmp q (get_or es k d).0 ≡ false) → find key_cmp q es ≡ None
 found_not [] q h = refl
-found_not (e ∷ es) q h = ap (λ b. cond b (Some e.elements.items) (find key_cmp q (map pair_of es))) (h 0 e (omega arith)) ∙ found_not es q (λ k d within. h (suc k) d (omega arith))
+found_not (e ∷ es) q h = ap (λ b. cond b (Some e.1) (find key_cmp q es)) (h 0 e (omega arith)) ∙ found_not es q (λ k d within. h (suc k) d (omega arith))
 
 -- a key that stands before or after another doesn't tie with it
 apart : (x q : List ℕ) (o : Ordering) → key_cmp x q ≡ o → is_eq (ordering_reverse o) ≡ false → eq_by_cmp key_cmp q x ≡ false
 apart x q o e h = ap is_eq (nat_list_cmp_total.antisymm q x ∙ ap ordering_reverse e) ∙ h
 
 -- nor is a key found that stands between two neighbours
-pub found_nowhere : (es : List Entry) (i : ℕ) (q : List ℕ) → IsPartitionPoint (λ (e : Entry). slice_cmp nat_cmp e.key.items q ≡ Less) (λ (e : Entry). slice_cmp nat_cmp e.key.items q ≡ Greater) es i → find key_cmp q (map pair_of es) ≡ None
+pub found_nowhere : (es : List (List ℕ × List Element)) (i : ℕ) (q : List ℕ) → IsPartitionPoint (λ (e : List ℕ × List Element). slice_cmp nat_cmp e.0 q ≡ Less) (λ (e : List ℕ × List Element). slice_cmp nat_cmp e.0 q ≡ Greater) es i → find key_cmp q es ≡ None
 found_nowhere es i q parted = found_not es q (λ k d within. elim (cases_lt k i) [
-  | inl below ↦ apart (get_or es k d).key.items q Less (parted.0 k d (omega arith) below) refl
-  | inr above ↦ apart (get_or es k d).key.items q Greater (parted.1 k d above within) refl
+  | inl below ↦ apart (get_or es k d).0 q Less (parted.0 k d (omega arith) below) refl
+  | inr above ↦ apart (get_or es k d).0 q Greater (parted.1 k d above within) refl
 ])
 
 -- the keys at two places
-pub in_order : (es : List Entry) (i j : ℕ) (d f : Entry) → T (is_sorted key_cmp (map pair_of es)) → i < j → j < length es → key_cmp (get_or es i d).key.items (get_or es j f).key.items ≡ Less
+pub in_order : (es : List (List ℕ × List Element)) (i j : ℕ) (d f : List ℕ × List Element) → T (is_sorted key_cmp es) → i < j → j < length es → key_cmp (get_or es i d).0 (get_or es j f).0 ≡ Less
 in_order [] i j d f sorted before within = absurd (omega arith)
 in_order (e ∷ es) i zero d f sorted before within = absurd (omega arith)
-in_order (e ∷ es) zero (suc j) d f sorted before within = below_at e.key.items es j f (left _ _ sorted) (omega arith)
+in_order (e ∷ es) zero (suc j) d f sorted before within = below_at e.0 es j f (left _ _ sorted) (omega arith)
 in_order (e ∷ es) (suc i) (suc j) d f sorted before within = in_order es i j d f (right _ _ sorted) (omega arith) (omega arith)
 
 -- an entry at a place, whichever would stand in for it past the end
-same_at : (es : List Entry) (i j : ℕ) (d f : Entry) → i ≡ j → j < length es → get_or es i d ≡ get_or es j f
+same_at : (es : List (List ℕ × List Element)) (i j : ℕ) (d f : List ℕ × List Element) → i ≡ j → j < length es → get_or es i d ≡ get_or es j f
 same_at es i j d f e within = ap (λ k. get_or es k d) e ∙ get_or_default es j d f within
 
 -- what stands before a lower key is lower
-pub lower_before : (es : List Entry) (i j : ℕ) (q : List ℕ) (d f : Entry) → T (is_sorted key_cmp (map pair_of es)) → j < length es → key_cmp (get_or es j f).key.items q ≡ Less → i < j + 1 → key_cmp (get_or es i d).key.items q ≡ Less
+pub lower_before : (es : List (List ℕ × List Element)) (i j : ℕ) (q : List ℕ) (d f : List ℕ × List Element) → T (is_sorted key_cmp es) → j < length es → key_cmp (get_or es j f).0 q ≡ Less → i < j + 1 → key_cmp (get_or es i d).0 q ≡ Less
 lower_before es i j q d f sorted within lower before = elim (cases_lt i j) [
-  | inl earlier ↦ nat_list_cmp_total.trans (get_or es i d).key.items (get_or es j f).key.items q (in_order es i j d f sorted earlier within) lower
-  | inr here ↦ ap (λ (e : Entry). key_cmp e.key.items q) (same_at es i j d f (omega arith) within) ∙ lower
+  | inl earlier ↦ nat_list_cmp_total.trans (get_or es i d).0 (get_or es j f).0 q (in_order es i j d f sorted earlier within) lower
+  | inr here ↦ ap (λ (e : List ℕ × List Element). key_cmp e.0 q) (same_at es i j d f (omega arith) within) ∙ lower
 ]
 
 -- what stands after a higher key is higher
-pub higher_after : (es : List Entry) (i j : ℕ) (q : List ℕ) (d f : Entry) → T (is_sorted key_cmp (map pair_of es)) → key_cmp (get_or es i d).key.items q ≡ Greater → i ≤ j → j < length es → key_cmp (get_or es j f).key.items q ≡ Greater
+pub higher_after : (es : List (List ℕ × List Element)) (i j : ℕ) (q : List ℕ) (d f : List ℕ × List Element) → T (is_sorted key_cmp es) → key_cmp (get_or es i d).0 q ≡ Greater → i ≤ j → j < length es → key_cmp (get_or es j f).0 q ≡ Greater
 higher_after es i j q d f sorted higher behind within = elim (cases_lt i j) [
   | inl later ↦
-      let x = (get_or es i d).key.items in let y = (get_or es j f).key.items in
+      let x = (get_or es i d).0 in let y = (get_or es j f).0 in
       let before : key_cmp q x ≡ Less = nat_list_cmp_total.antisymm q x ∙ ap ordering_reverse higher in
       nat_list_cmp_total.antisymm y q ∙ ap ordering_reverse (nat_list_cmp_total.trans q x y before (in_order es i j d f sorted later within))
-  | inr here ↦ ap (λ (e : Entry). key_cmp e.key.items q) (sym (same_at es i j d f (omega arith) within)) ∙ higher
+  | inr here ↦ ap (λ (e : List ℕ × List Element). key_cmp e.0 q) (sym (same_at es i j d f (omega arith) within)) ∙ higher
 ]

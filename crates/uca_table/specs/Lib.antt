@@ -10,3 +10,6 @@ pub mod Starters
 pub mod Fronts
 pub mod Walk
 pub mod Firsts
+pub mod Flat
+pub mod Span
+pub mod Moved

@@ -1,16 +1,16 @@
--- Where a key stands in a vector of entries whose keys rise.
+-- Where a key stands among entries whose keys rise.
 use Rattle.std.specs.Prelude.{◌≡◌, ℕ, ◌<◌, ◌≤◌, List, length, get_or}
 use Rattle.std.specs.List.Sorted.{IsPartitionPoint}
 use Rattle.std.specs.declared.cmp.Ordering.TheVariants.{Less, Equal, Greater}
 use Rattle.uca_model.specs.Table.{key_cmp}
-use Rattle.uca_table.specs.declared.entry.Entry.{Entry}
+use Rattle.uca_weights.specs.declared.element.Element.{Element}
 
 -- the entry at a place has the key
-pub record IsAt (key : List ℕ) (es : List Entry) (at : ℕ) : Type 0 where
+pub record IsAt (key : List ℕ) (es : List (List ℕ × List Element)) (at : ℕ) : Type 0 where
   pub within : at < length es
-  pub here : (d : Entry) → key_cmp (get_or es at d).key.items key ≡ Equal
+  pub here : (d : List ℕ × List Element) → key_cmp (get_or es at d).0 key ≡ Equal
 
 -- the entries before a place have lower keys, and those from there on higher ones
-pub record BelongsAt (key : List ℕ) (es : List Entry) (at : ℕ) : Type 0 where
+pub record BelongsAt (key : List ℕ) (es : List (List ℕ × List Element)) (at : ℕ) : Type 0 where
   pub within : at ≤ length es
-  pub parted : IsPartitionPoint (λ (e : Entry). key_cmp e.key.items key ≡ Less) (λ (e : Entry). key_cmp e.key.items key ≡ Greater) es at
+  pub parted : IsPartitionPoint (λ (e : List ℕ × List Element). key_cmp e.0 key ≡ Less) (λ (e : List ℕ × List Element). key_cmp e.0 key ≡ Greater) es at

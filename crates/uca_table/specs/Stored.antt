@@ -9,11 +9,6 @@ use Rattle.uca_weights.specs.declared.element.Element.{Element}
 use Rattle.uca_weights.specs.declared.range.Range.{Range}
 use Rattle.uca_model.specs.Table.{ElementTable, key_cmp, IsEntry, AreRanges}
 use Rattle.uca_model.specs.Ranges.{AreByFirst}
-use Rattle.uca_table.specs.declared.entry.Entry.{Entry}
-
--- an entry of a table without where it lies in memory
-abbrev pub pair_of : Entry → List ℕ × List Element
-pair_of e = (e.key.items, e.elements.items)
 
 -- an entry of a builder's map without where it lies in memory
 abbrev pub pair_in : {Y Z : Type 0} → Vec ℕ Y × Vec Element Z → List ℕ × List Element

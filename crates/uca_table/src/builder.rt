@@ -1,16 +1,17 @@
-ghost use Rattle.std.specs.Prelude.{◌≡◌, [], OnOk, OnErr, IfErr, IfOk, MatchResult, All, map, None};
+ghost use Rattle.std.specs.Prelude.{◌≡◌, max, length, [], OnOk, OnErr, IfErr, IfOk, MatchResult, All, map, None};
 ghost use Rattle.std.specs.Char.{IsScalar};
 ghost use Rattle.std.specs.FinMap.{empty, put};
-ghost use Rattle.uca_model.specs.Table.{key_cmp, IsElement};
-ghost use Rattle.uca_table.specs.Stored.{pair_in};
+ghost use Rattle.std.specs.List.{AllByRecursion};
+ghost use Rattle.uca_model.specs.Table.{key_cmp, IsElement, IsEntry};
+ghost use Rattle.uca_table.specs.Stored.{pair_in, longest_of};
 
-use crate::entry::move_entries;
 use crate::fault::{FinishFault, InsertFault, RangeFault};
 use crate::firsts::Firsts;
+use crate::flat::{Flat, Span};
 use crate::range_map::RangeMap;
 use crate::stored::Stored;
 use crate::table::Table;
-use std::alloc::Global;
+use std::alloc::{AllocError, Global};
 use std::collections::BTreeMap;
 use std::marker::Model;
 use uca_weights::{Element, MAX_ELEMENTS, MAX_KEY, Range};
@@ -98,14 +99,14 @@ impl TableBuilder {
     pub fn finish(self) -> Result<Table, FinishFault>
         ensures { MatchResult result (λ t. t ≡ self) (λ f. f.builder ≡ self) }
     {
-        let Ok(room) = Vec::with_capacity(self.alloc, self.entries.len()) else {
+        let Ok(entries) = flat_entries(self.alloc, &self.entries) else {
             return Err(FinishFault { builder: self });
         };
         let Ok(range_room) = Vec::with_capacity(self.alloc, self.ranges.len()) else {
             return Err(FinishFault { builder: self });
         };
-        let (entries, longest_key) = move_entries(self.entries, room);
-        let firsts = Firsts::of(self.alloc, entries.as_slice());
+        let longest_key = longest_key(&entries);
+        let firsts = Firsts::of(self.alloc, &Span::all(&entries));
         let stored = Stored {
             entries,
             ranges: self.ranges.finish(range_room),
@@ -164,4 +165,46 @@ fn store(
         Ok(_) => Ok(()),
         Err(_) => Err(InsertFault::OutOfMemory),
     }
+}
+
+/// How many code points and elements the entries of a map have.
+fn sizes(from: &BTreeMap<Vec<char>, Vec<Element>>) -> (usize, usize) {
+    let mut points: usize = 0;
+    let mut elements: usize = 0;
+    for (key, of_key) in from.iter() {
+        points = points.saturating_add(key.len());
+        elements = elements.saturating_add(of_key.len());
+    }
+    (points, elements)
+}
+
+/// Copies of the entries of a map, side by side.
+fn flat_entries(alloc: Global, from: &BTreeMap<Vec<char>, Vec<Element>>) -> Result<Flat, AllocError>
+    requires { AllByRecursion IsEntry (map pair_in from.now.entries) }
+    ensures { IfOk result (λ f. f ≡ map pair_in from.now.entries) }
+{
+    let (points, elements) = sizes(from);
+    let mut copies = Flat::with_capacity(alloc, from.len(), points, elements)?;
+    for (key, elements) in from.iter() {
+        copies.push(key.as_slice(), elements.as_slice())?;
+    }
+    Ok(copies)
+}
+
+/// The greater of a number and the length of a key.
+fn longer(longest: usize, key: &[char]) -> usize
+    ensures { result ≡ max longest (length key.now) }
+{
+    longest.max(key.len())
+}
+
+/// The length of the longest key, 1 where there is none.
+fn longest_key(entries: &Flat) -> usize
+    ensures { result ≡ longest_of entries.now }
+{
+    let mut longest = 1;
+    for at in 0..entries.len() {
+        longest = longer(longest, entries.key(at));
+    }
+    longest
 }

@@ -1,6 +1,6 @@
 ghost use Rattle.std.specs.Prelude.{◌≡◌, ◌≤◌, length};
 
-use crate::entry::Entry;
+use crate::flat::Span;
 use arrayvec::ArrayVec;
 use std::marker::Model;
 use uca_weights::{Element, MAX_KEY};
@@ -8,24 +8,24 @@ use uca_weights::{Element, MAX_KEY};
 /// The entries of a table by key order: each key with its elements.
 #[derive(Debug, Drop)]
 pub struct Entries<'t> {
-    pub(crate) rest: &'t [Entry],
+    pub(crate) rest: Span<'t>,
 }
 
 impl<'t> Model for Entries<'t> {
-    ghost use Rattle.std.specs.Prelude.{ℕ, List, map};
+    ghost use Rattle.std.specs.Prelude.{ℕ, List};
     ghost use Rattle.std.specs.List.{AllByRecursion};
     ghost use Rattle.uca_weights.specs.declared.element.Element.{Element};
     ghost use Rattle.uca_model.specs.Table.{IsEntry};
-    ghost use Rattle.uca_table.specs.Stored.{pair_of};
+    ghost use Rattle.uca_table.specs.Span.{entries_in};
     ghost use Rattle.uca_table.specs.Coded.{coded_entries};
 
     ghost Value = { List (List ℕ × List Element) };
 
     ghost coded = { coded_entries };
 
-    ghost view = { λ e. map pair_of e.rest.now };
+    ghost view = { λ e. entries_in e.rest };
 
-    ghost invariant = { λ e. AllByRecursion IsEntry (map pair_of e.rest.now) };
+    ghost invariant = { λ e. AllByRecursion IsEntry (entries_in e.rest) };
 }
 
 impl<'t> Iterator for Entries<'t> {
@@ -39,10 +39,13 @@ impl<'t> Iterator for Entries<'t> {
     ghost remaining = { item_count (λ s. s) };
 
     fn next(&mut self) -> Option<(ArrayVec<char, MAX_KEY>, &'t [Element])> {
-        let (first, others) = self.rest.split_first()?;
-        let key = key_in_place(first.key.as_slice());
-        self.rest = others;
-        Some((key, first.elements.as_slice()))
+        if self.rest.is_empty() {
+            return None;
+        }
+        let key = key_in_place(self.rest.key(0));
+        let elements = self.rest.elements(0);
+        self.rest = self.rest.part(1, self.rest.len());
+        Some((key, elements))
     }
 }
 

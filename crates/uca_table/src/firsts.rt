@@ -4,10 +4,10 @@ ghost use Rattle.std.specs.List.Sorted.{IsNonDecreasingBy, IsPartitionPoint};
 ghost use Rattle.uca_model.specs.Table.{key_cmp};
 ghost use Rattle.uca_table.specs.Firsts.{HoldsFirsts};
 ghost use Rattle.uca_table.specs.Fronts.{code_at};
-ghost use Rattle.uca_table.specs.Stored.{pair_of};
+ghost use Rattle.uca_table.specs.Span.{entries_in};
 
-use crate::entry::Entry;
-use crate::walk::{code_at, having};
+use crate::flat::Span;
+use crate::span::code_at;
 use std::alloc::{AllocError, Global};
 
 /// Code points below this one have a place in the index.
@@ -21,15 +21,15 @@ pub(crate) struct Firsts {
 }
 
 // How many entries have keys that begin below a code point, where the first `from` do.
-fn advanced(entries: &[Entry], from: usize, code: u32) -> usize
-    requires rising { IsNonDecreasingBy (λ e. code_at 0 e.key.items) entries.now }
-    requires within { from ≤ length entries.now }
-    requires below { (k : ℕ) (d : _) → k < from → nat_lt (code_at 0 (get_or entries.now k d).key.items) code ≡ true }
-    ensures point { IsPartitionPoint (λ e. nat_lt (code_at 0 e.key.items) code ≡ true) (λ e. nat_lt (code_at 0 e.key.items) code ≡ false) entries.now result }
-    ensures within { result ≤ length entries.now }
+fn advanced(entries: &Span<'_>, from: usize, code: u32) -> usize
+    requires rising { IsNonDecreasingBy (λ e. code_at 0 e.0) (entries_in entries.now) }
+    requires within { from ≤ length (entries_in entries.now) }
+    requires below { (k : ℕ) (d : _) → k < from → nat_lt (code_at 0 (get_or (entries_in entries.now) k d).0) code ≡ true }
+    ensures point { IsPartitionPoint (λ e. nat_lt (code_at 0 e.0) code ≡ true) (λ e. nat_lt (code_at 0 e.0) code ≡ false) (entries_in entries.now) result }
+    ensures within { result ≤ length (entries_in entries.now) }
 {
     for at in from..entries.len() {
-        if code_at(entries[at].key.as_slice(), 0) >= code {
+        if code_at(entries.key(at), 0) >= code {
             return at;
         }
     }
@@ -46,21 +46,11 @@ fn small(n: usize) -> Option<u32>
     }
 }
 
-// Some entries that stand side by side.
-fn part(entries: &[Entry], from: usize, to: usize) -> &[Entry]
-    requires ordered { from ≤ to }
-    requires within { to ≤ length entries.now }
-    ensures { result.now ≡ take (to - from) (drop from entries.now) }
-{
-    let rest = &entries[from..];
-    &rest[..to - from]
-}
-
 impl Firsts {
     /// Those of entries in their order.
-    pub(crate) fn new(alloc: Global, entries: &[Entry]) -> Result<Firsts, AllocError>
-        requires { IsNonDecreasingBy (λ e. code_at 0 e.key.items) entries.now }
-        ensures { IfOk result (HoldsFirsts entries.now) }
+    pub(crate) fn new(alloc: Global, entries: &Span<'_>) -> Result<Firsts, AllocError>
+        requires { IsNonDecreasingBy (λ e. code_at 0 e.0) (entries_in entries.now) }
+        ensures { IfOk result (HoldsFirsts (entries_in entries.now)) }
     {
         let mut starts = Vec::with_capacity(alloc, LIMIT as usize + 1)?;
         let mut at = 0;
@@ -84,9 +74,9 @@ impl Firsts {
     }
 
     /// Those of entries in their order, or none where memory is refused.
-    pub(crate) fn of(alloc: Global, entries: &[Entry]) -> Firsts
-        requires { IsNonDecreasingBy (λ e. code_at 0 e.key.items) entries.now }
-        ensures { HoldsFirsts entries.now result }
+    pub(crate) fn of(alloc: Global, entries: &Span<'_>) -> Firsts
+        requires { IsNonDecreasingBy (λ e. code_at 0 e.0) (entries_in entries.now) }
+        ensures { HoldsFirsts (entries_in entries.now) result }
     {
         match Firsts::new(alloc, entries) {
             Ok(firsts) => firsts,
@@ -102,17 +92,17 @@ impl Firsts {
     }
 
     /// The entries whose keys begin with a code point.
-    pub(crate) fn beginning_with<'e>(&self, entries: &'e [Entry], c: char) -> &'e [Entry]
-        requires firsts { HoldsFirsts entries.now self.now }
-        requires rising { IsNonDecreasingBy (λ e. code_at 0 e.key.items) entries.now }
-        ensures { map pair_of result.now ≡ where_key key_cmp (λ k. code_at 0 k == c + 1) (map pair_of entries.now) }
+    pub(crate) fn beginning_with<'e>(&self, entries: &Span<'e>, c: char) -> Span<'e>
+        requires firsts { HoldsFirsts (entries_in entries.now) self.now }
+        requires rising { IsNonDecreasingBy (λ e. code_at 0 e.0) (entries_in entries.now) }
+        ensures { entries_in result ≡ where_key key_cmp (λ k. code_at 0 k == c + 1) (entries_in entries.now) }
     {
         let Some(from) = self.starts.get(c as usize) else {
-            return having(entries, 0, c);
+            return entries.having(0, c);
         };
         let Some(to) = self.starts.get(c as usize + 1) else {
-            return having(entries, 0, c);
+            return entries.having(0, c);
         };
-        part(entries, *from as usize, *to as usize)
+        entries.part(*from as usize, *to as usize)
     }
 }

@@ -1,11 +1,12 @@
-ghost use Rattle.std.specs.Prelude.{◌≡◌, ◌≤◌, ◌<◌, ◌^◌, ◌∷◌, [], false, length, map, All, option_copied, IfSome, IfOk, OnOk, OnErr};
+ghost use Rattle.std.specs.Prelude.{◌≡◌, ◌≤◌, ◌<◌, ◌^◌, ◌∷◌, [], false, length, All, option_copied, IfSome, IfOk, OnOk, OnErr};
 
 use crate::builder::{read_elements, read_key};
 use crate::entries::Entries;
-use crate::entry::{Entry, copies, elements_of, lacks_room, make_room_in_entries, put};
 use crate::firsts::Firsts;
+use crate::flat::{Flat, Span};
 use crate::implicit_weights;
 use crate::ranges::Ranges;
+use crate::search::{elements_of, put};
 use crate::walk::Walk;
 use std::alloc::{AllocError, Global};
 use std::marker::Model;
@@ -15,7 +16,7 @@ use uca_weights::{Element, Range};
 #[derive(Debug, Drop)]
 pub struct Stored {
     // By key order.
-    pub(crate) entries: Vec<Entry>,
+    pub(crate) entries: Flat,
     pub(crate) ranges: Ranges,
     pub(crate) longest_key: usize,
     // Where the entries begin with a code point; none since the last change of the table.
@@ -23,9 +24,9 @@ pub struct Stored {
 }
 
 impl Model for Stored {
-    ghost use Rattle.std.specs.Prelude.{◌≡◌, map};
+    ghost use Rattle.std.specs.Prelude.{◌≡◌};
     ghost use Rattle.uca_model.specs.Table.{ElementTable};
-    ghost use Rattle.uca_table.specs.Stored.{AreStored, pair_of, table_of, longest_of};
+    ghost use Rattle.uca_table.specs.Stored.{AreStored, table_of, longest_of};
     ghost use Rattle.uca_table.specs.Coded.{coded_table};
     ghost use Rattle.uca_table.specs.Firsts.{HoldsFirsts};
 
@@ -33,9 +34,9 @@ impl Model for Stored {
 
     ghost coded = { coded_table };
 
-    ghost view = { λ t. table_of (map pair_of t.entries.items) t.ranges };
+    ghost view = { λ t. table_of t.entries t.ranges };
 
-    ghost invariant = { λ t. AreStored (map pair_of t.entries.items) t.ranges × (t.longest_key ≡ longest_of (map pair_of t.entries.items)) × HoldsFirsts t.entries.items t.firsts };
+    ghost invariant = { λ t. AreStored t.entries t.ranges × (t.longest_key ≡ longest_of t.entries) × HoldsFirsts t.entries t.firsts };
 }
 
 impl Stored {
@@ -47,7 +48,7 @@ impl Stored {
     ghost use Rattle.std.specs.FinMap.{entries, values};
     ghost use Rattle.uca_model.specs.Ranges.{AreByFirst};
     ghost use Rattle.uca_table.specs.Fronts.{entries_from};
-    ghost use Rattle.uca_table.specs.Stored.{pair_of};
+    ghost use Rattle.uca_table.specs.Span.{entries_in};
     ghost use Rattle.uca_table.specs.Walk.{path_of, table_of_walk};
 
     /// The collation elements of a key, 1 to `MAX_ELEMENTS` of them (UTS #10, section 3). `None`: it is no key.
@@ -61,24 +62,24 @@ impl Stored {
     }
 
     /// The entries by key order, where they lie.
-    fn in_order(&self) -> &[Entry]
-        ensures { map pair_of result.now ≡ entries self.now.entries }
+    fn in_order(&self) -> Span<'_>
+        ensures { entries_in result ≡ entries self.now.entries }
     {
-        self.entries.as_slice()
+        Span::all(&self.entries)
     }
 
     /// The entries whose keys begin with a code point.
-    pub(crate) fn beginning_with(&self, c: char) -> &[Entry]
-        ensures { map pair_of result.now ≡ entries_from self.now (c ∷ []) }
+    pub(crate) fn beginning_with(&self, c: char) -> Span<'_>
+        ensures { entries_in result ≡ entries_from self.now (c ∷ []) }
     {
-        self.firsts.beginning_with(self.entries.as_slice(), c)
+        self.firsts.beginning_with(&Span::all(&self.entries), c)
     }
 
     /// Makes anew what a first step uses, which `put` and `make_room` drop and a copy has not.
     pub(crate) fn prepare(&mut self, alloc: Global) -> Result<(), AllocError>
         ensures { self.new ≡ self.old }
     {
-        self.firsts = Firsts::new(alloc, self.entries.as_slice())?;
+        self.firsts = Firsts::new(alloc, &Span::all(&self.entries))?;
         Ok(())
     }
 
@@ -87,7 +88,7 @@ impl Stored {
         ensures table { table_of_walk result ≡ self.now }
         ensures path { path_of result ≡ [] }
     {
-        Walk::new(self, self.in_order())
+        Walk::new(self, &self.in_order())
     }
 
     /// The length of the longest key in code points, or 1 where there is no key.
@@ -112,8 +113,9 @@ impl Stored {
         ensures value { result ≡ entries self.now.entries }
         ensures few { length (entries self.now.entries) < 2 ^ 64 }
     {
+        let _count = self.entries.len();
         Entries {
-            rest: self.entries.as_slice(),
+            rest: Span::all(&self.entries),
         }
     }
 
@@ -121,7 +123,7 @@ impl Stored {
     pub fn try_clone(&self, alloc: Global) -> Result<Stored, AllocError>
         ensures { IfOk result (λ t. t ≡ self.now) }
     {
-        let entries = copies(alloc, &self.entries)?;
+        let entries = self.entries.try_clone(alloc)?;
         let ranges = self.ranges.try_clone(alloc)?;
         Ok(Stored {
             entries,
@@ -149,7 +151,7 @@ impl Stored {
         self.firsts.clear();
         read_key(key);
         read_elements(elements);
-        put(alloc, &mut self.entries, key, elements)?;
+        put(&mut self.entries, key, elements)?;
         self.longest_key = self.longest_key.max(key.len());
         Ok(())
     }
@@ -160,7 +162,7 @@ impl Stored {
         requires last { level ≤ 3 }
         ensures { result ≡ list_any (list_any (has_no_room level w)) (values self.now.entries) }
     {
-        lacks_room(level, w, &self.entries)
+        self.entries.lacks_room(level, w)
     }
 
     /// Makes room above `w` at a level, 1 to 3: all weights of the entries above it go up by one, but at level 1 not the
@@ -172,7 +174,7 @@ impl Stored {
         ensures { self.new ≡ table_with_room level w self.old }
     {
         self.firsts.clear();
-        make_room_in_entries(level, w, &mut self.entries);
+        self.entries.make_room(level, w);
     }
 
     /// The ranges of implicit weights by their first code points.

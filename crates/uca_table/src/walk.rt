@@ -1,13 +1,11 @@
-ghost use Rattle.std.specs.Prelude.{◌≡◌, ◌+◌, ◌==◌, ◌++◌, ◌∷◌, [], ◌<◌, ◌≤◌, true, false, cond, map, length, nat_lt, All, option_copied, IfSome};
+ghost use Rattle.std.specs.Prelude.{◌≡◌, ◌++◌, ◌∷◌, [], ◌<◌, ◌≤◌, cond, length, All, option_copied, IfSome};
 ghost use Rattle.std.specs.Coded.{Coded-set};
-ghost use Rattle.std.specs.FinMap.Entries.{where_key};
-ghost use Rattle.std.specs.List.Sorted.{IsNonDecreasingBy, IsPartitionPoint};
-ghost use Rattle.uca_model.specs.Table.{IsTable, key_cmp};
+ghost use Rattle.uca_model.specs.Table.{IsTable};
 ghost use Rattle.uca_table.specs.Coded.{coded_entries};
-ghost use Rattle.uca_table.specs.Fronts.{begins_key, code_at, entries_from, first_path};
-ghost use Rattle.uca_table.specs.Stored.{pair_of};
+ghost use Rattle.uca_table.specs.Fronts.{begins_key, entries_from, first_path};
+ghost use Rattle.uca_table.specs.Span.{entries_in};
 
-use crate::entry::Entry;
+use crate::flat::Span;
 use crate::stored::Stored;
 use uca_weights::Element;
 
@@ -17,40 +15,11 @@ use uca_weights::Element;
 pub struct Walk<'t> {
     table: &'t Stored,
     // The entries whose keys begin with the path. They stand side by side.
-    reached: &'t [Entry],
+    reached: Span<'t>,
     // The length of the path.
     depth: usize,
-    ghost long: { length (first_path (map pair_of reached.now) depth) ≡ depth },
-    ghost all: { map pair_of reached.now ≡ entries_from table.now (first_path (map pair_of reached.now) depth) } by { Coded-set coded_entries _ _ },
-}
-
-/// The code point at a place of a key and one, or 0 where the key ends before.
-pub(crate) fn code_at(key: &[char], place: usize) -> u32
-    ensures { result ≡ code_at place key.now }
-{
-    match key.get(place) {
-        Some(c) => *c as u32 + 1,
-        None => 0,
-    }
-}
-
-/// How many entries have less at a place of their keys. They come first.
-fn count_below(entries: &[Entry], place: usize, code: u32) -> usize
-    requires { IsNonDecreasingBy (λ e. code_at place e.key.items) entries.now }
-    ensures point { IsPartitionPoint (λ e. nat_lt (code_at place e.key.items) code ≡ true) (λ e. nat_lt (code_at place e.key.items) code ≡ false) entries.now result }
-    ensures within { result ≤ length entries.now }
-{
-    entries.partition_point(|entry| code_at(entry.key.as_slice(), place) < code)
-}
-
-/// The entries with a code point at a place of their keys.
-pub(crate) fn having(entries: &[Entry], place: usize, c: char) -> &[Entry]
-    requires { IsNonDecreasingBy (λ e. code_at place e.key.items) entries.now }
-    ensures { map pair_of result.now ≡ where_key key_cmp (λ k. code_at place k == c + 1) (map pair_of entries.now) }
-{
-    let code = c as u32 + 1;
-    let rest = &entries[count_below(entries, place, code)..];
-    &rest[..count_below(rest, place, code + 1)]
+    ghost long: { length (first_path (entries_in reached) depth) ≡ depth },
+    ghost all: { entries_in reached ≡ entries_from table.now (first_path (entries_in reached) depth) } by { Coded-set coded_entries _ _ },
 }
 
 /// Shows that the keys and the elements of a table are within its limits.
@@ -66,26 +35,26 @@ impl<'t> Walk<'t> {
     ghost use Rattle.uca_table.specs.Walk.{path_of, table_of_walk};
 
     /// A walk that was not stepped yet.
-    pub(crate) fn new(table: &'t Stored, entries: &'t [Entry]) -> Walk<'t>
-        requires { map pair_of entries.now ≡ entries_from table.now [] }
+    pub(crate) fn new(table: &'t Stored, entries: &Span<'t>) -> Walk<'t>
+        requires { entries_in entries.now ≡ entries_from table.now [] }
         ensures table { table_of_walk result ≡ table.now }
         ensures path { path_of result ≡ [] }
     {
         Walk {
             table,
-            reached: entries,
+            reached: *entries,
             depth: 0,
         }
     }
 
     /// The entries whose keys begin with the path and one more code point.
-    fn entries_beyond(&self, c: char) -> &'t [Entry]
-        ensures { map pair_of result.now ≡ entries_from (table_of_walk self.now) (path_of self.now ++ c ∷ []) }
+    fn entries_beyond(&self, c: char) -> Span<'t>
+        ensures { entries_in result ≡ entries_from (table_of_walk self.now) (path_of self.now ++ c ∷ []) }
     {
         if self.depth == 0 {
             return self.table.beginning_with(c);
         }
-        having(self.reached, self.depth, c)
+        self.reached.having(self.depth, c)
     }
 
     /// Whether some key begins with the path and one more code point, or is they. If so they are the new path, and else
@@ -122,11 +91,13 @@ impl<'t> Walk<'t> {
         ensures few { IfSome result (λ es. length es.now ≤ MAX_ELEMENTS) }
         ensures elements { IfSome result (λ es. All IsElement es.now) }
     {
-        let first = self.reached.first()?;
-        if first.key.as_slice().len() != self.depth {
+        if self.reached.is_empty() {
+            return None;
+        }
+        if self.reached.key(0).len() != self.depth {
             return None;
         }
         read_table(self.table);
-        Some(first.elements.as_slice())
+        Some(self.reached.elements(0))
     }
 }

@@ -1,4 +1,4 @@
-use Rattle.std.proofs.Common.{rules, ◌≡◌, ◌||◌, ◌<◌, ℕ, true, [], get_or, length, ap, sym, ◌∙◌}
+use Rattle.std.proofs.Common.{◌≡◌, ◌||◌, true, [], get_or, ap, sym, ◌∙◌}
 use Rattle.std.specs.List.{list_any}
 use Rattle.uca_model.specs.StandAlone.{begins, leads, continues, is_first, is_longer_from, is_inside}
 use Rattle.uca_table.proofs.CellLemmas.{flag-done}

@@ -2,7 +2,6 @@ use Rattle.std.proofs.Common.{◌≡◌, ◌+◌, ◌++◌, ◌∷◌, [], ◌&&
 use Rattle.std.proofs.lemmas.List.{get_or_read}
 use Rattle.unicode.specs.CanonicalCombiningClass.{canonical_combining_class}
 use Rattle.uca_model.specs.Table.{is_key}
-use Rattle.uca_table.specs.Running.{brought_forward}
 use Rattle.uca_table.specs.Walk.{path_of, table_of_walk}
 use Rattle.uca_table.proofs.MovedForward.{brought-front}
 use Rattle.uca_table.proofs.MatchLemmas.{IsExtending-takes, IsExtending-passes, IsExtending-stops, IsExtending-ends, IsExtending-as}

@@ -1,4 +1,4 @@
-use Rattle.std.proofs.Common.{◌≡◌, ℕ, ◌<◌, ◌≤◌, ◌++◌, drop, length, get_or, ap, ◌∙◌, subst, arith}
+use Rattle.std.proofs.Common.{◌≡◌, ℕ, ◌≤◌, ◌++◌, drop, get_or, ap, ◌∙◌, subst, arith}
 use Rattle.std.proofs.lemmas.List.{get_or_read}
 use Rattle.unicode_normalization.specs.Forms.{nfd}
 use Rattle.uca_model.specs.CollationElements.{elements}

@@ -1,4 +1,4 @@
-use Rattle.std.proofs.Common.{◌≡◌, ℕ, ◌<◌, ◌≤◌, length, get_or, arith}
+use Rattle.std.proofs.Common.{◌≤◌, length, get_or, arith}
 use Rattle.uca_model.specs.StandAlone.{joining}
 use Rattle.uca_table.proofs.CellLemmas.{run-apart}
 use Rattle.uca_table.proofs.cells.Cells.run_len.Goals as goal

@@ -1,22 +1,21 @@
-use Rattle.std.proofs.Common.{◌≡◌, ◌+◌, ◌==◌, [], T, List, map, sym, ap, subst, ◌∙◌}
+use Rattle.std.proofs.Common.{◌+◌, ◌==◌, [], T, sym, ap, subst, ◌∙◌}
 use Rattle.std.specs.FinMap.{entries, entries-from_sorted, is_sorted}
 use Rattle.std.specs.FinMap.Entries.{where_key}
 use Rattle.uca_model.specs.Table.{ElementTable, key_cmp}
-use Rattle.uca_table.specs.declared.entry.Entry.{Entry}
 use Rattle.uca_table.specs.Firsts.{HoldsFirsts}
-use Rattle.uca_table.specs.Fronts.{code_at, entries_from}
-use Rattle.uca_table.specs.Stored.{pair_of}
+use Rattle.uca_table.specs.Fronts.{code_at}
+use Rattle.uca_table.specs.Span.{entries_in}
 use Rattle.uca_table.proofs.FrontLemmas.{entries_from-more, entries_from-none}
 use Rattle.uca_table.proofs.FirstsLemmas.{firsts_rise}
 use Rattle.uca_table.proofs.stored.Stored.beginning_with.Goals as goal
 
 pub beginning_with-requires-clause-firsts : goal.beginning_with-requires-clause-firsts
-beginning_with-requires-clause-firsts c = subst (λ es. HoldsFirsts es c.self.inside.firsts) (sym c.as_slice.ensures.value) c.self.invariant.2
+beginning_with-requires-clause-firsts c = subst (λ es. HoldsFirsts es c.self.inside.firsts) (sym c.all.ensures) c.self.invariant.2
 
 pub beginning_with-requires-clause-rising : goal.beginning_with-requires-clause-rising
-beginning_with-requires-clause-rising c = firsts_rise c.as_slice.result.now (subst (λ (es : List Entry). T (is_sorted key_cmp (map pair_of es))) (sym c.as_slice.ensures.value) c.self.invariant.0.sorted)
+beginning_with-requires-clause-rising c = firsts_rise (entries_in c.all.result) (subst (λ es. T (is_sorted key_cmp es)) (sym c.all.ensures) c.self.invariant.0.sorted)
 
 pub returns : goal.returns
 returns c =
-    let same = ap (map pair_of) c.as_slice.ensures.value ∙ sym (entries-from_sorted key_cmp (map pair_of c.self.inside.entries.items) c.self.invariant.0.sorted) ∙ ap (λ (t : ElementTable). entries t.entries) c.self.view_is in
+    let same = c.all.ensures ∙ sym (entries-from_sorted key_cmp c.self.inside.entries c.self.invariant.0.sorted) ∙ ap (λ (t : ElementTable). entries t.entries) c.self.view_is in
     c.beginning_with.ensures ∙ ap (where_key key_cmp (λ k. code_at 0 k == c.args.c + 1)) (same ∙ sym (entries_from-none c.args.self.now)) ∙ sym (entries_from-more c.args.self.now [] c.args.c)
