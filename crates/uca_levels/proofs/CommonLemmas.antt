@@ -1,6 +1,6 @@
 -- Two texts in step: what one more character, the weight of one more element and the first difference do.
-use Rattle.std.proofs.Common.{◌⊎◌, ◌≡◌, ℕ, zero, suc, ◌+◌, ◌-◌, ◌<◌, ◌≤◌, Bool, true, false, cond, not, ◌&&◌, ◌==◌, nat_lt, nat_eq, List, [], ◌∷◌, ◌++◌, length, drop, slice_index, get_or, Option, Some, None, MatchOption, unwrap_or, refl, sym, ap, ap₂, subst, ◌∙◌, arith, inl, inr, append_assoc, append-nil, length-append, ltb-false, ne_eqb, eqb-true}
-use Rattle.std.proofs.lemmas.Bool.{cases_Bool, cond-true, cond-false}
+use Rattle.std.proofs.Common.{◌⊎◌, ◌≡◌, ℕ, suc, ◌+◌, ◌-◌, ◌<◌, ◌≤◌, Bool, true, false, cond, not, ◌&&◌, ◌==◌, nat_lt, nat_eq, List, [], ◌∷◌, ◌++◌, length, drop, slice_index, get_or, Option, Some, None, MatchOption, unwrap_or, refl, sym, ap, ap₂, subst, ◌∙◌, arith, inl, inr, append_assoc, length-append, ltb-false, ne_eqb}
+use Rattle.std.proofs.lemmas.Bool.{cond-true, cond-false}
 use Rattle.std.specs.Option.{option_map_or}
 use Rattle.uca_weights.specs.declared.element.Element.{Element}
 use Rattle.unicode_normalization.specs.Decompose.{decompose_canonical}
@@ -10,19 +10,19 @@ use Rattle.uca_weights.specs.declared.range.Range.{Range}
 use Rattle.uca_model.specs.ImplicitWeights.{implicit_over, is_assigned, in_range, range_of, in_two_parts, two_parts_base}
 use Rattle.uca_model.proofs.TableLemmas.{IsEntry-elements_at}
 use Rattle.uca_model.specs.CollationElements.{elements_or_implicit}
-use Rattle.uca_model.specs.SafeCut.{is_safe_starter, begins_apart, is_cut, last_cut, cut_of, common_front}
+use Rattle.uca_model.specs.SafeCut.{is_safe_starter, begins_apart, is_cut, last_cut, cut_of}
 use Rattle.uca_model.specs.SafeText.{IsSafe}
 use Rattle.uca_weights.specs.declared.settings.Variable.{Variable}
 use Rattle.uca_model.specs.Source.{SourceState, unread, GivesNext, marked}
-use Rattle.uca_model.specs.Window.{WindowState, empty_window, Fits, ReadsOn, credit, is_wanting, after_read}
+use Rattle.uca_model.specs.Window.{WindowState, empty_window, ReadsOn, credit, is_wanting}
 use Rattle.uca_model.proofs.LongestKey.{longest-some}
 use Rattle.uca_model.proofs.SafeCutLemmas.{is_cut-parts, DiffersFirst, common_front-is, last_cut-more}
 use Rattle.uca_match.specs.Yields.{Yields}
 use Rattle.uca_match.specs.RemainingElements.{ElementsState, is_asking, yielded_held, after_held, first_of, elements_held, window_held}
-use Rattle.uca_match.specs.WindowMatch.{key_held, after_match}
+use Rattle.uca_match.specs.WindowMatch.{key_held}
 use Rattle.uca_levels.specs.RemainingWeights.{WeightsState, new_weights, remaining_with_zeros, window_of_weights, weight_given, weigher_given, read_weights, WeighsHeld}
 use Rattle.uca_levels.specs.Reads.{InStep, ReadsUp}
-use Rattle.uca_levels.specs.InCommon.{AreMarked, PassUnderWay, InCommon, Parted, ReadsOnce, work_left}
+use Rattle.uca_levels.specs.InCommon.{PassUnderWay, InCommon, Parted, ReadsOnce, work_left}
 use Rattle.uca_levels.proofs.ReadsLemmas.{InStep-start, InStep-more, given_some}
 
 pub UnderWay-more : (was before now : SourceState) (w new : WindowState) → PassUnderWay was w before → ReadsOn w before new now → PassUnderWay was new now

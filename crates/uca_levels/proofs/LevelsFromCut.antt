@@ -1,9 +1,8 @@
 -- Later levels that begin at the cut: what they decide, and how often the texts are read.
-use Rattle.std.proofs.Common.{◌⊎◌, ◌≡◌, ℕ, zero, suc, ◌+◌, ◌-◌, ◌*◌, ◌<◌, ◌≤◌, Bool, true, false, cond, not, ◌==◌, List, [], ◌∷◌, ◌++◌, length, take, drop, filter, refl, sym, ap, ap₂, subst, ◌∙◌, arith, inl, inr, append_assoc, length-append}
+use Rattle.std.proofs.Common.{◌≡◌, ℕ, zero, suc, ◌+◌, ◌-◌, ◌*◌, ◌≤◌, Bool, true, false, not, ◌==◌, List, ◌∷◌, ◌++◌, length, take, drop, filter, refl, sym, ap, ap₂, subst, ◌∙◌, arith, inl, inr, append_assoc, length-append}
 use Rattle.std.proofs.lemmas.List.{length-drop, take-append-drop}
-use Rattle.std.proofs.lemmas.Bool.{cases_lt, cond-true, cond-false}
 use Rattle.std.proofs.lemmas.List.Elements.{filter-append}
-use Rattle.std.proofs.Math.Seq.{take-append_seam, drop-append_seam}
+use Rattle.std.proofs.Math.Seq.{drop-append_seam}
 use Rattle.std.specs.declared.cmp.Ordering.{Ordering}
 use Rattle.std.specs.declared.cmp.Ordering.TheVariants.{Equal}
 use Rattle.uca_weights.specs.declared.settings.Settings.{Settings}
@@ -11,13 +10,13 @@ use Rattle.uca_weights.specs.declared.settings.Variable.{Variable}
 use Rattle.uca_weights.specs.Settings.{levels}
 use Rattle.uca_model.specs.LevelWeights.{level_list}
 use Rattle.uca_model.specs.DecidingLevel.{OrdersLevel, key_from, deciding_from, deciding_level}
-use Rattle.uca_model.specs.SafeCut.{last_cut, cut_of, common_front}
+use Rattle.uca_model.specs.SafeCut.{cut_of, common_front}
 use Rattle.uca_model.specs.SafeText.{IsSafe}
 use Rattle.uca_model.specs.SortKey.{key_order, sort_key}
-use Rattle.uca_model.specs.Source.{SourceState, unread, restarted, rewound}
+use Rattle.uca_model.specs.Source.{SourceState, unread, restarted}
 use Rattle.uca_model.specs.Table.{ElementTable, IsTable}
 use Rattle.uca_model.proofs.LevelLemmas.{OrdersLevel-front, sort_key-levels, levels-within, key_from-here, key_from-last, key_from-next, deciding-here, deciding-last, deciding-next}
-use Rattle.uca_model.proofs.SafeCutLemmas.{InFront, common_front-first, EndsAtCut, ends_at_cut, IsSafe-back, texts-cut}
+use Rattle.uca_model.proofs.SafeCutLemmas.{common_front-first, EndsAtCut, ends_at_cut, IsSafe-back, texts-cut}
 use Rattle.uca_levels.specs.InCommon.{AreMarked, Parted, ReadsOnce}
 use Rattle.uca_levels.specs.RemainingWeights.{WeightsState, remaining_with_zeros, remaining_weights, new_weights}
 use Rattle.uca_levels.specs.Reads.{InStep, ReadsRest, ReadsTimes}

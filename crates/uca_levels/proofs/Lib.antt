@@ -2,3 +2,5 @@ pub mod ReadsLemmas
 pub mod PointLemmas
 pub mod CommonLemmas
 pub mod LevelsFromCut
+pub mod WithoutFront
+pub mod TextLemmas

@@ -1,5 +1,5 @@
 -- The first closed point of a window is the next code point of its text.
-use Rattle.std.proofs.Common.{◌≡◌, ℕ, ◌-◌, ◌<◌, List, [], ◌∷◌, length, take, drop, get_or, Some, refl, sym, ap, ◌∙◌, arith, get_or-take}
+use Rattle.std.proofs.Common.{◌≡◌, ℕ, ◌-◌, ◌<◌, List, [], ◌∷◌, length, drop, get_or, Some, sym, ap, ◌∙◌, arith, get_or-take}
 use Rattle.uca_model.specs.Source.{SourceState, unread}
 use Rattle.uca_model.specs.Window.{WindowState, IsWindow, rest_of, ChangesRest, ReadsOn, ShowsFront}
 use Rattle.uca_match.specs.Yields.{Yields}

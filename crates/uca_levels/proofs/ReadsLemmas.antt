@@ -1,5 +1,5 @@
 -- Remaining weights, how often texts are read, and texts that are read in step.
-use Rattle.std.proofs.Common.{◌≡◌, ℕ, ◌+◌, ◌-◌, ◌≤◌, true, false, not, ◌==◌, List, [], ◌∷◌, ◌++◌, length, filter, Option, Some, None, IfSome, refl, sym, ap, subst, ◌∙◌, arith, append_assoc, eq-eqb, ne_eqb}
+use Rattle.std.proofs.Common.{◌≡◌, ℕ, ◌≤◌, true, false, not, ◌==◌, List, [], ◌∷◌, ◌++◌, filter, Option, Some, None, IfSome, refl, sym, ap, subst, ◌∙◌, arith, append_assoc, eq-eqb, ne_eqb}
 use Rattle.std.proofs.lemmas.Bool.{cond-true, cond-false}
 use Rattle.std.specs.declared.cmp.Ordering.{Ordering}
 use Rattle.std.specs.declared.cmp.Ordering.TheVariants.{Less, Equal, Greater}
@@ -17,7 +17,7 @@ use Rattle.uca_model.specs.Window.{WindowState, empty_window, Fits, ReadsOn}
 use Rattle.uca_match.specs.Yields.{Yields, YieldsFirst}
 use Rattle.uca_levels.specs.RemainingWeights.{WeightsState, new_weights, remaining_with_zeros, remaining_weights, window_of_weights}
 use Rattle.uca_weights.proofs.WeighingLemmas.{weighted-from}
-use Rattle.uca_levels.specs.Reads.{ReadsRest, RestUnderWay, InStep}
+use Rattle.uca_levels.specs.Reads.{RestUnderWay, InStep}
 
 -- ---- weights that are not zero
 

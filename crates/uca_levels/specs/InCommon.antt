@@ -1,6 +1,6 @@
 -- Two texts that are read in step while their characters agree, and their marks.
-use Rattle.std.specs.Prelude.{◌≡◌, ℕ, ◌+◌, ◌<◌, ◌≤◌, Bool, true, false, List, ◌++◌, length}
-use Rattle.uca_model.specs.Table.{ElementTable, IsTable, longest}
+use Rattle.std.specs.Prelude.{◌≡◌, ℕ, ◌+◌, ◌≤◌, Bool, true, false, List, ◌++◌, length}
+use Rattle.uca_model.specs.Table.{ElementTable, longest}
 use Rattle.uca_model.specs.SafeCut.{last_cut, cut_of}
 use Rattle.uca_model.specs.Source.{SourceState, unread}
 use Rattle.uca_model.specs.Window.{WindowState, Fits, credit}

@@ -2,3 +2,5 @@ pub mod RemainingWeights
 pub mod Reads
 pub mod InCommon
 pub mod FromCut
+pub mod WithoutFront
+pub mod TextWeights

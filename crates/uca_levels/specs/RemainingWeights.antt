@@ -1,5 +1,5 @@
 -- The weights of a level that remain: those that will be given over a source.
-use Rattle.std.specs.Prelude.{◌≡◌, Bool, false, Option, Some, None, ℕ, ◌-◌, not, ◌==◌, List, [], ◌∷◌, map, filter, slice_index, refl}
+use Rattle.std.specs.Prelude.{◌≡◌, false, Option, Some, None, ℕ, ◌-◌, not, ◌==◌, List, map, filter, slice_index, refl}
 use Rattle.std.specs.Coded.{Coded, code_by, coded×, coded_ℕ}
 use Rattle.uca_weights.specs.declared.element.Element.{Element}
 use Rattle.uca_weights.specs.declared.settings.Variable.{Variable}

@@ -2,7 +2,6 @@ ghost use Rattle.std.specs.Prelude.{◌≡◌};
 ghost use Rattle.uca_model.specs.DecidingLevel.{deciding_level};
 ghost use Rattle.uca_model.specs.SafeText.{IsSafe};
 ghost use Rattle.uca_model.specs.SortKey.{key_order, sort_key};
-ghost use Rattle.uca_window.specs.Passage.{text_of};
 ghost use Rattle.uca_model.specs.SafeCut.{cut_of};
 ghost use Rattle.uca_levels.specs.FromCut.{ReadsFromCut, goes_back};
 ghost use Rattle.uca_levels.specs.Reads.{ReadsTimes};
@@ -12,7 +11,7 @@ use crate::level_order::order_of_level;
 use std::cmp::Ordering;
 use uca_table::Table;
 use uca_weights::Settings;
-use uca_window::{Passage, PassageSource, Source};
+use uca_window::Source;
 
 /// The order of the sort keys of two texts (UTS #10, section 7.4, step S4), wherever their sources stand, and whatever
 /// marks they have. With `d` the first level at which the texts differ, or the last one where they do not, each source
@@ -65,13 +64,4 @@ fn go_back<S: Source>(marked: bool, source: &mut S)
     } else {
         source.restart();
     }
-}
-
-/// The order of the sort keys of two texts (UTS #10, section 7.4, step S4), without their keys. It takes no memory.
-pub fn compare(t: &Table, s: Settings, a: &Passage, b: &Passage) -> Ordering
-    ensures { result ≡ key_order (sort_key t.now s (text_of a.now)) (sort_key t.now s (text_of b.now)) }
-{
-    let mut left = PassageSource::new(a);
-    let mut right = PassageSource::new(b);
-    compare_sources(t, s, &mut left, &mut right)
 }

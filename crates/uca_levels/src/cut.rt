@@ -1,5 +1,6 @@
-ghost use Rattle.std.specs.Prelude.{◌≡◌};
+ghost use Rattle.std.specs.Prelude.{◌≡◌, IsTrue, chars, length, take, ◌≤◌};
 ghost use Rattle.uca_model.specs.SafeCut.{is_cut};
+ghost use Rattle.uca_levels.specs.WithoutFront.{AreWithoutFront, MayFollow};
 
 use uca_table::Table;
 use unicode_normalization::Form;
@@ -15,4 +16,44 @@ pub(crate) fn may_cut(t: &Table, c: char) -> bool
         return false;
     }
     t.safe_starter(points[0])
+}
+
+// Whether a text may be cut before these characters.
+fn may_follow(t: &Table, left: &str) -> bool
+    ensures { IsTrue result → MayFollow t.now (chars left.now) }
+{
+    match left.chars().next() {
+        Some(c) => may_cut(t, c),
+        None => true,
+    }
+}
+
+// How many bytes two texts have in common from their start.
+fn common_len(a: &[u8], b: &[u8]) -> usize
+    ensures { take result a.now ≡ take result b.now }
+{
+    let mut at = 0;
+    while at < a.len() && at < b.len() && a[at] == b[at] {
+        at += 1;
+    }
+    at
+}
+
+/// What is left of two texts from their last common place on at which both may be cut. What stands before it can't
+/// decide their order.
+pub(crate) fn without_front<'t>(t: &Table, a: &'t str, b: &'t str) -> (&'t str, &'t str)
+    ensures { AreWithoutFront t.now (chars a.now) (chars b.now) (chars result.0.now) (chars result.1.now) }
+{
+    let mut at = common_len(a.as_bytes(), b.as_bytes());
+    'back: while at > 0 {
+        if a.is_char_boundary(at) && b.is_char_boundary(at) {
+            let left_a = a.split_at(at).1;
+            let left_b = b.split_at(at).1;
+            if may_follow(t, left_a) && may_follow(t, left_b) {
+                return (left_a, left_b);
+            }
+        }
+        at -= 1;
+    }
+    (a, b)
 }

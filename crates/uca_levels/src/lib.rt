@@ -1,8 +1,9 @@
 //! The order of texts (UTS #10, section 7.4, Compare Sort Keys, step S4), found level by level.
 //!
 //! [`Weights`] gives the weights of one level one by one, and [`Points`] the code points of the fifth. [`compare`] and [`compare_sources`] return the order of two
-//! sort keys without making them: each text is read once for each level up to the first one that decides, and at later
-//! levels only from the safe cut of the two texts on. Nothing here takes memory.
+//! sort keys without making them. For [`compare_sources`] each text is read once for each level up to the first one that decides,
+//! and at later levels only from the safe cut of the two texts on. [`compare`] has both texts in memory: it passes over the bytes
+//! that they begin with, and takes the elements of characters that stand alone without a window. Nothing here takes memory.
 #![tactic(auto)]
 
 mod common_pass;
@@ -10,10 +11,14 @@ pub mod comparison;
 mod cut;
 mod level_order;
 pub mod points;
+mod text_elements;
+pub mod text_order;
+mod text_weights;
 pub mod weights;
 
-pub use comparison::{compare, compare_sources};
+pub use comparison::compare_sources;
 pub use points::Points;
+pub use text_order::compare;
 pub use weights::Weights;
 
 #[cfg(test)]

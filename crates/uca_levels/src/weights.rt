@@ -39,7 +39,7 @@ impl<'t> Model for Weights<'t> {
 }
 
 // The weight at a level.
-fn at_level(weights: &[u16; 4], level: u8) -> u16
+pub(crate) fn at_level(weights: &[u16; 4], level: u8) -> u16
     requires first { 1 ≤ level }
     requires last { level ≤ 4 }
     ensures value { result ≡ slice_index weights.now (level - 1) }

@@ -62,6 +62,18 @@ alone-cell t (c ∷ n ∷ x) es cell some is known bears =
     let fits : joining t n ≤ bearing t c = omega (arith, bears (omega arith), is.bearing) in
     ap (λ l. l ++ elements t (nfd (n ∷ x))) (is.elements known) ∙ sym (apart-alone t c (n ∷ x) (le-leb (joining t n) (bearing t c) fits))
 
+-- the same of a character and the text after it
+pub alone-before : (t : ElementTable) (c : ℕ) (after : List ℕ) (es : List Element) (cell : Cell) → IsCell t es c cell → 0 < cell.count → ((n : ℕ) (x : List ℕ) → after ≡ n ∷ x → joining t n ≤ cell.bearing)
+    → take cell.count (drop cell.start es) ++ elements t (nfd after) ≡ elements t (nfd (c ∷ after))
+alone-before t c [] es cell is known bears = alone-cell t (c ∷ []) es cell (omega arith) is known (λ more. absurd (omega arith))
+alone-before t c (n ∷ x) es cell is known bears = alone-cell t (c ∷ n ∷ x) es cell (omega arith) is known (λ more. bears n x refl)
+
+pub first-same : (x y : ℕ) (xs ys : List ℕ) → x ∷ xs ≡ y ∷ ys → x ≡ y
+first-same x y xs ys e = ap (λ l. get_or l 0 x) e
+
+pub none-same : (xs : List ℕ) (y : ℕ) (ys : List ℕ) → xs ≡ [] → xs ≡ y ∷ ys → ⊥
+none-same xs y ys none e = absurd (omega (arith, ap length (sym none ∙ e)))
+
 pub run-apart : (t : ElementTable) (text : List ℕ) (n : ℕ) → n ≤ length text → (n < length text → joining t (get_or text n 0) ≤ 0) → elements t (nfd (take n text)) ++ elements t (nfd (drop n text)) ≡ elements t (nfd text)
 run-apart t text n within fresh = elim (cases_lt n (length text)) [
   | inl before ↦

@@ -1,4 +1,4 @@
-ghost use Rattle.std.specs.Prelude.{◌≡◌, true, ◌+◌, ◌∷◌, ◌++◌, [], ◌<◌, ◌≤◌, ◌^◌, ℕ, false, not, length, take, drop, slice_index, IfOk, IfSome, OnOk, OnErr, IsTrue, IsFalse};
+ghost use Rattle.std.specs.Prelude.{◌≡◌, true, ◌+◌, ◌∷◌, ◌++◌, [], ◌<◌, ◌≤◌, ◌^◌, ℕ, List, false, not, length, take, drop, chars, slice_index, IfOk, IfSome, OnOk, OnErr, IsTrue, IsFalse};
 ghost use Rattle.std.specs.List.{list_all};
 ghost use Rattle.unicode_normalization.specs.Decompose.{decompose_canonical};
 ghost use Rattle.unicode_normalization.specs.Forms.{nfd};
@@ -326,6 +326,31 @@ impl Cells {
             return None;
         }
         if self.joining_at(text, 1) > cell.bearing {
+            return None;
+        }
+        Some(self.elements_of(cell))
+    }
+
+    // How a text joins what stands before it, at most; not at all where it is empty.
+    fn joining_of_text(&self, text: &str) -> u8
+        ensures { (t : _) → HoldsCells t self.now → (c : ℕ) (later : List ℕ) → chars text.now ≡ c ∷ later → joining t c ≤ result }
+    {
+        match text.chars().next() {
+            Some(c) => self.cell(c).joining,
+            None => 0,
+        }
+    }
+
+    /// The elements of a character before other text, where they stand alone. That text is looked at only where they may not.
+    pub(crate) fn alone_before(&self, t: &Stored, c: char, after: &str) -> Option<&[Element]>
+        requires cells { HoldsCells t.now self.now }
+        ensures { IfSome result (λ es. es.now ++ elements t.now (nfd (chars after.now)) ≡ elements t.now (nfd (c ∷ chars after.now))) }
+    {
+        let cell = self.cell(c);
+        if cell.count == 0 {
+            return None;
+        }
+        if cell.bearing < 2 && self.joining_of_text(after) > cell.bearing {
             return None;
         }
         Some(self.elements_of(cell))

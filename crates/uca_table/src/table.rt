@@ -1,4 +1,4 @@
-ghost use Rattle.std.specs.Prelude.{◌≡◌, ◌≤◌, ◌<◌, ◌^◌, ◌++◌, [], false, length, All, option_copied, IfSome, IfOk, OnOk, OnErr};
+ghost use Rattle.std.specs.Prelude.{◌≡◌, ◌≤◌, ◌<◌, ◌^◌, ◌++◌, ◌∷◌, [], false, length, chars, All, option_copied, IfSome, IfOk, OnOk, OnErr};
 ghost use Rattle.unicode_normalization.specs.Forms.{nfd};
 ghost use Rattle.uca_model.specs.CollationElements.{elements};
 
@@ -189,6 +189,14 @@ impl Table {
         ensures { result.now ≡ self.now }
     {
         &self.stored
+    }
+
+    /// The collation elements of a character before other text, where that text does not change them (UTS #10, section 7.2).
+    /// It takes no memory. `None`: they are not known without a look at more of the text.
+    pub fn alone_before(&self, c: char, after: &str) -> Option<&[Element]>
+        ensures { IfSome result (λ es. es.now ++ elements self.now (nfd (chars after.now)) ≡ elements self.now (nfd (c ∷ chars after.now))) }
+    {
+        self.cells.alone_before(&self.stored, c, after)
     }
 
     /// Appends the collation elements of a text (UTS #10, sections 7.1 and 7.2, steps S1 and S2).

@@ -1,9 +1,9 @@
-use Rattle.std.proofs.Common.{◌≡◌, ℕ, List, true, false, refl, sym, ap, subst, ◌∙◌, arith}
+use Rattle.std.proofs.Common.{ℕ, List, arith}
 use Rattle.uca_model.specs.SafeCut.{cut_of}
-use Rattle.uca_model.specs.Source.{SourceState, unread}
-use Rattle.uca_levels.specs.InCommon.{InCommon, Parted}
+use Rattle.uca_model.specs.Source.{SourceState}
+use Rattle.uca_levels.specs.InCommon.{Parted}
 use Rattle.uca_levels.specs.RemainingWeights.{new_weights, remaining_with_zeros}
-use Rattle.uca_levels.proofs.CommonLemmas.{InCommon-start, ReadsOnce-up}
+use Rattle.uca_levels.proofs.CommonLemmas.{ReadsOnce-up}
 use Rattle.uca_levels.proofs.LevelsFromCut.{Parted-orders, marks-stay}
 use Rattle.uca_levels.proofs.common_pass.first_order.Goals as goal
 

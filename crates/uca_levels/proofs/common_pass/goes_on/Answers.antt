@@ -1,9 +1,9 @@
-use Rattle.std.proofs.Common.{rules, arith, ◌≡◌, ◌<◌, ℕ, true, false, Some, None, Option, inl, inr, refl, sym, ap, subst, ◌∙◌}
-use Rattle.uca_model.specs.Source.{SourceState, unread, marked}
+use Rattle.std.proofs.Common.{rules, arith, ◌≡◌, ◌<◌, true, false, inl, inr, sym, ap, subst, ◌∙◌}
+use Rattle.uca_model.specs.Source.{marked}
 use Rattle.uca_model.specs.SafeCut.{is_cut}
 use Rattle.uca_match.specs.RemainingElements.{is_asking}
 use Rattle.uca_levels.specs.RemainingWeights.{WeightsState}
-use Rattle.uca_levels.specs.InCommon.{InCommon, Parted, work_left}
+use Rattle.uca_levels.specs.InCommon.{InCommon, work_left}
 use Rattle.uca_levels.proofs.CommonLemmas.{ReadsBoth, ReadsBoth-char, work-fewer, common-char, common-cut, common-parts, common-weight}
 use Rattle.uca_levels.proofs.common_pass.goes_on.Goals as goal
 

@@ -1,4 +1,4 @@
-use Rattle.std.proofs.Common.{sym, ◌∙◌, ap}
+use Rattle.std.proofs.Common.{sym, ◌∙◌}
 use Rattle.std.proofs.lemmas.Bool.{eqb-false}
 use Rattle.uca_levels.proofs.CommonLemmas.{cut-first}
 use Rattle.uca_levels.proofs.cut.may_cut.Goals as goal

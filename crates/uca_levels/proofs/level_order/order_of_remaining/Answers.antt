@@ -1,7 +1,5 @@
-use Rattle.std.proofs.Common.{refl, ℕ, ◌<◌, ◌^◌, ap, arith}
+use Rattle.std.proofs.Common.{refl, ℕ, ◌<◌, ◌^◌, arith}
 use Rattle.uca_model.proofs.LevelLemmas.{OrdersLevel-ends, OrdersLevel-shorter, OrdersLevel-longer, OrdersLevel-differ}
-use Rattle.uca_levels.specs.RemainingWeights.{window_of_weights}
-use Rattle.uca_model.specs.Source.{unread}
 use Rattle.uca_levels.proofs.ReadsLemmas.{ReadsOn-none, ReadsOn-more, InStep-start, InStep-more, InStep-orders, given_some, given_none, if_some}
 use Rattle.uca_levels.proofs.level_order.order_of_remaining.Goals as goal
 

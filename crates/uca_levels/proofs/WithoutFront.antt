@@ -1,0 +1,140 @@
+-- Two texts without a common front have the order of the whole texts.
+use Rattle.std.proofs.Common.{◌⊎◌, ◌≡◌, ℕ, zero, suc, ◌-◌, ◌≤◌, ◌==◌, List, [], ◌∷◌, ◌++◌, take, drop, chars, IsUtf8, refl, sym, ap, subst, ◌∙◌, arith, inl, inr, append-nil}
+use Rattle.std.proofs.lemmas.Bool.{cases_Bool, cond-true, cond-false}
+use Rattle.std.proofs.lemmas.List.{take-append-drop}
+use Rattle.std.proofs.lemmas.Str.{chars-append, IsUtf8-take}
+use Rattle.std.specs.Str.{IsCharBoundary}
+use Rattle.std.specs.Ordering.{nat_cmp, ordering_then}
+use Rattle.std.specs.declared.cmp.Ordering.{Ordering}
+use Rattle.std.specs.declared.cmp.Ordering.TheVariants.{Equal}
+use Rattle.unicode_normalization.proofs.OrderLemmas.{canonical_order-nil}
+use Rattle.uca_weights.specs.declared.settings.Settings.{Settings}
+use Rattle.uca_weights.specs.declared.settings.Variable.{Variable}
+use Rattle.uca_weights.specs.VariableWeighting.{weighted}
+use Rattle.uca_model.specs.Table.{ElementTable, IsTable}
+use Rattle.uca_model.specs.LevelWeights.{level_weights, level_list}
+use Rattle.uca_model.specs.DecidingLevel.{OrdersLevel}
+use Rattle.uca_model.specs.SafeText.{IsSafe}
+use Rattle.uca_model.specs.SortKey.{key_order, sort_key}
+use Rattle.uca_model.proofs.LevelLemmas.{OrdersLevel-front}
+use Rattle.uca_model.proofs.SafeLemmas.{nfd-is, safe_none}
+use Rattle.uca_model.proofs.StandAloneLemmas.{elements_none}
+use Rattle.uca_model.proofs.SafeCutLemmas.{IsCut-from, level_list-cut, IsSafe-back}
+use Rattle.uca_window.specs.declared.passage.Passage.{Passage}
+use Rattle.uca_window.specs.Passage.{bytes_of, text_of}
+use Rattle.uca_levels.specs.WithoutFront.{MayFollow, AreWithoutFront}
+
+-- ---- level lists
+
+no_list : (t : ElementTable) (v : Variable) (level : ℕ) → level_list t v [] level ≡ []
+no_list t v level = elim (cases_Bool (level == 5)) [
+  | inl five ↦ cond-true _ _ _ five ∙ (nfd-is [] ∙ canonical_order-nil)
+  | inr weights ↦ cond-false _ _ _ weights ∙ ap (λ es. level_weights level (weighted v es)) (elements_none t)
+]
+
+lists-follow : (t : ElementTable) (v : Variable) (front left : List ℕ) (level : ℕ) → IsTable t → MayFollow t left → level_list t v (front ++ left) level ≡ level_list t v front level ++ level_list t v left level
+lists-follow t v front left level valid may =
+    elim may [
+      | inl none ↦
+          ap (λ l. level_list t v (front ++ l) level) none ∙ ap (λ l. level_list t v l level) (append-nil front)
+          ∙ sym (append-nil (level_list t v front level)) ∙ ap (λ l. level_list t v front level ++ l) (sym (no_list t v level) ∙ ap (λ l. level_list t v l level) (sym none))
+      | inr some ↦
+          ap (λ l. level_list t v (front ++ l) level) some.same ∙ level_list-cut t v front some.later some.c valid (IsCut-from t some.c some.cut) level
+          ∙ ap (λ l. level_list t v front level ++ level_list t v l level) (sym some.same)
+    ]
+
+-- what is left of the texts decides
+pub orders-left : (t : ElementTable) (v : Variable) (a b x y : List ℕ) (level : ℕ) (o : Ordering) → IsTable t → AreWithoutFront t a b x y
+    → OrdersLevel level (level_list t v x level) (level_list t v y level) o → OrdersLevel level (level_list t v a level) (level_list t v b level) o
+orders-left t v a b x y level o valid h orders =
+    elim h.follow [
+      | inl none ↦
+          let of_a : x ≡ a = sym (h.first ∙ ap (λ f. f ++ x) none) in
+          let of_b : y ≡ b = sym (h.second ∙ ap (λ f. f ++ y) none) in
+          subst (λ u. OrdersLevel level (level_list t v u level) (level_list t v b level) o) of_a (subst (λ u. OrdersLevel level (level_list t v x level) (level_list t v u level) o) of_b orders)
+      | inr both ↦
+          let f = level_list t v h.front level in
+          let of_a : level_list t v a level ≡ f ++ level_list t v x level = ap (λ l. level_list t v l level) h.first ∙ lists-follow t v h.front x level valid both.0 in
+          let of_b : level_list t v b level ≡ f ++ level_list t v y level = ap (λ l. level_list t v l level) h.second ∙ lists-follow t v h.front y level valid both.1 in
+          subst (λ l. OrdersLevel level l (level_list t v b level) o) (sym of_a)
+          (subst (λ l. OrdersLevel level (f ++ level_list t v x level) l o) (sym of_b)
+          (OrdersLevel-front level f (level_list t v x level) (level_list t v y level) o orders))
+    ]
+
+-- ---- safe texts
+
+safe-follow : (t : ElementTable) (front left : List ℕ) → MayFollow t left → IsSafe (front ++ left) → IsSafe left
+safe-follow t front left may safe =
+    elim may [
+      | inl none ↦ subst IsSafe (sym none) safe_none
+      | inr some ↦ subst IsSafe (sym some.same) (IsSafe-back t front some.later some.c (IsCut-from t some.c some.cut) (subst (λ l. IsSafe (front ++ l)) some.same safe))
+    ]
+
+pub left-safe : (t : ElementTable) (a b x y : List ℕ) → AreWithoutFront t a b x y → IsSafe a → IsSafe b → IsSafe x × IsSafe y
+left-safe t a b x y h safe_a safe_b =
+    elim h.follow [
+      | inl none ↦ (subst IsSafe (h.first ∙ ap (λ f. f ++ x) none) safe_a, subst IsSafe (h.second ∙ ap (λ f. f ++ y) none) safe_b)
+      | inr both ↦ (safe-follow t h.front x both.0 (subst IsSafe h.first safe_a), safe-follow t h.front y both.1 (subst IsSafe h.second safe_b))
+    ]
+
+-- ---- equal texts
+
+number-same : (n : ℕ) → nat_cmp n n ≡ Equal
+number-same n = grind arith
+
+order-same : (xs : List ℕ) → key_order xs xs ≡ Equal
+order-same [] = refl
+order-same (x ∷ xs) = ap (λ o. ordering_then o (key_order xs xs)) (number-same x) ∙ order-same xs
+
+-- where nothing is left of either, they are the same
+pub left-none : (t : ElementTable) (s : Settings) (a b x y : List ℕ) → AreWithoutFront t a b x y → x ≡ [] → y ≡ [] → key_order (sort_key t s a) (sort_key t s b) ≡ Equal
+left-none t s a b x y h none_x none_y =
+    ap (λ u. key_order (sort_key t s a) (sort_key t s u)) (h.second ∙ ap (λ l. h.front ++ l) (none_y ∙ sym none_x) ∙ sym h.first) ∙ order-same (sort_key t s a)
+
+-- ---- their bytes
+
+-- what is left from a place on, up to which the bytes are the same
+pub left-at : (t : ElementTable) (a b x y : List ℕ) (at : ℕ) → IsUtf8 a → IsUtf8 b → IsCharBoundary a at → IsCharBoundary b at → take at a ≡ take at b → x ≡ drop at a → y ≡ drop at b
+    → MayFollow t (chars x) → MayFollow t (chars y) → AreWithoutFront t (chars a) (chars b) (chars x) (chars y)
+left-at t a b x y at utf8_a utf8_b inside_a inside_b same of_a of_b may_a may_b =
+    record {
+      front = chars (take at a);
+      first = parts a x utf8_a inside_a of_a;
+      second = parts b y utf8_b inside_b of_b ∙ ap (λ f. chars f ++ chars y) (sym same);
+      follow = inr (may_a, may_b);
+    }
+  where
+    parts : (text left : List ℕ) → IsUtf8 text → IsCharBoundary text at → left ≡ drop at text → chars text ≡ chars (take at text) ++ chars left
+    parts text left utf8 inside e =
+        ap chars (sym (take-append-drop at text)) ∙ chars-append (take at text) (drop at text) (IsUtf8-take text at utf8 inside) ∙ ap (λ l. chars (take at text) ++ chars l) (sym e)
+
+pub left-whole : (t : ElementTable) (a b : List ℕ) → AreWithoutFront t a b a b
+left-whole t a b = record { front = []; first = refl; second = refl; follow = inl refl }
+
+take-fewer : (k n : ℕ) (l : List ℕ) → k ≤ n → take k (take n l) ≡ take k l
+take-fewer zero n l h = refl
+take-fewer (suc k) zero l h = absurd (omega arith)
+take-fewer (suc k) (suc n) [] h = refl
+take-fewer (suc k) (suc n) (x ∷ l) h = ap (λ r. x ∷ r) (take-fewer k n l (omega arith))
+
+-- the bytes are the same up to each earlier place
+pub same-before : (a b : List ℕ) (at : ℕ) → take at a ≡ take at b → take (at - 1) a ≡ take (at - 1) b
+same-before a b at same = sym (shorter a) ∙ ap (take (at - 1)) same ∙ shorter b
+  where
+    shorter : (l : List ℕ) → take (at - 1) (take at l) ≡ take (at - 1) l
+    shorter l = take-fewer (at - 1) at l (omega arith)
+
+-- the same of passages, by their bytes and those that are left
+pub orders-passages : (t : ElementTable) (v : Variable) (a b left_a left_b : Passage) (bytes_a bytes_b first second : List ℕ) (level : ℕ) (o : Ordering) → IsTable t → bytes_a ≡ bytes_of a → bytes_b ≡ bytes_of b → bytes_of left_a ≡ first → bytes_of left_b ≡ second
+    → AreWithoutFront t (chars bytes_a) (chars bytes_b) (chars first) (chars second)
+    → OrdersLevel level (level_list t v (text_of left_a) level) (level_list t v (text_of left_b) level) o → OrdersLevel level (level_list t v (text_of a) level) (level_list t v (text_of b) level) o
+orders-passages t v a b left_a left_b bytes_a bytes_b first second level o valid of_a of_b of_first of_second h orders =
+    orders-left t v (text_of a) (text_of b) (text_of left_a) (text_of left_b) level o valid whole orders
+  where
+    whole : AreWithoutFront t (text_of a) (text_of b) (text_of left_a) (text_of left_b)
+    whole = record {
+      front = h.front;
+      first = ap chars (sym of_a) ∙ h.first ∙ ap (λ u. h.front ++ chars u) (sym of_first);
+      second = ap chars (sym of_b) ∙ h.second ∙ ap (λ u. h.front ++ chars u) (sym of_second);
+      follow = subst (λ u. (h.front ≡ []) ⊎ (MayFollow t (chars u) × MayFollow t (text_of left_b))) (sym of_first) (subst (λ u. (h.front ≡ []) ⊎ (MayFollow t (chars first) × MayFollow t (chars u))) (sym of_second) h.follow);
+    }

@@ -1,0 +1,16 @@
+use Rattle.std.proofs.Common.{◌-◌, ◌+◌, ◌≤◌}
+use Rattle.uca_weights.specs.Settings.{levels}
+use Rattle.uca_window.specs.Passage.{text_of}
+use Rattle.uca_levels.specs.FromCut.{Undecided}
+use Rattle.uca_levels.proofs.text_order.compare.Given as goal
+
+-- the levels before this one are the same
+abbrev pub invariant-each : goal.invariant-each
+invariant-each l = record {
+  first : 1 ≤ l.level;
+  last : l.level ≤ levels l.s.strength + 1;
+  undecided : Undecided l.t l.s (text_of l.a) (text_of l.b) l.level;
+}
+
+abbrev pub decreases-each : goal.decreases-each
+decreases-each l = levels l.s.strength + 1 - l.level
