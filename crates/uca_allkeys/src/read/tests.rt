@@ -481,3 +481,31 @@ fn the_limit_of_the_input_holds_to_the_byte(rt: HostRuntime) {
         assert_eq!(rt; told, Some((line, ReadCause::TooLarge)));
     }
 }
+
+#[test]
+fn a_fault_before_anything_was_added_takes_no_memory(rt: HostRuntime) {
+    // Each is asked for once: where no growth is asked for, none can be refused.
+    for (text, answer) in [
+        ("0041", (1, ReadCause::NoSemicolon)),
+        ("0041 ;", (1, ReadCause::NoElement)),
+        ("D800 ; [.1.1.1]", (1, ReadCause::BadCodePoint)),
+        ("# none\n\n0041 ; [.1", (3, ReadCause::BadElement)),
+        (
+            "@version 17.0.0\n@version 17.0.0\n",
+            (2, ReadCause::BadDirective),
+        ),
+        (
+            "@implicitweights 17000..17001; 7FFF",
+            (1, ReadCause::BadRange),
+        ),
+    ] {
+        let told = fault(read_table(rt.alloc(), &mut Reading::new(text.as_bytes())));
+        assert_eq!(rt; told, Some(answer), "{text:?}");
+    }
+    let mut failing = slow_reader(b"# none\n", 7, true);
+    let told = fault(read_table(rt.alloc(), &mut failing));
+    assert_eq!(rt; told, Some((2, ReadCause::Read)));
+    let mut endless = comment_reader(usize::MAX, usize::MAX);
+    let told = fault(read_table(rt.alloc(), &mut endless));
+    assert_eq!(rt; told, Some((1, ReadCause::LineTooLong)));
+}
