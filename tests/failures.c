@@ -10,8 +10,9 @@
  *   FAILURES_REPORT  the file that the report is added to
  *   FAILURES_WHOLE   how many steps there are, where not all of them fail, but the first and last FAILURES_EACH and every
  *                    FAILURES_EVERYth between
- *   FAILURES_TABLE, FAILURES_RULES  the files of the table and of the rules; FAILURES_LINES, FAILURES_UNREAD: the input is read line by
- *                    line, or not at all
+ *   FAILURES_TABLE, FAILURES_RULES  the files of the table and of the rules
+ *   FAILURES_LINES, FAILURES_UNREAD, FAILURES_BEGUN  set where the input is read line by line; where it is not read; where memory is taken
+ *                    while the output is written, so that a part of it may stand after a refused growth
  *
  * The program has one thread, reads files and no pipes, and writes its output to a file.
  */
@@ -51,7 +52,7 @@ static long whole, each, every;
 static long written, stops_at = -1; /* bytes of output so far; in a copy, after how many the writer stops */
 static long lines[FILES];           /* the line feeds that were read from each file */
 static struct stat table, rules;
-static bool has_table, has_rules;
+static bool has_table, has_rules, has_begun;
 
 void *__libc_malloc(size_t);
 void *__libc_calloc(size_t, size_t);
@@ -125,6 +126,7 @@ __attribute__((constructor)) static void begin(void) {
     every = number("FAILURES_EVERY");
     has_table = getenv("FAILURES_TABLE") && stat(getenv("FAILURES_TABLE"), &table) == 0;
     has_rules = getenv("FAILURES_RULES") && stat(getenv("FAILURES_RULES"), &rules) == 0;
+    has_begun = getenv("FAILURES_BEGUN") != NULL;
     unsetenv("LD_PRELOAD");
     is_active = true;
 }
@@ -213,7 +215,7 @@ static bool refuses(void) {
     if (!is_active || is_copy) return false;
     growths++;
     if (kind != GROWTHS || !fails(growths)) return false;
-    struct wanted wanted = {refusal, refused_status, 0, right_output.size, true};
+    struct wanted wanted = {refusal, refused_status, 0, has_begun ? right_output.size : 0, true};
     if (!copies("growth", growths, wanted)) return false;
     errno = ENOMEM;
     return true;

@@ -148,8 +148,8 @@ printf '# lines\n0061;\n0063 0068\n0062 0301 0308;# x\nD800\n0041\n' >"$work/tes
 : >"$work/none"
 both=(--table "$work/table" --rules "$work/rules")
 
-# command NAME INPUT WORDS..: a row of the program, under each set of tables and rules
-command() {
+# over_tables NAME INPUT NOTE WORDS..: rows of the program, under each set of tables and rules
+over_tables() {
     local name=$1 input=$2 read=$3 set
     shift 3
     for set in plain table rules both all; do
@@ -160,19 +160,20 @@ command() {
         both) row "$name-$set" "$input" "$program" "$@" "${both[@]}" ;;
         all) row "$name-$set" "$input" "$program" "$@" "${both[@]}" --strength identical --variable shifted ;;
         esac
+        # shellcheck disable=SC2086
         notes FAILURES_TABLE="$work/table" FAILURES_RULES="$work/rules" $read
         tries growths reads short-reads failed-writes empty-writes
     done
 }
 
-command elements "$work/lines" "" elements
-command key "$work/lines" "" key
-command raw "$work/line" "" key --raw
-command compare "$work/lines" "" compare
-command order "$work/lines" "" order
-command check "$work/test" FAILURES_LINES=1 check
-command lint "$work/none" FAILURES_UNREAD=1 lint
-command table "$work/none" FAILURES_UNREAD=1 table
+over_tables elements "$work/lines" FAILURES_BEGUN=1 elements
+over_tables key "$work/lines" FAILURES_BEGUN=1 key
+over_tables raw "$work/line" "" key --raw
+over_tables compare "$work/lines" "" compare
+over_tables order "$work/lines" "" order
+over_tables check "$work/test" FAILURES_LINES=1 check
+over_tables lint "$work/none" FAILURES_UNREAD=1 lint
+over_tables table "$work/none" FAILURES_UNREAD=1 table
 
 # What is refused without any failure is still refused.
 refused() {
@@ -211,6 +212,7 @@ if [ -n "$published" ]; then
             notes FAILURES_TABLE="$published" FAILURES_RULES=rules/sv.rules
             case $name in
             table | lint) notes FAILURES_UNREAD=1 ;;
+            elements | key) notes FAILURES_BEGUN=1 ;;
             esac
             tries growths reads failed-writes
         done
