@@ -222,10 +222,56 @@ else
 fi
 all_rows "the program"
 
-# The tests of the crates, which ask once more where a growth was refused, or end by that failure.
-for folder in crates/*/; do
-    crate=$(basename "$folder")
-    grep -rqs '#\[test\]' "$folder/src" || continue
+# The text of the built-in table, with a version, comments and more blanks, cut after each byte: the last line is still one, or is refused.
+{ echo '@version 15.1.0'; sed 's/ ;/  ;/; s/$/ # what it is/' "$work/table"; } >"$work/text"
+perl -e '
+    local $/;
+    my $text = <>;
+    my $point = qr/^[0-9A-F]{4,6}$/;
+    for my $size (0 .. length $text) {
+        my @lines = split /\n/, substr($text, 0, $size), -1;
+        my ($line) = $lines[-1] =~ /^([^#]*?) *(#|$)/;
+        my ($key, $elements) = split /;/, $line, 2;
+        my $cause = "";
+        if ($line =~ /^\@implicitweights +([^ ;.]*)(.*)/) {
+            my ($first, $rest) = ($1, $2);
+            my ($last, $base) = $rest =~ /^ *\.\. *([^ ;.]*)(.*)/;
+            $cause = $first !~ $point ? "BadCodePoint" : !defined $last ? "BadDirective" : $last !~ $point ? "BadCodePoint"
+                : $base !~ /^ *; *[0-9A-F]{4}$/ ? "BadDirective" : "";
+        } elsif ($line =~ /^@/) {
+            $cause = "BadDirective" unless $line =~ /^\@version +./;
+        } elsif ($line ne "") {
+            $cause = "BadCodePoint" if grep { $_ !~ $point } split " ", $key;
+            $cause ||= "NoSemicolon" unless defined $elements;
+            $cause ||= "NoElement" unless $elements =~ /\S/;
+            $cause ||= "BadElement" unless $elements =~ /^ *(\[[.*]([0-9A-F]{4}\.){2}[0-9A-F]{4}\] *)+$/;
+        }
+        print $cause ? "3 uca: table line " . @lines . ": $cause\n" : "0 \n";
+    }' "$work/text" >"$work/wanted"
+size=$(stat -c %s "$work/text")
+for cut in $(seq 0 "$size"); do
+    head -c "$cut" "$work/text" >"$work/cut"
+    "$program" table --table "$work/cut" >"$work/out" 2>"$work/err"
+    echo "$? $(cat "$work/err")"
+done >"$work/answers"
+is "a table that is cut after each of its bytes" "" "$(diff "$work/wanted" "$work/answers" | head -n 5)"
+echo "$script: a table cut at $((size + 1)) places"
+
+# What never ends is refused at its limit.
+for case in \
+    "table line 1: LineTooLong=key --table /dev/zero" \
+    "table line 67108865: TooLarge=key --table <(yes '')" \
+    "rules byte 1048576: TooLarge=key --rules <(yes '')" \
+    "input: TooLarge=order < <(yes '')" \
+    "input line 67108865: TooLarge=check < <(yes '')"; do
+    eval "\"\$program\" ${case#*=}" >"$work/out" 2>"$work/err"
+    is "endless: ${case#*=}" "3|0|uca: ${case%%=*}" "$?|$(wc -c <"$work/out")|$(cat "$work/err")"
+done
+
+# The tests of crates that take memory: they ask once more where a growth was refused, or end by that failure. Those of uca_handle are
+# not among them: tests/callers.sh refuses its growths through C.
+for crate in uca_io uca_weights uca_key uca_match; do
+    folder=crates/$crate
     tests=$folder/out/${crate}_tests
     if [ ! -x "$tests" ] || [ -n "$(find crates/*/src crates.txt -newer "$tests" -print -quit)" ]; then
         (cd "$folder" && rt test) >"$work/log" 2>&1 || { cat "$work/log"; echo "$script: the tests of $crate could not be built"; failed=$((failed + 1)); continue; }
