@@ -35,7 +35,10 @@
 enum kind { COUNTED, GROWTHS, READS, SHORT_READS, FAILED_WRITES, EMPTY_WRITES, FAILED_MESSAGES };
 static const char *const kinds[] = {"count", "growths", "reads", "short-reads", "failed-writes", "empty-writes", "failed-messages"};
 
-enum { SECONDS = 60, FILES = 16, NOT_DONE = 3 };
+/* What a copy may take: seconds of the processor, and of any time. */
+enum { BUSY = 60, WAITED = 600 };
+
+enum { FILES = 16, NOT_DONE = 3 };
 
 struct bytes {
     const char *at;
@@ -193,12 +196,13 @@ static bool copies(const char *what, long step, struct wanted wanted) {
         _exit(99);
     }
     if (copy == 0) {
-        struct rlimit none = {0, 0};
+        struct rlimit none = {0, 0}, busy = {BUSY, BUSY};
         setrlimit(RLIMIT_CORE, &none);
+        setrlimit(RLIMIT_CPU, &busy);
         is_copy = true;
         dup2(copied_output, 1);
         dup2(copied_errors, 2);
-        alarm(SECONDS);
+        alarm(WAITED);
         return true;
     }
     int ended;

@@ -4,7 +4,7 @@
 # the right one or to report that failure and its place, with nothing written but the front of the right output.
 #
 # tests/failures.c makes these runs out of one, as copies of the process at each step. The rows are the commands of the program with
-# their options, their refusals, and the tests of the crates. Of a row with more than 800 steps the first 400, the last 400 and every
+# their options, their refusals, and tests of crates. Of a row with more than 800 steps the first 400, the last 400 and every
 # 211th between fail; of a test with more than 240, 120, 120 and every 997th; over the published table 60, 60 and every 4001st.
 source "$(dirname "${BASH_SOURCE[0]}")/checks.bash"
 
@@ -270,7 +270,7 @@ done
 
 # The tests of crates that take memory: they ask once more where a growth was refused, or end by that failure. Those of uca_handle are
 # not among them: tests/callers.sh refuses its growths through C.
-for crate in uca_io uca_weights uca_key uca_match; do
+for crate in uca_io uca_weights uca_table uca_key uca_match; do
     folder=crates/$crate
     tests=$folder/out/${crate}_tests
     if [ ! -x "$tests" ] || [ -n "$(find crates/*/src crates.txt -newer "$tests" -print -quit)" ]; then
@@ -286,5 +286,5 @@ for crate in uca_io uca_weights uca_key uca_match; do
         tries growths
     done
 done
-all_rows "the tests of the crates"
+all_rows "tests of crates"
 sum_up
