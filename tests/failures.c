@@ -10,8 +10,9 @@
  *   FAILURES_REPORT  the file that the report is added to
  *   FAILURES_WHOLE   how many steps there are, where not all of them fail, but the first and last FAILURES_EACH and every
  *                    FAILURES_EVERYth between
- *   FAILURES_TABLE, FAILURES_RULES  the files of the table and of the rules; FAILURES_LINES, FAILURES_UNREAD: the input is read line by
- *                    line, or not at all
+ *   FAILURES_TABLE, FAILURES_RULES  the files of the table and of the rules
+ *   FAILURES_LINES, FAILURES_UNREAD, FAILURES_BEGUN  set where the input is read line by line; where it is not read; where memory is taken
+ *                    while the output is written, so that a part of it may stand after a refused growth
  *
  * The program has one thread, reads files and no pipes, and writes its output to a file.
  */
@@ -34,7 +35,10 @@
 enum kind { COUNTED, GROWTHS, READS, SHORT_READS, FAILED_WRITES, EMPTY_WRITES, FAILED_MESSAGES };
 static const char *const kinds[] = {"count", "growths", "reads", "short-reads", "failed-writes", "empty-writes", "failed-messages"};
 
-enum { SECONDS = 60, FILES = 16, NOT_DONE = 3 };
+/* What a copy may take: seconds of the processor, and of any time. */
+enum { BUSY = 60, WAITED = 600 };
+
+enum { FILES = 16, NOT_DONE = 3 };
 
 struct bytes {
     const char *at;
@@ -51,7 +55,7 @@ static long whole, each, every;
 static long written, stops_at = -1; /* bytes of output so far; in a copy, after how many the writer stops */
 static long lines[FILES];           /* the line feeds that were read from each file */
 static struct stat table, rules;
-static bool has_table, has_rules;
+static bool has_table, has_rules, has_begun;
 
 void *__libc_malloc(size_t);
 void *__libc_calloc(size_t, size_t);
@@ -125,6 +129,7 @@ __attribute__((constructor)) static void begin(void) {
     every = number("FAILURES_EVERY");
     has_table = getenv("FAILURES_TABLE") && stat(getenv("FAILURES_TABLE"), &table) == 0;
     has_rules = getenv("FAILURES_RULES") && stat(getenv("FAILURES_RULES"), &rules) == 0;
+    has_begun = getenv("FAILURES_BEGUN") != NULL;
     unsetenv("LD_PRELOAD");
     is_active = true;
 }
@@ -191,12 +196,13 @@ static bool copies(const char *what, long step, struct wanted wanted) {
         _exit(99);
     }
     if (copy == 0) {
-        struct rlimit none = {0, 0};
+        struct rlimit none = {0, 0}, busy = {BUSY, BUSY};
         setrlimit(RLIMIT_CORE, &none);
+        setrlimit(RLIMIT_CPU, &busy);
         is_copy = true;
         dup2(copied_output, 1);
         dup2(copied_errors, 2);
-        alarm(SECONDS);
+        alarm(WAITED);
         return true;
     }
     int ended;
@@ -213,7 +219,7 @@ static bool refuses(void) {
     if (!is_active || is_copy) return false;
     growths++;
     if (kind != GROWTHS || !fails(growths)) return false;
-    struct wanted wanted = {refusal, refused_status, 0, right_output.size, true};
+    struct wanted wanted = {refusal, refused_status, 0, has_begun ? right_output.size : 0, true};
     if (!copies("growth", growths, wanted)) return false;
     errno = ENOMEM;
     return true;

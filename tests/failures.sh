@@ -4,7 +4,7 @@
 # the right one or to report that failure and its place, with nothing written but the front of the right output.
 #
 # tests/failures.c makes these runs out of one, as copies of the process at each step. The rows are the commands of the program with
-# their options, their refusals, and the tests of the crates. Of a row with more than 800 steps the first 400, the last 400 and every
+# their options, their refusals, and tests of crates. Of a row with more than 800 steps the first 400, the last 400 and every
 # 211th between fail; of a test with more than 240, 120, 120 and every 997th; over the published table 60, 60 and every 4001st.
 source "$(dirname "${BASH_SOURCE[0]}")/checks.bash"
 
@@ -148,8 +148,8 @@ printf '# lines\n0061;\n0063 0068\n0062 0301 0308;# x\nD800\n0041\n' >"$work/tes
 : >"$work/none"
 both=(--table "$work/table" --rules "$work/rules")
 
-# command NAME INPUT WORDS..: a row of the program, under each set of tables and rules
-command() {
+# over_tables NAME INPUT NOTE WORDS..: rows of the program, under each set of tables and rules
+over_tables() {
     local name=$1 input=$2 read=$3 set
     shift 3
     for set in plain table rules both all; do
@@ -160,19 +160,20 @@ command() {
         both) row "$name-$set" "$input" "$program" "$@" "${both[@]}" ;;
         all) row "$name-$set" "$input" "$program" "$@" "${both[@]}" --strength identical --variable shifted ;;
         esac
+        # shellcheck disable=SC2086
         notes FAILURES_TABLE="$work/table" FAILURES_RULES="$work/rules" $read
         tries growths reads short-reads failed-writes empty-writes
     done
 }
 
-command elements "$work/lines" "" elements
-command key "$work/lines" "" key
-command raw "$work/line" "" key --raw
-command compare "$work/lines" "" compare
-command order "$work/lines" "" order
-command check "$work/test" FAILURES_LINES=1 check
-command lint "$work/none" FAILURES_UNREAD=1 lint
-command table "$work/none" FAILURES_UNREAD=1 table
+over_tables elements "$work/lines" FAILURES_BEGUN=1 elements
+over_tables key "$work/lines" FAILURES_BEGUN=1 key
+over_tables raw "$work/line" "" key --raw
+over_tables compare "$work/lines" "" compare
+over_tables order "$work/lines" "" order
+over_tables check "$work/test" FAILURES_LINES=1 check
+over_tables lint "$work/none" FAILURES_UNREAD=1 lint
+over_tables table "$work/none" FAILURES_UNREAD=1 table
 
 # What is refused without any failure is still refused.
 refused() {
@@ -211,6 +212,7 @@ if [ -n "$published" ]; then
             notes FAILURES_TABLE="$published" FAILURES_RULES=rules/sv.rules
             case $name in
             table | lint) notes FAILURES_UNREAD=1 ;;
+            elements | key) notes FAILURES_BEGUN=1 ;;
             esac
             tries growths reads failed-writes
         done
@@ -220,10 +222,56 @@ else
 fi
 all_rows "the program"
 
-# The tests of the crates, which ask once more where a growth was refused, or end by that failure.
-for folder in crates/*/; do
-    crate=$(basename "$folder")
-    grep -rqs '#\[test\]' "$folder/src" || continue
+# The text of the built-in table, with a version, comments and more blanks, cut after each byte: the last line is still one, or is refused.
+{ echo '@version 15.1.0'; sed 's/ ;/  ;/; s/$/ # what it is/' "$work/table"; } >"$work/text"
+perl -e '
+    local $/;
+    my $text = <>;
+    my $point = qr/^[0-9A-F]{4,6}$/;
+    for my $size (0 .. length $text) {
+        my @lines = split /\n/, substr($text, 0, $size), -1;
+        my ($line) = $lines[-1] =~ /^([^#]*?) *(#|$)/;
+        my ($key, $elements) = split /;/, $line, 2;
+        my $cause = "";
+        if ($line =~ /^\@implicitweights +([^ ;.]*)(.*)/) {
+            my ($first, $rest) = ($1, $2);
+            my ($last, $base) = $rest =~ /^ *\.\. *([^ ;.]*)(.*)/;
+            $cause = $first !~ $point ? "BadCodePoint" : !defined $last ? "BadDirective" : $last !~ $point ? "BadCodePoint"
+                : $base !~ /^ *; *[0-9A-F]{4}$/ ? "BadDirective" : "";
+        } elsif ($line =~ /^@/) {
+            $cause = "BadDirective" unless $line =~ /^\@version +./;
+        } elsif ($line ne "") {
+            $cause = "BadCodePoint" if grep { $_ !~ $point } split " ", $key;
+            $cause ||= "NoSemicolon" unless defined $elements;
+            $cause ||= "NoElement" unless $elements =~ /\S/;
+            $cause ||= "BadElement" unless $elements =~ /^ *(\[[.*]([0-9A-F]{4}\.){2}[0-9A-F]{4}\] *)+$/;
+        }
+        print $cause ? "3 uca: table line " . @lines . ": $cause\n" : "0 \n";
+    }' "$work/text" >"$work/wanted"
+size=$(stat -c %s "$work/text")
+for cut in $(seq 0 "$size"); do
+    head -c "$cut" "$work/text" >"$work/cut"
+    "$program" table --table "$work/cut" >"$work/out" 2>"$work/err"
+    echo "$? $(cat "$work/err")"
+done >"$work/answers"
+is "a table that is cut after each of its bytes" "" "$(diff "$work/wanted" "$work/answers" | head -n 5)"
+echo "$script: a table cut at $((size + 1)) places"
+
+# What never ends is refused at its limit.
+for case in \
+    "table line 1: LineTooLong=key --table /dev/zero" \
+    "table line 67108865: TooLarge=key --table <(yes '')" \
+    "rules byte 1048576: TooLarge=key --rules <(yes '')" \
+    "input: TooLarge=order < <(yes '')" \
+    "input line 67108865: TooLarge=check < <(yes '')"; do
+    eval "\"\$program\" ${case#*=}" >"$work/out" 2>"$work/err"
+    is "endless: ${case#*=}" "3|0|uca: ${case%%=*}" "$?|$(wc -c <"$work/out")|$(cat "$work/err")"
+done
+
+# The tests of crates that take memory: they ask once more where a growth was refused, or end by that failure. Those of uca_handle are
+# not among them: tests/callers.sh refuses its growths through C.
+for crate in uca_io uca_weights uca_table uca_key uca_match; do
+    folder=crates/$crate
     tests=$folder/out/${crate}_tests
     if [ ! -x "$tests" ] || [ -n "$(find crates/*/src crates.txt -newer "$tests" -print -quit)" ]; then
         (cd "$folder" && rt test) >"$work/log" 2>&1 || { cat "$work/log"; echo "$script: the tests of $crate could not be built"; failed=$((failed + 1)); continue; }
@@ -238,5 +286,5 @@ for folder in crates/*/; do
         tries growths
     done
 done
-all_rows "the tests of the crates"
+all_rows "tests of crates"
 sum_up
