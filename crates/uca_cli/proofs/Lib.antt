@@ -1,6 +1,2 @@
 pub mod BuiltInLemmas
-pub mod CommandLemmas
 pub mod PerformingLemmas
-pub mod SendingLemmas
-pub mod NoLines
-pub mod OrderingLemmas

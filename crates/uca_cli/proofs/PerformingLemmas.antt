@@ -2,10 +2,10 @@
 use Rattle.std.proofs.Common.{ℕ, Option, Result, Ok, Err, IfOk, IfErr, inl, inr, refl}
 use Rattle.uca_io.specs.Reader.{ReaderState}
 use Rattle.uca_model.specs.Table.{ElementTable}
-use Rattle.uca_cli.specs.Commands.{Ends, Does, Fails, command_of}
-use Rattle.uca_cli.specs.Performing.{ReadsTable, StopsTable, Performs, Refuses, settings_of}
+use Rattle.uca_commands.specs.Commands.{Ends, Does, Fails}
+use Rattle.uca_cli.specs.Performing.{command_of, ReadsTable, StopsTable, Performs, Refuses, settings_of}
 use Rattle.uca_cli.specs.RuleFile.{Tailors, RefusesTailoring}
-use Rattle.uca_cli.specs.declared.faults.CliFault.{CliFault}
+use Rattle.uca_commands.specs.declared.faults.CliFault.{CliFault}
 use Rattle.uca_job.specs.declared.job.Job.{Job}
 
 -- the command was done with the table

@@ -1,16 +1,29 @@
 -- What doing a job comes to: the table that it works with, and the command.
-use Rattle.std.specs.Prelude.{◌≡◌, ⊤, ℕ, ◌⊎◌, Option, Some, None}
+use Rattle.std.specs.Prelude.{◌≡◌, ⊤, ℕ, ◌⊎◌, Bool, true, false, Option, Some, None}
 use Rattle.uca_weights.specs.declared.settings.Settings.{Settings}
 use Rattle.uca_io.specs.Reader.{ReaderState}
 use Rattle.uca_model.specs.Table.{ElementTable}
 use Rattle.uca_allkeys.specs.Reading.{GivesTable, IsRefused}
 use Rattle.uca_allkeys.specs.declared.faults.ReadFault.{ReadFault}
 use Rattle.uca_cli.specs.BuiltIn.{built_in_table}
-use Rattle.uca_cli.specs.Commands.{Ends, Does, Fails, command_of}
+use Rattle.uca_commands.specs.Commands.{Command, Ends, Does, Fails, check_command, compare_command, elements_command, key_command, lint_command, order_command, raw_key_command, table_command}
 use Rattle.uca_cli.specs.RuleFile.{Tailors, RefusesTailoring}
-use Rattle.uca_cli.specs.declared.faults.CliFault.{CliFault}
-use Rattle.uca_cli.specs.declared.faults.CliFault.TheVariants as fault
+use Rattle.uca_commands.specs.declared.faults.CliFault.{CliFault}
+use Rattle.uca_commands.specs.declared.faults.CliFault.TheVariants as fault
 use Rattle.uca_job.specs.declared.job.Job.{Job}
+use Rattle.uca_job.specs.declared.job.Task.{Task}
+use Rattle.uca_job.specs.declared.job.Task.TheVariants.{Elements, Key, Compare, Order, Check, Lint, Table}
+
+-- the command of a task; the flag `--raw` is one of `key`
+abbrev pub command_of : Task → Bool → Command
+command_of Elements raw = elements_command
+command_of Key false = key_command
+command_of Key true = raw_key_command
+command_of Compare raw = compare_command
+command_of Order raw = order_command
+command_of Check raw = check_command
+command_of Lint raw = lint_command
+command_of Table raw = table_command
 
 -- the settings of a job
 abbrev pub settings_of : Job → Settings

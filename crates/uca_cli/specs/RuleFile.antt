@@ -11,10 +11,10 @@ use Rattle.uca_model.specs.Tailoring.{tailored}
 use Rattle.uca_tailor.specs.Faults.{RefusesText, RefusesRelation}
 use Rattle.uca_tailor.specs.declared.faults.RuleFault.{RuleFault}
 use Rattle.uca_tailor.specs.declared.faults.TailorFault.{TailorFault}
-use Rattle.uca_cli.specs.declared.faults.CliFault.{CliFault}
-use Rattle.uca_cli.specs.declared.faults.CliFault.TheVariants as fault
-use Rattle.uca_cli.specs.declared.faults.RulesTextCause.{RulesTextCause}
-use Rattle.uca_cli.specs.declared.faults.RulesTextCause.TheVariants as cause
+use Rattle.uca_commands.specs.declared.faults.CliFault.{CliFault}
+use Rattle.uca_commands.specs.declared.faults.CliFault.TheVariants as fault
+use Rattle.uca_commands.specs.declared.faults.RulesTextCause.{RulesTextCause}
+use Rattle.uca_commands.specs.declared.faults.RulesTextCause.TheVariants as cause
 use Rattle.uca_io.specs.declared.reading.Stop.TheVariants as stop
 
 -- ---- the rules in a reader

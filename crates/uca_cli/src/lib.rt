@@ -5,18 +5,14 @@
 #![tactic(auto)]
 
 mod built_in_table;
-pub mod commands;
-pub mod faults;
-mod output;
 pub mod performing;
 mod rule_file;
 #[cfg(test)]
 mod tests;
 
 pub use built_in_table::built_in;
-pub use commands::order::order;
-pub use faults::{CliFault, RulesTextCause};
 pub use performing::{perform, status_of};
+pub use uca_commands::{CliFault, RulesTextCause, commands, faults, order};
 pub use uca_conform::{ConformCause, ConformFault, Conformance, conform};
 pub use uca_job::{Job, JobFault, Task, job_of};
 pub use uca_lines::{InputCause, InputFault};

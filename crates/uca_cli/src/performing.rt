@@ -1,14 +1,14 @@
 ghost use Rattle.std.specs.Prelude.{◌≡◌, IfErr, IfOk, None, Some, option_map};
 ghost use Rattle.uca_cli.specs.Borrowed.{borrowed, given_back};
-ghost use Rattle.uca_cli.specs.Commands.{Does, Fails, command_of};
-ghost use Rattle.uca_cli.specs.Performing.{Performs, ReadsTable, Refuses, StopsTable, settings_of};
+ghost use Rattle.uca_commands.specs.Commands.{Does, Fails};
+ghost use Rattle.uca_cli.specs.Performing.{command_of, Performs, ReadsTable, Refuses, StopsTable, settings_of};
 
 use crate::built_in_table::built_in;
-use crate::commands::{check, compare, elements, key, lint, order, table};
-use crate::faults::CliFault;
 use crate::rule_file::tailored_in;
 use std::alloc::Global;
 use uca_allkeys::read_table;
+use uca_commands::commands::{check, compare, elements, key, lint, order, table};
+use uca_commands::faults::CliFault;
 use uca_job::{Job, Task};
 use uca_table::Table;
 use uca_weights::{Reader, Settings, Writer};

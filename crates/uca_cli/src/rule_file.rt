@@ -1,9 +1,9 @@
 ghost use Rattle.std.specs.Prelude.{IfErr, IfOk};
 ghost use Rattle.uca_cli.specs.RuleFile.{ReadsRuleBytes, ReadsRules, RefusesRules, StopsTailoring, TailorsBy};
 
-use crate::faults::{CliFault, RulesTextCause};
 use simdutf8::compat::from_utf8;
 use std::alloc::Global;
+use uca_commands::faults::{CliFault, RulesTextCause};
 use uca_io::{Stop, read_whole};
 use uca_table::Table;
 use uca_tailor::{Rules, parse, tailor};

@@ -1,0 +1,4 @@
+pub mod CommandLemmas
+pub mod SendingLemmas
+pub mod NoLines
+pub mod OrderingLemmas

@@ -1,0 +1,120 @@
+-- Lines beside their keys: what a sort by the keys does to the lines.
+use Rattle.std.proofs.Common.{◌≡◌, ℕ, suc, ◌+◌, ◌≤◌, ◌==◌, Bool, true, false, cond, not, ◌&&◌, List, [], ◌∷◌, ◌++◌, length, get_or, drop, map, flat_map, sum, filter, All, IsPermutation, IsSortedByKey, is_lt, refl, sym, ap, subst, ◌∙◌, arith, length-append}
+use Rattle.std.proofs.Math.Seq.{drop-append_seam, take-append_seam}
+use Rattle.std.specs.Prelude.{if◌then◌else◌}
+use Rattle.std.specs.List.Sorted.{IsStableByKey}
+use Rattle.std.proofs.lemmas.List.{get_or-map, length-map}
+use Rattle.std.proofs.lemmas.List.Elements.{All-nil, All-cons, All-head, All-tail}
+use Rattle.std.proofs.lemmas.List.Sorted.{All-permutation, IsPermutation-map}
+use Rattle.std.proofs.lemmas.List.Sums.{sum_by-cons}
+use Rattle.uca_weights.specs.declared.settings.Settings.{Settings}
+use Rattle.uca_model.specs.Lines.{line_feed, lines_of, onto, split_lines, without_return}
+use Rattle.uca_model.specs.OrderOutput.{line_key, IsInOrder}
+use Rattle.uca_model.specs.SortKey.{key_order}
+use Rattle.uca_model.specs.Table.{ElementTable}
+use Rattle.uca_commands.specs.Ordering.{cut_up, AreKeys}
+
+-- ---- the keys in one place
+
+module _ (f : List ℕ → List ℕ) where
+  -- pieces that stand one behind the other come back
+  cut_up-flat_map : (ls : List (List ℕ)) → cut_up (map (λ l. length (f l)) ls) (flat_map f ls) ≡ map f ls
+  cut_up-flat_map [] = refl
+  cut_up-flat_map (l ∷ ls) =
+      ap (λ front. front ∷ cut_up (map (λ m. length (f m)) ls) (drop (length (f l)) (f l ++ flat_map f ls))) (take-append_seam (f l) (flat_map f ls))
+      ∙ ap (λ rest. f l ∷ cut_up (map (λ m. length (f m)) ls) rest) (drop-append_seam (f l) (flat_map f ls))
+      ∙ ap (λ pieces. f l ∷ pieces) (cut_up-flat_map ls)
+
+  -- the pieces are as long together as what they make up
+  sum-lengths : (ls : List (List ℕ)) → sum (map (λ l. length (f l)) ls) ≡ length (flat_map f ls)
+  sum-lengths [] = refl
+  sum-lengths (l ∷ ls) =
+      let first : sum (map (λ m. length (f m)) (l ∷ ls)) ≡ length (f l) + sum (map (λ m. length (f m)) ls) = sum_by-cons (λ n. n) (length (f l)) (map (λ m. length (f m)) ls) in
+      let both : length (f l ++ flat_map f ls) ≡ length (f l) + length (flat_map f ls) = length-append (f l) (flat_map f ls) in
+      omega (arith, first, both, sum-lengths ls)
+
+pub AreKeys-cut_up : (t : ElementTable) (s : Settings) (lines : List (List ℕ)) (bytes lengths : List ℕ) → AreKeys t s lines bytes lengths → cut_up lengths bytes ≡ map (line_key t s) lines
+AreKeys-cut_up t s lines bytes lengths are =
+    ap (λ ns. cut_up ns bytes) are.long ∙ ap (cut_up (map (λ line. length (line_key t s line)) lines)) are.all ∙ cut_up-flat_map (line_key t s) lines
+
+pub AreKeys-within : (t : ElementTable) (s : Settings) (lines : List (List ℕ)) (bytes lengths : List ℕ) → AreKeys t s lines bytes lengths → sum lengths ≤ length bytes
+AreKeys-within t s lines bytes lengths are = omega (arith, ap sum are.long, ap length are.all, sum-lengths (line_key t s) lines)
+
+-- an input has no more lines than bytes
+length-split_lines : (bytes : List ℕ) → length (split_lines bytes) ≤ length bytes
+length-split_lines [] = omega arith
+length-split_lines (b ∷ bytes) = go (b == line_feed) (split_lines bytes) (length-split_lines bytes)
+  where
+    go : (ends : Bool) (lines : List (List ℕ)) → length lines ≤ length bytes → length (if ends then [] ∷ lines else onto b lines) ≤ suc (length bytes)
+    go true lines few = omega arith
+    go false [] few = omega arith
+    go false (line ∷ lines) few = omega arith
+
+pub length-lines_of : (bytes : List ℕ) → length (lines_of bytes) ≤ length bytes
+length-lines_of bytes = omega (arith, length-map (split_lines bytes) without_return, length-split_lines bytes)
+
+-- ---- a sort by keys
+
+-- neither key is less than the other
+abbrev same_rank : List ℕ → List ℕ → Bool
+same_rank a b = not (is_lt (key_order a b)) && not (is_lt (key_order b a))
+
+module _ {X : Type 0} (key line : X → List ℕ) (k : List ℕ → List ℕ) where
+  abbrev HasKey : X → Type 0
+  HasKey x = key x ≡ k (line x)
+
+  -- each has the key of its line
+  each_has_key : (xs : List X) → map key xs ≡ map k (map line xs) → All HasKey xs
+  each_has_key [] same = All-nil HasKey
+  each_has_key (x ∷ xs) same =
+      let first : key x ≡ k (line x) = cc in
+      let others : map key xs ≡ map k (map line xs) = cc in
+      All-cons HasKey x xs first (each_has_key xs others)
+
+  -- the lines stand in the order of their keys
+  sorted_lines : (ys : List X) → All HasKey ys → IsSortedByKey key key_order ys → IsSortedByKey k key_order (map line ys)
+  sorted_lines [] have up i d low more = absurd (omega arith)
+  sorted_lines (y ∷ ys) have up i d low more =
+      let count : length (map line (y ∷ ys)) ≡ length (y ∷ ys) = length-map (y ∷ ys) line in
+      let here : get_or (map line (y ∷ ys)) i d ≡ line (get_or (y ∷ ys) i y) = get_or-map line (y ∷ ys) i y d (omega arith) in
+      let next : get_or (map line (y ∷ ys)) (i + 1) d ≡ line (get_or (y ∷ ys) (i + 1) y) = get_or-map line (y ∷ ys) (i + 1) y d (omega arith) in
+      let key_here : key (get_or (y ∷ ys) i y) ≡ k (get_or (map line (y ∷ ys)) i d) = have i y (omega arith) ∙ ap k (sym here) in
+      let key_next : key (get_or (y ∷ ys) (i + 1) y) ≡ k (get_or (map line (y ∷ ys)) (i + 1) d) = have (i + 1) y (omega arith) ∙ ap k (sym next) in
+      ap (λ a. is_lt (key_order a (k (get_or (map line (y ∷ ys)) i d)))) (sym key_next)
+      ∙ ap (λ b. is_lt (key_order (key (get_or (y ∷ ys) (i + 1) y)) b)) (sym key_here)
+      ∙ up i y low (omega arith)
+
+  module _ (with_key : List ℕ → X) (keyed : (a : List ℕ) → key (with_key a) ≡ a) where
+    tie-line : (a : List ℕ) (z : X) → key z ≡ k (line z) → same_rank (k a) (k (line z)) ≡ same_rank (key (with_key (k a))) (key z)
+    tie-line a z has = ap (λ b. same_rank b (k (line z))) (sym (keyed (k a))) ∙ ap (same_rank (key (with_key (k a)))) (sym has)
+
+    map-cond : (b : Bool) (z : X) (zs : List X) → cond b (line z ∷ map line zs) (map line zs) ≡ map line (cond b (z ∷ zs) zs)
+    map-cond true z zs = refl
+    map-cond false z zs = refl
+
+    -- the lines that tie with one are those of the elements whose keys do
+    tied_lines : (a : List ℕ) (zs : List X) → All HasKey zs → filter (λ b. same_rank (k a) (k b)) (map line zs) ≡ map line (filter (λ z. same_rank (key (with_key (k a))) (key z)) zs)
+    tied_lines a [] have = refl
+    tied_lines a (z ∷ zs) have =
+        let rest : List X = filter (λ y. same_rank (key (with_key (k a))) (key y)) zs in
+        ap (λ b. cond b (line z ∷ filter (λ y. same_rank (k a) (k y)) (map line zs)) (filter (λ y. same_rank (k a) (k y)) (map line zs))) (tie-line a z (All-head HasKey z zs have))
+        ∙ ap (λ l. cond (same_rank (key (with_key (k a))) (key z)) (line z ∷ l) l) (tied_lines a zs (All-tail HasKey z zs have))
+        ∙ map-cond (same_rank (key (with_key (k a))) (key z)) z rest
+
+    stable_lines : (xs ys : List X) → All HasKey xs → All HasKey ys → IsStableByKey key key_order xs ys → IsStableByKey k key_order (map line xs) (map line ys)
+    stable_lines xs ys have has stable a = tied_lines a ys has ∙ ap (map line) (stable (with_key (k a))) ∙ sym (tied_lines a xs have)
+
+-- lines that were sorted beside their keys are in order
+pub IsInOrder-from_keyed : {X : Type 0} (key line : X → List ℕ) (with_key : List ℕ → X) (t : ElementTable) (s : Settings) (lines : List (List ℕ)) (xs ys : List X)
+    → ((a : List ℕ) → key (with_key a) ≡ a) → map line xs ≡ lines → map key xs ≡ map (line_key t s) lines
+    → IsPermutation xs ys → IsSortedByKey key key_order ys → IsStableByKey key key_order xs ys → IsInOrder t s lines (map line ys)
+IsInOrder-from_keyed {X} key line with_key t s lines xs ys keyed is keys same up stable =
+    let k : List ℕ → List ℕ = line_key t s in
+    let have : All (HasKey key line k) xs = each_has_key key line k xs (keys ∙ ap (map k) (sym is)) in
+    let has : All (HasKey key line k) ys = All-permutation (HasKey key line k) xs ys same have in
+    subst (λ ls. IsInOrder t s ls (map line ys)) is
+    (record {
+      same = IsPermutation-map line xs ys same;
+      sorted = sorted_lines key line k ys has up;
+      stable = stable_lines key line k with_key keyed xs ys have has stable;
+    })

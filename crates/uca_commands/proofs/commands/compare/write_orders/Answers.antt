@@ -1,0 +1,63 @@
+use Rattle.std.proofs.Common.{◌≡◌, ℕ, List, [], ◌∷◌, ◌++◌, length, All, sym, ap, subst, ◌∙◌, arith, append-nil, append_assoc}
+use Rattle.std.proofs.lemmas.List.Elements.{All-head, All-tail}
+use Rattle.uca_io.proofs.BufferLemmas.{Accepts-none, Accepts-more}
+use Rattle.uca_weights.specs.declared.settings.Settings.{Settings}
+use Rattle.uca_model.specs.Table.{ElementTable}
+use Rattle.uca_model.specs.CompareOutput.{compare_line, compare_each, compare_lines}
+use Rattle.uca_model.specs.Lines.{lines_of, IsTextLine}
+use Rattle.uca_commands.proofs.SendingLemmas.{FailsPartway-whole}
+use Rattle.uca_commands.proofs.commands.compare.write_orders.Goals as goal
+
+pub loop-before-init : goal.loop-before-init
+loop-before-init g c =
+    let first : List ℕ = c.first_line.result.0.now in let others : List ℕ = c.first_line.result.1.now in
+    let waits : length c.new-out.result.waiting ≡ 0 = ap length c.new-out.ensures.waiting in
+    let texts : All IsTextLine (first ∷ lines_of others) = subst (All IsTextLine) c.first_line.ensures.parts c.requires.texts in
+    record {
+      sent = [];
+      sends = Accepts-none _ c.new-out.result;
+      told = sym (ap (compare_lines c.args.t.now c.args.s) c.first_line.ensures.parts);
+      text = All-head IsTextLine first (lines_of others) texts;
+      texts = All-tail IsTextLine first (lines_of others) texts;
+      room = omega (arith, waits, c.new-out.ensures.written, c.first_line.ensures.shorter);
+    }
+
+pub send_order-requires-clause-line : goal.send_order-requires-clause-line
+send_order-requires-clause-line g c =
+    let line : List ℕ = c.first_line-in-loop-before.result.0.now in let rest : List ℕ = c.first_line-in-loop-before.result.1.now in
+    All-head IsTextLine line (lines_of rest) (subst (All IsTextLine) c.first_line-in-loop-before.ensures.parts c.loop-before.invariant.texts)
+
+-- the order of two lines, and of the lines behind them
+parts : (t : ElementTable) (s : Settings) (sent before line whole : List ℕ) (lines left : List (List ℕ)) → sent ++ compare_each t s before left ≡ whole → left ≡ line ∷ lines
+    → (sent ++ compare_line t s before line) ++ compare_each t s line lines ≡ whole
+parts t s sent before line whole lines left told is =
+    append_assoc sent (compare_line t s before line) (compare_each t s line lines) ∙ ap (λ ls. sent ++ compare_each t s before ls) (sym is) ∙ told
+
+pub loop-before-preserved : goal.loop-before-preserved
+loop-before-preserved g c =
+    let before : List ℕ = c.loop-before.before.now in
+    let line : List ℕ = c.first_line-in-loop-before.result.0.now in let rest : List ℕ = c.first_line-in-loop-before.result.1.now in
+    let texts : All IsTextLine (line ∷ lines_of rest) = subst (All IsTextLine) c.first_line-in-loop-before.ensures.parts c.loop-before.invariant.texts in
+    record {
+      sent = c.loop-before.invariant.sent ++ compare_line c.args.t.now c.args.s before line;
+      sends = Accepts-more _ _ _ _ _ _ c.loop-before.invariant.sent (compare_line c.args.t.now c.args.s before line) c.loop-before.invariant.sends c.in-Ok.ensures.sends;
+      told = parts c.args.t.now c.args.s c.loop-before.invariant.sent before line _ (lines_of rest) (lines_of c.loop-before.left.now) c.loop-before.invariant.told c.first_line-in-loop-before.ensures.parts;
+      text = All-head IsTextLine line (lines_of rest) texts;
+      texts = All-tail IsTextLine line (lines_of rest) texts;
+      room = omega (arith, c.in-Ok.ensures.small, c.first_line-in-loop-before.ensures.shorter, c.loop-before.invariant.room);
+    }
+
+pub returns-in-Err : goal.returns-in-Err
+returns-in-Err g c =
+    let before : List ℕ = c.loop-before.before.now in
+    let line : List ℕ = c.first_line-in-loop-before.result.0.now in let rest : List ℕ = c.first_line-in-loop-before.result.1.now in
+    FailsPartway-whole _ _ _ c.new-out.result c.loop-before.out c.loop-before.invariant.sent (compare_line c.args.t.now c.args.s before line) (compare_each c.args.t.now c.args.s line (lines_of rest)) _ _
+    c.new-out.ensures.waiting c.new-out.ensures.written c.loop-before.invariant.sends c.in-Err.ensures.sends
+    (parts c.args.t.now c.args.s c.loop-before.invariant.sent before line _ (lines_of rest) (lines_of c.loop-before.left.now) c.loop-before.invariant.told c.first_line-in-loop-before.ensures.parts)
+
+pub returns-in-Err-flush : goal.returns-in-Err-flush
+returns-in-Err-flush g c =
+    let left : List ℕ = compare_each c.args.t.now c.args.s c.loop-before.before.now (lines_of c.loop-before.left.now) in
+    FailsPartway-whole _ _ _ c.new-out.result c.loop-before.out c.loop-before.invariant.sent [] left _ _
+    c.new-out.ensures.waiting c.new-out.ensures.written c.loop-before.invariant.sends c.in-Err-flush.ensures.all
+    (ap (λ l. l ++ left) (append-nil c.loop-before.invariant.sent) ∙ c.loop-before.invariant.told)

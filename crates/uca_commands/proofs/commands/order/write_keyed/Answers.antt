@@ -1,0 +1,78 @@
+use Rattle.std.proofs.Common.{◌≡◌, ℕ, ◌+◌, ◌-◌, ◌<◌, List, [], ◌∷◌, ◌++◌, length, drop, get_or, map, Result, Ok, Err, MatchResult, refl, sym, ap, subst, ◌∙◌, arith, append-nil, drop_of_length-le}
+use Rattle.std.proofs.lemmas.List.{drop_more, length-drop}
+use Rattle.std.proofs.lemmas.Result.{err_from_is_err_and}
+use Rattle.uca_io.specs.WriterState.{WriterState}
+use Rattle.uca_io.specs.Writer.{WritesAll, WritesFront}
+use Rattle.uca_io.specs.OutputBuffer.{Accepts, FailsPartway}
+use Rattle.uca_io.specs.BufferState.{BufferState}
+use Rattle.uca_io.specs.declared.writer.WriteFault.{WriteFault}
+use Rattle.uca_io.proofs.BufferLemmas.{Accepts-more, Accepts-none, Accepts-all, FailsPartway-front}
+use Rattle.uca_io.proofs.SendLemmas.{sent_more, stopped_there, stopped_last}
+use Rattle.uca_model.specs.Lines.{line_feed}
+use Rattle.uca_model.specs.OrderOutput.{text_of_lines}
+use Rattle.uca_commands.specs.declared.commands.order.KeyedLine.{KeyedLine}
+use Rattle.uca_commands.proofs.commands.order.write_keyed.Goals as goal
+
+-- an element that stands nowhere
+abbrev none : KeyedLine
+none = record { key = record { ref_ptr = (0, 0); now = [] }; line = record { ref_ptr = (0, 0); now = [] } }
+
+-- a line with LF
+abbrev ended : KeyedLine → List ℕ
+ended k = k.line.now ++ line_feed ∷ []
+
+-- the text of some lines
+abbrev text : List KeyedLine → List ℕ
+text ks = text_of_lines (map (λ k. k.line.now) ks)
+
+pub loop-keyed-init : goal.loop-keyed-init
+loop-keyed-init g c =
+    let ks : List KeyedLine = c.args.lines.now in
+    let waits : length c.new-out.result.waiting ≡ 0 = ap length c.new-out.ensures.waiting in
+    record {
+      sent = [];
+      sends = Accepts-none _ c.new-out.result;
+      told = refl {a = text ks};
+      room = omega (arith, waits, c.new-out.ensures.written);
+    }
+
+-- the next line, and those behind it
+text_more : (ks : List KeyedLine) (i : ℕ) (sent whole : List ℕ) → i < length ks → sent ++ text (drop i ks) ≡ whole → sent ++ (ended (get_or ks i none) ++ text (drop (i + 1) ks)) ≡ whole
+text_more ks i sent whole within told = ap (λ l. sent ++ text l) (sym (drop_more ks i none within)) ∙ told
+
+pub returns-in_err-send_line : goal.returns-in_err-send_line
+returns-in_err-send_line g c =
+    let p = err_from_is_err_and c.from_residual.result c.from_residual.ensures.1 in
+    let ks : List KeyedLine = c.args.lines.now in let i : ℕ = c.loop-keyed.keyed-index in
+    let piece : List ℕ = ended (get_or ks i none) in let rest : List ℕ = text (drop (i + 1) ks) in
+    let told : c.loop-keyed.invariant.sent ++ (piece ++ rest) ≡ text ks = text_more ks i c.loop-keyed.invariant.sent (text ks) c.loop-keyed-test.true c.loop-keyed.invariant.told in
+    rw (p.1, p.2) (FailsPartway-front _ _ c.new-out.result (text ks) _ c.new-out.ensures.waiting c.new-out.ensures.written
+    (stopped_there _ _ _ c.new-out.result c.loop-keyed.out c.loop-keyed.invariant.sent piece rest (text ks) piece _ c.loop-keyed.invariant.sends told refl c.in_err-send_line.ensures.sends))
+
+pub loop-keyed-preserved : goal.loop-keyed-preserved
+loop-keyed-preserved g c =
+    let ks : List KeyedLine = c.args.lines.now in let i : ℕ = c.loop-keyed.keyed-index in
+    let piece : List ℕ = ended (get_or ks i none) in let rest : List ℕ = text (drop (i + 1) ks) in
+    let told : c.loop-keyed.invariant.sent ++ (piece ++ rest) ≡ text ks = text_more ks i c.loop-keyed.invariant.sent (text ks) c.loop-keyed-test.true c.loop-keyed.invariant.told in
+    let more = sent_more _ _ _ c.new-out.result c.loop-keyed.out c.send_line.new.out c.loop-keyed.invariant.sent piece rest (text ks) piece c.loop-keyed.invariant.sends told refl c.in_ok-send_line.ensures.sends in
+    let left : length (drop i ks) ≡ length ks - i = length-drop i ks in
+    let less : length (drop (i + 1) ks) ≡ length ks - (i + 1) = length-drop (i + 1) ks in
+    record {
+      sent = c.loop-keyed.invariant.sent ++ piece;
+      sends = more.0;
+      told = more.1;
+      room = omega (arith, c.in_ok-send_line.ensures.small, left, less, c.loop-keyed.invariant.room, c.loop-keyed-test.true);
+    }
+
+-- all lines went to the buffer, and what waits of them goes out
+flushed : (s0 s1 s2 : WriterState) (o0 o1 o2 : BufferState) (sent whole : List ℕ) (r : Result (Unit {0}) WriteFault) → o0.waiting ≡ [] → o0.written ≡ 0 → Accepts s0 o0 s1 o1 sent → sent ++ [] ≡ whole
+    → MatchResult r (λ _. Accepts s1 o1 s2 o2 []) (λ f. FailsPartway s1 o1 s2 [] f) → MatchResult r (λ _. o2.waiting ≡ []) (λ _. Unit {0}) → MatchResult r (λ _. WritesAll s0 s2 whole) (WritesFront s0 s2 whole)
+flushed s0 s1 s2 o0 o1 o2 sent whole (Ok x) waits written sends told more empty = subst (WritesAll s0 s2) told (Accepts-all s0 s2 o0 o2 (sent ++ []) waits empty (Accepts-more s0 s1 s2 o0 o1 o2 sent [] sends more))
+flushed s0 s1 s2 o0 o1 o2 sent whole (Err f) waits written sends told stops empty = subst (λ l. WritesFront s0 s2 l f) (sym (append-nil sent) ∙ told) (stopped_last s0 s1 s2 o0 o1 sent f waits written sends stops)
+
+pub returns : goal.returns
+returns g c =
+    let ks : List KeyedLine = c.args.lines.now in
+    let none_left : drop c.loop-keyed.keyed-index ks ≡ [] = drop_of_length-le ks c.loop-keyed-test.false in
+    flushed _ _ _ c.new-out.result c.loop-keyed.out c.flush.new.self c.loop-keyed.invariant.sent (text ks) c.flush.result c.new-out.ensures.waiting c.new-out.ensures.written c.loop-keyed.invariant.sends
+    (ap (λ l. c.loop-keyed.invariant.sent ++ text l) (sym none_left) ∙ c.loop-keyed.invariant.told) c.flush.ensures.all c.flush.ensures.empty

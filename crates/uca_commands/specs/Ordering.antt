@@ -1,0 +1,65 @@
+-- The lines of an input in the order of their keys: what went out of them, and what stopped it.
+use Rattle.std.specs.Prelude.{◌≡◌, ℕ, ◌<◌, List, [], ◌∷◌, length, map, flat_map, take, drop}
+use Rattle.uca_weights.specs.declared.settings.Settings.{Settings}
+use Rattle.uca_io.specs.declared.writer.WriteFault.{WriteFault}
+use Rattle.uca_io.specs.WriterState.{WriterState}
+use Rattle.uca_io.specs.Writer.{WritesAll, WritesFront}
+use Rattle.uca_model.specs.Lines.{lines_of}
+use Rattle.uca_model.specs.OrderOutput.{IsOrderOutput, line_key}
+use Rattle.uca_model.specs.Table.{ElementTable}
+use Rattle.uca_commands.specs.Commands.{Ends}
+use Rattle.uca_lines.specs.Input.{ReadsLines, RefusesInput}
+use Rattle.uca_commands.specs.declared.faults.CliFault.{CliFault}
+use Rattle.uca_commands.specs.declared.faults.CliFault.TheVariants as fault
+
+-- ---- of the keys of its lines
+
+-- the keys of some lines, one behind the other, and how long each is
+pub record AreKeys (t : ElementTable) (s : Settings) (lines : List (List ℕ)) (bytes lengths : List ℕ) : Type 0 where
+  pub all : bytes ≡ flat_map (line_key t s) lines
+  pub long : lengths ≡ map (λ line. length (line_key t s line)) lines
+
+-- pieces of some bytes, one behind the other, of these lengths
+abbrev pub cut_up : List ℕ → List ℕ → List (List ℕ)
+cut_up [] bytes = []
+cut_up (n ∷ ns) bytes = take n bytes ∷ cut_up ns (drop n bytes)
+
+-- ---- of an input that was read
+
+-- its lines went out in order, and these are so many
+pub record WritesInOrder (t : ElementTable) (s : Settings) (bytes : List ℕ) (old new : WriterState) (count : ℕ) : Type 0 where
+  pub output : List ℕ
+  pub made : IsOrderOutput t s bytes output
+  pub writes : WritesAll old new output
+  pub counted : count ≡ length (lines_of bytes)
+
+-- the writer stopped them
+pub record StopsLines (t : ElementTable) (s : Settings) (bytes : List ℕ) (old new : WriterState) (f : WriteFault) : Type 0 where
+  pub output : List ℕ
+  pub made : IsOrderOutput t s bytes output
+  pub writes : WritesFront old new output f
+
+-- what stopped them; all memory is taken before the first byte is written, and none where there are no lines
+abbrev pub StopsInOrder : ElementTable → Settings → List ℕ → WriterState → WriterState → CliFault → Type 0
+StopsInOrder t s bytes old new (fault.Output f) = StopsLines t s bytes old new f
+StopsInOrder t s bytes old new fault.OutOfMemory = (new ≡ old) × (0 < length bytes)
+StopsInOrder t s bytes old new _ = ⊥
+
+-- ---- of an input in a reader
+
+-- its lines were read, all of them texts, and went out in order
+pub record Orders (t : ElementTable) (s : Settings) (old new : Ends) (count : ℕ) : Type 0 where
+  pub bytes : List ℕ
+  pub reads : ReadsLines old.input new.input bytes
+  pub writes : WritesInOrder t s bytes old.output new.output count
+
+-- its lines were read, and did not all go out
+pub record StopsOrdering (t : ElementTable) (s : Settings) (old new : Ends) (f : CliFault) : Type 0 where
+  pub bytes : List ℕ
+  pub reads : ReadsLines old.input new.input bytes
+  pub writes : StopsInOrder t s bytes old.output new.output f
+
+-- why they were not put in order: at a fault of the input nothing was written
+abbrev pub RefusesOrder : ElementTable → Settings → Ends → Ends → CliFault → Type 0
+RefusesOrder t s old new (fault.Input f) = RefusesInput old.input new.input f × (new.output ≡ old.output)
+RefusesOrder t s old new f = StopsOrdering t s old new f

@@ -1,0 +1,209 @@
+ghost use Rattle.std.specs.Prelude.{◌≡◌, ◌+◌, ◌^◌, ◌<◌, ◌≤◌, ◌++◌, ◌∷◌, [], length, map, sum, All, IfOk, OnOk, MatchResult, IfErr};
+ghost use Rattle.std.specs.List.Sorted.{IsPermutation, IsSortedByKey, IsStableByKey};
+ghost use Rattle.uca_io.specs.OutputBuffer.{accepted, Accepts, FailsPartway};
+ghost use Rattle.uca_io.specs.Writer.{WritesAll, WritesFront};
+ghost use Rattle.uca_weights.specs.declared.limits.TheConstants.{MAX_INPUT};
+ghost use Rattle.uca_model.specs.Lines.{line_feed, lines_of, IsTextLine};
+ghost use Rattle.uca_model.specs.OrderOutput.{text_of_lines};
+ghost use Rattle.uca_model.specs.SortKey.{key_order};
+ghost use Rattle.uca_commands.specs.Ordering.{cut_up, AreKeys, Orders, RefusesOrder, StopsInOrder, WritesInOrder};
+ghost use Rattle.uca_commands.specs.Commands.{Does, Fails, order_command};
+
+use crate::faults::CliFault;
+use crate::output::text_of_line;
+use std::alloc::{AllocError, Global};
+use uca_io::OutputBuffer;
+use uca_io::output_buffer::ROOM;
+use uca_key::key_of;
+use uca_lines::{first_line, read_lines};
+use uca_table::Table;
+use uca_weights::{Reader, Settings, WriteFault, Writer};
+
+/// The sort keys of all lines, one after the other, and how long each is.
+#[derive(Drop)]
+struct Keys {
+    bytes: Vec<u8>,
+    lengths: Vec<usize>,
+}
+
+/// A line and its sort key.
+#[derive(Clone, Copy)]
+struct KeyedLine<'a> {
+    key: &'a [u8],
+    line: &'a [u8],
+}
+
+/// The sort keys of the lines of an input, which was checked.
+fn keys_of(alloc: Global, t: &Table, s: Settings, bytes: &[u8]) -> Result<Keys, AllocError>
+    requires { All IsTextLine (lines_of bytes.now) }
+    ensures { IfOk result (λ keys. AreKeys t.now s (lines_of bytes.now) keys.bytes.items keys.lengths.items) }
+{
+    let mut keys = Keys {
+        bytes: Vec::new(alloc),
+        lengths: Vec::new(alloc),
+    };
+    let mut left = bytes;
+    while !left.is_empty() {
+        let (line, rest) = first_line(left);
+        let key = key_of(alloc, t, s, &text_of_line(line))?;
+        keys.bytes.extend_from_slice(&key)?;
+        keys.lengths.push(key.len())?;
+        left = rest;
+    }
+    Ok(keys)
+}
+
+/// The lines of an input, each with its key, in the order that they have.
+fn keyed_lines<'a>(
+    alloc: Global,
+    keys: &'a Keys,
+    bytes: &'a [u8],
+) -> Result<Vec<KeyedLine<'a>>, AllocError>
+    requires within { sum keys.now.lengths.items ≤ length keys.now.bytes.items }
+    requires each { length keys.now.lengths.items ≡ length (lines_of bytes.now) }
+    ensures keys { IfOk result (λ v. map (λ l. l.key.now) v.items ≡ cut_up keys.now.lengths.items keys.now.bytes.items) }
+    ensures lines { IfOk result (λ v. map (λ l. l.line.now) v.items ≡ lines_of bytes.now) }
+{
+    let mut lines = Vec::new(alloc);
+    let mut keys_left = keys.bytes.as_slice();
+    let mut left = bytes;
+    for size in &keys.lengths {
+        let (key, other_keys) = keys_left.split_at(*size);
+        let (line, rest) = first_line(left);
+        lines.push(KeyedLine { key, line })?;
+        keys_left = other_keys;
+        left = rest;
+    }
+    Ok(lines)
+}
+
+/// Sorts lines by their keys. Lines of equal keys stay in the order that they had.
+fn sort_lines(lines: &mut Vec<KeyedLine<'_>>) -> Result<(), AllocError>
+    ensures same { IsPermutation lines.old.items lines.new.items }
+    ensures sorted { OnOk result (IsSortedByKey (λ l. l.key.now) key_order lines.new.items) }
+    ensures stable { IsStableByKey (λ l. l.key.now) key_order lines.old.items lines.new.items }
+{
+    lines.sort_by_key(|line| line.key)
+}
+
+/// Writes bytes to a buffer, however many they are.
+fn send_bytes<W: Writer>(w: &mut W, out: &mut OutputBuffer, bytes: &[u8]) -> Result<(), WriteFault>
+    requires { accepted out.old + length bytes.now < 2 ^ 128 }
+    ensures { MatchResult result
+        (λ _. Accepts (W.state w.old) out.old (W.state w.new) out.new bytes.now)
+        (λ f. FailsPartway (W.state w.old) out.old (W.state w.new) bytes.now f) }
+{
+    let mut left = bytes;
+    while left.len() > ROOM {
+        let (front, rest) = left.split_at(ROOM);
+        out.write(w, front)?;
+        left = rest;
+    }
+    out.write(w, left)
+}
+
+/// Writes a line to a buffer, with LF.
+fn send_line<W: Writer>(w: &mut W, out: &mut OutputBuffer, line: &[u8]) -> Result<(), WriteFault>
+    requires { accepted out.old < 2 ^ 127 }
+    ensures sends { MatchResult result
+        (λ _. Accepts (W.state w.old) out.old (W.state w.new) out.new (line.now ++ line_feed ∷ []))
+        (λ f. FailsPartway (W.state w.old) out.old (W.state w.new) (line.now ++ line_feed ∷ []) f) }
+    ensures small { OnOk result (accepted out.new < accepted out.old + 2 ^ 70) }
+{
+    match send_bytes(w, out, line) {
+        Ok(()) => out.write(w, b"\n"),
+        Err(fault) => Err(fault),
+    }
+}
+
+/// Writes lines, each with LF.
+fn write_keyed<W: Writer>(lines: &[KeyedLine<'_>], w: &mut W) -> Result<(), WriteFault>
+    requires { length lines.now ≤ MAX_INPUT }
+    ensures { MatchResult result
+        (λ _. WritesAll (W.state w.old) (W.state w.new) (text_of_lines (map (λ l. l.line.now) lines.now)))
+        (WritesFront (W.state w.old) (W.state w.new) (text_of_lines (map (λ l. l.line.now) lines.now))) }
+{
+    let mut out = OutputBuffer::new();
+    for keyed in lines {
+        send_line(w, &mut out, keyed.line)?;
+    }
+    out.flush(w)
+}
+
+/// Writes the lines of an input, which was checked, in the order of their sort keys, and returns how many there are.
+/// All memory is taken before the first byte is written, and none where there are no lines.
+pub fn write_in_order<W: Writer>(
+    alloc: Global,
+    t: &Table,
+    s: Settings,
+    bytes: &[u8],
+    w: &mut W,
+) -> Result<u64, CliFault>
+    requires small { length bytes.now ≤ MAX_INPUT }
+    requires texts { All IsTextLine (lines_of bytes.now) }
+    ensures { MatchResult result
+        (WritesInOrder t.now s bytes.now (W.state w.old) (W.state w.new))
+        (StopsInOrder t.now s bytes.now (W.state w.old) (W.state w.new)) }
+{
+    if bytes.is_empty() {
+        return Ok(0);
+    }
+    let Ok(keys) = keys_of(alloc, t, s, bytes) else {
+        return Err(CliFault::OutOfMemory);
+    };
+    let Ok(mut lines) = keyed_lines(alloc, &keys, bytes) else {
+        return Err(CliFault::OutOfMemory);
+    };
+    let Ok(()) = sort_lines(&mut lines) else {
+        return Err(CliFault::OutOfMemory);
+    };
+    match write_keyed(&lines, w) {
+        Ok(()) => Ok(lines.len() as u64),
+        Err(fault) => Err(CliFault::Output(fault)),
+    }
+}
+
+/// Writes the lines of an input in the order of their sort keys (UTS #10, section 7.4), each with LF. Lines of equal keys
+/// stay in the order that they had. It returns how many lines there are.
+///
+/// The input is read whole and checked before the first byte is written, and all memory is taken. An input without lines
+/// takes none. It does not flush the writer.
+pub fn order<R: Reader, W: Writer>(
+    alloc: Global,
+    t: &Table,
+    s: Settings,
+    r: &mut R,
+    w: &mut W,
+) -> Result<u64, CliFault>
+    ensures { MatchResult result
+        (Orders t.now s
+        (record { input = R.state r.old; output = W.state w.old })
+        (record { input = R.state r.new; output = W.state w.new }))
+        (RefusesOrder t.now s
+        (record { input = R.state r.old; output = W.state w.old })
+        (record { input = R.state r.new; output = W.state w.new })) }
+{
+    match read_lines(alloc, r) {
+        Ok(bytes) => write_in_order(alloc, t, s, &bytes, w),
+        Err(fault) => Err(CliFault::Input(fault)),
+    }
+}
+
+/// Writes the lines of its input in the order of their sort keys.
+pub fn run<I: Reader, W: Writer>(
+    alloc: Global,
+    t: &Table,
+    s: Settings,
+    input: &mut I,
+    output: &mut W,
+) -> Result<u8, CliFault>
+    ensures done { IfOk result (Does order_command t.now s
+        (record { input = I.state input.old; output = W.state output.old })
+        (record { input = I.state input.new; output = W.state output.new })) }
+    ensures fault { IfErr result (Fails order_command t.now s
+        (record { input = I.state input.old; output = W.state output.old })
+        (record { input = I.state input.new; output = W.state output.new })) }
+{
+    order(alloc, t, s, input, output)?;
+    Ok(0)
+}

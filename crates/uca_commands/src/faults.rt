@@ -1,0 +1,149 @@
+ghost use Rattle.std.specs.Prelude.{◌≡◌};
+
+use std::alloc::AllocError;
+use std::fmt;
+use thiserror::Error;
+use uca_allkeys::{ReadCause, ReadFault};
+use uca_conform::ConformFault;
+use uca_lines::{InputCause, InputFault};
+use uca_tailor::{RuleCause, RuleFault, TailorCause, TailorFault};
+use uca_weights::WriteFault;
+
+/// Why the bytes of a file of rules are no text.
+#[derive(Clone, Copy, Debug, PartialEq, Eq, Error)]
+pub enum RulesTextCause {
+    /// They are not UTF-8.
+    #[error("NotUtf8")]
+    NotUtf8,
+    /// They are more than `MAX_RULES`.
+    #[error("TooLarge")]
+    TooLarge,
+    /// The reader failed.
+    #[error("Read")]
+    Read,
+}
+
+/// Why a command was not done.
+#[derive(Clone, Copy, Debug, PartialEq, Eq)]
+pub enum CliFault {
+    Table(ReadFault),
+    /// The bytes of the rules are no text.
+    RulesText {
+        /// How many bytes at the beginning are UTF-8; `MAX_RULES` where there are more; 0 where the reader failed.
+        at: usize,
+        cause: RulesTextCause,
+    },
+    Rules(RuleFault),
+    Tailor(TailorFault),
+    Input(InputFault),
+    Conform(ConformFault),
+    Output(WriteFault),
+    /// Memory was refused, but not to the table's text, to the rules that were read, or to the input.
+    OutOfMemory,
+}
+
+impl From<AllocError> for CliFault {
+    ghost use Rattle.uca_commands.specs.declared.faults.CliFault.TheVariants.{OutOfMemory};
+
+    ghost from_gives = { λ _ result. result ≡ OutOfMemory };
+
+    fn from(_refused: AllocError) -> CliFault {
+        CliFault::OutOfMemory
+    }
+}
+
+impl From<ReadFault> for CliFault {
+    ghost use Rattle.uca_commands.specs.declared.faults.CliFault.TheVariants.{Table};
+
+    ghost from_gives = { λ fault result. result ≡ Table fault };
+
+    fn from(fault: ReadFault) -> CliFault {
+        CliFault::Table(fault)
+    }
+}
+
+impl From<RuleFault> for CliFault {
+    ghost use Rattle.uca_commands.specs.declared.faults.CliFault.TheVariants.{Rules};
+
+    ghost from_gives = { λ fault result. result ≡ Rules fault };
+
+    fn from(fault: RuleFault) -> CliFault {
+        CliFault::Rules(fault)
+    }
+}
+
+impl From<TailorFault> for CliFault {
+    ghost use Rattle.uca_commands.specs.declared.faults.CliFault.TheVariants.{Tailor};
+
+    ghost from_gives = { λ fault result. result ≡ Tailor fault };
+
+    fn from(fault: TailorFault) -> CliFault {
+        CliFault::Tailor(fault)
+    }
+}
+
+impl From<InputFault> for CliFault {
+    ghost use Rattle.uca_commands.specs.declared.faults.CliFault.TheVariants.{Input};
+
+    ghost from_gives = { λ fault result. result ≡ Input fault };
+
+    fn from(fault: InputFault) -> CliFault {
+        CliFault::Input(fault)
+    }
+}
+
+impl From<ConformFault> for CliFault {
+    ghost use Rattle.uca_commands.specs.declared.faults.CliFault.TheVariants.{Conform};
+
+    ghost from_gives = { λ fault result. result ≡ Conform fault };
+
+    fn from(fault: ConformFault) -> CliFault {
+        CliFault::Conform(fault)
+    }
+}
+
+impl From<WriteFault> for CliFault {
+    ghost use Rattle.uca_commands.specs.declared.faults.CliFault.TheVariants.{Output};
+
+    ghost from_gives = { λ fault result. result ≡ Output fault };
+
+    fn from(fault: WriteFault) -> CliFault {
+        CliFault::Output(fault)
+    }
+}
+
+impl fmt::Display for CliFault {
+    fn fmt<W: fmt::Write>(&self, f: &mut fmt::Formatter<W>) -> fmt::Result {
+        match self {
+            CliFault::Table(ReadFault { line, cause }) => match cause {
+                ReadCause::OutOfMemory => write!(f, "uca: {cause}"),
+                _ => write!(f, "uca: table line {line}: {cause}"),
+            },
+            CliFault::RulesText { at, cause } => write!(f, "uca: rules byte {at}: {cause}"),
+            CliFault::Rules(RuleFault { at, cause }) => match cause {
+                RuleCause::OutOfMemory => write!(f, "uca: {cause}"),
+                _ => write!(f, "uca: rules byte {at}: {cause}"),
+            },
+            CliFault::Tailor(TailorFault { relation, cause }) => match cause {
+                TailorCause::OutOfMemory => write!(f, "uca: {cause}"),
+                _ => write!(f, "uca: rules relation {relation}: {cause}"),
+            },
+            CliFault::Input(InputFault { line, at, cause }) => match cause {
+                InputCause::NotUtf8 | InputCause::LongRun => {
+                    write!(f, "uca: input line {line} byte {at}: {cause}")
+                }
+                InputCause::TooLarge | InputCause::Read | InputCause::NotOneLine => {
+                    write!(f, "uca: input: {cause}")
+                }
+                InputCause::OutOfMemory => write!(f, "uca: {cause}"),
+            },
+            CliFault::Conform(ConformFault { line, cause }) => {
+                write!(f, "uca: input line {line}: {cause}")
+            }
+            CliFault::Output(WriteFault { written, cause }) => {
+                write!(f, "uca: output byte {written}: {cause}")
+            }
+            CliFault::OutOfMemory => write!(f, "uca: OutOfMemory"),
+        }
+    }
+}

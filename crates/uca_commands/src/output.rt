@@ -1,0 +1,154 @@
+ghost use Rattle.std.specs.Prelude.{◌≡◌, ◌+◌, ◌*◌, ◌^◌, ◌<◌, ◌≤◌, ◌++◌, length, flat_map, All, OnOk, MatchResult, chars};
+ghost use Rattle.uca_io.specs.OutputBuffer.{accepted, Accepts, FailsPartway};
+ghost use Rattle.uca_io.specs.Writer.{WritesAll, WritesFront};
+ghost use Rattle.uca_weights.specs.declared.limits.TheConstants.{MAX_INPUT};
+ghost use Rattle.uca_model.specs.CanonicalText.{element_text};
+ghost use Rattle.uca_model.specs.ElementsOutput.{elements_text};
+ghost use Rattle.uca_model.specs.Lines.{lines_of, IsTextLine};
+ghost use Rattle.uca_model.specs.Output.{hex_line};
+ghost use Rattle.uca_window.specs.Passage.{text_of};
+ghost use Rattle.uca_commands.specs.Sending.{line_text, lines_text, StopsLine, StopsOutput};
+
+use crate::faults::CliFault;
+use std::alloc::Global;
+use std::str::from_utf8_unchecked;
+use uca_allkeys::element_text;
+use uca_io::OutputBuffer;
+use uca_key::key_of;
+use uca_lines::{first_line, send_hex};
+use uca_match::elements_of;
+use uca_table::Table;
+use uca_weights::{Element, Settings, WriteFault, Writer};
+use uca_window::Passage;
+
+/// What a command writes for each line.
+#[derive(Clone, Copy)]
+pub enum LineForm {
+    /// The line's collation elements.
+    Elements,
+    /// The line's sort key, as digits.
+    Key,
+}
+
+/// The text of a line that was checked.
+pub fn text_of_line(line: &[u8]) -> Passage<'_>
+    requires { IsTextLine line.now }
+    ensures { text_of result ≡ chars line.now }
+{
+    Passage::of_safe(unsafe { from_utf8_unchecked(line) })
+}
+
+/// Writes collation elements to a buffer, one after the other.
+fn send_each<W: Writer>(
+    w: &mut W,
+    out: &mut OutputBuffer,
+    elements: &[Element],
+) -> Result<(), WriteFault>
+    requires { accepted out.old + 17 * length elements.now < 2 ^ 128 }
+    ensures { MatchResult result
+        (λ _. Accepts (W.state w.old) out.old (W.state w.new) out.new (flat_map element_text elements.now))
+        (λ f. FailsPartway (W.state w.old) out.old (W.state w.new) (flat_map element_text elements.now) f) }
+{
+    for element in elements {
+        out.write(w, &element_text(element))?;
+    }
+    Ok(())
+}
+
+/// Writes the line of some collation elements to a buffer.
+fn send_elements<W: Writer>(
+    w: &mut W,
+    out: &mut OutputBuffer,
+    elements: &[Element],
+) -> Result<(), WriteFault>
+    requires { accepted out.old < 2 ^ 127 }
+    ensures sends { MatchResult result
+        (λ _. Accepts (W.state w.old) out.old (W.state w.new) out.new (elements_text elements.now))
+        (FailsPartway (W.state w.old) out.old (W.state w.new) (elements_text elements.now)) }
+    ensures small { OnOk result (accepted out.new < accepted out.old + 2 ^ 70) }
+{
+    match send_each(w, out, elements) {
+        Ok(()) => out.write(w, b"\n"),
+        Err(fault) => Err(fault),
+    }
+}
+
+/// Writes the line of a key to a buffer.
+fn send_key<W: Writer>(w: &mut W, out: &mut OutputBuffer, key: &[u8]) -> Result<(), WriteFault>
+    requires { accepted out.old < 2 ^ 127 }
+    ensures sends { MatchResult result
+        (λ _. Accepts (W.state w.old) out.old (W.state w.new) out.new (hex_line key.now))
+        (FailsPartway (W.state w.old) out.old (W.state w.new) (hex_line key.now)) }
+    ensures small { OnOk result (accepted out.new < accepted out.old + 2 ^ 70) }
+{
+    match send_hex(w, out, key) {
+        Ok(()) => out.write(w, b"\n"),
+        Err(fault) => Err(fault),
+    }
+}
+
+/// Writes to a buffer what a command writes for a line.
+fn send_line<W: Writer>(
+    alloc: Global,
+    form: LineForm,
+    t: &Table,
+    s: Settings,
+    line: &[u8],
+    w: &mut W,
+    out: &mut OutputBuffer,
+) -> Result<(), CliFault>
+    requires text { IsTextLine line.now }
+    requires room { accepted out.old < 2 ^ 127 }
+    ensures sends { MatchResult result
+        (λ _. Accepts (W.state w.old) out.old (W.state w.new) out.new (line_text form t.now s line.now))
+        (StopsLine (W.state w.old) out.old (W.state w.new) out.new (line_text form t.now s line.now)) }
+    ensures small { OnOk result (accepted out.new < accepted out.old + 2 ^ 70) }
+{
+    let passage = text_of_line(line);
+    match form {
+        LineForm::Elements => match elements_of(alloc, t, &passage) {
+            Ok(elements) => match send_elements(w, out, &elements) {
+                Ok(()) => Ok(()),
+                Err(fault) => Err(CliFault::Output(fault)),
+            },
+            Err(_) => Err(CliFault::OutOfMemory),
+        },
+        LineForm::Key => match key_of(alloc, t, s, &passage) {
+            Ok(key) => match send_key(w, out, &key) {
+                Ok(()) => Ok(()),
+                Err(fault) => Err(CliFault::Output(fault)),
+            },
+            Err(_) => Err(CliFault::OutOfMemory),
+        },
+    }
+}
+
+/// Writes what a command writes for each line of an input, which was checked.
+pub fn write_lines<W: Writer>(
+    alloc: Global,
+    form: LineForm,
+    t: &Table,
+    s: Settings,
+    bytes: &[u8],
+    w: &mut W,
+) -> Result<(), CliFault>
+    requires small { length bytes.now ≤ MAX_INPUT }
+    requires texts { All IsTextLine (lines_of bytes.now) }
+    ensures { MatchResult result
+        (λ _. WritesAll (W.state w.old) (W.state w.new) (lines_text form t.now s bytes.now))
+        (StopsOutput (W.state w.old) (W.state w.new) (lines_text form t.now s bytes.now)) }
+{
+    let mut out = OutputBuffer::new();
+    let mut left = bytes;
+    while !left.is_empty() {
+        let (line, rest) = first_line(left);
+        match send_line(alloc, form, t, s, line, w, &mut out) {
+            Ok(()) => left = rest,
+            Err(fault) => return Err(fault),
+        }
+    }
+    match out.flush(w) {
+        Ok(()) => Ok(()),
+        Err(fault) => Err(CliFault::Output(fault)),
+    }
+}
