@@ -6,15 +6,16 @@ ghost use Rattle.uca_model.specs.CanonicalText.{element_text};
 ghost use Rattle.uca_model.specs.ElementsOutput.{elements_text};
 ghost use Rattle.uca_model.specs.Lines.{lines_of, IsTextLine};
 ghost use Rattle.uca_model.specs.Output.{hex_line};
+ghost use Rattle.uca_model.specs.SortKey.{sort_key};
 ghost use Rattle.uca_window.specs.Passage.{text_of};
 ghost use Rattle.uca_commands.specs.Sending.{line_text, lines_text, StopsLine, StopsOutput};
 
 use crate::faults::CliFault;
-use std::alloc::Global;
+use std::alloc::{AllocError, Global};
 use std::str::from_utf8_unchecked;
 use uca_allkeys::element_text;
 use uca_io::OutputBuffer;
-use uca_key::key_of;
+use uca_key::KeyMaker;
 use uca_lines::{first_line, send_hex};
 use uca_match::elements_of;
 use uca_table::Table;
@@ -28,6 +29,36 @@ pub enum LineForm {
     Elements,
     /// The line's sort key, as digits.
     Key,
+}
+
+/// What the sort keys of lines are made in, one after the other.
+#[derive(Drop)]
+struct KeyRoom {
+    maker: KeyMaker,
+    key: Vec<u8>,
+}
+
+impl KeyRoom {
+    fn new(alloc: Global) -> KeyRoom {
+        KeyRoom {
+            maker: KeyMaker::new(alloc),
+            key: Vec::new(alloc),
+        }
+    }
+
+    /// Makes the key of a text, in place of the last one.
+    fn make_key(
+        &mut self,
+        alloc: Global,
+        t: &Table,
+        s: Settings,
+        p: &Passage,
+    ) -> Result<(), AllocError>
+        ensures { OnOk result (self.new.key.items ≡ sort_key t.now s (text_of p.now)) }
+    {
+        self.key.clear();
+        self.maker.push_key(alloc, t, s, p, &mut self.key)
+    }
 }
 
 /// The text of a line that was checked.
@@ -94,6 +125,7 @@ fn send_line<W: Writer>(
     t: &Table,
     s: Settings,
     line: &[u8],
+    keys: &mut KeyRoom,
     w: &mut W,
     out: &mut OutputBuffer,
 ) -> Result<(), CliFault>
@@ -113,13 +145,44 @@ fn send_line<W: Writer>(
             },
             Err(_) => Err(CliFault::OutOfMemory),
         },
-        LineForm::Key => match key_of(alloc, t, s, &passage) {
-            Ok(key) => match send_key(w, out, &key) {
+        LineForm::Key => match keys.make_key(alloc, t, s, &passage) {
+            Ok(()) => match send_key(w, out, &keys.key) {
                 Ok(()) => Ok(()),
                 Err(fault) => Err(CliFault::Output(fault)),
             },
             Err(_) => Err(CliFault::OutOfMemory),
         },
+    }
+}
+
+/// Writes what a command writes for each line of an input, which was checked. The keys are made in the room that is given.
+fn send_lines<W: Writer>(
+    alloc: Global,
+    form: LineForm,
+    t: &Table,
+    s: Settings,
+    bytes: &[u8],
+    keys: &mut KeyRoom,
+    w: &mut W,
+) -> Result<(), CliFault>
+    requires small { length bytes.now ≤ MAX_INPUT }
+    requires texts { All IsTextLine (lines_of bytes.now) }
+    ensures { MatchResult result
+        (λ _. WritesAll (W.state w.old) (W.state w.new) (lines_text form t.now s bytes.now))
+        (StopsOutput (W.state w.old) (W.state w.new) (lines_text form t.now s bytes.now)) }
+{
+    let mut out = OutputBuffer::new();
+    let mut left = bytes;
+    while !left.is_empty() {
+        let (line, rest) = first_line(left);
+        match send_line(alloc, form, t, s, line, keys, w, &mut out) {
+            Ok(()) => left = rest,
+            Err(fault) => return Err(fault),
+        }
+    }
+    match out.flush(w) {
+        Ok(()) => Ok(()),
+        Err(fault) => Err(CliFault::Output(fault)),
     }
 }
 
@@ -138,17 +201,6 @@ pub fn write_lines<W: Writer>(
         (λ _. WritesAll (W.state w.old) (W.state w.new) (lines_text form t.now s bytes.now))
         (StopsOutput (W.state w.old) (W.state w.new) (lines_text form t.now s bytes.now)) }
 {
-    let mut out = OutputBuffer::new();
-    let mut left = bytes;
-    while !left.is_empty() {
-        let (line, rest) = first_line(left);
-        match send_line(alloc, form, t, s, line, w, &mut out) {
-            Ok(()) => left = rest,
-            Err(fault) => return Err(fault),
-        }
-    }
-    match out.flush(w) {
-        Ok(()) => Ok(()),
-        Err(fault) => Err(CliFault::Output(fault)),
-    }
+    let mut keys = KeyRoom::new(alloc);
+    send_lines(alloc, form, t, s, bytes, &mut keys, w)
 }

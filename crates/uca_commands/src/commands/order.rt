@@ -14,7 +14,7 @@ use crate::output::text_of_line;
 use std::alloc::{AllocError, Global};
 use uca_io::OutputBuffer;
 use uca_io::output_buffer::ROOM;
-use uca_key::key_of;
+use uca_key::KeyMaker;
 use uca_lines::{first_line, read_lines};
 use uca_table::Table;
 use uca_weights::{Reader, Settings, WriteFault, Writer};
@@ -42,12 +42,13 @@ fn keys_of(alloc: Global, t: &Table, s: Settings, bytes: &[u8]) -> Result<Keys, 
         bytes: Vec::new(alloc),
         lengths: Vec::new(alloc),
     };
+    let mut maker = KeyMaker::new(alloc);
     let mut left = bytes;
     while !left.is_empty() {
         let (line, rest) = first_line(left);
-        let key = key_of(alloc, t, s, &text_of_line(line))?;
-        keys.bytes.extend_from_slice(&key)?;
-        keys.lengths.push(key.len())?;
+        let start = keys.bytes.len();
+        maker.push_key(alloc, t, s, &text_of_line(line), &mut keys.bytes)?;
+        keys.lengths.push(keys.bytes.len() - start)?;
         left = rest;
     }
     Ok(keys)
@@ -64,7 +65,7 @@ fn keyed_lines<'a>(
     ensures keys { IfOk result (λ v. map (λ l. l.key.now) v.items ≡ cut_up keys.now.lengths.items keys.now.bytes.items) }
     ensures lines { IfOk result (λ v. map (λ l. l.line.now) v.items ≡ lines_of bytes.now) }
 {
-    let mut lines = Vec::new(alloc);
+    let mut lines = Vec::with_capacity(alloc, keys.lengths.len())?;
     let mut keys_left = keys.bytes.as_slice();
     let mut left = bytes;
     for size in &keys.lengths {

@@ -1,4 +1,4 @@
-use Rattle.std.proofs.Common.{◌≡◌, ℕ, List, [], ◌∷◌, ◌++◌, length, map, flat_map, All, ap, subst, sym, ◌∙◌, arith, append_assoc}
+use Rattle.std.proofs.Common.{◌≡◌, ℕ, List, [], ◌∷◌, ◌++◌, ◌+◌, ◌-◌, length, map, flat_map, All, ap, subst, sym, ◌∙◌, arith, append_assoc, length-append}
 use Rattle.std.proofs.lemmas.List.Elements.{All-tail}
 use Rattle.uca_model.specs.Lines.{lines_of, IsTextLine}
 use Rattle.uca_model.specs.OrderOutput.{line_key}
@@ -10,9 +10,9 @@ loop-left-preserved c =
     let line : List ℕ = c.first_line.result.0.now in let rest : List ℕ = c.first_line.result.1.now in
     let k : List ℕ → List ℕ = line_key c.args.t.now c.args.s in
     let parts : lines_of c.loop-left.left.now ≡ line ∷ lines_of rest = c.first_line.ensures.parts in
-    let key : c.in_ok-key.key.items ≡ k line = c.in_ok-key.ensures ∙ ap (sort_key c.args.t.now c.args.s) c.text_of_line.ensures in
-    let bytes : c.extend_from_slice.new.self.items ≡ c.loop-left.keys.bytes.items ++ k line = c.in_ok-extend_from_slice.ensures.items ∙ ap (λ l. c.loop-left.keys.bytes.items ++ l) (c.deref.ensures.value ∙ key) in
-    let size : c.len.result ≡ length (k line) = omega (arith, c.len.ensures, c.in_ok-key.key.ok.0, ap length key) in
+    let bytes : c.push_key.new.keys.items ≡ c.loop-left.keys.bytes.items ++ k line = c.in_ok-push_key.ensures ∙ ap (λ key. c.loop-left.keys.bytes.items ++ sort_key c.args.t.now c.args.s key) c.text_of_line.ensures in
+    let before : length c.push_key.new.keys.items ≡ length c.loop-left.keys.bytes.items + length (k line) = ap length bytes ∙ length-append c.loop-left.keys.bytes.items (k line) in
+    let size : c.len.result - c.len-start.result ≡ length (k line) = omega (arith, before, c.len.ensures, c.len-start.ensures, c.push_key.new.keys.ok.0, c.loop-left.keys.bytes.ok.0) in
     let lengths : c.push.new.self.items ≡ c.loop-left.keys.lengths.items ++ (length (k line) ∷ []) = c.in_ok-push.ensures.items ∙ ap (λ n. c.loop-left.keys.lengths.items ++ (n ∷ [])) size in
     record {
       all = ap (λ l. l ++ flat_map k (lines_of rest)) bytes ∙ append_assoc c.loop-left.keys.bytes.items (k line) (flat_map k (lines_of rest)) ∙ ap (λ ls. c.loop-left.keys.bytes.items ++ flat_map k ls) (sym parts) ∙ c.loop-left.invariant.all;

@@ -2,7 +2,7 @@ use Rattle.std.proofs.Common.{◌≡◌, ℕ, ◌+◌, ◌*◌, ◌^◌, ◌≤�
 use Rattle.uca_io.specs.OutputBuffer.{accepted, Accepts}
 use Rattle.uca_model.specs.Lines.{lines_of, IsTextLine}
 use Rattle.uca_commands.specs.Sending.{lines_text}
-use Rattle.uca_commands.proofs.output.write_lines.Given as goal
+use Rattle.uca_commands.proofs.output.send_lines.Given as goal
 
 abbrev pub invariant-loop-left : goal.invariant-loop-left
 invariant-loop-left g l = record {

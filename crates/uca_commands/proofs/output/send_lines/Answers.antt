@@ -4,7 +4,7 @@ use Rattle.uca_io.proofs.BufferLemmas.{Accepts-none, Accepts-more}
 use Rattle.uca_model.specs.Lines.{lines_of, IsTextLine}
 use Rattle.uca_commands.specs.Sending.{line_text, lines_text}
 use Rattle.uca_commands.proofs.SendingLemmas.{lines_text-parts, FailsPartway-whole, StopsOutput-line}
-use Rattle.uca_commands.proofs.output.write_lines.Goals as goal
+use Rattle.uca_commands.proofs.output.send_lines.Goals as goal
 
 pub loop-left-init : goal.loop-left-init
 loop-left-init g c =
