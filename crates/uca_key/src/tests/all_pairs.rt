@@ -158,21 +158,15 @@ fn table(rt: &impl Abort, alloc: Global) -> Table {
     }
 }
 
-/// A text and its key.
-#[derive(Drop)]
-struct Keyed {
-    passage: Passage<'static>,
-    key: Vec<u8>,
-}
+/// A long front that ends in the beginning of a contraction, and so after a place to cut.
+const OPEN_FRONT: &str = "zechzaz-zech-c";
 
-/// All texts with their keys at these settings.
-fn keyed_texts(
-    rt: &impl Abort,
-    alloc: Global,
-    t: &Table,
-    s: Settings,
-) -> Result<Vec<Keyed>, AllocError> {
-    let groups: [&[&'static str]; 7] = [
+/// A long front that ends in a letter with a mark that a contraction passes over, after a variable element.
+const MARKED_FRONT: &str = "zechza\u{301}z-b\u{323}";
+
+/// All texts, each after a front.
+fn texts_after(alloc: Global, front: &str) -> Result<Vec<String>, AllocError> {
+    let groups: [&[&str]; 7] = [
         &SAME_OR_PREFIX,
         &ACCENTS,
         &CASES,
@@ -181,13 +175,38 @@ fn keyed_texts(
         &IMPLICIT,
         &HANGUL_AND_EDGES,
     ];
-    let mut keyed = Vec::new(alloc);
+    let mut texts = Vec::new(alloc);
     for group in groups {
         for text in group {
-            let passage = Passage::check(*text).ok().expect(rt, "a safe text");
-            let key = key_of(alloc, t, s, &passage)?;
-            keyed.push(Keyed { passage, key })?;
+            let mut whole = String::new(alloc);
+            whole.push_str(front)?;
+            whole.push_str(*text)?;
+            texts.push(whole)?;
         }
+    }
+    Ok(texts)
+}
+
+/// A text and its key.
+#[derive(Drop)]
+struct Keyed<'t> {
+    passage: Passage<'t>,
+    key: Vec<u8>,
+}
+
+/// These texts with their keys at these settings.
+fn keyed_texts<'t>(
+    rt: &impl Abort,
+    alloc: Global,
+    t: &Table,
+    s: Settings,
+    texts: &'t [String],
+) -> Result<Vec<Keyed<'t>>, AllocError> {
+    let mut keyed = Vec::new(alloc);
+    for text in texts {
+        let passage = Passage::check(text.as_str()).ok().expect(rt, "a safe text");
+        let key = key_of(alloc, t, s, &passage)?;
+        keyed.push(Keyed { passage, key })?;
     }
     Ok(keyed)
 }
@@ -213,16 +232,20 @@ fn count_equal(rt: &impl Abort, t: &Table, s: Settings, keyed: &[Keyed]) -> usiz
     equal
 }
 
-/// At each strength every two texts compare as their keys do, and some differ first at this strength's own level.
-fn check_all_pairs(rt: &impl Abort, alloc: Global, weighting: Variable) {
+/// At each strength every two texts after a front compare as their keys do, and some differ first at this strength's own
+/// level.
+fn check_all_pairs(rt: &impl Abort, alloc: Global, weighting: Variable, front: &str) {
     let t = table(rt, alloc);
+    let Ok(texts) = texts_after(alloc, front) else {
+        return;
+    };
     let mut before = usize::MAX;
     for strength in STRENGTHS {
         let s = Settings {
             strength,
             weighting,
         };
-        let Ok(keyed) = keyed_texts(rt, alloc, &t, s) else {
+        let Ok(keyed) = keyed_texts(rt, alloc, &t, s, &texts) else {
             return;
         };
         let equal = count_equal(rt, &t, s, &keyed);
@@ -237,15 +260,35 @@ fn check_all_pairs(rt: &impl Abort, alloc: Global, weighting: Variable) {
 
 #[test]
 fn all_pairs_are_in_the_order_of_their_keys(rt: HostRuntime) {
-    check_all_pairs(&rt, rt.alloc(), Variable::NonIgnorable);
+    check_all_pairs(&rt, rt.alloc(), Variable::NonIgnorable, "");
 }
 
 #[test]
 fn all_pairs_are_in_the_order_of_their_keys_when_blanked(rt: HostRuntime) {
-    check_all_pairs(&rt, rt.alloc(), Variable::Blanked);
+    check_all_pairs(&rt, rt.alloc(), Variable::Blanked, "");
 }
 
 #[test]
 fn all_pairs_are_in_the_order_of_their_keys_when_shifted(rt: HostRuntime) {
-    check_all_pairs(&rt, rt.alloc(), Variable::Shifted);
+    check_all_pairs(&rt, rt.alloc(), Variable::Shifted, "");
+}
+
+#[test]
+fn all_pairs_after_an_open_front_are_in_the_order_of_their_keys(rt: HostRuntime) {
+    check_all_pairs(&rt, rt.alloc(), Variable::NonIgnorable, OPEN_FRONT);
+}
+
+#[test]
+fn all_pairs_after_an_open_front_are_in_the_order_of_their_keys_when_blanked(rt: HostRuntime) {
+    check_all_pairs(&rt, rt.alloc(), Variable::Blanked, OPEN_FRONT);
+}
+
+#[test]
+fn all_pairs_after_an_open_front_are_in_the_order_of_their_keys_when_shifted(rt: HostRuntime) {
+    check_all_pairs(&rt, rt.alloc(), Variable::Shifted, OPEN_FRONT);
+}
+
+#[test]
+fn all_pairs_after_a_marked_front_are_in_the_order_of_their_keys_when_shifted(rt: HostRuntime) {
+    check_all_pairs(&rt, rt.alloc(), Variable::Shifted, MARKED_FRONT);
 }
