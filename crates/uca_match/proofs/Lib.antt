@@ -3,3 +3,4 @@ pub mod RemainingLemmas
 pub mod KeyLemmas
 pub mod MatchesLemmas
 pub mod FoundLemmas
+pub mod CompletenessLemmas

@@ -104,7 +104,7 @@ below-greater c d bytes None byte more h = elim (cases_Bool (c == 255)) [
       ]
 ]
 
-between-begins : (front bytes : List ℕ) → AreBytes bytes → IsBetween front (end_of_prefix front) bytes → BeginsWith bytes front
+pub between-begins : (front bytes : List ℕ) → AreBytes bytes → IsBetween front (end_of_prefix front) bytes → BeginsWith bytes front
 unfolding end_of_prefix
 between-begins [] bytes are h = record { rest = bytes; parts = refl }
 between-begins (c ∷ front) [] are h = absurd (h.from refl)
@@ -127,7 +127,7 @@ below-begins c bytes None h = by_last (c == 255)
     by_last true = tt
     by_last false = first_decides c (c + 1) bytes [] Less (is_less c (c + 1) (omega arith))
 
-begins-between : (front rest : List ℕ) → IsBetween front (end_of_prefix front) (front ++ rest)
+pub begins-between : (front rest : List ℕ) → IsBetween front (end_of_prefix front) (front ++ rest)
 unfolding end_of_prefix
 begins-between [] rest = record { from = not_before_none rest; before = tt }
 begins-between (c ∷ front) rest =

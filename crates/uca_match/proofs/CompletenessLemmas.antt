@@ -1,0 +1,165 @@
+-- A text from its last character on, and the lists that the loops go over.
+use Rattle.std.proofs.Common.{◌≡◌, ◌≢◌, ℕ, zero, suc, ◌+◌, ◌-◌, ◌≤◌, ◌<◌, Bool, true, false, cond, not, ◌&&◌, ◌||◌, ◌==◌, List, [], ◌∷◌, ◌++◌, length, take, drop, flat_map, reverse, get_or, Option, Some, None, unwrap_or, refl, sym, ap, ap₂, ◌∙◌, arith, eq-eqb, ne_eqb, append_assoc, append-nil, chars, encode_utf8, IsUtf8, subst, length-append}
+use Rattle.std.proofs.Math.Seq.{take-append_seam, drop-append_seam}
+use Rattle.std.proofs.lemmas.Str.{chars-append, chars-nil, chars_past_char, IsCharBoundary-from_take, IsUtf8-drop}
+use Rattle.std.proofs.lemmas.Bool.{cond-true, cond-false}
+use Rattle.std.proofs.lemmas.List.{reverse-append}
+use Rattle.std.proofs.lemmas.List.Concat.{flat_map-append}
+use Rattle.unicode_normalization.specs.Decompose.{decompose_canonical}
+use Rattle.unicode.specs.CanonicalCombiningClass.{canonical_combining_class as ccc}
+use Rattle.unicode_normalization.specs.Order.{is_starter}
+use Rattle.uca_weights.specs.declared.element.Element.{Element}
+use Rattle.uca_model.specs.Table.{ElementTable}
+use Rattle.uca_model.specs.Prefix.{is_before_last, lack_primary, is_primary_of, have_primaries_of, is_closed, is_silent, is_complete_from, is_complete}
+
+-- the characters of a text that ends in one
+pub split-chars : (text front : List ℕ) (c : ℕ) → text ≡ front ++ encode_utf8 c → IsUtf8 text → IsUtf8 front → chars text ≡ chars front ++ c ∷ []
+split-chars text front c parts whole before =
+    let within : length front ≤ length text = omega (arith, ap length parts ∙ length-append front (encode_utf8 c)) in
+    let first : take (length front) text ≡ front = ap (take (length front)) parts ∙ take-append_seam front (encode_utf8 c) in
+    let back : drop (length front) text ≡ encode_utf8 c = ap (drop (length front)) parts ∙ drop-append_seam front (encode_utf8 c) in
+    let last : IsUtf8 (encode_utf8 c) = subst IsUtf8 back (IsUtf8-drop text (length front) whole (IsCharBoundary-from_take text (length front) whole within (subst IsUtf8 (sym first) before))) in
+    ap chars parts ∙ chars-append front (encode_utf8 c) before
+    ∙ ap (λ l. chars front ++ l) (chars_past_char (encode_utf8 c) [] c last (sym (append-nil (encode_utf8 c))) ∙ ap (λ l. c ∷ l) chars-nil)
+
+-- a text is complete by its last character and what stands before it
+pub complete-last : (t : ElementTable) (text front ds : List ℕ) (c : ℕ) → text ≡ front ++ c ∷ [] → ds ≡ decompose_canonical c
+    → is_complete t text ≡ is_complete_from t (reverse ds ++ reverse (flat_map decompose_canonical front))
+unfolding is_complete
+complete-last t text front ds c parts is =
+    ap (λ l. is_complete_from t (reverse (flat_map decompose_canonical l))) parts
+    ∙ ap (λ l. is_complete_from t (reverse l)) (flat_map-append decompose_canonical front (c ∷ []) ∙ ap (λ l. flat_map decompose_canonical front ++ l) (no_more (decompose_canonical c)))
+    ∙ ap (is_complete_from t) (reverse-append (flat_map decompose_canonical front) (decompose_canonical c))
+    ∙ ap (λ l. is_complete_from t (reverse l ++ reverse (flat_map decompose_canonical front))) (sym is)
+  where
+    no_more : (xs : List ℕ) → xs ++ [] ≡ xs
+    no_more [] = refl
+    no_more (x ∷ xs) = ap (λ l. x ∷ l) (no_more xs)
+
+pub complete-front : (t : ElementTable) (front : List ℕ) → is_complete t front ≡ is_complete_from t (reverse (flat_map decompose_canonical front))
+unfolding is_complete
+complete-front t front = refl
+
+pub complete_none : (t : ElementTable) (text : List ℕ) → text ≡ [] → is_complete t text ≡ true
+unfolding is_complete
+complete_none t text none = ap (λ l. is_complete_from t (reverse (flat_map decompose_canonical l))) none
+
+-- where the last character decides, and where it lies with what stands before it
+pub complete_stops : (t : ElementTable) (text front ds : List ℕ) (c : ℕ) (decided : Option Bool) (b : Bool) → text ≡ front ++ c ∷ [] → ds ≡ decompose_canonical c
+    → ((before : List ℕ) → is_complete_from t (reverse ds ++ before) ≡ unwrap_or decided (is_complete_from t before)) → decided ≡ Some b → is_complete t text ≡ b
+complete_stops t text front ds c decided b parts is ends some =
+    complete-last t text front ds c parts is ∙ ends (reverse (flat_map decompose_canonical front)) ∙ ap (λ o. unwrap_or o (is_complete_from t (reverse (flat_map decompose_canonical front)))) some
+
+pub complete_goes_on : (t : ElementTable) (text front ds : List ℕ) (c : ℕ) (decided : Option Bool) → text ≡ front ++ c ∷ [] → ds ≡ decompose_canonical c
+    → ((before : List ℕ) → is_complete_from t (reverse ds ++ before) ≡ unwrap_or decided (is_complete_from t before)) → decided ≡ None → is_complete t front ≡ is_complete t text
+complete_goes_on t text front ds c decided parts is ends none =
+    complete-front t front
+    ∙ sym (complete-last t text front ds c parts is ∙ ends (reverse (flat_map decompose_canonical front)) ∙ ap (λ o. unwrap_or o (is_complete_from t (reverse (flat_map decompose_canonical front)))) none)
+
+pub front_shorter : (text front : List ℕ) (c : ℕ) → text ≡ front ++ c ∷ [] → length front < length text
+front_shorter text front c parts = let size : length text ≡ length front + 1 = ap length parts ∙ length-append front (c ∷ []) in omega arith
+
+-- the code points up to a place, from the last one on
+reverse-take : (ds : List ℕ) (n c : ℕ) → n < length ds → c ≡ get_or ds n c → reverse (take (n + 1) ds) ≡ c ∷ reverse (take n ds)
+reverse-take ds n c within is = ap reverse (take_more ds n c within is) ∙ reverse-append (take n ds) (c ∷ [])
+  where
+    take_more : (xs : List ℕ) (k d : ℕ) → k < length xs → d ≡ get_or xs k d → take (k + 1) xs ≡ take k xs ++ d ∷ []
+    take_more [] k d h e = absurd (omega arith)
+    take_more (x ∷ xs) zero d h e = ap (λ y. y ∷ []) (sym e)
+    take_more (x ∷ xs) (suc k) d h e = (let one : suc k + 1 ≡ suc (k + 1) = omega arith in ap (λ j. take j (x ∷ xs)) one) ∙ ap (λ l. x ∷ l) (take_more xs k d (omega arith) e)
+
+-- what is said of the code points up to a place
+abbrev pub Same : ElementTable → List ℕ → ℕ → Type 0
+Same t ds m = (before : List ℕ) → is_complete_from t (reverse (take m ds) ++ before) ≡ is_complete_from t (reverse ds ++ before)
+
+before_one : (m n : ℕ) → 0 < m → n ≡ m - 1 → m ≡ n + 1
+before_one m n some e = omega arith
+
+-- at a starter, at a nonstarter that has a primary weight, and at one that has none
+pub ends_starter : (t : ElementTable) (ds : List ℕ) (m n c class : ℕ) (b : Bool) → Same t ds m → 0 < m → n ≡ m - 1 → m ≤ length ds → c ≡ get_or ds n c → class ≡ ccc c → class ≡ 0 → b ≡ is_closed t c
+    → (before : List ℕ) → is_complete_from t (reverse ds ++ before) ≡ b
+ends_starter t ds m n c class b same some e within is classed starter closed before =
+    sym (same before) ∙ ap (λ k. is_complete_from t (reverse (take k ds) ++ before)) (before_one m n some e)
+    ∙ ap (λ l. is_complete_from t (l ++ before)) (reverse-take ds n c (omega arith) is) ∙ cond-true _ _ _ (eq-eqb (ccc c) 0 (sym classed ∙ starter)) ∙ sym closed
+
+mark-here : (t : ElementTable) (ds : List ℕ) (m n c class : ℕ) → Same t ds m → 0 < m → n ≡ m - 1 → m ≤ length ds → c ≡ get_or ds n c → class ≡ ccc c → (class ≡ 0 → ⊥)
+    → (before : List ℕ) → is_complete_from t (reverse ds ++ before) ≡ (is_silent t c && is_complete_from t (reverse (take n ds) ++ before))
+mark-here t ds m n c class same some e within is classed mark before =
+    sym (same before) ∙ ap (λ k. is_complete_from t (reverse (take k ds) ++ before)) (before_one m n some e)
+    ∙ ap (λ l. is_complete_from t (l ++ before)) (reverse-take ds n c (omega arith) is) ∙ cond-false _ _ _ (ne_eqb (ccc c) 0 (λ z. mark (classed ∙ z)))
+
+pub ends_heard : (t : ElementTable) (ds : List ℕ) (m n c class : ℕ) (b : Bool) → Same t ds m → 0 < m → n ≡ m - 1 → m ≤ length ds → c ≡ get_or ds n c → class ≡ ccc c → (class ≡ 0 → ⊥) → b ≡ is_silent t c → b ≡ false
+    → (before : List ℕ) → is_complete_from t (reverse ds ++ before) ≡ false
+ends_heard t ds m n c class b same some e within is classed mark silent heard before =
+    mark-here t ds m n c class same some e within is classed mark before ∙ and-false _ _ (sym silent ∙ heard)
+  where
+    and-false : (x y : Bool) → x ≡ false → (x && y) ≡ false
+    and-false true y h = cc
+    and-false false y h = refl
+
+pub ends_silent : (t : ElementTable) (ds : List ℕ) (m n c class : ℕ) (b : Bool) → Same t ds m → 0 < m → n ≡ m - 1 → m ≤ length ds → c ≡ get_or ds n c → class ≡ ccc c → (class ≡ 0 → ⊥) → b ≡ is_silent t c → b ≡ true → Same t ds n
+ends_silent t ds m n c class b same some e within is classed mark silent holds before =
+    sym (mark-here t ds m n c class same some e within is classed mark before ∙ and-true _ _ (sym silent ∙ holds))
+  where
+    and-true : (x y : Bool) → x ≡ true → (x && y) ≡ y
+    and-true true y h = refl
+    and-true false y h = cc
+
+-- ---- keys
+
+pub before_last_here : (s : ℕ) (key : List ℕ) (at c : ℕ) → at + 1 < length key → c ≡ get_or key at c → c ≡ s → is_before_last s (drop at key) ≡ true
+before_last_here s [] at c h is e = absurd (omega arith)
+before_last_here s (x ∷ []) at c h is e = absurd (omega arith)
+before_last_here s (x ∷ y ∷ key) zero c h is e = ap (λ b. b || is_before_last s (y ∷ key)) (eq-eqb x s (sym is ∙ e))
+before_last_here s (x ∷ y ∷ key) (suc at) c h is e = before_last_here s (y ∷ key) at c (omega arith) is e
+
+pub before_last_other : (s : ℕ) (key : List ℕ) (at c : ℕ) → at + 1 < length key → c ≡ get_or key at c → (c ≡ s → ⊥) → is_before_last s (drop at key) ≡ is_before_last s (drop (at + 1) key)
+before_last_other s [] at c h is other = absurd (omega arith)
+before_last_other s (x ∷ []) at c h is other = absurd (omega arith)
+before_last_other s (x ∷ y ∷ key) zero c h is other = ap (λ b. b || is_before_last s (y ∷ key)) (ne_eqb x s (λ e. other (is ∙ e)))
+before_last_other s (x ∷ y ∷ key) (suc at) c h is other =
+    before_last_other s (y ∷ key) at c (omega arith) is other ∙ (let one : suc (at + 1) ≡ suc at + 1 = omega arith in ap (λ n. is_before_last s (drop n (x ∷ y ∷ key))) one)
+
+pub before_last_end : (s : ℕ) (key : List ℕ) (at : ℕ) → length key ≤ at + 1 → is_before_last s (drop at key) ≡ false
+before_last_end s [] zero h = refl
+before_last_end s [] (suc at) h = refl
+before_last_end s (x ∷ []) zero h = refl
+before_last_end s (x ∷ y ∷ key) zero h = absurd (omega arith)
+before_last_end s (x ∷ key) (suc at) h = before_last_end s key at (omega arith)
+
+-- ---- elements
+
+pub primaries_few : (fs es : List Element) → length es < length fs → have_primaries_of fs es ≡ false
+primaries_few [] es h = absurd (omega arith)
+primaries_few (f ∷ fs) [] h = refl
+primaries_few (f ∷ fs) (e ∷ es) h = last (is_primary_of f e) (have_primaries_of fs es) (primaries_few fs es (omega arith))
+  where
+    last : (a b : Bool) → b ≡ false → (a && b) ≡ false
+    last true b g = g
+    last false b g = refl
+
+pub primaries_at : (fs es : List Element) (at : ℕ) (f e : Element) → at < length fs → at < length es → f ≡ get_or fs at f → e ≡ get_or es at e
+    → have_primaries_of (drop at fs) (drop at es) ≡ (is_primary_of f e && have_primaries_of (drop (at + 1) fs) (drop (at + 1) es))
+primaries_at [] es at f e h g i j = absurd (omega arith)
+primaries_at (x ∷ fs) [] at f e h g i j = absurd (omega arith)
+primaries_at (x ∷ fs) (y ∷ es) zero f e h g i j = ap₂ (λ a b. is_primary_of a b && have_primaries_of fs es) (sym i) (sym j)
+primaries_at (x ∷ fs) (y ∷ es) (suc at) f e h g i j =
+    primaries_at fs es at f e (omega arith) (omega arith) i j ∙ (let one : suc (at + 1) ≡ suc at + 1 = omega arith in ap (λ n. is_primary_of f e && have_primaries_of (drop n (x ∷ fs)) (drop n (y ∷ es))) one)
+
+pub primaries_done : (fs es : List Element) (at : ℕ) → length fs ≤ at → at ≤ length fs → have_primaries_of (drop at fs) (drop at es) ≡ lack_primary (drop (length fs) es)
+primaries_done fs es at h g = ap₂ (λ n l. have_primaries_of l (drop n es)) (omega arith) (gone fs at h)
+  where
+    gone : (xs : List Element) (n : ℕ) → length xs ≤ n → drop n xs ≡ []
+    gone [] zero k = refl
+    gone [] (suc n) k = refl
+    gone (x ∷ xs) zero k = absurd (omega arith)
+    gone (x ∷ xs) (suc n) k = gone xs n (omega arith)
+
+-- an element of other primary weights, one with the same, and the end
+pub primaries_other : (fs es : List Element) (at : ℕ) (f e : Element) (b : Bool) → at < length fs → length fs ≤ length es → f ≡ get_or fs at f → e ≡ get_or es at e → b ≡ is_primary_of f e → b ≡ false
+    → have_primaries_of (drop at fs) (drop at es) ≡ false
+primaries_other fs es at f e b h g i j is fails = primaries_at fs es at f e h (omega arith) i j ∙ ap (λ x. x && have_primaries_of (drop (at + 1) fs) (drop (at + 1) es)) (sym is ∙ fails)
+
+pub primaries_same : (fs es : List Element) (at : ℕ) (f e : Element) (b : Bool) → at < length fs → length fs ≤ length es → f ≡ get_or fs at f → e ≡ get_or es at e → b ≡ is_primary_of f e → b ≡ true
+    → have_primaries_of (drop at fs) (drop at es) ≡ have_primaries_of (drop (at + 1) fs) (drop (at + 1) es)
+primaries_same fs es at f e b h g i j is holds = primaries_at fs es at f e h (omega arith) i j ∙ ap (λ x. x && have_primaries_of (drop (at + 1) fs) (drop (at + 1) es)) (sym is ∙ holds)
