@@ -43,7 +43,7 @@ pub fn prefix_bounds(
     p: &Passage,
 ) -> Result<PrefixBounds, PrefixFault>
     ensures ends { IfOk result (λ b. (b.lower.items ≡ primary_key t.now v (text_of p.now)) × (option_map (λ (end : _). end.items) b.upper ≡ end_of_prefix b.lower.items)) }
-    ensures complete { MatchResult result (λ _. is_complete t.now (text_of p.now) ≡ true) (λ f. f ≡ PrefixFault.Incomplete → is_complete t.now (text_of p.now) ≡ false) }
+    ensures complete { MatchResult result (λ _. is_complete t.now (text_of p.now) ≡ true) (λ f. (f ≡ PrefixFault.Incomplete → is_complete t.now (text_of p.now) ≡ false) × (f ≡ PrefixFault.OutOfMemory → is_complete t.now (text_of p.now) ≡ true)) }
     ensures longer { IfOk result (λ b. (s : Settings) (x : List ℕ) → s.weighting ≡ v → IsBetween b.lower.items (option_map (λ (end : _). end.items) b.upper) (sort_key t.now s (text_of p.now ++ x))) }
     ensures no_others { IfOk result (λ b. (bytes : List ℕ) → AreBytes bytes → IsBetween b.lower.items (option_map (λ (end : _). end.items) b.upper) bytes → BeginsWith bytes b.lower.items) }
 {
