@@ -1,3 +1,4 @@
 pub mod KeyBytes
 pub mod KeySize
+pub mod BoundLemmas
 pub mod KeyPieces

@@ -1,4 +1,5 @@
 mod all_pairs;
+mod bounds;
 mod written;
 
 use crate::key_of;

@@ -1,4 +1,5 @@
 mod any_keys;
+mod complete;
 mod one_by_one;
 
 use crate::elements_of;

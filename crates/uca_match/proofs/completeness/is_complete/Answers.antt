@@ -8,10 +8,11 @@ returns-in-Some-ends_complete c =
     c.in-Some.ensures.some c.decomposition.ensures.value c.ends_complete.ensures c.in-Some-ends_complete.is) ∙ c.loop-front.invariant.1
 
 pub loop-front-preserved : goal.loop-front-preserved
-loop-front-preserved c =
-    (c.in-Some.ensures.utf8,
-    complete_goes_on c.args.t.now (chars c.loop-front.left.now) (chars c.in-Some.front.now) c.decomposition.result.now c.in-Some.c c.ends_complete.result
-    c.in-Some.ensures.some c.decomposition.ensures.value c.ends_complete.ensures c.in_default-ends_complete.is ∙ c.loop-front.invariant.1)
+loop-front-preserved c = (
+  c.in-Some.ensures.utf8,
+  complete_goes_on c.args.t.now (chars c.loop-front.left.now) (chars c.in-Some.front.now) c.decomposition.result.now c.in-Some.c c.ends_complete.result
+      c.in-Some.ensures.some c.decomposition.ensures.value c.ends_complete.ensures c.in_default-ends_complete.is ∙ c.loop-front.invariant.1,
+)
 
 pub returns : goal.returns
 returns c = sym (complete_none c.args.t.now (chars c.loop-front.left.now) c.in_default.ensures.none) ∙ c.loop-front.invariant.1

@@ -1,10 +1,9 @@
-use Rattle.std.proofs.Common.{◌≡◌, ℕ, List, [], ◌∷◌, ◌++◌, flat_map, take, refl, sym, ap, ◌∙◌, arith, append_assoc}
+use Rattle.std.proofs.Common.{◌≡◌, ℕ, List, [], ◌∷◌, ◌++◌, flat_map, take, refl, ap, ◌∙◌, arith, append_assoc}
 use Rattle.std.proofs.lemmas.Result.{on_ok_weaker}
 use Rattle.unicode_normalization.specs.Forms.{nfd}
 use Rattle.uca_weights.specs.declared.element.Element.{Element}
 use Rattle.uca_weights.specs.Settings.{levels}
 use Rattle.uca_weights.specs.VariableWeighting.{weighted}
-use Rattle.uca_model.specs.CollationElements.{elements}
 use Rattle.uca_model.specs.SortKey.{joined, all_levels, code_point_bytes, sort_key}
 use Rattle.uca_window.specs.Passage.{text_of}
 use Rattle.uca_key.proofs.KeyBytes.{key-few, key-identical, all_five}
