@@ -308,11 +308,11 @@ module _ (key : List ℕ → Bool) (s : ℕ) (starter : is_starter s ≡ true) (
       let size : length whole ≡ length (x ∷ xs) + 1 = length-append (x ∷ xs) (s ∷ []) in
       elim (cases_Bool (nat_eq n 0)) [
         | inl none ↦ inl (record {
-            matched = record { code_points = x ∷ []; found = false };
-            left = xs;
-            same = λ ys. cond-true _ _ _ (ap (λ k. nat_eq k 0) (same_length ys) ∙ none);
-            less = omega arith;
-          })
+          matched = record { code_points = x ∷ []; found = false };
+          left = xs;
+          same = λ ys. cond-true _ _ _ (ap (λ k. nat_eq k 0) (same_length ys) ∙ none);
+          less = omega arith;
+        })
         | inr some ↦
             let other : n ≡ 0 → ⊥ = eqb-false n 0 some in
             let at : (ys : List ℕ) → step key ((x ∷ xs) ++ s ∷ ys) ≡ discontiguous_match key (take n ((x ∷ xs) ++ s ∷ ys)) [] (drop n ((x ∷ xs) ++ s ∷ ys)) =
