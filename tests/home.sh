@@ -8,12 +8,12 @@ mkdir "$work/bin"
 ln -s "$uca" "$work/bin/uca"
 PATH=$work/bin:$PATH
 
-# The manual has each command, each option and each value that the help of the program tells.
+# The manual has each command, each option and each value that the help of the program shows.
 sed 's/\\-/-/g; s/\\f[BIR]//g; s/^\.[A-Z]* //' man/uca.1 >"$work/manual"
 in_manual() { grep -qE -- "(^|[^a-z-])$1([^a-z-]|\$)" "$work/manual" || echo "$1"; }
 "$uca" --help 2>"$work/help" >"$work/out"
 commands=$(sed -n '/^Commands:/,/^$/s/^  \([a-z]*\) .*/\1/p' "$work/help")
-is "commands are told" "check compare elements help key lint order table" "$(sort <<<"$commands" | paste -sd' ')"
+is "commands are listed" "check compare elements help key lint order table" "$(sort <<<"$commands" | paste -sd' ')"
 for command in $commands; do
     is "the manual has the command $command" "" "$(in_manual "$command")"
     [ "$command" = help ] && continue
@@ -66,14 +66,14 @@ else
     echo "$script: there is no make, so nothing was installed"
 fi
 
-# A terminal as input is told; nothing else is.
-told='uca: reads from the keyboard; Ctrl-D on a line of its own ends the input'
+# A terminal as input is reported; nothing else is.
+notice='uca: reads from the keyboard; Ctrl-D on a line of its own ends the input'
 if command -v script >/dev/null; then
     for command in elements key compare order check lint table; do
         script -qec "'$uca' $command 2>'$work/err' >'$work/out' </dev/tty" /dev/null <<<$'\004' >/dev/null 2>&1
         case $command in
         lint | table) is "$command, which reads no input, on a terminal" "" "$(cat "$work/err")" ;;
-        *) is "$command on a terminal" "$told" "$(head -n 1 "$work/err")" ;;
+        *) is "$command on a terminal" "$notice" "$(head -n 1 "$work/err")" ;;
         esac
     done
 else

@@ -1,5 +1,5 @@
 #!/usr/bin/env bash
-# examples/large-lists: lists in many parts come out as `uca order` sorts them whole. What it takes on 300 MB is told in its page.
+# examples/large-lists: lists in many parts come out as `uca order` sorts them whole. Its page says what it takes on 300 MB.
 source "$(dirname "${BASH_SOURCE[0]}")/checks.bash"
 
 is_built

@@ -8,7 +8,7 @@ use std::str::Chars;
 use uca_table::Table;
 use uca_weights::Element;
 
-/// The next element of a text can't be told from the next character alone.
+/// The next element of a text depends on more than the next character.
 #[derive(Clone, Copy, Debug)]
 pub(crate) struct NotAlone;
 

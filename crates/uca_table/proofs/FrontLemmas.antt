@@ -83,7 +83,7 @@ not_less o e = subst (λ r. T (is_lt r)) (sym e) tt
 below : (y x : ℕ) → y < x → nat_cmp y x ≡ Less
 below y x h = ap (λ b. cond b Less (cond (eqb y x) Equal Greater)) (lt-ltb y x h)
 
--- of two keys in order the code points behind a common front are in order
+-- of two keys in order the code points after a common front are in order
 pub code_rises : (p a b : List ℕ) → is_front p a ≡ true → is_front p b ≡ true → key_cmp a b ≡ Less → code_at (length p) a ≤ code_at (length p) b
 code_rises [] [] b f g h = omega arith
 code_rises [] (x ∷ a) [] f g h = absurd (not_less Greater h)
