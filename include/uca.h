@@ -58,7 +58,7 @@ typedef struct uca_collator {
 typedef enum uca_status {
     UCA_OK = 0,            /* the call did what it is for */
     UCA_NOT_UTF8 = 1,      /* a text is not UTF-8, from the byte `at` of the fault on */
-    UCA_LONG_RUN = 2,      /* a text has more than 30 nonstarters in a row, and the character at byte `at` is the one too many */
+    UCA_LONG_RUN = 2,      /* a text has more than 60 nonstarters in a row, and the character at byte `at` is the one too many */
     UCA_NOT_OPEN = 3,      /* the collator has no table */
     UCA_BAD_SETTINGS = 4,  /* the settings have a number without a meaning */
     UCA_NO_MEMORY = 5,     /* an allocation failed */
@@ -86,7 +86,7 @@ typedef enum uca_kind {
     UCA_RULES_SYNTAX = 21,             /* the text is not one of rules */
     UCA_RULES_LEFT_OUT = 22,           /* a part of the syntax of UTS #35 that this profile leaves out */
     UCA_RULES_EMPTY_STRING = 23,       /* a string has no character */
-    UCA_RULES_LONG_RUN = 24,           /* a string has more than 30 nonstarters in a row */
+    UCA_RULES_LONG_RUN = 24,           /* a string has more than 60 nonstarters in a row */
     UCA_RULES_KEY_TOO_LONG = 25,       /* a string is decomposed to more than 32 code points */
     UCA_RULES_TOO_MANY_RELATIONS = 26, /* there are more than 20000 relations */
     UCA_RULES_NOT_UTF8 = 27,           /* the text is not UTF-8 */

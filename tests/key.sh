@@ -20,10 +20,10 @@ is "no line" "|0" "$(cat "$work/out")|$status"
 
 runs key < <(printf 'a\nb\xff\n')
 is "bytes that are not UTF-8" "|uca: input line 2 byte 1: NotUtf8|3" "$(cat "$work/out")|$(cat "$work/err")|$status"
-runs key < <(printf 'b\na'; marks 31; printf '\n')
-is "a run of 31 marks" "|uca: input line 2 byte 61: LongRun|3" "$(cat "$work/out")|$(cat "$work/err")|$status"
-runs key < <(printf 'a'; marks 30)
-is "a run of 30 marks" "|0" "$(cat "$work/err")|$status"
+runs key < <(printf 'b\na'; marks 61; printf '\n')
+is "a run of 61 marks" "|uca: input line 2 byte 121: LongRun|3" "$(cat "$work/out")|$(cat "$work/err")|$status"
+runs key < <(printf 'a'; marks 60)
+is "a run of 60 marks" "|0" "$(cat "$work/err")|$status"
 
 runs elements < <(printf 'ch\n\xe1\xba\xa1\xcc\x81\n\n\xe4\xb8\x80-\n')
 is "elements" "[.1007.0020.0002]|[.1008.0020.0002][.0000.0024.0002]||[.FB40.0020.0002][.CE00.0000.0000][*0202.0020.0002]|0" "$(paste -sd'|' "$work/out")|$status"
@@ -116,11 +116,11 @@ else
     echo "tests/key.sh: there is no prlimit, so no allocation failed"
 fi
 
-# A line of letters with thirty marks each takes time near to linear, too.
-perl -e 'print(("a" . "\xCC\xA3\xCC\x81" x 15) x (67108864 / 61))' >"$work/marks"
+# A line of letters with sixty marks each takes time near to linear, too.
+perl -e 'print(("a" . "\xCC\xA3\xCC\x81" x 30) x (67108864 / 121))' >"$work/marks"
 from=$(date +%s)
 runs key <"$work/marks"
-is "64 MiB in one line of letters with thirty marks" "$(((67108864 / 61) * (2 + 2 * 30 + 2 * 30) * 3 + 12))|0" "$(wc -c <"$work/out")|$status"
-echo "tests/key.sh: 64 MiB of letters with thirty marks took $(($(date +%s) - from)) s"
+is "64 MiB in one line of letters with sixty marks" "$(((67108864 / 121) * (2 + 2 * 60 + 2 * 60) * 3 + 12))|0" "$(wc -c <"$work/out")|$status"
+echo "tests/key.sh: 64 MiB of letters with sixty marks took $(($(date +%s) - from)) s"
 
 sum_up

@@ -191,15 +191,15 @@ row 'nfd' 'key --table published --strength identical --variable shifted' '\u034
 row 'nfd' 'key --table published --strength identical --variable shifted' '\u1E69\n' \
     '21D2 0000 0020 0042 002E 0000 0002 0002 0002 0000 FFFF FFFF FFFF 0000 000073 000323 000307' 'perl Unicode::Normalize NFD 0073 0323 0307'
 
-# Safe texts: a run of 30 nonstarters, and not of 31 (UAX #15, 13)
-row 'IsSafe' 'order' 'a\u0301\u0301\u0301\u0301\u0301\u0301\u0301\u0301\u0301\u0301\u0301\u0301\u0301\u0301\u0301\u0301\u0301\u0301\u0301\u0301\u0301\u0301\u0301\u0301\u0301\u0301\u0301\u0301\u0301\u0301\n' \
-    'á́́́́́́́́́́́́́́́́́́́́́́́́́́́́́' 'UAX #15, 13, Stream-Safe Text Format: 30'
-row 'IsSafe' 'order' '\u0344\u0344\u0344\u0344\u0344\u0344\u0344\u0344\u0344\u0344\u0344\u0344\u0344\u0344\u0344a\u0344\u0344\u0344\u0344\u0344\u0344\u0344\u0344\u0344\u0344\u0344\u0344\u0344\u0344\u0344\n' \
-    '̈́̈́̈́̈́̈́̈́̈́̈́̈́̈́̈́̈́̈́̈́̈́ä́̈́̈́̈́̈́̈́̈́̈́̈́̈́̈́̈́̈́̈́̈́' 'UAX #15, 13, Stream-Safe Text Format: 30, of a decomposition'
-row 'IsLongRunAt' 'order' 'a\u0301\u0301\u0301\u0301\u0301\u0301\u0301\u0301\u0301\u0301\u0301\u0301\u0301\u0301\u0301\u0301\u0301\u0301\u0301\u0301\u0301\u0301\u0301\u0301\u0301\u0301\u0301\u0301\u0301\u0301\u0301\n' \
-    'uca: input line 1 byte 61: LongRun' 'UAX #15, 13, Stream-Safe Text Format: 30'
-row 'IsLongRunAt' 'order' 'a\n\u0344\u0344\u0344\u0344\u0344\u0344\u0344\u0344\u0344\u0344\u0344\u0344\u0344\u0344\u0344\u0344\n' \
-    'uca: input line 2 byte 30: LongRun' 'UAX #15, 13, Stream-Safe Text Format: 30, of a decomposition'
+# Safe texts: a run of 60 nonstarters, and not of 61 (as UAX #15, 13, with 30)
+row 'IsSafe' 'order' 'a\u0301\u0301\u0301\u0301\u0301\u0301\u0301\u0301\u0301\u0301\u0301\u0301\u0301\u0301\u0301\u0301\u0301\u0301\u0301\u0301\u0301\u0301\u0301\u0301\u0301\u0301\u0301\u0301\u0301\u0301\u0301\u0301\u0301\u0301\u0301\u0301\u0301\u0301\u0301\u0301\u0301\u0301\u0301\u0301\u0301\u0301\u0301\u0301\u0301\u0301\u0301\u0301\u0301\u0301\u0301\u0301\u0301\u0301\u0301\u0301\n' \
+    'á́́́́́́́́́́́́́́́́́́́́́́́́́́́́́́́́́́́́́́́́́́́́́́́́́́́́́́́́́́́' 'as UAX #15, 13, Stream-Safe Text Format, with 60'
+row 'IsSafe' 'order' '\u0344\u0344\u0344\u0344\u0344\u0344\u0344\u0344\u0344\u0344\u0344\u0344\u0344\u0344\u0344\u0344\u0344\u0344\u0344\u0344\u0344\u0344\u0344\u0344\u0344\u0344\u0344\u0344\u0344\u0344a\u0344\u0344\u0344\u0344\u0344\u0344\u0344\u0344\u0344\u0344\u0344\u0344\u0344\u0344\u0344\u0344\u0344\u0344\u0344\u0344\u0344\u0344\u0344\u0344\u0344\u0344\u0344\u0344\u0344\u0344\n' \
+    '̈́̈́̈́̈́̈́̈́̈́̈́̈́̈́̈́̈́̈́̈́̈́̈́̈́̈́̈́̈́̈́̈́̈́̈́̈́̈́̈́̈́̈́̈́ä́̈́̈́̈́̈́̈́̈́̈́̈́̈́̈́̈́̈́̈́̈́̈́̈́̈́̈́̈́̈́̈́̈́̈́̈́̈́̈́̈́̈́̈́' 'as UAX #15, 13, with 60, of a decomposition'
+row 'IsLongRunAt' 'order' 'a\u0301\u0301\u0301\u0301\u0301\u0301\u0301\u0301\u0301\u0301\u0301\u0301\u0301\u0301\u0301\u0301\u0301\u0301\u0301\u0301\u0301\u0301\u0301\u0301\u0301\u0301\u0301\u0301\u0301\u0301\u0301\u0301\u0301\u0301\u0301\u0301\u0301\u0301\u0301\u0301\u0301\u0301\u0301\u0301\u0301\u0301\u0301\u0301\u0301\u0301\u0301\u0301\u0301\u0301\u0301\u0301\u0301\u0301\u0301\u0301\u0301\n' \
+    'uca: input line 1 byte 121: LongRun' 'as UAX #15, 13, with 60'
+row 'IsLongRunAt' 'order' 'a\n\u0344\u0344\u0344\u0344\u0344\u0344\u0344\u0344\u0344\u0344\u0344\u0344\u0344\u0344\u0344\u0344\u0344\u0344\u0344\u0344\u0344\u0344\u0344\u0344\u0344\u0344\u0344\u0344\u0344\u0344\u0344\n' \
+    'uca: input line 2 byte 60: LongRun' 'as UAX #15, 13, with 60, of a decomposition'
 
 # Implicit weights
 row 'implicit' 'key --table published' '\u4E00\n\u9FFC\n' \

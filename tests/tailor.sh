@@ -59,7 +59,7 @@ refused "a reset before a letter" "uca: rules byte 1: LeftOut" '&[before 1]a<x'
 refused "a list of items" "uca: rules byte 2: LeftOut" '&a<*bc'
 refused "an item of no character" "uca: rules byte 3: EmptyString" '&a<'
 refused "an item of 33 letters" "uca: rules byte 3: KeyTooLong" "&a<$(printf 'b%.0s' $(seq 33))"
-refused "an item with a run of 31 marks" "uca: rules byte 3: LongRun" "&a<b$(printf '\\xcc\\x81%.0s' $(seq 31))"
+refused "an item with a run of 61 marks" "uca: rules byte 3: LongRun" "&a<b$(printf '\\xcc\\x81%.0s' $(seq 61))"
 refused "a reset on an ideograph" "uca: rules relation 1: HighReset" '&\xe4\xb8\x80<x'
 refused "a reset on an ignorable code point" "uca: rules relation 2: SmallWeight" '&a<x &\\u0001<y'
 refused "rules that are not UTF-8" "uca: rules byte 4: NotUtf8" '&a<b\xff'

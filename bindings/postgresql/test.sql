@@ -23,6 +23,6 @@ RESET enable_sort;
 \copy (SELECT t FROM (SELECT t, n FROM w) AS s ORDER BY t USING <~, n) TO '@WORK@/by_text.csv' WITH (FORMAT csv, FORCE_QUOTE *)
 \set ON_ERROR_STOP off
 \set VERBOSITY terse
-SELECT uca_key('x' || repeat(U&'\0301', 31));
+SELECT uca_key('x' || repeat(U&'\0301', 61));
 SET uca.strength = 'primary';
 SELECT uca_key('a');

@@ -29,11 +29,11 @@ static void checking(void) {
         CHECK(uca_check((const uint8_t *)cases[i].text, cases[i].size, &fault) == cases[i].status);
         SAME_FAULT(0, cases[i].status != UCA_OK, cases[i].at);
     }
-    char run[1 + 2 * 31] = "a";
-    for (int i = 0; i < 31; i++) memcpy(run + 1 + 2 * i, "\xCC\x81", 2);
-    CHECK(uca_check((uint8_t *)run, 61, &fault) == UCA_OK);
-    CHECK(uca_check((uint8_t *)run, 63, &fault) == UCA_LONG_RUN);
-    SAME_FAULT(0, 1, 61);
+    char run[1 + 2 * 61] = "a";
+    for (int i = 0; i < 61; i++) memcpy(run + 1 + 2 * i, "\xCC\x81", 2);
+    CHECK(uca_check((uint8_t *)run, 121, &fault) == UCA_OK);
+    CHECK(uca_check((uint8_t *)run, 123, &fault) == UCA_LONG_RUN);
+    SAME_FAULT(0, 1, 121);
     CHECK(uca_check(NULL, 0, &fault) == UCA_OK);
 }
 
@@ -62,10 +62,10 @@ static void comparing(void) {
     SAME_FAULT(0, 1, 1);
     CHECK(uca_compare(&collator, &settings, TEXT("a"), TEXT("\xFF"), &order, &fault) == UCA_NOT_UTF8);
     SAME_FAULT(0, 2, 0);
-    char run[2 * 31];
-    for (int i = 0; i < 31; i++) memcpy(run + 2 * i, "\xCC\x81", 2);
+    char run[2 * 61];
+    for (int i = 0; i < 61; i++) memcpy(run + 2 * i, "\xCC\x81", 2);
     CHECK(uca_compare(&collator, &settings, TEXT("a"), (uint8_t *)run, sizeof run, &order, &fault) == UCA_LONG_RUN);
-    SAME_FAULT(0, 2, 60);
+    SAME_FAULT(0, 2, 120);
     CHECK(order == 9);
     CHECK(uca_compare(&collator, &settings, NULL, 0, NULL, 0, &order, &fault) == UCA_OK && order == 0);
     uca_close(&collator);

@@ -12,7 +12,7 @@ use Rattle.uca_model.specs.TableText.{Cause, TextState, bad_code_point, bad_dire
 use Rattle.uca_allkeys.specs.declared.faults.ReadCause.{ReadCause}
 use Rattle.uca_allkeys.specs.declared.faults.ReadCause.TheVariants.{LineTooLong, BadDirective, BadCodePoint, KeyTooLong, NoSemicolon, BadElement, NoElement, TooManyElements, Repeated, BadRange, TooLarge, Read, OutOfMemory}
 use Rattle.uca_allkeys.specs.declared.faults.ReadFault.{ReadFault}
-use Rattle.uca_allkeys.specs.Faults.{told, IsOfText}
+use Rattle.uca_allkeys.specs.Faults.{read_cause, IsOfText}
 use Rattle.uca_allkeys.specs.Reading.{GivesTable, IsRefused, RefusedBy}
 
 pub gives_table : (old new : ReaderState) (s : TextState) (t : ElementTable) → GivesText (with_text table_fold no_lines) old new s → t ≡ s.table → GivesTable old new t
@@ -25,7 +25,7 @@ at_reported : (old new : ReaderState) (n line : ℕ) (cause : Cause) → line �
 at_reported old new n line cause at is = subst (λ (m : ℕ). IsFaulty table_of_text old new m cause) (sym at) (faulty old new n cause is)
 
 -- a cause of the text, at the line that is reported for it
-refused_by : (cause : ReadCause) (old new : ReaderState) (n line : ℕ) → MatchOption (told cause) (line ≡ 0) (λ _. line ≡ n) → IsOfText cause → GivesSome old new → MatchOption (told cause) (Unit {0}) (IsFaulty (with_text table_fold no_lines) old new n) → RefusedBy cause old new line
+refused_by : (cause : ReadCause) (old new : ReaderState) (n line : ℕ) → MatchOption (read_cause cause) (line ≡ 0) (λ _. line ≡ n) → IsOfText cause → GivesSome old new → MatchOption (read_cause cause) (Unit {0}) (IsFaulty (with_text table_fold no_lines) old new n) → RefusedBy cause old new line
 refused_by LineTooLong old new n line at mine some says = at_reported old new n line line_too_long at says
 refused_by BadDirective old new n line at mine some says = at_reported old new n line bad_directive at says
 refused_by BadCodePoint old new n line at mine some says = at_reported old new n line bad_code_point at says
@@ -44,17 +44,17 @@ refused_by OutOfMemory old new n line at mine some says = record { some = some; 
 reported : (fault : ReadFault) (cause : ReadCause) (old new : ReaderState) → fault.cause ≡ cause → RefusedBy cause old new fault.line → IsRefused old new fault
 reported fault cause old new is refused = subst (λ (k : ReadCause). RefusedBy k old new fault.line) (sym is) refused
 
-pub too_long : (fault : ReadFault) (n : ℕ) (old new : ReaderState) → fault.cause ≡ LineTooLong → fault.line ≡ n → StopsBy table_fold told IsOfText no_lines old new n lines.LineTooLong → IsRefused old new fault
+pub too_long : (fault : ReadFault) (n : ℕ) (old new : ReaderState) → fault.cause ≡ LineTooLong → fault.line ≡ n → StopsBy table_fold read_cause IsOfText no_lines old new n lines.LineTooLong → IsRefused old new fault
 too_long fault n old new is at stops = reported fault LineTooLong old new is (at_reported old new n fault.line line_too_long at stops)
 
-pub over_limit : (fault : ReadFault) (n : ℕ) (old new : ReaderState) → fault.cause ≡ TooLarge → fault.line ≡ n → StopsBy table_fold told IsOfText no_lines old new n lines.TooLarge → IsRefused old new fault
+pub over_limit : (fault : ReadFault) (n : ℕ) (old new : ReaderState) → fault.cause ≡ TooLarge → fault.line ≡ n → StopsBy table_fold read_cause IsOfText no_lines old new n lines.TooLarge → IsRefused old new fault
 over_limit fault n old new is at stops = reported fault TooLarge old new is (at_reported old new n fault.line too_large at stops)
 
-pub not_read : (fault : ReadFault) (n : ℕ) (old new : ReaderState) → fault.cause ≡ Read → fault.line ≡ n → StopsBy table_fold told IsOfText no_lines old new n lines.Read → IsRefused old new fault
+pub not_read : (fault : ReadFault) (n : ℕ) (old new : ReaderState) → fault.cause ≡ Read → fault.line ≡ n → StopsBy table_fold read_cause IsOfText no_lines old new n lines.Read → IsRefused old new fault
 not_read fault n old new is at stops =
     reported fault Read old new is (subst (λ (m : ℕ). FailsFirst table_of_text old new m read) (sym at) (FailsFirst-part table_part (with_text table_fold no_lines) table_of_text old new n read (λ end bytes. refl) stops))
 
-pub line_refused : (fault : ReadFault) (cause : ReadCause) (n : ℕ) (old new : ReaderState) → fault.cause ≡ cause → MatchOption (told cause) (fault.line ≡ 0) (λ _. fault.line ≡ n) → StopsBy table_fold told IsOfText no_lines old new n (lines.Refused cause) → IsRefused old new fault
+pub line_refused : (fault : ReadFault) (cause : ReadCause) (n : ℕ) (old new : ReaderState) → fault.cause ≡ cause → MatchOption (read_cause cause) (fault.line ≡ 0) (λ _. fault.line ≡ n) → StopsBy table_fold read_cause IsOfText no_lines old new n (lines.Refused cause) → IsRefused old new fault
 line_refused fault cause n old new is at stops = reported fault cause old new is (refused_by cause old new n fault.line at stops.0 stops.1.0 stops.1.1)
 
 -- memory for the table was refused at the end of a text

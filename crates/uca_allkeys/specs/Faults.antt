@@ -17,20 +17,20 @@ cause_of line.NoElement = no_element
 cause_of line.TooManyElements = too_many_elements
 
 -- the fault of a text; want of memory is none of its
-abbrev pub told : ReadCause → Option Cause
-told LineTooLong = Some line_too_long
-told BadDirective = Some bad_directive
-told BadCodePoint = Some bad_code_point
-told KeyTooLong = Some key_too_long
-told NoSemicolon = Some no_semicolon
-told BadElement = Some bad_element
-told NoElement = Some no_element
-told TooManyElements = Some too_many_elements
-told Repeated = Some repeated
-told BadRange = Some bad_range
-told TooLarge = Some too_large
-told Read = Some read
-told OutOfMemory = None
+abbrev pub read_cause : ReadCause → Option Cause
+read_cause LineTooLong = Some line_too_long
+read_cause BadDirective = Some bad_directive
+read_cause BadCodePoint = Some bad_code_point
+read_cause KeyTooLong = Some key_too_long
+read_cause NoSemicolon = Some no_semicolon
+read_cause BadElement = Some bad_element
+read_cause NoElement = Some no_element
+read_cause TooManyElements = Some too_many_elements
+read_cause Repeated = Some repeated
+read_cause BadRange = Some bad_range
+read_cause TooLarge = Some too_large
+read_cause Read = Some read
+read_cause OutOfMemory = None
 
 -- the fault is none of the reader
 abbrev pub IsOfText : ReadCause → Type 0

@@ -11,19 +11,19 @@ use Rattle.uca_allkeys.specs.declared.statement.Statement.{Statement}
 use Rattle.uca_allkeys.specs.declared.statement.Statement.TheVariants as said
 
 -- the answer is what the text says, or its fault
-abbrev pub Tells : {A B : Type 0} → (A → B) → Result B Cause → Result A LineFault → Type 0
-Tells value says result = MatchResult result (λ a. says ≡ Ok (value a)) (λ fault. says ≡ Err (cause_of fault))
+abbrev pub Parses : {A B : Type 0} → (A → B) → Result B Cause → Result A LineFault → Type 0
+Parses value says result = MatchResult result (λ a. says ≡ Ok (value a)) (λ fault. says ≡ Err (cause_of fault))
 
 -- a value, and what stands behind it
 abbrev pub with_rest : {A : Type 0} → A × Bor (List ℕ) → A × List ℕ
 with_rest p = (p.0, p.1.now)
 
 -- what a statement says
-abbrev pub said_by : Statement → text.Statement
-said_by said.Nothing = text.nothing
-said_by said.Version = text.version
-said_by (said.Range r) = text.range r
-said_by (said.Entry e) = text.entry e.key.items e.elements.items
+abbrev pub statement_of : Statement → text.Statement
+statement_of said.Nothing = text.nothing
+statement_of said.Version = text.version
+statement_of (said.Range r) = text.range r
+statement_of (said.Entry e) = text.entry e.key.items e.elements.items
 
 -- an entry has a code point and an element
 abbrev pub IsSomeEntry : Statement → Type 0

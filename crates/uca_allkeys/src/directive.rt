@@ -1,7 +1,7 @@
 ghost use Rattle.std.specs.Prelude.{◌≡◌, ◌≤◌, length, IfOk, Ok};
 ghost use Rattle.std.specs.List.{position_or_len};
 ghost use Rattle.uca_model.specs.TableText.{ends_point, range_end, range_base, two_stops, range_of_text, directive, some_text, skip_blanks, version};
-ghost use Rattle.uca_allkeys.specs.Statements.{Tells, with_rest, said_by, IsSomeEntry};
+ghost use Rattle.uca_allkeys.specs.Statements.{Parses, with_rest, statement_of, IsSomeEntry};
 
 use crate::bytes::{after_byte, code_point, four_digits};
 use crate::faults::LineFault;
@@ -37,7 +37,7 @@ fn point_len(text: &[u8]) -> usize
 /// An end of a range: a code point up to a blank, `;` or `.`, and what stands after it.
 #[tactic(auto, unfolding(uca_model::specs::TableText::range_end))]
 fn range_end(text: &[u8]) -> Result<(char, &[u8]), LineFault>
-    ensures { Tells with_rest (range_end text.now) result }
+    ensures { Parses with_rest (range_end text.now) result }
 {
     let end = point_len(text);
     match code_point(&text[..end]) {
@@ -49,7 +49,7 @@ fn range_end(text: &[u8]) -> Result<(char, &[u8]), LineFault>
 /// What stands after the `..` between the ends of a range.
 #[tactic(auto, unfolding(uca_model::specs::TableText::two_stops))]
 fn two_stops(text: &[u8]) -> Result<&[u8], LineFault>
-    ensures { Tells (λ rest. rest.now) (two_stops text.now) result }
+    ensures { Parses (λ rest. rest.now) (two_stops text.now) result }
 {
     let Some(rest) = after_byte(b'.', skip_blanks(text)) else {
         return Err(LineFault::BadDirective);
@@ -63,7 +63,7 @@ fn two_stops(text: &[u8]) -> Result<&[u8], LineFault>
 /// The base after a `;`, with blanks before both.
 #[tactic(auto, unfolding(uca_model::specs::TableText::range_base))]
 fn range_base(text: &[u8]) -> Result<u16, LineFault>
-    ensures { Tells (λ base. base) (range_base text.now) result }
+    ensures { Parses (λ base. base) (range_base text.now) result }
 {
     let Some(rest) = after_byte(b';', skip_blanks(text)) else {
         return Err(LineFault::BadDirective);
@@ -77,7 +77,7 @@ fn range_base(text: &[u8]) -> Result<u16, LineFault>
 /// What `@implicitweights` says: the ends of a range, and its base.
 #[tactic(auto, unfolding(uca_model::specs::TableText::range_of_text))]
 fn range_of_text(text: &[u8]) -> Result<Statement, LineFault>
-    ensures value { Tells said_by (range_of_text text.now) result }
+    ensures value { Parses statement_of (range_of_text text.now) result }
     ensures some { IfOk result IsSomeEntry }
 {
     let (first, rest) = range_end(skip_blanks(text))?;
@@ -89,7 +89,7 @@ fn range_of_text(text: &[u8]) -> Result<Statement, LineFault>
 
 /// The same, after the word of the directive.
 fn range_directive(rest: &[u8]) -> Result<Statement, LineFault>
-    ensures value { Tells said_by (some_text rest.now (range_of_text rest.now)) result }
+    ensures value { Parses statement_of (some_text rest.now (range_of_text rest.now)) result }
     ensures some { IfOk result IsSomeEntry }
 {
     if rest.is_empty() {
@@ -101,7 +101,7 @@ fn range_directive(rest: &[u8]) -> Result<Statement, LineFault>
 
 /// A version, whose text isn't kept, after the word of the directive.
 fn version_directive(rest: &[u8]) -> Result<Statement, LineFault>
-    ensures value { Tells said_by (some_text (skip_blanks rest.now) (Ok version)) result }
+    ensures value { Parses statement_of (some_text (skip_blanks rest.now) (Ok version)) result }
     ensures some { IfOk result IsSomeEntry }
 {
     if skip_blanks(rest).is_empty() {
@@ -114,7 +114,7 @@ fn version_directive(rest: &[u8]) -> Result<Statement, LineFault>
 /// A directive, which begins with `@`.
 #[tactic(auto, unfolding(uca_model::specs::TableText::directive))]
 pub(crate) fn directive(text: &[u8]) -> Result<Statement, LineFault>
-    ensures value { Tells said_by (directive text.now) result }
+    ensures value { Parses statement_of (directive text.now) result }
     ensures some { IfOk result IsSomeEntry }
 {
     let end = word_len(text);

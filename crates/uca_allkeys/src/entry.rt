@@ -1,7 +1,7 @@
 ghost use Rattle.std.specs.Prelude.{◌≡◌, ◌∷◌, [], ◌<◌, length, MatchOption, IfOk};
 ghost use Rattle.std.specs.List.{slice_split, after_first};
 ghost use Rattle.uca_model.specs.TableText.{words, key_after, entry_key, is_semicolon, is_right_bracket, mark, weight_first, next_weight, element_ends, element, elements_after, is_old_weight, entry_of_text};
-ghost use Rattle.uca_allkeys.specs.Statements.{Tells, with_rest, said_by, IsSomeEntry, AddsPart};
+ghost use Rattle.uca_allkeys.specs.Statements.{Parses, with_rest, statement_of, IsSomeEntry, AddsPart};
 
 use crate::bytes::{after_byte, code_point, four_digits};
 use crate::faults::LineFault;
@@ -14,7 +14,7 @@ use uca_weights::{Element, MAX_ELEMENTS, MAX_KEY};
 
 /// The code points that the words of a text say.
 fn key_of(text: &[u8]) -> Result<ArrayVec<char, MAX_KEY>, LineFault>
-    ensures { Tells (λ key. key.items) (key_after [] (words text.now)) result }
+    ensures { Parses (λ key. key.items) (key_after [] (words text.now)) result }
 {
     let mut key: ArrayVec<char, MAX_KEY> = ArrayVec::new();
     let mut rest = text;
@@ -33,7 +33,7 @@ fn key_of(text: &[u8]) -> Result<ArrayVec<char, MAX_KEY>, LineFault>
 /// The key of an entry, before the `;` that has to follow it.
 #[tactic(auto, unfolding(uca_model::specs::TableText::entry_key))]
 fn entry_key(text: &[u8]) -> Result<ArrayVec<char, MAX_KEY>, LineFault>
-    ensures value { Tells (λ key. key.items) (entry_key text.now) result }
+    ensures value { Parses (λ key. key.items) (entry_key text.now) result }
     ensures some { IfOk result (λ key. 0 < length key.items) }
 {
     let end = place_of(b';', text);
@@ -49,7 +49,7 @@ fn entry_key(text: &[u8]) -> Result<ArrayVec<char, MAX_KEY>, LineFault>
 
 /// Whether the mark of an element is `*`, and what stands after it.
 fn mark(text: &[u8]) -> Result<(bool, &[u8]), LineFault>
-    ensures { Tells with_rest (mark text.now) result }
+    ensures { Parses with_rest (mark text.now) result }
 {
     let Some((first, rest)) = text.split_first() else {
         return Err(LineFault::BadElement);
@@ -66,7 +66,7 @@ fn mark(text: &[u8]) -> Result<(bool, &[u8]), LineFault>
 /// A weight, and what stands after it.
 #[tactic(auto, unfolding(uca_model::specs::TableText::weight_first))]
 fn weight_first(text: &[u8]) -> Result<(u16, &[u8]), LineFault>
-    ensures { Tells with_rest (weight_first text.now) result }
+    ensures { Parses with_rest (weight_first text.now) result }
 {
     let end = text.len().min(4);
     match four_digits(&text[..end]) {
@@ -78,7 +78,7 @@ fn weight_first(text: &[u8]) -> Result<(u16, &[u8]), LineFault>
 /// A weight after a full stop, and what follows it.
 #[tactic(auto, unfolding(uca_model::specs::TableText::next_weight))]
 fn next_weight(text: &[u8]) -> Result<(u16, &[u8]), LineFault>
-    ensures { Tells with_rest (next_weight text.now) result }
+    ensures { Parses with_rest (next_weight text.now) result }
 {
     match after_byte(b'.', text) {
         Some(rest) => weight_first(rest),
@@ -109,7 +109,7 @@ fn is_old_weight(digits: &[u8]) -> bool
 /// An element, up to its `]`.
 #[tactic(auto, unfolding(uca_model::specs::TableText::element))]
 fn element(text: &[u8]) -> Result<Element, LineFault>
-    ensures { Tells (λ e. e) (element text.now) result }
+    ensures { Parses (λ e. e) (element text.now) result }
 {
     let Some(rest) = after_byte(b'[', text) else {
         return Err(LineFault::BadElement);
@@ -161,7 +161,7 @@ fn add_element(elements: &mut ArrayVec<Element, MAX_ELEMENTS>, part: &[u8]) -> R
 
 /// The elements after a `;`.
 fn elements_of(text: &[u8]) -> Result<ArrayVec<Element, MAX_ELEMENTS>, LineFault>
-    ensures value { Tells (λ es. es.items) (elements_after [] (slice_split is_right_bracket text.now)) result }
+    ensures value { Parses (λ es. es.items) (elements_after [] (slice_split is_right_bracket text.now)) result }
     ensures some { IfOk result (λ es. 0 < length es.items) }
 {
     let mut elements: ArrayVec<Element, MAX_ELEMENTS> = ArrayVec::new();
@@ -196,7 +196,7 @@ fn behind_key(text: &[u8]) -> &[u8]
 /// An entry: a key, `;`, and elements.
 #[tactic(auto, unfolding(uca_model::specs::TableText::entry_of_text))]
 pub(crate) fn entry_of_text(text: &[u8]) -> Result<Statement, LineFault>
-    ensures value { Tells said_by (entry_of_text text.now) result }
+    ensures value { Parses statement_of (entry_of_text text.now) result }
     ensures some { IfOk result IsSomeEntry }
 {
     let key = entry_key(text)?;

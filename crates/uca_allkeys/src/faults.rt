@@ -1,5 +1,5 @@
 ghost use Rattle.std.specs.Prelude.{◌≡◌, Some};
-ghost use Rattle.uca_allkeys.specs.Faults.{cause_of, told, IsOfText};
+ghost use Rattle.uca_allkeys.specs.Faults.{cause_of, read_cause, IsOfText};
 
 use thiserror::Error;
 
@@ -68,9 +68,9 @@ pub(crate) enum LineFault {
 }
 
 impl LineFault {
-    /// The same as the cause that a reader of texts tells.
+    /// The same as the cause that a reader of texts reports.
     pub(crate) fn cause(self) -> ReadCause
-        ensures told { told result ≡ Some (cause_of self) }
+        ensures cause { read_cause result ≡ Some (cause_of self) }
         ensures of_text { IsOfText result }
     {
         match self {

@@ -2,9 +2,9 @@ ghost use Rattle.std.specs.Prelude.{◌≡◌, ◌<◌, ◌≤◌, length, IfErr
 ghost use Rattle.uca_io.specs.LineReader.{Leads};
 ghost use Rattle.uca_weights.specs.declared.limits.TheConstants.{MAX_KEY, MAX_ELEMENTS};
 ghost use Rattle.uca_model.specs.TableText.{Cause, TextState, add_statement, add_line, no_lines, table_fold, version, entry, range as range_said};
-ghost use Rattle.uca_allkeys.specs.Faults.{told, IsOfText};
+ghost use Rattle.uca_allkeys.specs.Faults.{read_cause, IsOfText};
 ghost use Rattle.uca_allkeys.specs.Reading.{state_of};
-ghost use Rattle.uca_allkeys.specs.Statements.{said_by, IsSomeEntry};
+ghost use Rattle.uca_allkeys.specs.Statements.{statement_of, IsSomeEntry};
 
 use crate::faults::ReadCause;
 use crate::statement::{Statement, read_statement};
@@ -32,7 +32,7 @@ pub(crate) fn no_lines(alloc: Global) -> Lines
 
 /// Adds a version, which may stand once.
 fn add_version(lines: &mut Lines) -> Result<(), ReadCause>
-    ensures adds { Leads told (add_statement (state_of lines.old) version) (state_of lines.new) result }
+    ensures adds { Leads read_cause (add_statement (state_of lines.old) version) (state_of lines.new) result }
     ensures of_text { IfErr result IsOfText }
 {
     if lines.has_version {
@@ -44,7 +44,7 @@ fn add_version(lines: &mut Lines) -> Result<(), ReadCause>
 
 /// Adds a range of implicit weights.
 fn add_range(lines: &mut Lines, range: Range) -> Result<(), ReadCause>
-    ensures adds { Leads told (add_statement (state_of lines.old) (range_said range)) (state_of lines.new) result }
+    ensures adds { Leads read_cause (add_statement (state_of lines.old) (range_said range)) (state_of lines.new) result }
     ensures of_text { IfErr result IsOfText }
 {
     match lines
@@ -63,7 +63,7 @@ fn add_entry(lines: &mut Lines, key: &[char], elements: &[Element]) -> Result<()
     requires few_points { length key.now ≤ MAX_KEY }
     requires some_elements { 0 < length elements.now }
     requires few_elements { length elements.now ≤ MAX_ELEMENTS }
-    ensures adds { Leads told (add_statement (state_of lines.old) (entry key.now elements.now)) (state_of lines.new) result }
+    ensures adds { Leads read_cause (add_statement (state_of lines.old) (entry key.now elements.now)) (state_of lines.new) result }
     ensures of_text { IfErr result IsOfText }
 {
     match lines.builder.insert(key, elements) {
@@ -76,7 +76,7 @@ fn add_entry(lines: &mut Lines, key: &[char], elements: &[Element]) -> Result<()
 /// Adds what a line says.
 fn add_statement(lines: &mut Lines, said: Statement) -> Result<(), ReadCause>
     requires { IsSomeEntry said }
-    ensures adds { Leads told (add_statement (state_of lines.old) (said_by said)) (state_of lines.new) result }
+    ensures adds { Leads read_cause (add_statement (state_of lines.old) (statement_of said)) (state_of lines.new) result }
     ensures of_text { IfErr result IsOfText }
 {
     match said {
@@ -91,7 +91,7 @@ fn add_statement(lines: &mut Lines, said: Statement) -> Result<(), ReadCause>
 
 /// Adds a line.
 fn add_line(lines: &mut Lines, line: &[u8]) -> Result<(), ReadCause>
-    ensures adds { Leads told (add_line (state_of lines.old) line.now) (state_of lines.new) result }
+    ensures adds { Leads read_cause (add_line (state_of lines.old) line.now) (state_of lines.new) result }
     ensures of_text { IfErr result IsOfText }
 {
     match read_statement(line) {
@@ -111,7 +111,7 @@ impl LineSink for Lines {
 
     ghost fold = { table_fold };
 
-    ghost fault_of = { told };
+    ghost fault_of = { read_cause };
 
     ghost possible = { IsOfText };
 

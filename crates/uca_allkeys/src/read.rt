@@ -3,7 +3,7 @@ ghost use Rattle.uca_weights.specs.declared.limits.TheConstants.{MAX_INPUT};
 ghost use Rattle.uca_io.specs.LineReader.{StopsLines};
 ghost use Rattle.uca_io.specs.Reader.{ReaderState};
 ghost use Rattle.uca_model.specs.TableText.{no_lines, table_fold};
-ghost use Rattle.uca_allkeys.specs.Faults.{told, IsOfText};
+ghost use Rattle.uca_allkeys.specs.Faults.{read_cause, IsOfText};
 ghost use Rattle.uca_allkeys.specs.Reading.{GivesTable, IsRefused};
 
 use crate::faults::{ReadCause, ReadFault};
@@ -16,7 +16,7 @@ use uca_weights::Reader;
 /// The cause with its line, which is 0 where an allocation failed.
 fn fault_at(line: u64, cause: ReadCause) -> ReadFault
     ensures cause { result.cause ≡ cause }
-    ensures line { MatchOption (told cause) (result.line ≡ 0) (λ _. result.line ≡ line) }
+    ensures line { MatchOption (read_cause cause) (result.line ≡ 0) (λ _. result.line ≡ line) }
 {
     match cause {
         ReadCause::OutOfMemory => ReadFault { line: 0, cause },
@@ -26,7 +26,7 @@ fn fault_at(line: u64, cause: ReadCause) -> ReadFault
 
 /// The fault of a text whose lines were not read to their end.
 fn fault_of_lines(fault: LineFault<ReadCause>) -> ReadFault
-    ensures { (old new : ReaderState) → StopsLines table_fold told IsOfText no_lines old new fault → IsRefused old new result }
+    ensures { (old new : ReaderState) → StopsLines table_fold read_cause IsOfText no_lines old new fault → IsRefused old new result }
 {
     match fault.cause {
         LineCause::LineTooLong => fault_at(fault.line, ReadCause::LineTooLong),

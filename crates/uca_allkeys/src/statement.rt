@@ -1,6 +1,6 @@
 ghost use Rattle.std.specs.Prelude.{◌≡◌, IfOk};
 ghost use Rattle.uca_model.specs.TableText.{said, statement};
-ghost use Rattle.uca_allkeys.specs.Statements.{Tells, said_by, IsSomeEntry};
+ghost use Rattle.uca_allkeys.specs.Statements.{Parses, statement_of, IsSomeEntry};
 
 use crate::directive::directive;
 use crate::entry::entry_of_text;
@@ -37,7 +37,7 @@ fn said(line: &[u8]) -> &[u8]
 /// What a line says, whatever stands before it.
 #[tactic(auto, unfolding(uca_model::specs::TableText::statement))]
 pub(crate) fn read_statement(line: &[u8]) -> Result<Statement, LineFault>
-    ensures value { Tells said_by (statement line.now) result }
+    ensures value { Parses statement_of (statement line.now) result }
     ensures some { IfOk result IsSomeEntry }
 {
     let text = said(without_return(line));

@@ -183,7 +183,7 @@ fn each_line_gets_its_key(rt: HostRuntime) {
 }
 
 #[test]
-fn the_first_faulty_line_is_told_and_nothing_is_written(rt: HostRuntime) {
+fn the_first_faulty_line_is_reported_and_nothing_is_written(rt: HostRuntime) {
     let cases: [(&[u8], u64, usize, InputCause); 7] = [
         (b"a\nb\xFF\n", 2, 1, InputCause::NotUtf8),
         (b"a\nb\xFF", 2, 1, InputCause::NotUtf8),
@@ -209,13 +209,13 @@ fn after(alloc: Global, front: &[u8], text: &[u8], count: usize) -> Result<Vec<u
 }
 
 #[test]
-fn a_long_run_is_told_by_its_place_in_the_line(rt: HostRuntime) {
+fn a_long_run_is_reported_by_its_place_in_the_line(rt: HostRuntime) {
     let acutes = "\u{301}".as_bytes();
     let alloc = rt.alloc();
     let cases: [(&[u8], usize, u64, usize); 3] = [
-        (b"a", 31, 1, 61),
-        (b"b\n\na", 31, 3, 61),
-        (b"a\n", 32, 2, 60),
+        (b"a", 61, 1, 121),
+        (b"b\n\na", 61, 3, 121),
+        (b"a\n", 62, 2, 120),
     ];
     for (front, count, line, at) in cases {
         let Ok(input) = after(alloc, front, acutes, count) else {
@@ -228,13 +228,13 @@ fn a_long_run_is_told_by_its_place_in_the_line(rt: HostRuntime) {
 #[test]
 fn a_line_that_is_no_text_has_no_run(rt: HostRuntime) {
     let alloc = rt.alloc();
-    let Ok(mut input) = repeated(alloc, "\u{301}".as_bytes(), 31) else {
+    let Ok(mut input) = repeated(alloc, "\u{301}".as_bytes(), 61) else {
         return;
     };
     if input.push(0xFF).is_err() {
         return;
     }
-    assert!(rt; is_refused(alloc, &input, 1, 62, InputCause::NotUtf8));
+    assert!(rt; is_refused(alloc, &input, 1, 122, InputCause::NotUtf8));
 }
 
 #[test]
@@ -263,7 +263,7 @@ fn an_input_at_the_limit_is_read(rt: HostRuntime) {
 }
 
 #[test]
-fn a_failed_read_is_told(rt: HostRuntime) {
+fn a_failed_read_is_reported(rt: HostRuntime) {
     for (most, calls) in [(5, 0), (5, 1), (1, 3), (1, 5)] {
         let reader = Pieces::new(TWO_LINES, most, calls);
         let want = Some(input_refused(0, 0, InputCause::Read));

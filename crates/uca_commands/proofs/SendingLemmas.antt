@@ -25,8 +25,8 @@ use Rattle.std.specs.Prelude.{chars}
 -- the output of a line, and of the lines behind it
 pub lines_text-parts : (form : LineForm) (t : ElementTable) (s : Settings) (sent bytes left rest line : List ℕ) → sent ++ lines_text form t s left ≡ lines_text form t s bytes → lines_of left ≡ line ∷ lines_of rest
     → (sent ++ line_text form t s line) ++ lines_text form t s rest ≡ lines_text form t s bytes
-lines_text-parts form t s sent bytes left rest line told parts =
-    append_assoc sent (line_text form t s line) (lines_text form t s rest) ∙ ap (λ ls. sent ++ flat_map (line_text form t s) ls) (sym parts) ∙ told
+lines_text-parts form t s sent bytes left rest line complete parts =
+    append_assoc sent (line_text form t s line) (lines_text form t s rest) ∙ ap (λ ls. sent ++ flat_map (line_text form t s) ls) (sym parts) ∙ complete
 
 -- the writer stopped somewhere in all of this
 pub FailsPartway-whole : (s0 s1 s2 : WriterState) (o0 o1 : BufferState) (sent piece rest whole : List ℕ) (f : WriteFault) → o0.waiting ≡ [] → o0.written ≡ 0 → Accepts s0 o0 s1 o1 sent → FailsPartway s1 o1 s2 piece f

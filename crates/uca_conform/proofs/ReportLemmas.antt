@@ -11,7 +11,7 @@ use Rattle.uca_model.specs.Table.{ElementTable}
 use Rattle.uca_model.specs.TestFile.{TestCause, read, report_of}
 use Rattle.uca_conform.specs.Comparing.{Comparing, comparing, comparing_fold}
 use Rattle.uca_conform.specs.Conforming.{report_in, GivesReport, RefusedBy}
-use Rattle.uca_conform.specs.TestReading.{fault_of, told, IsOfFile}
+use Rattle.uca_conform.specs.TestReading.{fault_of, test_cause, IsOfFile}
 use Rattle.uca_conform.specs.declared.conforming.ConformCause.{ConformCause}
 use Rattle.uca_conform.specs.declared.conforming.ConformCause.TheVariants.{LineTooLong, BadLine, TooLarge, Read}
 use Rattle.uca_conform.specs.declared.conforming.Conformance.{Conformance}
@@ -25,10 +25,10 @@ faulty : (t : ElementTable) (s : Settings) (old new : ReaderState) (line : ℕ) 
 faulty t s old new line cause is = IsFaulty-part report_part (with_text comparing_fold (comparing t s [])) (report_of t s) old new line cause (report_of-compared t s) is
 
 -- a cause of the file
-refused : (t : ElementTable) (s : Settings) (cause : ConformCause) (old new : ReaderState) (line : ℕ) → IsOfFile cause → IsFaulty (with_text comparing_fold (comparing t s [])) old new line (told cause) → RefusedBy t s cause old new line
-refused t s LineTooLong old new line mine is = faulty t s old new line (told LineTooLong) is
-refused t s BadLine old new line mine is = faulty t s old new line (told BadLine) is
-refused t s TooLarge old new line mine is = faulty t s old new line (told TooLarge) is
+refused : (t : ElementTable) (s : Settings) (cause : ConformCause) (old new : ReaderState) (line : ℕ) → IsOfFile cause → IsFaulty (with_text comparing_fold (comparing t s [])) old new line (test_cause cause) → RefusedBy t s cause old new line
+refused t s LineTooLong old new line mine is = faulty t s old new line (test_cause LineTooLong) is
+refused t s BadLine old new line mine is = faulty t s old new line (test_cause BadLine) is
+refused t s TooLarge old new line mine is = faulty t s old new line (test_cause TooLarge) is
 refused t s Read old new line mine is = absurd mine
 
 -- a line that is too long, or a file that is too large

@@ -13,11 +13,11 @@ use Rattle.uca_conform.specs.declared.test_text.TestText.{TestText}
 
 -- Faults
 
-abbrev pub told : ConformCause → TestCause
-told LineTooLong = line_too_long
-told BadLine = bad_line
-told TooLarge = too_large
-told Read = read
+abbrev pub test_cause : ConformCause → TestCause
+test_cause LineTooLong = line_too_long
+test_cause BadLine = bad_line
+test_cause TooLarge = too_large
+test_cause Read = read
 
 -- the fault is none of the reader
 abbrev pub IsOfFile : ConformCause → Type 0
@@ -26,7 +26,7 @@ IsOfFile _ = Unit {0}
 
 -- the same, for a reader of lines
 abbrev pub fault_of : ConformCause → Option TestCause
-fault_of cause = Some (told cause)
+fault_of cause = Some (test_cause cause)
 
 -- Lines
 

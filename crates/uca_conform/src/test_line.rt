@@ -4,7 +4,7 @@ ghost use Rattle.std.specs.Option.{ok_or};
 ghost use Rattle.uca_weights.specs.declared.limits.TheConstants.{MAX_LINE};
 ghost use Rattle.uca_model.specs.TableText.{skip_blanks, words};
 ghost use Rattle.uca_model.specs.TestFile.{bad_line, ends_points, is_test, points_after, points_of, some_points, test_point};
-ghost use Rattle.uca_conform.specs.TestReading.{told, IsOfFile, SaysPoints};
+ghost use Rattle.uca_conform.specs.TestReading.{test_cause, IsOfFile, SaysPoints};
 
 use crate::conforming::ConformCause;
 use crate::test_text::{TestText, checked, push_point};
@@ -38,7 +38,7 @@ fn test_point(digits: &[u8]) -> Option<u32>
 fn text_of_words(bytes: &[u8]) -> Result<Option<TestText>, ConformCause>
     requires { length bytes.now ≤ MAX_LINE }
     ensures points { IfOk result (SaysPoints (ok_or (option_and_then some_points (points_after [] (words bytes.now))) bad_line)) }
-    ensures fault { IfErr result (λ cause. ok_or (option_and_then some_points (points_after [] (words bytes.now))) bad_line ≡ Err (told cause)) }
+    ensures fault { IfErr result (λ cause. ok_or (option_and_then some_points (points_after [] (words bytes.now))) bad_line ≡ Err (test_cause cause)) }
     ensures of_file { IfErr result IsOfFile }
 {
     let mut text: ArrayString<MAX_LINE> = ArrayString::new();
@@ -82,7 +82,7 @@ fn points_len(line: &[u8]) -> usize
 pub(crate) fn text_of_test(line: &[u8]) -> Result<Option<TestText>, ConformCause>
     requires { length line.now ≤ MAX_LINE }
     ensures points { IfOk result (SaysPoints (points_of line.now)) }
-    ensures fault { IfErr result (λ cause. points_of line.now ≡ Err (told cause)) }
+    ensures fault { IfErr result (λ cause. points_of line.now ≡ Err (test_cause cause)) }
     ensures of_file { IfErr result IsOfFile }
 {
     text_of_words(&line[..points_len(line)])

@@ -11,7 +11,7 @@ use Rattle.uca_model.specs.TableText.{Cause, ends, table_of_text}
 use Rattle.uca_allkeys.specs.Reading.{GivesTable, RefusedBy}
 use Rattle.uca_allkeys.specs.declared.faults.ReadCause.TheVariants.{LineTooLong, BadDirective, BadCodePoint, KeyTooLong, NoSemicolon, BadElement, NoElement, TooManyElements, Repeated, BadRange, TooLarge, Read, OutOfMemory}
 use Rattle.uca_allkeys.specs.declared.faults.ReadCause.{ReadCause}
-use Rattle.uca_allkeys.specs.Faults.{told}
+use Rattle.uca_allkeys.specs.Faults.{read_cause}
 use Rattle.uca_model.specs.RuleText as rules
 use Rattle.uca_model.specs.Rules.{Chain}
 use Rattle.uca_model.specs.Tailoring as tailoring
@@ -48,7 +48,7 @@ never_failed failed none more = omega arith
 
 -- the text is refused by a reader that never fails, so for its own fault or for memory
 pub refused_said : (old new : ReaderState) (xs : List ℕ) (line : ℕ) (cause : ReadCause) → old.coming ≡ Some xs → old.failures ≡ 0 → new.failures ≡ 0 → RefusedBy cause old new line
-    → MatchOption (told cause) (Unit {0}) (λ c. table_of_text ends xs ≡ fault_at line c)
+    → MatchOption (read_cause cause) (Unit {0}) (λ c. table_of_text ends xs ≡ fault_at line c)
 refused_said old new xs line LineTooLong known none never g = faulty_said old new xs line _ known g
 refused_said old new xs line BadDirective known none never g = faulty_said old new xs line _ known g
 refused_said old new xs line BadCodePoint known none never g = faulty_said old new xs line _ known g
@@ -67,7 +67,7 @@ refused_said old new xs line OutOfMemory known none never g = tt
 
 -- a text of rules is refused for its own fault
 pub rules_refused : (says : Result (List Chain) rules.RuleFault) (at : ℕ) (cause : RuleCause) → ¬ (cause ≡ rule.OutOfMemory) → RefusesText says (record { at = at; cause = cause })
-    → MatchOption (reported_text_cause cause) ⊥ (λ told. says ≡ Err (record { at = at; cause = told }))
+    → MatchOption (reported_text_cause cause) ⊥ (λ reported. says ≡ Err (record { at = at; cause = reported }))
 rules_refused says at rule.Syntax other refused = refused
 rules_refused says at rule.LeftOut other refused = refused
 rules_refused says at rule.EmptyString other refused = refused
@@ -78,7 +78,7 @@ rules_refused says at rule.OutOfMemory other refused = absurd (other refl)
 
 -- a relation is refused for its own fault
 pub relation_refused : (says : Result ElementTable tailoring.TailorFault) (relation : ℕ) (cause : TailorCause) → ¬ (cause ≡ tailor.OutOfMemory) → RefusesRelation says (record { relation = relation; cause = cause })
-    → MatchOption (reported_cause cause) ⊥ (λ told. says ≡ Err (record { relation = relation; cause = told }))
+    → MatchOption (reported_cause cause) ⊥ (λ reported. says ≡ Err (record { relation = relation; cause = reported }))
 relation_refused says relation tailor.SmallWeight other refused = refused
 relation_refused says relation tailor.HighReset other refused = refused
 relation_refused says relation (tailor.Full level) other refused = refused

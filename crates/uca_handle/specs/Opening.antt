@@ -1,7 +1,7 @@
 -- The table that two texts say, and why they say none.
 use Rattle.std.specs.Prelude.{◌≡◌, ℕ, List, Ok, Err, MatchOption, chars, IsUtf8}
 use Rattle.std.specs.Str.Lossy.{utf8_valid_len}
-use Rattle.uca_allkeys.specs.Faults.{told}
+use Rattle.uca_allkeys.specs.Faults.{read_cause}
 use Rattle.uca_allkeys.specs.declared.faults.ReadFault.{ReadFault}
 use Rattle.uca_model.specs.RuleText.{rules_of}
 use Rattle.uca_model.specs.Rules.{Chain}
@@ -33,7 +33,7 @@ pub record SaysTable (table rules : List ℕ) (t : ElementTable) : Type 0 where
 
 -- the text of the table is at fault; that is no allocation failure
 abbrev pub RefusesBase : List ℕ → ReadFault → Type 0
-RefusesBase table f = MatchOption (told f.cause) ⊥ (λ cause. table_of_text ends table ≡ Err (record { line = f.line; cause = cause }))
+RefusesBase table f = MatchOption (read_cause f.cause) ⊥ (λ cause. table_of_text ends table ≡ Err (record { line = f.line; cause = cause }))
 
 -- the rules are not UTF-8, from this byte on
 pub record HasNoRuleText (table rules : List ℕ) (at : ℕ) : Type 0 where

@@ -9,14 +9,14 @@ use Rattle.uca_io.proofs.BufferLemmas.{Accepts-more, FailsPartway-later, FailsPa
 
 -- one more line went out
 pub sent_more : (s0 s1 s2 : WriterState) (o0 o1 o2 : BufferState) (sent line rest whole piece : List ℕ) → Accepts s0 o0 s1 o1 sent → sent ++ (line ++ rest) ≡ whole → piece ≡ line → Accepts s1 o1 s2 o2 piece → Accepts s0 o0 s2 o2 (sent ++ line) × ((sent ++ line) ++ rest ≡ whole)
-sent_more s0 s1 s2 o0 o1 o2 sent line rest whole piece before told is sends =
-    (Accepts-more s0 s1 s2 o0 o1 o2 sent line before (subst (λ (l : List ℕ). Accepts s1 o1 s2 o2 l) is sends), append_assoc sent line rest ∙ told)
+sent_more s0 s1 s2 o0 o1 o2 sent line rest whole piece before complete is sends =
+    (Accepts-more s0 s1 s2 o0 o1 o2 sent line before (subst (λ (l : List ℕ). Accepts s1 o1 s2 o2 l) is sends), append_assoc sent line rest ∙ complete)
 
 -- it stopped at a line
 pub stopped_there : (s0 s1 s2 : WriterState) (o0 o1 : BufferState) (sent line rest whole piece : List ℕ) (f : WriteFault) → Accepts s0 o0 s1 o1 sent → sent ++ (line ++ rest) ≡ whole → piece ≡ line → FailsPartway s1 o1 s2 piece f → FailsPartway s0 o0 s2 whole f
-stopped_there s0 s1 s2 o0 o1 sent line rest whole piece f before told is stops =
+stopped_there s0 s1 s2 o0 o1 sent line rest whole piece f before complete is stops =
     let here : FailsPartway s1 o1 s2 line f = subst (λ (l : List ℕ). FailsPartway s1 o1 s2 l f) is stops in
-    subst (λ (l : List ℕ). FailsPartway s0 o0 s2 l f) (append_assoc sent line rest ∙ told)
+    subst (λ (l : List ℕ). FailsPartway s0 o0 s2 l f) (append_assoc sent line rest ∙ complete)
     (FailsPartway-longer s0 s2 o0 (sent ++ line) rest f (FailsPartway-later s0 s1 s2 o0 o1 sent line f before here))
 
 -- one text after another

@@ -149,12 +149,12 @@ fn variable_elements_are_weighted_by_the_option(rt: HostRuntime) {
 fn marks_alone_count_at_the_second_level(rt: HostRuntime) {
     let t = table(&rt, rt.alloc());
     let text =
-        "\u{301}\u{301}\u{301}\u{301}\u{301}\u{301}\u{301}\u{301}\u{301}\u{301}\u{301}\u{301}\u{301}\u{301}\u{301}\u{301}\u{301}\u{301}\u{301}\u{301}\u{301}\u{301}\u{301}\u{301}\u{301}\u{301}\u{301}\u{301}\u{301}\u{301}";
+        "\u{301}\u{301}\u{301}\u{301}\u{301}\u{301}\u{301}\u{301}\u{301}\u{301}\u{301}\u{301}\u{301}\u{301}\u{301}\u{301}\u{301}\u{301}\u{301}\u{301}\u{301}\u{301}\u{301}\u{301}\u{301}\u{301}\u{301}\u{301}\u{301}\u{301}\u{301}\u{301}\u{301}\u{301}\u{301}\u{301}\u{301}\u{301}\u{301}\u{301}\u{301}\u{301}\u{301}\u{301}\u{301}\u{301}\u{301}\u{301}\u{301}\u{301}\u{301}\u{301}\u{301}\u{301}\u{301}\u{301}\u{301}\u{301}\u{301}\u{301}";
     let option = Variable::NonIgnorable;
     let key = key_again(&rt, rt.alloc(), &t, Strength::Primary, option, text);
     assert!(rt; key.is_empty());
     let key = key_again(&rt, rt.alloc(), &t, Strength::Secondary, option, text);
-    assert_eq!(rt; key.len(), 62);
+    assert_eq!(rt; key.len(), 122);
     for (i, b) in key.iter().enumerate() {
         let wanted = if i > 2 && i % 2 == 1 { 0x22 } else { 0 };
         assert_eq!(rt; *b, wanted, "at {i}");

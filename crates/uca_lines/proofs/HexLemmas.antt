@@ -12,7 +12,7 @@ length-spaced_pairs (b ∷ bytes) = let h : length (spaced_pairs bytes) ≡ 3 * 
 
 -- one more piece
 pub spaced_pairs-parts : (sent bytes left front rest : List ℕ) → left ≡ front ++ rest → sent ++ spaced_pairs left ≡ spaced_pairs bytes → sent ++ (spaced_pairs front ++ spaced_pairs rest) ≡ spaced_pairs bytes
-spaced_pairs-parts sent bytes left front rest parts told = ap (λ l. sent ++ l) (sym (flat_map-append (λ b. blank ∷ hex_pair b) front rest)) ∙ ap (λ l. sent ++ spaced_pairs l) (sym parts) ∙ told
+spaced_pairs-parts sent bytes left front rest parts complete = ap (λ l. sent ++ l) (sym (flat_map-append (λ b. blank ∷ hex_pair b) front rest)) ∙ ap (λ l. sent ++ spaced_pairs l) (sym parts) ∙ complete
 
 spaced_pairs-after : (bytes : List ℕ) → hex_after bytes ≡ spaced_pairs bytes
 spaced_pairs-after [] = refl

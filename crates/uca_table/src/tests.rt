@@ -100,10 +100,10 @@ fn entries_are_refused_for_the_first_fault(rt: HostRuntime) {
 }
 
 #[test]
-fn faults_are_told_by_their_names(rt: HostRuntime) -> Result<(), Fail> {
-    let told = format!(in rt.alloc(); "{} {}", InsertFault::EmptyKey, RangeFault::BadRange);
-    if let Ok(told) = told {
-        assert_eq!(rt; told.as_str(), "EmptyKey BadRange");
+fn faults_are_reported_by_their_names(rt: HostRuntime) -> Result<(), Fail> {
+    let name = format!(in rt.alloc(); "{} {}", InsertFault::EmptyKey, RangeFault::BadRange);
+    if let Ok(name) = name {
+        assert_eq!(rt; name.as_str(), "EmptyKey BadRange");
     }
     Ok(())
 }

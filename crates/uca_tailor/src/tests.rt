@@ -409,7 +409,7 @@ const FAULTY: [(&'static [PlainChain], TailorCause, u64); 5] = [
 ];
 
 #[test]
-fn the_first_relation_at_fault_is_told(rt: HostRuntime) {
+fn the_first_relation_at_fault_is_reported(rt: HostRuntime) {
     let t = small_table(&rt, rt.alloc());
     for (plain, cause, relation) in FAULTY {
         let answer = tailored(&rt, rt.alloc(), &t, plain).err();

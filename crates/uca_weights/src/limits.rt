@@ -5,7 +5,7 @@ pub const MAX_KEY: usize = 32;
 pub const MAX_ELEMENTS: usize = 64;
 
 /// The longest run of nonstarters in a safe text (compare UAX #15, Stream-Safe Text Format).
-pub const MAX_RUN: usize = 30;
+pub const MAX_RUN: usize = 60;
 
 /// The most code points of the NFD of a character of a safe text. No character is known to have more.
 pub const MAX_DECOMPOSITION: usize = 4;

@@ -35,7 +35,7 @@ fn levels_of_strengths(rt: HostRuntime) {
 fn limits_are_these_numbers(rt: HostRuntime) {
     assert!(rt; MAX_KEY == 32);
     assert!(rt; MAX_ELEMENTS == 64);
-    assert!(rt; MAX_RUN == 30);
+    assert!(rt; MAX_RUN == 60);
     assert!(rt; MAX_DECOMPOSITION == 4);
     assert!(rt; MAX_LOOKAHEAD == 64);
     assert!(rt; MAX_LINE == 4_096);

@@ -227,7 +227,7 @@ fn no_bytes_give_an_empty_table(rt: HostRuntime) {
 }
 
 #[test]
-fn each_fault_of_an_entry_is_told_at_its_line(rt: HostRuntime) {
+fn each_fault_of_an_entry_is_reported_at_its_line(rt: HostRuntime) {
     for (text, answer) in [
         (
             "0061 ; [.1000.0020.0002]\n0062 ; [.1000.0020]",
@@ -307,7 +307,7 @@ fn each_fault_of_an_entry_is_told_at_its_line(rt: HostRuntime) {
 }
 
 #[test]
-fn each_fault_of_a_directive_is_told_at_its_line(rt: HostRuntime) {
+fn each_fault_of_a_directive_is_reported_at_its_line(rt: HostRuntime) {
     for (text, answer) in [
         (
             "0061 ; [.1000.0020.0002]\n@variable shifted",
@@ -443,7 +443,7 @@ fn limits_hold_to_the_byte(rt: HostRuntime) {
 }
 
 #[test]
-fn a_failure_of_the_reader_is_told_at_its_line(rt: HostRuntime) {
+fn a_failure_of_the_reader_is_reported_at_its_line(rt: HostRuntime) {
     for (text, answer) in [
         ("0061 ; [.1000.0020.0002]\n", (2, ReadCause::Read)),
         ("", (1, ReadCause::Read)),
@@ -453,32 +453,32 @@ fn a_failure_of_the_reader_is_told_at_its_line(rt: HostRuntime) {
             (2, ReadCause::NoSemicolon),
         ),
     ] {
-        let told = fault(read_slowly(rt.alloc(), text.as_bytes(), 7, true));
-        assert_eq!(rt; told, Some(answer));
+        let found = fault(read_slowly(rt.alloc(), text.as_bytes(), 7, true));
+        assert_eq!(rt; found, Some(answer));
     }
 }
 
 #[test]
 fn a_line_without_end_is_refused(rt: HostRuntime) {
-    let told = fault(read_comments(rt.alloc(), usize::MAX, usize::MAX));
-    assert_eq!(rt; told, Some((1, ReadCause::LineTooLong)));
+    let found = fault(read_comments(rt.alloc(), usize::MAX, usize::MAX));
+    assert_eq!(rt; found, Some((1, ReadCause::LineTooLong)));
 }
 
 #[test]
 fn lines_without_end_are_refused(rt: HostRuntime) {
     for (width, line) in [(63, 1_048_577), (4_095, 16_385)] {
-        let told = fault(read_comments(rt.alloc(), width, usize::MAX));
-        assert_eq!(rt; told, Some((line, ReadCause::TooLarge)));
+        let found = fault(read_comments(rt.alloc(), width, usize::MAX));
+        assert_eq!(rt; found, Some((line, ReadCause::TooLarge)));
     }
 }
 
 #[test]
 fn the_limit_of_the_input_holds_to_the_byte(rt: HostRuntime) {
     for (width, line) in [(4_095, 16_385), (4_096, 16_381)] {
-        let told = fault(read_comments(rt.alloc(), width, MAX_INPUT));
-        assert_eq!(rt; told, None);
-        let told = fault(read_comments(rt.alloc(), width, MAX_INPUT + 1));
-        assert_eq!(rt; told, Some((line, ReadCause::TooLarge)));
+        let found = fault(read_comments(rt.alloc(), width, MAX_INPUT));
+        assert_eq!(rt; found, None);
+        let found = fault(read_comments(rt.alloc(), width, MAX_INPUT + 1));
+        assert_eq!(rt; found, Some((line, ReadCause::TooLarge)));
     }
 }
 
@@ -499,13 +499,13 @@ fn a_fault_before_anything_was_added_takes_no_memory(rt: HostRuntime) {
             (1, ReadCause::BadRange),
         ),
     ] {
-        let told = fault(read_table(rt.alloc(), &mut Reading::new(text.as_bytes())));
-        assert_eq!(rt; told, Some(answer), "{text:?}");
+        let found = fault(read_table(rt.alloc(), &mut Reading::new(text.as_bytes())));
+        assert_eq!(rt; found, Some(answer), "{text:?}");
     }
     let mut failing = slow_reader(b"# none\n", 7, true);
-    let told = fault(read_table(rt.alloc(), &mut failing));
-    assert_eq!(rt; told, Some((2, ReadCause::Read)));
+    let found = fault(read_table(rt.alloc(), &mut failing));
+    assert_eq!(rt; found, Some((2, ReadCause::Read)));
     let mut endless = comment_reader(usize::MAX, usize::MAX);
-    let told = fault(read_table(rt.alloc(), &mut endless));
-    assert_eq!(rt; told, Some((1, ReadCause::LineTooLong)));
+    let found = fault(read_table(rt.alloc(), &mut endless));
+    assert_eq!(rt; found, Some((1, ReadCause::LineTooLong)));
 }

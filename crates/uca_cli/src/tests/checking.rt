@@ -35,7 +35,7 @@ fn file_refused(line: u64, cause: ConformCause) -> Result<u8, CliFault> {
 }
 
 #[test]
-fn a_failing_line_is_told_and_the_status_is_one(rt: HostRuntime) {
+fn a_failing_line_is_reported_and_the_status_is_one(rt: HostRuntime) {
     let none: &[u8] = b"lines 2\nskipped 0\nfirst failure none\n";
     let empty: &[u8] = b"lines 0\nskipped 0\nfirst failure none\n";
     assert!(rt; comes_to(rt.alloc(), FAILING, Ok(1), REPORT));
@@ -44,7 +44,7 @@ fn a_failing_line_is_told_and_the_status_is_one(rt: HostRuntime) {
 }
 
 #[test]
-fn a_faulty_file_is_told_and_nothing_is_written(rt: HostRuntime) {
+fn a_faulty_file_is_reported_and_nothing_is_written(rt: HostRuntime) {
     let bad = file_refused(2, ConformCause::BadLine);
     assert!(rt; comes_to(rt.alloc(), b"0062\n;x\n0061\n", bad, b""));
     let mut input = Pieces::new(FAILING, 1, 6);

@@ -109,13 +109,13 @@ fn other_faults_of_the_input_come_before_the_number_of_lines(rt: HostRuntime) {
     let alloc = rt.alloc();
     let want = Err(input_refused(2, 1, InputCause::NotUtf8));
     assert!(rt; comes_to(alloc, PLAIN, b"a\nb\xFF\n", want, b""));
-    let Ok(mut input) = repeated(alloc, "\u{301}".as_bytes(), 31) else {
+    let Ok(mut input) = repeated(alloc, "\u{301}".as_bytes(), 61) else {
         return;
     };
     if input.extend_from_slice(b"\n\n").is_err() {
         return;
     }
-    let want = Err(input_refused(1, 60, InputCause::LongRun));
+    let want = Err(input_refused(1, 120, InputCause::LongRun));
     assert!(rt; comes_to(alloc, PLAIN, &input, want, b""));
     let mut reader = Pieces::new(b"a\nb\n", 2, 1);
     let mut writer = Expecting::new(b"", 0, WriteCause::Failed);

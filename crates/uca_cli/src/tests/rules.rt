@@ -166,7 +166,7 @@ fn rules_past_the_limit_are_refused(rt: HostRuntime) {
 }
 
 #[test]
-fn the_first_fault_of_the_rules_is_told_before_the_input_is_read(rt: HostRuntime) {
+fn the_first_fault_of_the_rules_is_reported_before_the_input_is_read(rt: HostRuntime) {
     let alloc = rt.alloc();
     let cases: [(&str, RuleCause, usize); 3] = [
         ("&a<", RuleCause::EmptyString, 3),
@@ -217,7 +217,7 @@ fn a_fault_of_the_table_comes_before_those_of_the_rules(rt: HostRuntime) {
 }
 
 #[test]
-fn faults_after_the_rules_are_told(rt: HostRuntime) {
+fn faults_after_the_rules_are_reported(rt: HostRuntime) {
     let alloc = rt.alloc();
     let want = Err(input_refused(2, 1, InputCause::NotUtf8));
     assert!(rt; comes_to(alloc, Task::Key, "", b"a\nb\xFF\n", want, b""));

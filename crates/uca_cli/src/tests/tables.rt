@@ -65,7 +65,7 @@ fn the_built_in_table_is_this_one(rt: HostRuntime) {
 }
 
 #[test]
-fn a_faulty_text_is_told_and_nothing_is_written(rt: HostRuntime) {
+fn a_faulty_text_is_reported_and_nothing_is_written(rt: HostRuntime) {
     let cases: [(&[u8], u64, ReadCause); 5] = [
         (b"0061 ; [.1000.0020]\n", 1, ReadCause::BadElement),
         (
@@ -89,7 +89,7 @@ fn a_faulty_text_is_told_and_nothing_is_written(rt: HostRuntime) {
 }
 
 #[test]
-fn a_failed_read_of_the_table_is_told(rt: HostRuntime) {
+fn a_failed_read_of_the_table_is_reported(rt: HostRuntime) {
     // The line in which the reader fails, a byte at a time.
     for (calls, line) in [(0, 1), (15, 1), (16, 2), (81, 2), (82, 3)] {
         let mut table = Pieces::new(WRITTEN_BY_HAND, 1, calls);

@@ -156,15 +156,17 @@ fn with_long_line(
     assert_answer(rt, t, &text[..10 + width], whole);
 }
 
-/// A letter with 31 marks between two others.
+/// A letter with 61 marks between two others.
 const MARKED: &[u8] = b"0062\n\
-0061 0301 0301 0301 0301 0301 0301 0301 0301 0301 0301 0301 0301 0301 0301 0301 0301 0301 0301 0301 0301 0301 0301 0301 \
-0301 0301 0301 0301 0301 0301 0301 0301\n0061\n";
+0061 0301 0301 0301 0301 0301 0301 0301 0301 0301 0301 0301 0301 0301 0301 0301 0301 0301 0301 0301 0301 0301 0301 \
+0301 0301 0301 0301 0301 0301 0301 0301 0301 0301 0301 0301 0301 0301 0301 0301 0301 0301 0301 0301 0301 0301 0301 0301 \
+0301 0301 0301 0301 0301 0301 0301 0301 0301 0301 0301 0301 0301 0301 0301\n0061\n";
 
 /// The same without the first line.
 const MARKS_FIRST: &[u8] = b"\
-0061 0301 0301 0301 0301 0301 0301 0301 0301 0301 0301 0301 0301 0301 0301 0301 0301 0301 0301 0301 0301 0301 0301 0301 \
-0301 0301 0301 0301 0301 0301 0301 0301\n0061\n";
+0061 0301 0301 0301 0301 0301 0301 0301 0301 0301 0301 0301 0301 0301 0301 0301 0301 0301 0301 0301 0301 0301 0301 \
+0301 0301 0301 0301 0301 0301 0301 0301 0301 0301 0301 0301 0301 0301 0301 0301 0301 0301 0301 0301 0301 0301 0301 0301 \
+0301 0301 0301 0301 0301 0301 0301 0301 0301 0301 0301 0301 0301 0301 0301\n0061\n";
 
 #[test]
 fn lines_are_compared_with_the_one_before(rt: HostRuntime) {
@@ -212,20 +214,20 @@ fn a_text_that_is_not_safe_is_skipped(rt: HostRuntime) {
     let Ok(t) = table(rt.alloc()) else {
         return;
     };
-    let mut text = [b' '; 5 + 31 * 5 + 5];
+    let mut text = [b' '; 5 + 61 * 5 + 5];
     text[..5].copy_from_slice(b"0062\n");
-    for place in 1..32 {
+    for place in 1..62 {
         text[place * 5..place * 5 + 4].copy_from_slice(b"0301");
     }
-    text[159] = b'\n';
-    text[160..164].copy_from_slice(b"0061");
+    text[309] = b'\n';
+    text[310..314].copy_from_slice(b"0061");
     assert_answer(&rt, &t, &text, report(3, 1, Some(3)));
-    text[155..159].fill(b' ');
+    text[305..309].fill(b' ');
     assert_answer(&rt, &t, &text, report(3, 0, Some(2)));
 }
 
 #[test]
-fn a_faulty_line_is_told(rt: HostRuntime) {
+fn a_faulty_line_is_reported(rt: HostRuntime) {
     let Ok(t) = table(rt.alloc()) else {
         return;
     };
@@ -298,7 +300,7 @@ fn a_file_has_a_limit(rt: HostRuntime) {
 }
 
 #[test]
-fn a_failed_read_is_told(rt: HostRuntime) {
+fn a_failed_read_is_reported(rt: HostRuntime) {
     let Ok(t) = table(rt.alloc()) else {
         return;
     };

@@ -109,7 +109,7 @@ fn rules_are_read_as_chains(rt: HostRuntime) {
 }
 
 #[test]
-fn the_fault_that_is_met_first_is_told_with_its_byte(rt: HostRuntime) {
+fn the_fault_that_is_met_first_is_reported_with_its_byte(rt: HostRuntime) {
     let rows: [&str; 8] = [
         "&a<⇒EmptyString 3¦\
             &[before 1]a<x⇒LeftOut 1¦\
@@ -216,21 +216,28 @@ fn assert_taken(rt: &impl Abort, alloc: Global, pieces: &[(&str, usize)]) {
 #[test]
 fn runs_keep_to_the_limit(rt: HostRuntime) {
     let alloc = rt.alloc();
-    assert_answer(&rt, alloc, &[("&a<", 1), ("\u{301}", 31)], "LongRun 3");
+    assert_answer(&rt, alloc, &[("&a<", 1), ("\u{301}", 61)], "LongRun 3");
     assert_answer(
         &rt,
         alloc,
-        &[("&a<", 1), ("\u{301}", 30), ("<", 1)],
-        "EmptyString 64",
+        &[("&a<", 1), ("\u{301}", 31), ("<", 1)],
+        "EmptyString 66",
     );
     // U+0344 decomposes to two nonstarters.
-    assert_answer(&rt, alloc, &[("&a<", 1), ("\u{344}", 16)], "LongRun 3");
-    assert_answer(&rt, alloc, &[("&a< b", 1), ("\u{301}", 32)], "LongRun 3");
-    assert_taken(&rt, alloc, &[("&a", 1), ("\u{301}", 30)]);
     assert_answer(
         &rt,
         alloc,
-        &[("&a<b/", 1), ("a", 33), ("\u{301}", 31)],
+        &[("&a<", 1), ("\u{344}", 16), ("<", 1)],
+        "EmptyString 36",
+    );
+    assert_answer(&rt, alloc, &[("&a<", 1), ("\u{344}", 31)], "LongRun 3");
+    assert_answer(&rt, alloc, &[("&a<", 1), ("\u{301}", 33)], "KeyTooLong 3");
+    assert_answer(&rt, alloc, &[("&a< b", 1), ("\u{301}", 61)], "LongRun 3");
+    assert_taken(&rt, alloc, &[("&a", 1), ("\u{301}", 31)]);
+    assert_answer(
+        &rt,
+        alloc,
+        &[("&a<b/", 1), ("a", 33), ("\u{301}", 61)],
         "LongRun 5",
     );
 }

@@ -23,16 +23,17 @@ fn refused_at(text: &str) -> Option<usize> {
 #[test]
 fn runs_up_to_the_limit_are_accepted(rt: HostRuntime) {
     let acute = "\u{301}";
-    let pieces: [(&str, &str, usize, Option<usize>); 7] = [
-        ("a", acute, 30, None),
-        ("a", acute, 31, Some(61)),
-        ("", acute, 30, None),
-        ("", acute, 31, Some(60)),
+    let pieces: [(&str, &str, usize, Option<usize>); 8] = [
+        ("a", acute, 60, None),
+        ("a", acute, 61, Some(121)),
+        ("", acute, 60, None),
+        ("", acute, 61, Some(120)),
         // U+0344 decomposes to two nonstarters.
-        ("a", "\u{344}", 15, None),
-        ("a", "\u{344}", 16, Some(31)),
+        ("a", "\u{344}", 16, None),
+        ("a", "\u{344}", 30, None),
+        ("a", "\u{344}", 31, Some(61)),
         // U+0F73 is a starter, and decomposes to two nonstarters.
-        ("a", "\u{F73}", 16, Some(46)),
+        ("a", "\u{F73}", 31, Some(91)),
     ];
     for (start, mark, times, want) in pieces {
         let Ok(text) = join(rt.alloc(), &[(start, 1), (mark, times)]) else {
@@ -56,42 +57,43 @@ fn long_decompositions_are_accepted(rt: HostRuntime) {
 
 #[test]
 fn runs_are_counted_across_characters(rt: HostRuntime) {
-    let texts: [(&[(&str, usize)], Option<usize>); 19] = [
+    let texts: [(&[(&str, usize)], Option<usize>); 20] = [
         (&[], None),
         (&[("plain text, \u{E9}t\u{E9}", 3)], None),
-        (&[("a", 1), ("\u{301}", 30), ("b", 1)], None),
-        (&[("a", 1), ("\u{301}", 31), ("b", 1)], Some(61)),
-        (&[("a", 1), ("\u{344}", 16), ("b", 1)], Some(31)),
-        (&[("\u{301}", 31), ("b", 1)], Some(60)),
+        (&[("a", 1), ("\u{301}", 60), ("b", 1)], None),
+        (&[("a", 1), ("\u{301}", 61), ("b", 1)], Some(121)),
+        (&[("a", 1), ("\u{344}", 31), ("b", 1)], Some(61)),
+        (&[("\u{301}", 61), ("b", 1)], Some(120)),
         // A starter ends a run, also one that is no ASCII character.
         (
-            &[("a", 1), ("\u{301}", 20), ("b", 1), ("\u{301}", 20)],
+            &[("a", 1), ("\u{301}", 40), ("b", 1), ("\u{301}", 40)],
             None,
         ),
-        (&[("\u{301}", 30), ("\u{3B1}", 1), ("\u{301}", 30)], None),
+        (&[("\u{301}", 60), ("\u{3B1}", 1), ("\u{301}", 60)], None),
         (
-            &[("\u{301}", 30), ("\u{AC00}", 1), ("\u{301}", 31)],
-            Some(123),
+            &[("\u{301}", 60), ("\u{AC00}", 1), ("\u{301}", 61)],
+            Some(243),
         ),
         // A letter with marks of its own.
-        (&[("x\u{C0}", 1), ("\u{301}", 29)], None),
-        (&[("x\u{C0}", 1), ("\u{301}", 30)], Some(61)),
-        (&[("\u{1F82}", 1), ("\u{323}", 27)], None),
-        (&[("\u{1F82}", 1), ("\u{323}", 28)], Some(57)),
-        (&[("\u{1F82}", 1), ("\u{301}", 28), ("b", 1)], Some(57)),
+        (&[("x\u{C0}", 1), ("\u{301}", 59)], None),
+        (&[("x\u{C0}", 1), ("\u{301}", 60)], Some(121)),
+        (&[("\u{1F82}", 1), ("\u{323}", 57)], None),
+        (&[("\u{1F82}", 1), ("\u{323}", 58)], Some(117)),
+        (&[("\u{1F82}", 1), ("\u{301}", 58), ("b", 1)], Some(117)),
         // Marks that change places.
-        (&[("a", 1), ("\u{301}\u{323}", 15), ("b", 1)], None),
-        (&[("a", 1), ("\u{301}\u{323}", 16), ("b", 1)], Some(61)),
+        (&[("a", 1), ("\u{301}\u{323}", 30), ("b", 1)], None),
+        (&[("a", 1), ("\u{301}\u{323}", 31), ("b", 1)], Some(121)),
         // The character in which the run grows too long gives two nonstarters.
         (
-            &[("a", 1), ("\u{301}", 29), ("\u{344}", 1), ("a", 1)],
-            Some(59),
+            &[("a", 1), ("\u{301}", 59), ("\u{344}", 1), ("a", 1)],
+            Some(119),
         ),
         (
-            &[("a", 1), ("\u{F73}", 15), ("b", 1), ("\u{F73}", 16)],
-            Some(92),
+            &[("a", 1), ("\u{F73}", 30), ("b", 1), ("\u{F73}", 31)],
+            Some(182),
         ),
-        (&[("\u{301}", 30), ("a", 64), ("\u{301}", 31)], Some(184)),
+        (&[("\u{301}", 60), ("a", 64), ("\u{301}", 60)], None),
+        (&[("\u{301}", 60), ("a", 64), ("\u{301}", 61)], Some(304)),
     ];
     for (pieces, want) in texts {
         let Ok(text) = join(rt.alloc(), pieces) else {
@@ -106,7 +108,7 @@ fn shows_the_text_and_the_fault(rt: HostRuntime) {
     let text = "\u{E9}t\u{E9}";
     let shown = Passage::check(text).ok().map(|p| p.as_str());
     assert_eq!(rt; shown, Some(text));
-    if let Ok(told) = (LongRun { at: 3 }).to_string(rt.alloc()) {
-        assert_eq!(rt; told.as_str(), "LongRun");
+    if let Ok(name) = (LongRun { at: 3 }).to_string(rt.alloc()) {
+        assert_eq!(rt; name.as_str(), "LongRun");
     }
 }

@@ -97,7 +97,7 @@ fn a_fill_reads_no_more_than_it_must(rt: HostRuntime) {
         ("abc", '\u{301}', 0, "", 2, [3, 2, 3]),
         ("b", '\u{323}', 14, "\u{301}\u{308}a", 3, [18, 17, 18]),
         // A run as long as it may be, and a character of four code points.
-        ("a", '\u{301}', 30, "\u{1F82}", 1, [35, 31, 32]),
+        ("a", '\u{301}', 60, "\u{1F82}", 1, [65, 61, 62]),
         // Marks at the start of a text are a segment.
         ("", '\u{344}', 1, "a", 1, [3, 2, 2]),
         // U+0F73 is a starter, but decomposes to marks.
@@ -165,7 +165,7 @@ fn marks_of_one_character_at_the_start_are_shown(rt: HostRuntime) {
 }
 
 #[test]
-fn a_window_that_was_told_the_end_asks_no_more(rt: HostRuntime) {
+fn a_window_that_was_given_the_end_asks_no_more(rt: HostRuntime) {
     let Some(chars) = safe_chars(rt.alloc(), "ab") else {
         return;
     };

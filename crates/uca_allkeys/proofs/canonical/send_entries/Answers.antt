@@ -20,7 +20,7 @@ loop-key-init g c =
       finite = tt;
       sent = [];
       sends = Accepts-none _ _;
-      told = ap (flat_map entry_line) all;
+      complete = ap (flat_map entry_line) all;
       valid = subst (λ (es : List (List ℕ × List Element)). All IsEntry es) (sym all) c.show_entries.ensures;
       room = omega (arith, few, c.requires);
     }
@@ -31,8 +31,8 @@ loop-key-preserved g c =
     let steps : c.loop-key.key-iterator ≡ entry ∷ c.next.new.self = c.in-Some.ensures.steps in
     let line : List ℕ = entry_line entry in let rest : List ℕ = flat_map entry_line c.next.new.self in
     let is : c.as_slice-in-loop-key.result.now ≡ line = c.as_slice-in-loop-key.ensures.value ∙ c.entry_line.ensures ∙ ap (λ (key : List ℕ). entry_line (key, c.in-Some.elements.now)) c.as_slice.ensures.value in
-    let told : c.loop-key.invariant.sent ++ (line ++ rest) ≡ flat_map entry_line (entries c.args.table.now.entries) = ap (λ (es : List (List ℕ × List Element)). c.loop-key.invariant.sent ++ flat_map entry_line es) (sym steps) ∙ c.loop-key.invariant.told in
-    let more = sent_more _ _ _ c.args.out.now c.loop-key.out c.write.new.self c.loop-key.invariant.sent line rest _ c.as_slice-in-loop-key.result.now c.loop-key.invariant.sends told is c.in_ok-write.ensures.all in
+    let complete : c.loop-key.invariant.sent ++ (line ++ rest) ≡ flat_map entry_line (entries c.args.table.now.entries) = ap (λ (es : List (List ℕ × List Element)). c.loop-key.invariant.sent ++ flat_map entry_line es) (sym steps) ∙ c.loop-key.invariant.complete in
+    let more = sent_more _ _ _ c.args.out.now c.loop-key.out c.write.new.self c.loop-key.invariant.sent line rest _ c.as_slice-in-loop-key.result.now c.loop-key.invariant.sends complete is c.in_ok-write.ensures.all in
     let size : accepted c.write.new.self ≡ accepted c.loop-key.out + length c.as_slice-in-loop-key.result.now = accepted-Accepts _ _ _ _ c.as_slice-in-loop-key.result.now c.in_ok-write.ensures.all in
     let fits : length c.as_slice-in-loop-key.result.now ≤ 4096 = c.as_slice-in-loop-key.ensures.fits in
     let count : length c.loop-key.key-iterator ≡ length c.next.new.self + 1 = ap length steps ∙ omega arith in
@@ -42,7 +42,7 @@ loop-key-preserved g c =
       finite = tt;
       sent = c.loop-key.invariant.sent ++ line;
       sends = more.0;
-      told = more.1;
+      complete = more.1;
       valid = All-tail IsEntry entry c.next.new.self valid;
       room = omega (arith, size, fits, count, c.loop-key.invariant.room);
     }
@@ -54,5 +54,5 @@ returns-in_err-write-clause-lines g c =
     let steps : c.loop-key.key-iterator ≡ entry ∷ c.next.new.self = c.in-Some.ensures.steps in
     let line : List ℕ = entry_line entry in let rest : List ℕ = flat_map entry_line c.next.new.self in
     let is : c.as_slice-in-loop-key.result.now ≡ line = c.as_slice-in-loop-key.ensures.value ∙ c.entry_line.ensures ∙ ap (λ (key : List ℕ). entry_line (key, c.in-Some.elements.now)) c.as_slice.ensures.value in
-    let told : c.loop-key.invariant.sent ++ (line ++ rest) ≡ flat_map entry_line (entries c.args.table.now.entries) = ap (λ (es : List (List ℕ × List Element)). c.loop-key.invariant.sent ++ flat_map entry_line es) (sym steps) ∙ c.loop-key.invariant.told in
-    rw (p.1, p.2) (stopped_there _ _ _ c.args.out.now c.loop-key.out c.loop-key.invariant.sent line rest _ c.as_slice-in-loop-key.result.now _ c.loop-key.invariant.sends told is c.in_err-write.ensures.all)
+    let complete : c.loop-key.invariant.sent ++ (line ++ rest) ≡ flat_map entry_line (entries c.args.table.now.entries) = ap (λ (es : List (List ℕ × List Element)). c.loop-key.invariant.sent ++ flat_map entry_line es) (sym steps) ∙ c.loop-key.invariant.complete in
+    rw (p.1, p.2) (stopped_there _ _ _ c.args.out.now c.loop-key.out c.loop-key.invariant.sent line rest _ c.as_slice-in-loop-key.result.now _ c.loop-key.invariant.sends complete is c.in_err-write.ensures.all)

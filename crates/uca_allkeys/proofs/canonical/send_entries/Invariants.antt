@@ -12,7 +12,7 @@ invariant-loop-key g l = record {
   finite : (goal.iterator-loop-key g).is_finite l.key-iterator;
   sent : List ℕ;
   sends : Accepts (g.W.Writer.state l.fn.writer) l.fn.out (g.W.Writer.state l.writer) l.out sent;
-  told : sent ++ flat_map entry_line l.key-iterator ≡ flat_map entry_line (entries l.table.entries);
+  complete : sent ++ flat_map entry_line l.key-iterator ≡ flat_map entry_line (entries l.table.entries);
   valid : All IsEntry l.key-iterator;
   room : accepted l.out + 4096 * length l.key-iterator ≤ 2 ^ 80 + 4096 * 2 ^ 64;
 }

@@ -7,6 +7,6 @@ abbrev pub invariant-loop-range : goal.invariant-loop-range
 invariant-loop-range g l = record {
   sent : List ℕ;
   sends : Accepts (g.W.Writer.state l.fn.writer) l.fn.out (g.W.Writer.state l.writer) l.out sent;
-  told : sent ++ flat_map range_line (drop l.range-index l.ranges) ≡ flat_map range_line l.ranges;
+  complete : sent ++ flat_map range_line (drop l.range-index l.ranges) ≡ flat_map range_line l.ranges;
   room : accepted l.out ≤ 4096 * l.range-index;
 }

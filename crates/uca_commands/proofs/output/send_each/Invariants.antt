@@ -7,6 +7,6 @@ abbrev pub invariant-loop-element : goal.invariant-loop-element
 invariant-loop-element g l = record {
   sent : List ℕ;
   sends : Accepts (g.W.Writer.state l.fn.w) l.fn.out (g.W.Writer.state l.w) l.out sent;
-  told : sent ++ flat_map element_text (drop l.element-index l.elements) ≡ flat_map element_text l.elements;
+  complete : sent ++ flat_map element_text (drop l.element-index l.elements) ≡ flat_map element_text l.elements;
   room : accepted l.out + 17 * length (drop l.element-index l.elements) ≤ accepted l.fn.out + 17 * length l.elements;
 }

@@ -12,7 +12,7 @@ loop-left-init g c =
     record {
       sent = [];
       sends = Accepts-none _ c.new-out.result;
-      told = refl;
+      complete = refl;
       texts = c.requires.texts;
       room = omega (arith, waits, c.new-out.ensures.written);
     }
@@ -27,7 +27,7 @@ returns-in-Err g c =
     let line : List ℕ = c.first_line.result.0.now in let rest : List ℕ = c.first_line.result.1.now in
     StopsOutput-line c.in-Err.fault c.args.form c.args.t.now c.args.s _ _ _ c.new-out.result c.loop-left.out c.send_line.new.out c.loop-left.invariant.sent line (lines_text c.args.form c.args.t.now c.args.s rest) _
     c.new-out.ensures.waiting c.new-out.ensures.written c.loop-left.invariant.sends c.in-Err.ensures.sends
-    (lines_text-parts c.args.form c.args.t.now c.args.s c.loop-left.invariant.sent c.args.bytes.now c.loop-left.left.now rest line c.loop-left.invariant.told c.first_line.ensures.parts)
+    (lines_text-parts c.args.form c.args.t.now c.args.s c.loop-left.invariant.sent c.args.bytes.now c.loop-left.left.now rest line c.loop-left.invariant.complete c.first_line.ensures.parts)
 
 pub loop-left-preserved : goal.loop-left-preserved
 loop-left-preserved g c =
@@ -35,7 +35,7 @@ loop-left-preserved g c =
     record {
       sent = c.loop-left.invariant.sent ++ line_text c.args.form c.args.t.now c.args.s line;
       sends = Accepts-more _ _ _ _ _ _ c.loop-left.invariant.sent (line_text c.args.form c.args.t.now c.args.s line) c.loop-left.invariant.sends c.in-Ok.ensures.sends;
-      told = lines_text-parts c.args.form c.args.t.now c.args.s c.loop-left.invariant.sent c.args.bytes.now c.loop-left.left.now rest line c.loop-left.invariant.told c.first_line.ensures.parts;
+      complete = lines_text-parts c.args.form c.args.t.now c.args.s c.loop-left.invariant.sent c.args.bytes.now c.loop-left.left.now rest line c.loop-left.invariant.complete c.first_line.ensures.parts;
       texts = All-tail IsTextLine line (lines_of rest) (subst (All IsTextLine) c.first_line.ensures.parts c.loop-left.invariant.texts);
       room = omega (arith, c.in-Ok.ensures.small, c.first_line.ensures.shorter, c.loop-left.invariant.room);
     }
@@ -44,4 +44,4 @@ pub returns-in-Err-flush : goal.returns-in-Err-flush
 returns-in-Err-flush g c =
     FailsPartway-whole _ _ _ c.new-out.result c.loop-left.out c.loop-left.invariant.sent [] (lines_text c.args.form c.args.t.now c.args.s c.loop-left.left.now) _ _
     c.new-out.ensures.waiting c.new-out.ensures.written c.loop-left.invariant.sends c.in-Err-flush.ensures.all
-    (ap (λ l. l ++ lines_text c.args.form c.args.t.now c.args.s c.loop-left.left.now) (append-nil c.loop-left.invariant.sent) ∙ c.loop-left.invariant.told)
+    (ap (λ l. l ++ lines_text c.args.form c.args.t.now c.args.s c.loop-left.left.now) (append-nil c.loop-left.invariant.sent) ∙ c.loop-left.invariant.complete)

@@ -8,7 +8,7 @@ abbrev pub invariant-loop-left : goal.invariant-loop-left
 invariant-loop-left g l = record {
   sent : List ℕ;
   sends : Accepts (g.W.Writer.state l.fn.w) l.initial.out (g.W.Writer.state l.w) l.out sent;
-  told : sent ++ lines_text l.form l.t l.s l.left ≡ lines_text l.form l.t l.s l.bytes;
+  complete : sent ++ lines_text l.form l.t l.s l.left ≡ lines_text l.form l.t l.s l.bytes;
   texts : All IsTextLine (lines_of l.left);
   room : accepted l.out + 2 ^ 70 * length l.left ≤ 2 ^ 70 * length l.bytes;
 }

@@ -1,7 +1,7 @@
 use Rattle.std.proofs.Common.{ℕ, List, Option, length, ap, arith, subst, sym, ◌∙◌}
 use Rattle.std.specs.Prelude.{Ok}
 use Rattle.uca_model.specs.TestFile.{points_of}
-use Rattle.uca_conform.specs.TestReading.{state_of, told, SaysPoints}
+use Rattle.uca_conform.specs.TestReading.{state_of, test_cause, SaysPoints}
 use Rattle.uca_conform.specs.declared.test_text.TestText.{TestText}
 use Rattle.uca_conform.proofs.TestLineLemmas.{length-without_return, line-compared, line-fault, line-other, line-skipped}
 use Rattle.uca_conform.proofs.comparison.add_line.Goals as goal
@@ -27,4 +27,4 @@ returns-in-Ok-None-clause-adds c =
 
 pub returns-in-Err-clause-adds : goal.returns-in-Err-clause-adds
 returns-in-Err-clause-adds c =
-    line-fault c.args.t.now c.args.s c.args.number (state_of c.args.comparison.now) c.args.line.now c.without_return-line.result.now (told c.in-Err.cause) c.without_return-line.ensures c.if-not-is_test.ensures c.in-Err.ensures.fault
+    line-fault c.args.t.now c.args.s c.args.number (state_of c.args.comparison.now) c.args.line.now c.without_return-line.result.now (test_cause c.in-Err.cause) c.without_return-line.ensures c.if-not-is_test.ensures c.in-Err.ensures.fault

@@ -7,7 +7,7 @@ abbrev pub invariant-loop-left : goal.invariant-loop-left
 invariant-loop-left g l = record {
   sent : List ℕ;
   sends : Accepts (g.W.Writer.state l.fn.w) l.fn.out (g.W.Writer.state l.w) l.out sent;
-  told : sent ++ spaced_pairs l.left ≡ spaced_pairs l.bytes;
+  complete : sent ++ spaced_pairs l.left ≡ spaced_pairs l.bytes;
   room : accepted l.out + 3 * length l.left ≤ accepted l.fn.out + 3 * length l.bytes;
 }
 

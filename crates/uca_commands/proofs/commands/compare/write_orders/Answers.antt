@@ -16,7 +16,7 @@ loop-before-init g c =
     record {
       sent = [];
       sends = Accepts-none _ c.new-out.result;
-      told = sym (ap (compare_lines c.args.t.now c.args.s) c.first_line.ensures.parts);
+      complete = sym (ap (compare_lines c.args.t.now c.args.s) c.first_line.ensures.parts);
       text = All-head IsTextLine first (lines_of others) texts;
       texts = All-tail IsTextLine first (lines_of others) texts;
       room = omega (arith, waits, c.new-out.ensures.written, c.first_line.ensures.shorter);
@@ -30,8 +30,8 @@ send_order-requires-clause-line g c =
 -- the order of two lines, and of the lines behind them
 parts : (t : ElementTable) (s : Settings) (sent before line whole : List ℕ) (lines left : List (List ℕ)) → sent ++ compare_each t s before left ≡ whole → left ≡ line ∷ lines
     → (sent ++ compare_line t s before line) ++ compare_each t s line lines ≡ whole
-parts t s sent before line whole lines left told is =
-    append_assoc sent (compare_line t s before line) (compare_each t s line lines) ∙ ap (λ ls. sent ++ compare_each t s before ls) (sym is) ∙ told
+parts t s sent before line whole lines left complete is =
+    append_assoc sent (compare_line t s before line) (compare_each t s line lines) ∙ ap (λ ls. sent ++ compare_each t s before ls) (sym is) ∙ complete
 
 pub loop-before-preserved : goal.loop-before-preserved
 loop-before-preserved g c =
@@ -41,7 +41,7 @@ loop-before-preserved g c =
     record {
       sent = c.loop-before.invariant.sent ++ compare_line c.args.t.now c.args.s before line;
       sends = Accepts-more _ _ _ _ _ _ c.loop-before.invariant.sent (compare_line c.args.t.now c.args.s before line) c.loop-before.invariant.sends c.in-Ok.ensures.sends;
-      told = parts c.args.t.now c.args.s c.loop-before.invariant.sent before line _ (lines_of rest) (lines_of c.loop-before.left.now) c.loop-before.invariant.told c.first_line-in-loop-before.ensures.parts;
+      complete = parts c.args.t.now c.args.s c.loop-before.invariant.sent before line _ (lines_of rest) (lines_of c.loop-before.left.now) c.loop-before.invariant.complete c.first_line-in-loop-before.ensures.parts;
       text = All-head IsTextLine line (lines_of rest) texts;
       texts = All-tail IsTextLine line (lines_of rest) texts;
       room = omega (arith, c.in-Ok.ensures.small, c.first_line-in-loop-before.ensures.shorter, c.loop-before.invariant.room);
@@ -53,11 +53,11 @@ returns-in-Err g c =
     let line : List ℕ = c.first_line-in-loop-before.result.0.now in let rest : List ℕ = c.first_line-in-loop-before.result.1.now in
     FailsPartway-whole _ _ _ c.new-out.result c.loop-before.out c.loop-before.invariant.sent (compare_line c.args.t.now c.args.s before line) (compare_each c.args.t.now c.args.s line (lines_of rest)) _ _
     c.new-out.ensures.waiting c.new-out.ensures.written c.loop-before.invariant.sends c.in-Err.ensures.sends
-    (parts c.args.t.now c.args.s c.loop-before.invariant.sent before line _ (lines_of rest) (lines_of c.loop-before.left.now) c.loop-before.invariant.told c.first_line-in-loop-before.ensures.parts)
+    (parts c.args.t.now c.args.s c.loop-before.invariant.sent before line _ (lines_of rest) (lines_of c.loop-before.left.now) c.loop-before.invariant.complete c.first_line-in-loop-before.ensures.parts)
 
 pub returns-in-Err-flush : goal.returns-in-Err-flush
 returns-in-Err-flush g c =
     let left : List ℕ = compare_each c.args.t.now c.args.s c.loop-before.before.now (lines_of c.loop-before.left.now) in
     FailsPartway-whole _ _ _ c.new-out.result c.loop-before.out c.loop-before.invariant.sent [] left _ _
     c.new-out.ensures.waiting c.new-out.ensures.written c.loop-before.invariant.sends c.in-Err-flush.ensures.all
-    (ap (λ l. l ++ left) (append-nil c.loop-before.invariant.sent) ∙ c.loop-before.invariant.told)
+    (ap (λ l. l ++ left) (append-nil c.loop-before.invariant.sent) ∙ c.loop-before.invariant.complete)

@@ -8,7 +8,7 @@ abbrev pub invariant-loop-before : goal.invariant-loop-before
 invariant-loop-before g l = record {
   sent : List ℕ;
   sends : Accepts (g.W.Writer.state l.fn.w) l.initial.out (g.W.Writer.state l.w) l.out sent;
-  told : sent ++ compare_each l.t l.s l.before (lines_of l.left) ≡ compare_output l.t l.s l.bytes;
+  complete : sent ++ compare_each l.t l.s l.before (lines_of l.left) ≡ compare_output l.t l.s l.bytes;
   text : IsTextLine l.before;
   texts : All IsTextLine (lines_of l.left);
   room : accepted l.out + 2 ^ 70 * length l.left ≤ 2 ^ 70 * length l.bytes;

@@ -8,6 +8,6 @@ abbrev pub invariant-loop-condition : goal.invariant-loop-condition
 invariant-loop-condition g l = record {
   sent : List ℕ;
   sends : Accepts (g.W.Writer.state l.fn.w) l.fn.out (g.W.Writer.state l.w) l.out sent;
-  told : sent ++ flat_map finding_line (map condition_of (drop l.condition-index l.broken)) ≡ flat_map finding_line (map condition_of l.broken);
+  complete : sent ++ flat_map finding_line (map condition_of (drop l.condition-index l.broken)) ≡ flat_map finding_line (map condition_of l.broken);
   room : accepted l.out + 4 * length (drop l.condition-index l.broken) ≤ accepted l.fn.out + 4 * length l.broken;
 }

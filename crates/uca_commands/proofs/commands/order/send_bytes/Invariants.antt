@@ -6,7 +6,7 @@ abbrev pub invariant-loop-left : goal.invariant-loop-left
 invariant-loop-left g l = record {
   sent : List ℕ;
   sends : Accepts (g.W.Writer.state l.fn.w) l.fn.out (g.W.Writer.state l.w) l.out sent;
-  told : sent ++ l.left ≡ l.bytes;
+  complete : sent ++ l.left ≡ l.bytes;
   room : accepted l.out + length l.left ≤ accepted l.fn.out + length l.bytes;
 }
 

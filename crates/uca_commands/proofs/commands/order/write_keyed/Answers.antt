@@ -32,47 +32,47 @@ loop-keyed-init g c =
     record {
       sent = [];
       sends = Accepts-none _ c.new-out.result;
-      told = refl {a = text ks};
+      complete = refl {a = text ks};
       room = omega (arith, waits, c.new-out.ensures.written);
     }
 
 -- the next line, and those behind it
 text_more : (ks : List KeyedLine) (i : ℕ) (sent whole : List ℕ) → i < length ks → sent ++ text (drop i ks) ≡ whole → sent ++ (ended (get_or ks i none) ++ text (drop (i + 1) ks)) ≡ whole
-text_more ks i sent whole within told = ap (λ l. sent ++ text l) (sym (drop_more ks i none within)) ∙ told
+text_more ks i sent whole within complete = ap (λ l. sent ++ text l) (sym (drop_more ks i none within)) ∙ complete
 
 pub returns-in_err-send_line : goal.returns-in_err-send_line
 returns-in_err-send_line g c =
     let p = err_from_is_err_and c.from_residual.result c.from_residual.ensures.1 in
     let ks : List KeyedLine = c.args.lines.now in let i : ℕ = c.loop-keyed.keyed-index in
     let piece : List ℕ = ended (get_or ks i none) in let rest : List ℕ = text (drop (i + 1) ks) in
-    let told : c.loop-keyed.invariant.sent ++ (piece ++ rest) ≡ text ks = text_more ks i c.loop-keyed.invariant.sent (text ks) c.loop-keyed-test.true c.loop-keyed.invariant.told in
+    let complete : c.loop-keyed.invariant.sent ++ (piece ++ rest) ≡ text ks = text_more ks i c.loop-keyed.invariant.sent (text ks) c.loop-keyed-test.true c.loop-keyed.invariant.complete in
     rw (p.1, p.2) (FailsPartway-front _ _ c.new-out.result (text ks) _ c.new-out.ensures.waiting c.new-out.ensures.written
-    (stopped_there _ _ _ c.new-out.result c.loop-keyed.out c.loop-keyed.invariant.sent piece rest (text ks) piece _ c.loop-keyed.invariant.sends told refl c.in_err-send_line.ensures.sends))
+    (stopped_there _ _ _ c.new-out.result c.loop-keyed.out c.loop-keyed.invariant.sent piece rest (text ks) piece _ c.loop-keyed.invariant.sends complete refl c.in_err-send_line.ensures.sends))
 
 pub loop-keyed-preserved : goal.loop-keyed-preserved
 loop-keyed-preserved g c =
     let ks : List KeyedLine = c.args.lines.now in let i : ℕ = c.loop-keyed.keyed-index in
     let piece : List ℕ = ended (get_or ks i none) in let rest : List ℕ = text (drop (i + 1) ks) in
-    let told : c.loop-keyed.invariant.sent ++ (piece ++ rest) ≡ text ks = text_more ks i c.loop-keyed.invariant.sent (text ks) c.loop-keyed-test.true c.loop-keyed.invariant.told in
-    let more = sent_more _ _ _ c.new-out.result c.loop-keyed.out c.send_line.new.out c.loop-keyed.invariant.sent piece rest (text ks) piece c.loop-keyed.invariant.sends told refl c.in_ok-send_line.ensures.sends in
+    let complete : c.loop-keyed.invariant.sent ++ (piece ++ rest) ≡ text ks = text_more ks i c.loop-keyed.invariant.sent (text ks) c.loop-keyed-test.true c.loop-keyed.invariant.complete in
+    let more = sent_more _ _ _ c.new-out.result c.loop-keyed.out c.send_line.new.out c.loop-keyed.invariant.sent piece rest (text ks) piece c.loop-keyed.invariant.sends complete refl c.in_ok-send_line.ensures.sends in
     let left : length (drop i ks) ≡ length ks - i = length-drop i ks in
     let less : length (drop (i + 1) ks) ≡ length ks - (i + 1) = length-drop (i + 1) ks in
     record {
       sent = c.loop-keyed.invariant.sent ++ piece;
       sends = more.0;
-      told = more.1;
+      complete = more.1;
       room = omega (arith, c.in_ok-send_line.ensures.small, left, less, c.loop-keyed.invariant.room, c.loop-keyed-test.true);
     }
 
 -- all lines went to the buffer, and what waits of them goes out
 flushed : (s0 s1 s2 : WriterState) (o0 o1 o2 : BufferState) (sent whole : List ℕ) (r : Result (Unit {0}) WriteFault) → o0.waiting ≡ [] → o0.written ≡ 0 → Accepts s0 o0 s1 o1 sent → sent ++ [] ≡ whole
     → MatchResult r (λ _. Accepts s1 o1 s2 o2 []) (λ f. FailsPartway s1 o1 s2 [] f) → MatchResult r (λ _. o2.waiting ≡ []) (λ _. Unit {0}) → MatchResult r (λ _. WritesAll s0 s2 whole) (WritesFront s0 s2 whole)
-flushed s0 s1 s2 o0 o1 o2 sent whole (Ok x) waits written sends told more empty = subst (WritesAll s0 s2) told (Accepts-all s0 s2 o0 o2 (sent ++ []) waits empty (Accepts-more s0 s1 s2 o0 o1 o2 sent [] sends more))
-flushed s0 s1 s2 o0 o1 o2 sent whole (Err f) waits written sends told stops empty = subst (λ l. WritesFront s0 s2 l f) (sym (append-nil sent) ∙ told) (stopped_last s0 s1 s2 o0 o1 sent f waits written sends stops)
+flushed s0 s1 s2 o0 o1 o2 sent whole (Ok x) waits written sends complete more empty = subst (WritesAll s0 s2) complete (Accepts-all s0 s2 o0 o2 (sent ++ []) waits empty (Accepts-more s0 s1 s2 o0 o1 o2 sent [] sends more))
+flushed s0 s1 s2 o0 o1 o2 sent whole (Err f) waits written sends complete stops empty = subst (λ l. WritesFront s0 s2 l f) (sym (append-nil sent) ∙ complete) (stopped_last s0 s1 s2 o0 o1 sent f waits written sends stops)
 
 pub returns : goal.returns
 returns g c =
     let ks : List KeyedLine = c.args.lines.now in
     let none_left : drop c.loop-keyed.keyed-index ks ≡ [] = drop_of_length-le ks c.loop-keyed-test.false in
     flushed _ _ _ c.new-out.result c.loop-keyed.out c.flush.new.self c.loop-keyed.invariant.sent (text ks) c.flush.result c.new-out.ensures.waiting c.new-out.ensures.written c.loop-keyed.invariant.sends
-    (ap (λ l. c.loop-keyed.invariant.sent ++ text l) (sym none_left) ∙ c.loop-keyed.invariant.told) c.flush.ensures.all c.flush.ensures.empty
+    (ap (λ l. c.loop-keyed.invariant.sent ++ text l) (sym none_left) ∙ c.loop-keyed.invariant.complete) c.flush.ensures.all c.flush.ensures.empty

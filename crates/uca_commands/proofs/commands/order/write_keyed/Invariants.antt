@@ -7,6 +7,6 @@ abbrev pub invariant-loop-keyed : goal.invariant-loop-keyed
 invariant-loop-keyed g l = record {
   sent : List ℕ;
   sends : Accepts (g.W.Writer.state l.fn.w) l.initial.out (g.W.Writer.state l.w) l.out sent;
-  told : sent ++ text_of_lines (map (λ k. k.line.now) (drop l.keyed-index l.lines)) ≡ text_of_lines (map (λ k. k.line.now) l.lines);
+  complete : sent ++ text_of_lines (map (λ k. k.line.now) (drop l.keyed-index l.lines)) ≡ text_of_lines (map (λ k. k.line.now) l.lines);
   room : accepted l.out + 2 ^ 70 * length (drop l.keyed-index l.lines) ≤ 2 ^ 70 * length l.lines;
 }
