@@ -3,11 +3,11 @@ ghost use Rattle.std.specs.List.{slice_split, after_first};
 ghost use Rattle.uca_model.specs.TableText.{words, key_after, entry_key, is_semicolon, is_right_bracket, mark, weight_first, next_weight, element_ends, element, elements_after, is_old_weight, entry_of_text};
 ghost use Rattle.uca_allkeys.specs.Statements.{Parses, with_rest, statement_of, IsSomeEntry, AddsPart};
 
-use crate::bytes::{after_byte, code_point, four_digits};
+use crate::bytes::{after_byte, four_digits};
 use crate::faults::LineFault;
 use crate::statement::{Entry, Statement};
 use arrayvec::ArrayVec;
-use uca_io::digits::number;
+use uca_io::digits::{code_point, number};
 use uca_io::lines::{from_place, place_of};
 use uca_io::words::{next_word, skip_blanks};
 use uca_weights::{Element, MAX_ELEMENTS, MAX_KEY};
