@@ -74,4 +74,9 @@ tried() {
 
 tried CollationTest_NON_IGNORABLE_SHORT.txt
 tried CollationTest_SHIFTED_SHORT.txt --variable shifted --strength quaternary
+
+# Added ideographs change no line of these files: they were not assigned either, and a file has no code point of the range.
+cp "$work/failing" "$work/failing_without"
+tried CollationTest_SHIFTED_SHORT.txt --variable shifted --strength quaternary --ideographs 323B0..33479
+is "failing lines with added ideographs" "same" "$(cmp -s "$work/failing" "$work/failing_without" && echo same)"
 sum_up
