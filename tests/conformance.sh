@@ -14,7 +14,7 @@ checks() {
 }
 
 checks '0062\nD800\n0061;x\n'
-is "a failing line behind a surrogate" "lines 3|skipped 1|first failure 3|1" "$(paste -sd'|' "$work/out")|$status"
+is "a failing line after a surrogate" "lines 3|skipped 1|first failure 3|1" "$(paste -sd'|' "$work/out")|$status"
 checks '0061\n# x\n\n0062'
 is "comments, an empty line, no LF at the end" "lines 2|skipped 0|first failure none|0" "$(paste -sd'|' "$work/out")|$status"
 checks '0061\n0041\n0061\n' --strength secondary

@@ -69,7 +69,7 @@ is "the bytes of a key, and a full disk" "uca: output byte 0: Failed|3" "$(cat "
 for words in "" "sort" "key --strength third" "key extra" "table --raw" "key --raw --raw" "--help"; do
     # shellcheck disable=SC2086
     runs $words </dev/null
-    is "words that are no job: $words" "0|told|2" "$(wc -c <"$work/out")|$([ -s "$work/err" ] && echo told)|$status"
+    is "words that are no job: $words" "0|text|2" "$(wc -c <"$work/out")|$([ -s "$work/err" ] && echo text)|$status"
 done
 runs sort </dev/null
 is "clap's text for words that are no job" "error: unrecognized subcommand 'sort'||Usage: uca <COMMAND>||For more information, try '--help'." "$(paste -sd'|' "$work/err")"

@@ -182,7 +182,7 @@ fn elements_of(text: &[u8]) -> Result<ArrayVec<Element, MAX_ELEMENTS>, LineFault
 }
 
 /// What stands after the first `;`.
-fn behind_key(text: &[u8]) -> &[u8]
+fn after_key(text: &[u8]) -> &[u8]
     ensures { result.now ≡ after_first is_semicolon text.now }
 {
     let end = place_of(b';', text);
@@ -200,6 +200,6 @@ pub(crate) fn entry_of_text(text: &[u8]) -> Result<Statement, LineFault>
     ensures some { IfOk result IsSomeEntry }
 {
     let key = entry_key(text)?;
-    let elements = elements_of(behind_key(text))?;
+    let elements = elements_of(after_key(text))?;
     Ok(Statement::Entry(Entry { key, elements }))
 }

@@ -38,12 +38,12 @@ weighting_named name =
     else (if bytes_eq name (codes "blanked") then Some Blanked
     else (if bytes_eq name (codes "shifted") then Some Shifted else None))
 
--- the lists of names that clap is lent: it takes no other value of these options
+-- the lists of names that clap borrows: it takes no other value of these options
 pub record Choices : Type 0 where
   pub strengths : Bor (List (Bor Text))
   pub weightings : Bor (List (Bor Text))
 
--- the lists have just the names that mean something
+-- the lists have exactly the names that mean something
 pub record AreChoices (choices : Choices) : Type 0 where
   pub strengths : map (λ name. name.now) choices.strengths.now
       ≡ codes "primary" ∷ codes "secondary" ∷ codes "tertiary" ∷ codes "quaternary" ∷ codes "identical" ∷ []

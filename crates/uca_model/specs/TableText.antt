@@ -136,7 +136,7 @@ directive text =
 
 -- Entries
 
--- a key and the words behind it, each of which has to be a code point
+-- a key and the words after it, each of which has to be a code point
 abbrev pub key_after : List ℕ → List (List ℕ) → Result (List ℕ) Cause
 key_after key [] = Ok key
 key_after key (word ∷ more) = do

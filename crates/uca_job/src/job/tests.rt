@@ -451,7 +451,7 @@ fn a_refusal_shows_the_text_of_clap(rt: HostRuntime) {
 }
 
 #[test]
-fn a_refused_value_shows_the_names_that_serve(rt: HostRuntime) {
+fn a_refused_value_shows_the_allowed_names(rt: HostRuntime) {
     let alloc = rt.alloc();
     assert!(rt;
         shows(
@@ -470,7 +470,7 @@ fn a_refused_value_shows_the_names_that_serve(rt: HostRuntime) {
 }
 
 #[test]
-fn want_of_memory_shows_its_name(rt: HostRuntime) {
+fn an_allocation_failure_shows_its_name(rt: HostRuntime) {
     if let Ok(shown) = JobFault::OutOfMemory.to_string(rt.alloc()) {
         assert_eq!(rt; shown.as_str(), "uca: OutOfMemory");
     }

@@ -27,7 +27,7 @@ lacks_range : (matches : ArgMatches) (f : JobFault) → Fault matches f → f �
 lacks_range matches f (inl e) is = let clash = sym e ∙ is in cc
 lacks_range matches f (inr e) is = e.1
 
--- an error that is not want of memory has one of the kinds
+-- an error that is not OutOfMemory has one of the kinds
 some_kind : (kinds : Kinds) (e : Error) → HasKind kinds e → (kind_of e ≡ kind.OutOfMemory → ⊥) → kinds ≡ [] → ⊥
 some_kind [] e (inl memory) other none = other memory
 some_kind [] e (inr among) other none = among
