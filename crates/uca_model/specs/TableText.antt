@@ -4,7 +4,8 @@ use Rattle.std.specs.List.{position_or_len, before_first, after_first, slice_spl
 use Rattle.std.specs.Option.{ok_or, is_some, option_and_then}
 use Rattle.std.specs.FinMap.{insert, empty}
 use Rattle.std.specs.Str.{bytes_eq}
-pub use Rattle.uca_io.specs.Digits.{number_after, number, is_four_to_six, only_scalar, code_point}
+pub use Rattle.uca_io.specs.Digits.{number_after, number, is_four_to_six, only_scalar}
+unfoldable pub use Rattle.uca_io.specs.Digits.{code_point}
 use Rattle.uca_io.specs.LineFold.{Fold, FaultAt, End, map_ok, with_text}
 pub use Rattle.uca_io.specs.LineFold.{ends, stops}
 pub use Rattle.uca_io.specs.Words.{tab, is_blank, skip_blanks, trim_end, words}
