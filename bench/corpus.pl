@@ -64,6 +64,6 @@ while ($left > 0) {
 }
 my $whole = 0;
 $whole += $_ for values %bytes;
-my @told = map { sprintf "%s %.0f %% (%.0f %%)", $_, 100 * $share{$_} / @drawn, 100 * $bytes{$_} / $whole }
+my @shares = map { sprintf "%s %.0f %% (%.0f %%)", $_, 100 * $share{$_} / @drawn, 100 * $bytes{$_} / $whole }
     sort { $share{$b} <=> $share{$a} or $a cmp $b } keys %share;
-print STDERR "words (bytes) by script: ", join(", ", @told), "\n";
+print STDERR "words (bytes) by script: ", join(", ", @shares), "\n";

@@ -63,7 +63,7 @@ static size_t write_key(const struct line *line, unsigned char *key, size_t room
     return strxfrm((char *)key, line->text, room) + 1;
 }
 
-// Puts the line's key behind the others, with a NUL.
+// Puts the line's key after the others, with a NUL.
 static void add_key(struct line *line) {
     for (;;) {
         size_t needed = write_key(line, keys + keys_used, keys_room - keys_used);

@@ -36,7 +36,7 @@ Japanese 3 edict usr/share/edict/edict EUC-JP
 Chinese 3 elpa-pyim-basedict usr/share/emacs/site-lisp/elpa-src/pyim-basedict-0.5.4/pyim-basedict.pyim UTF-8
 '
 
-# fetched: unpacks the lists that can be had, and tells which cannot
+# fetched: unpacks the lists that can be had, and reports which cannot
 fetched() {
     local package
     mkdir "$work/debs" "$work/lists"
@@ -47,7 +47,7 @@ fetched() {
     done
 }
 
-# The programs that are measured, ICU first, since the others are told beside it.
+# The programs that are measured, ICU first, since the others are shown beside it.
 gather_programs() {
     programs=(ICU uca glibc sort perl)
     if ! gcc -O2 -DWITH_ICU -o "$work/peer" bench/peer.c -licui18n -licuuc 2>/dev/null; then

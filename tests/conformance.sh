@@ -14,7 +14,7 @@ checks() {
 }
 
 checks '0062\nD800\n0061;x\n'
-is "a failing line behind a surrogate" "lines 3|skipped 1|first failure 3|1" "$(paste -sd'|' "$work/out")|$status"
+is "a failing line after a surrogate" "lines 3|skipped 1|first failure 3|1" "$(paste -sd'|' "$work/out")|$status"
 checks '0061\n# x\n\n0062'
 is "comments, an empty line, no LF at the end" "lines 2|skipped 0|first failure none|0" "$(paste -sd'|' "$work/out")|$status"
 checks '0061\n0041\n0061\n' --strength secondary
@@ -74,4 +74,9 @@ tried() {
 
 tried CollationTest_NON_IGNORABLE_SHORT.txt
 tried CollationTest_SHIFTED_SHORT.txt --variable shifted --strength quaternary
+
+# Added ideographs change no line of these files: they were not assigned either, and a file has no code point of the range.
+cp "$work/failing" "$work/failing_without"
+tried CollationTest_SHIFTED_SHORT.txt --variable shifted --strength quaternary --ideographs 323B0..33479
+is "failing lines with added ideographs" "same" "$(cmp -s "$work/failing" "$work/failing_without" && echo same)"
 sum_up

@@ -30,6 +30,23 @@ is "elements" "[.1007.0020.0002]|[.1008.0020.0002][.0000.0024.0002]||[.FB40.0020
 runs key --variable shifted --strength quaternary < <(printf 'a-b')
 is "four levels, shifted" "10 00 10 01 00 00 00 20 00 20 00 00 00 02 00 02 00 00 FF FF 02 02 FF FF|0" "$(cat "$work/out")|$status"
 
+# U+323B0, and the last of the fixed list, U+323AF
+runs key --ideographs 323B0..33479 < <(printf '\xf0\xb2\x8e\xb0\n')
+is "an added ideograph" "FB 86 A3 B0 00 00 00 20 00 00 00 02|0" "$(cat "$work/out")|$status"
+runs key < <(printf '\xf0\xb2\x8e\xb0\n')
+is "a code point that is no ideograph" "FB C6 A3 B0 00 00 00 20 00 00 00 02|0" "$(cat "$work/out")|$status"
+printf '&a<b' >"$work/b.rules"
+runs key --rules "$work/b.rules" --ideographs=323B0..323B0 < <(printf '\xf0\xb2\x8e\xb0\n')
+is "an added ideograph, tailored" "FB 86 A3 B0 00 00 00 20 00 00 00 02|0" "$(cat "$work/out")|$status"
+for range in 4E00..4E01 323AF..33479 33479..323B0; do
+    runs key --ideographs $range --rules /dev/null < <(printf '\xff')
+    is "a range that is refused: $range" "|uca: ideographs: BadRange|3" "$(cat "$work/out")|$(cat "$work/err")|$status"
+done
+for range in 323B0 323B0..3347G '323B0 ..33479'; do
+    runs key --ideographs "$range" </dev/null
+    is "no range: $range" "|uca: --ideographs: BadIdeographs|2" "$(cat "$work/out")|$(cat "$work/err")|$status"
+done
+
 runs key --raw < <(printf 'a\n')
 is "the bytes of a key" "10000000002000000002|0" "$(in_digits "$work/out")|$status"
 runs key --raw < <(printf 'ch\r\n')
@@ -52,7 +69,7 @@ is "the bytes of a key, and a full disk" "uca: output byte 0: Failed|3" "$(cat "
 for words in "" "sort" "key --strength third" "key extra" "table --raw" "key --raw --raw" "--help"; do
     # shellcheck disable=SC2086
     runs $words </dev/null
-    is "words that are no job: $words" "0|told|2" "$(wc -c <"$work/out")|$([ -s "$work/err" ] && echo told)|$status"
+    is "words that are no job: $words" "0|text|2" "$(wc -c <"$work/out")|$([ -s "$work/err" ] && echo text)|$status"
 done
 runs sort </dev/null
 is "clap's text for words that are no job" "error: unrecognized subcommand 'sort'||Usage: uca <COMMAND>||For more information, try '--help'." "$(paste -sd'|' "$work/err")"

@@ -12,7 +12,7 @@ ln -s "$published" "$work/published"
 table() { printf '%b' "$(cat)" >"$work/$1"; }
 rules() { printf '%b' "$2" >"$work/$1"; }
 
-# row DEFINITION WORDS INPUT WANTED SOURCE: the lines of the output, with LF or `|` between, or what is told of a refusal; keys are
+# row DEFINITION WORDS INPUT WANTED SOURCE: the lines of the output, with LF or `|` between, or what is reported of a refusal; keys are
 # written as weights of four digits and code points of six
 row() {
     local words=${2//--table /--table $work/} got
@@ -80,7 +80,7 @@ row 'weighted' 'compare --table published --variable blanked' '\u2620happy\n\u26
 row 'weighted' 'compare --table published --strength quaternary --variable shifted' '\u2620happy\n\u2661happy\n\u2620sad\n\u2661sad\n' \
     'less less less' 'UTS #10, 4, Comparison of Variable Ordering, Shifted'
 
-# Each option at each level, with marks behind what is variable
+# Each option at each level, with marks after what is variable
 row 'level_weights' 'key --table published --strength primary' '?\u0300!\u0301\u0315.\n?\u0300A\u0301\n1+2\na-\u0301b\n\u0301-\u0301\n-\x01\u0301a\n' \
     '026D 0267 027E|026D 1FA2|1F99 0666 1F9A|1FA2 020D 1FBC|020D|020D 1FA2' 'perl Unicode::Collate 1.31 getSortKey'
 row 'level_weights' 'key --table published --strength secondary' '?\u0300!\u0301\u0315.\n?\u0300A\u0301\n1+2\na-\u0301b\n\u0301-\u0301\n-\x01\u0301a\n' \
@@ -395,7 +395,7 @@ row 'matches' 'compare --table published --rules notes' 'a\u0323\u0308\u0301\u03
     'equal less equal greater equal less equal' 'ICU 72 RuleBasedCollator, collationtest.txt, nested and interleaved contractions'
 row 'matches' 'compare --table published --rules notes' 'a\u0331\u0331\u030A\u0358\u0358\n\u24B9\u277D\u277D\na\u0331\u0331\u0331\u030A\u0301\u0358\u0358\u0358\n\u24B9\u277D\u277D\u277D\u2776\na\U0001D165\u0323\U0001D16Ddz\u0301\n\u24BA\u00B3\u24D3\n' \
     'equal less equal less equal' 'ICU 72 RuleBasedCollator, collationtest.txt, interleaved contractions'
-# Perl and ICU try the marks behind a code point that begins no key too, as 4E00 0323 0301 with this rule; here none is tried (docs/DECISIONS.md).
+# Perl and ICU try the marks after a code point that begins no key too, as 4E00 0323 0301 with this rule; here none is tried (docs/DECISIONS.md).
 rules ideograph '&x=\u4E00\u0301 &y=\u0378\u0323\u0301'
 row 'matches' 'compare --table published --rules ideograph' '\u4E00\u0301\nx\n\u4E00\u0301\u0301\nx\u0301\n\u0378\u0301\u0323\ny\n\u4E00\n\u4E00\u0323\n' \
     'equal less equal less equal less less' 'ICU 72 RuleBasedCollator'

@@ -15,7 +15,7 @@ is "texts were generated" "$count" "$(wc -l <"$work/texts")"
 # ours STRENGTH VARIABLE: the keys of the texts
 ours() { ./uca key --table "$published" --strength "$1" --variable "$2" <"$work/texts"; }
 
-# theirs LEVEL VARIABLE: the keys of the same texts by perl, up to the separator behind the level. What perl has at level 4 under
+# theirs LEVEL VARIABLE: the keys of the same texts by perl, up to the separator after the level. What perl has at level 4 under
 # other options than shifted are code points of implicit weights, where UTS #10 has nothing, and is left out.
 theirs() {
     perl -MUnicode::Collate -e '

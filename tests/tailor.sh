@@ -63,7 +63,7 @@ refused "an item with a run of 61 marks" "uca: rules byte 3: LongRun" "&a<b$(pri
 refused "a reset on an ideograph" "uca: rules relation 1: HighReset" '&\xe4\xb8\x80<x'
 refused "a reset on an ignorable code point" "uca: rules relation 2: SmallWeight" '&a<x &\\u0001<y'
 refused "rules that are not UTF-8" "uca: rules byte 4: NotUtf8" '&a<b\xff'
-refused "rules that are not UTF-8, behind another fault" "uca: rules byte 3: NotUtf8" '&-<\xff'
+refused "rules that are not UTF-8, after another fault" "uca: rules byte 3: NotUtf8" '&-<\xff'
 
 printf '0061 ; [.1000.0020.0002]\n0062 ; [.7FFF.0020.0002]\n' >"$work/full"
 printf '&a<c' >"$work/rules"

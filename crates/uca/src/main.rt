@@ -67,7 +67,7 @@ fn out_of_memory(rt: &HostRuntime) -> u8 {
 fn refuse_job(rt: &HostRuntime, fault: &JobFault) -> u8 {
     let _ = eprintln!(rt; "{fault}");
     match fault {
-        JobFault::Usage(_) => REFUSED_WORDS,
+        JobFault::Usage(_) | JobFault::BadIdeographs => REFUSED_WORDS,
         JobFault::OutOfMemory => NOT_DONE,
     }
 }

@@ -14,7 +14,7 @@ use Rattle.uca_allkeys.specs.declared.statement.Statement.TheVariants as said
 abbrev pub Parses : {A B : Type 0} → (A → B) → Result B Cause → Result A LineFault → Type 0
 Parses value says result = MatchResult result (λ a. says ≡ Ok (value a)) (λ fault. says ≡ Err (cause_of fault))
 
--- a value, and what stands behind it
+-- a value, and what stands after it
 abbrev pub with_rest : {A : Type 0} → A × Bor (List ℕ) → A × List ℕ
 with_rest p = (p.0, p.1.now)
 
@@ -30,7 +30,7 @@ abbrev pub IsSomeEntry : Statement → Type 0
 IsSomeEntry (said.Entry e) = (0 < length e.key.items) × (0 < length e.elements.items)
 IsSomeEntry _ = Unit {0}
 
--- the element of one more part was added, or is at fault, whatever parts stand behind it
+-- the element of one more part was added, or is at fault, whatever parts stand after it
 abbrev pub AddsPart : {A : Type 0} → List Element → List ℕ → List Element → Result A LineFault → Type 0
 AddsPart old part new result = MatchResult result
     (λ _. (parts : List (List ℕ)) → 0 < length parts → elements_after old (part ∷ parts) ≡ elements_after new parts)

@@ -1,22 +1,8 @@
 //! The numbers of a table's text, and single bytes that have to stand first.
 ghost use Rattle.std.specs.Prelude.{◌≡◌, MatchOption, Ok, Err};
-ghost use Rattle.uca_model.specs.TableText.{code_point, four_digits, after_byte, Cause};
+ghost use Rattle.uca_model.specs.TableText.{four_digits, after_byte, Cause};
 
 use uca_io::digits::number;
-
-/// The code point that four to six digits say.
-#[tactic(auto, unfolding(uca_model::specs::TableText::code_point))]
-pub(crate) fn code_point(digits: &[u8]) -> Option<char>
-    ensures { result ≡ code_point digits.now }
-{
-    if digits.len() < 4 || digits.len() > 6 {
-        return None;
-    }
-    match number(digits) {
-        Some(code) => char::from_u32(code),
-        None => None,
-    }
-}
 
 /// The weight that four digits say.
 #[tactic(auto, unfolding(uca_model::specs::TableText::four_digits))]

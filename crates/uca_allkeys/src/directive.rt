@@ -3,9 +3,10 @@ ghost use Rattle.std.specs.List.{position_or_len};
 ghost use Rattle.uca_model.specs.TableText.{ends_point, range_end, range_base, two_stops, range_of_text, directive, some_text, skip_blanks, version};
 ghost use Rattle.uca_allkeys.specs.Statements.{Parses, with_rest, statement_of, IsSomeEntry};
 
-use crate::bytes::{after_byte, code_point, four_digits};
+use crate::bytes::{after_byte, four_digits};
 use crate::faults::LineFault;
 use crate::statement::Statement;
+use uca_io::digits::code_point;
 use uca_io::lines::from_place;
 use uca_io::words::{is_blank, skip_blanks, word_len};
 use uca_weights::Range;

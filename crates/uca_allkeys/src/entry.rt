@@ -3,11 +3,11 @@ ghost use Rattle.std.specs.List.{slice_split, after_first};
 ghost use Rattle.uca_model.specs.TableText.{words, key_after, entry_key, is_semicolon, is_right_bracket, mark, weight_first, next_weight, element_ends, element, elements_after, is_old_weight, entry_of_text};
 ghost use Rattle.uca_allkeys.specs.Statements.{Parses, with_rest, statement_of, IsSomeEntry, AddsPart};
 
-use crate::bytes::{after_byte, code_point, four_digits};
+use crate::bytes::{after_byte, four_digits};
 use crate::faults::LineFault;
 use crate::statement::{Entry, Statement};
 use arrayvec::ArrayVec;
-use uca_io::digits::number;
+use uca_io::digits::{code_point, number};
 use uca_io::lines::{from_place, place_of};
 use uca_io::words::{next_word, skip_blanks};
 use uca_weights::{Element, MAX_ELEMENTS, MAX_KEY};
@@ -182,7 +182,7 @@ fn elements_of(text: &[u8]) -> Result<ArrayVec<Element, MAX_ELEMENTS>, LineFault
 }
 
 /// What stands after the first `;`.
-fn behind_key(text: &[u8]) -> &[u8]
+fn after_key(text: &[u8]) -> &[u8]
     ensures { result.now ≡ after_first is_semicolon text.now }
 {
     let end = place_of(b';', text);
@@ -200,6 +200,6 @@ pub(crate) fn entry_of_text(text: &[u8]) -> Result<Statement, LineFault>
     ensures some { IfOk result IsSomeEntry }
 {
     let key = entry_key(text)?;
-    let elements = elements_of(behind_key(text))?;
+    let elements = elements_of(after_key(text))?;
     Ok(Statement::Entry(Entry { key, elements }))
 }

@@ -140,7 +140,7 @@ fn code_points_have_four_to_six_digits(rt: HostRuntime) {
 }
 
 #[test]
-fn a_writer_that_stops_tells_what_went_out(rt: HostRuntime) {
+fn a_writer_that_stops_reports_what_went_out(rt: HostRuntime) {
     let table = small_table(&rt, rt.alloc());
     for (fails, cause) in [(true, WriteCause::Failed), (false, WriteCause::Zero)] {
         for room in [0, 3, 40, 100] {

@@ -35,7 +35,7 @@ pub record ReadsRules (old new : ReaderState) (cs : List Chain) : Type 0 where
   pub text : ReadsRuleText old new bytes
   pub says : rules_of (chars bytes) ≡ Ok cs
 
--- the bytes in the reader are no text behind their longest valid prefix
+-- the bytes in the reader are no text after their longest valid prefix
 pub record HasNoText (old new : ReaderState) (at : ℕ) : Type 0 where
   pub bytes : List ℕ
   pub read : ReadsRuleBytes old new bytes
@@ -80,13 +80,13 @@ abbrev pub StopsTailoring : ReaderState → ReaderState → ElementTable → Cli
 StopsTailoring old new t (fault.Tailor f) = HasFaultyRelation old new t f
 StopsTailoring old new t f = RefusesRules old new f
 
--- the table that serves: where there is a reader of rules the tailored one, and else the table itself
+-- the table that is used: where there is a reader of rules the tailored one, and else the table itself
 abbrev pub Tailors : Option ReaderState → Option ReaderState → ElementTable → ElementTable → Type 0
 Tailors (Some old) (Some new) t serving = TailorsBy old new t serving
 Tailors None None t serving = serving ≡ t
 Tailors _ _ t serving = ⊥
 
--- no table serves
+-- no table is used
 abbrev pub RefusesTailoring : Option ReaderState → Option ReaderState → ElementTable → CliFault → Type 0
 RefusesTailoring (Some old) (Some new) t f = StopsTailoring old new t f
 RefusesTailoring _ _ t f = ⊥

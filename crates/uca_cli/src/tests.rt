@@ -286,7 +286,7 @@ fn pieces_of_the_input_change_nothing(rt: HostRuntime) {
     }
 }
 
-/// Whether a writer with so much room gets just the front of the output, and the fault says so.
+/// Whether a writer with so much room gets exactly the front of the output, and the fault says so.
 fn stops(alloc: Global, input: &[u8], output: &[u8], room: usize, cause: WriteCause) -> bool {
     let mut reader = Reading::new(input);
     let mut writer = Expecting::new(output, room, cause);

@@ -17,7 +17,7 @@ use Rattle.uca_commands.specs.Ordering.{cut_up, AreKeys}
 -- ---- the keys in one place
 
 module _ (f : List ℕ → List ℕ) where
-  -- pieces that stand one behind the other come back
+  -- pieces that stand one after the other come back
   cut_up-flat_map : (ls : List (List ℕ)) → cut_up (map (λ l. length (f l)) ls) (flat_map f ls) ≡ map f ls
   cut_up-flat_map [] = refl
   cut_up-flat_map (l ∷ ls) =

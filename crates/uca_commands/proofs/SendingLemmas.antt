@@ -22,7 +22,7 @@ use Rattle.uca_commands.specs.declared.output.LineForm.TheVariants.{Elements, Ke
 use Rattle.unicode_normalization.specs.Forms.{nfd}
 use Rattle.std.specs.Prelude.{chars}
 
--- the output of a line, and of the lines behind it
+-- the output of a line, and of the lines after it
 pub lines_text-parts : (form : LineForm) (t : ElementTable) (s : Settings) (sent bytes left rest line : List ℕ) → sent ++ lines_text form t s left ≡ lines_text form t s bytes → lines_of left ≡ line ∷ lines_of rest
     → (sent ++ line_text form t s line) ++ lines_text form t s rest ≡ lines_text form t s bytes
 lines_text-parts form t s sent bytes left rest line complete parts =

@@ -14,12 +14,12 @@ use Rattle.uca_commands.specs.declared.faults.CliFault.TheVariants as fault
 
 -- ---- of the keys of its lines
 
--- the keys of some lines, one behind the other, and how long each is
+-- the keys of some lines, one after the other, and how long each is
 pub record AreKeys (t : ElementTable) (s : Settings) (lines : List (List ℕ)) (bytes lengths : List ℕ) : Type 0 where
   pub all : bytes ≡ flat_map (line_key t s) lines
   pub long : lengths ≡ map (λ line. length (line_key t s line)) lines
 
--- pieces of some bytes, one behind the other, of these lengths
+-- pieces of some bytes, one after the other, of these lengths
 abbrev pub cut_up : List ℕ → List ℕ → List (List ℕ)
 cut_up [] bytes = []
 cut_up (n ∷ ns) bytes = take n bytes ∷ cut_up ns (drop n bytes)

@@ -91,7 +91,7 @@ points-fault bytes rest word others text is_some is_text has split said =
 abbrev says : List ℕ → Result (List ℕ) TestCause
 says bytes = ok_or (option_and_then some_points (points_after [] (words bytes))) bad_line
 
--- behind the last word
+-- after the last word
 says_points : (bytes rest text : List ℕ) (is_some is_text : Bool) (has : HasPoints bytes rest text is_some is_text) → words rest ≡ [] → says bytes ≡ ok_or (some_points has.points) bad_line
 says_points bytes rest text is_some is_text has none = ap (λ (o : Option (List ℕ)). ok_or (option_and_then some_points o) bad_line) (has.same ∙ ap (points_after has.points) none)
 

@@ -1,6 +1,6 @@
-//! Numbers in hexadecimal digits.
+//! Numbers and code points in hexadecimal digits.
 ghost use Rattle.std.specs.Prelude.{◌≡◌, ◌≤◌, ◌<◌, ◌^◌, length, IfSome};
-ghost use Rattle.uca_io.specs.Digits.{hex_digit, hex_pair, number};
+ghost use Rattle.uca_io.specs.Digits.{code_point, hex_digit, hex_pair, number};
 
 /// The number that at most six hexadecimal digits say.
 pub fn number(digits: &[u8]) -> Option<u32>
@@ -16,6 +16,20 @@ pub fn number(digits: &[u8]) -> Option<u32>
         }
     }
     Some(said)
+}
+
+/// The code point that four to six digits say.
+#[tactic(auto, unfolding(crate::specs::Digits::code_point))]
+pub fn code_point(digits: &[u8]) -> Option<char>
+    ensures { result ≡ code_point digits.now }
+{
+    if digits.len() < 4 || digits.len() > 6 {
+        return None;
+    }
+    match number(digits) {
+        Some(code) => char::from_u32(code),
+        None => None,
+    }
 }
 
 /// An upper-case hexadecimal digit.

@@ -62,7 +62,7 @@ impl Write for Small {
 }
 
 #[test]
-fn a_writer_that_stops_tells_what_went_out(rt: HostRuntime) {
+fn a_writer_that_stops_reports_what_went_out(rt: HostRuntime) {
     for (fails, cause) in [(true, WriteCause::Failed), (false, WriteCause::Zero)] {
         for room in [0, 3, 5, 6] {
             let mut w = Writing::new(Small { room, fails });

@@ -1,6 +1,7 @@
 -- The command line of the program: which job the words after the program's name ask for, by clap's own definition of
 -- what a command takes and finds.
-use Rattle.std.specs.Prelude.{◌≡◌, ◌≢◌, ⊤, Bool, true, false, List, [], ◌∷◌, Option, Some, None, IsSomeAnd, codes, if◌then◌else◌, map, option_and_then, option_map, string_bytes, unwrap_or}
+use Rattle.std.specs.Prelude.{◌≡◌, ◌≢◌, ⊤, ℕ, Bool, true, false, List, [], ◌∷◌, ◌==◌, Option, Some, None, IsSomeAnd, codes, if◌then◌else◌, map, option_and_then, option_map, string_bytes, unwrap_or}
+use Rattle.std.specs.List.{after_first, before_first}
 use Rattle.std.specs.Option.{option_map_or}
 use Rattle.std.specs.Borrow.{Bor}
 use Rattle.std.specs.Str.{bytes_eq}
@@ -8,13 +9,14 @@ use Rattle.clap.specs.Words.{App, Row, Rule, Text, fault_of, first_of, new_app, 
 use Rattle.clap.specs.Simple.{on_top}
 use Rattle.clap.specs.declared.builder.action.ArgAction.TheVariants.{SetTrue}
 use Rattle.clap.specs.declared.builder.value_parser.ValueParser.TheVariants.{Names}
+use Rattle.uca_io.specs.Digits.{code_point}
 use Rattle.uca_weights.specs.declared.settings.Strength.{Strength}
 use Rattle.uca_weights.specs.declared.settings.Strength.TheVariants.{Primary, Secondary, Tertiary, Quaternary, Identical}
 use Rattle.uca_weights.specs.declared.settings.Variable.{Variable}
 use Rattle.uca_weights.specs.declared.settings.Variable.TheVariants.{NonIgnorable, Blanked, Shifted}
 use Rattle.uca_job.specs.declared.job.Job.{Job}
 use Rattle.uca_job.specs.declared.job.JobFault.{JobFault}
-use Rattle.uca_job.specs.declared.job.JobFault.TheVariants.{Usage, OutOfMemory}
+use Rattle.uca_job.specs.declared.job.JobFault.TheVariants.{Usage, OutOfMemory, BadIdeographs}
 use Rattle.uca_job.specs.declared.job.Task.{Task}
 use Rattle.uca_job.specs.declared.job.Task.TheVariants.{Elements, Key, Compare, Order, Check, Lint, Table}
 
@@ -36,12 +38,12 @@ weighting_named name =
     else (if bytes_eq name (codes "blanked") then Some Blanked
     else (if bytes_eq name (codes "shifted") then Some Shifted else None))
 
--- the lists of names that clap is lent: it takes no other value of these options
+-- the lists of names that clap borrows: it takes no other value of these options
 pub record Choices : Type 0 where
   pub strengths : Bor (List (Bor Text))
   pub weightings : Bor (List (Bor Text))
 
--- the lists have just the names that mean something
+-- the lists have exactly the names that mean something
 pub record AreChoices (choices : Choices) : Type 0 where
   pub strengths : map (λ name. name.now) choices.strengths.now
       ≡ codes "primary" ∷ codes "secondary" ∷ codes "tertiary" ∷ codes "quaternary" ∷ codes "identical" ∷ []
@@ -72,11 +74,19 @@ abbrev pub variable_option : Bor (List (Bor Text)) → Rule
 variable_option names =
     record (option_of (codes "variable")) { parser = Some (Names names); defaults = codes "non-ignorable" ∷ [] }
 
--- a command: each takes all options
-abbrev pub command_with : Choices → Text → App
-command_with choices name =
+-- `--ideographs A..B`
+abbrev pub ideographs_option : Rule
+ideographs_option = option_of (codes "ideographs")
+
+-- a command with the options that name files and settings
+abbrev pub with_settings : Choices → Text → App
+with_settings choices name =
     with_rule (with_rule (with_rule (with_rule (new_app name) table_option) rules_option)
     (strength_option choices.strengths)) (variable_option choices.weightings)
+
+-- a command: each takes all options
+abbrev pub command_with : Choices → Text → App
+command_with choices name = with_rule (with_settings choices name) ideographs_option
 
 -- the flag `--raw`
 abbrev pub raw_flag : Rule
@@ -128,6 +138,28 @@ weighting_in rows = unwrap_or (option_and_then weighting_named (first_of (codes 
 abbrev pub raw_in : List Row → Bool
 raw_in rows = option_map_or (λ value. bytes_eq value (codes "true")) (first_of (codes "raw") rows) false
 
+-- the code points at the ends of a range
+abbrev pub both : Option ℕ → Option ℕ → Option (ℕ × ℕ)
+both first last = option_and_then (λ a. option_map (λ b. (a, b)) last) first
+
+-- a full stop, U+002E
+abbrev pub is_stop : ℕ → Bool
+is_stop b = b == 0x2E
+
+-- what follows a full stop that stands first
+abbrev pub after_stop : Text → Option Text
+after_stop [] = None
+after_stop (b ∷ bs) = if is_stop b then Some bs else None
+
+-- the ends of the range that a text spells: two code points of four to six hexadecimal digits, with `..` and no blanks between
+abbrev pub range_spelled : Text → Option (ℕ × ℕ)
+range_spelled text =
+    option_and_then (λ last. both (code_point (before_first is_stop text)) (code_point last)) (after_stop (after_first is_stop text))
+
+-- the option was given, and its value spells no range
+abbrev pub LacksRange : Text × List Row → Type 0
+LacksRange found = option_map range_spelled (first_of (codes "ideographs") found.1) ≡ Some None
+
 -- the job of a command's name and of what was found for its options; what no option gives has its default
 pub record IsJobFrom (job : Job) (found : Text × List Row) : Type 0 where
   pub command : task_named found.0 ≡ Some job.command
@@ -136,6 +168,7 @@ pub record IsJobFrom (job : Job) (found : Text × List Row) : Type 0 where
   pub table : option_map string_bytes job.table ≡ first_of (codes "table") found.1
   pub raw : job.raw ≡ raw_in found.1
   pub rules : option_map string_bytes job.rules ≡ first_of (codes "rules") found.1
+  pub ideographs : option_map range_spelled (first_of (codes "ideographs") found.1) ≡ option_map Some job.ideographs
 
 -- clap takes the words: they have no mistake, and ask for no help
 abbrev pub IsTaken : Choices → List Text → Type 0
@@ -154,7 +187,15 @@ pub record IsRefused (words : List Text) : Type 0 where
   pub right : AreChoices choices
   pub refused : fault_of (uca_with choices) words ≢ []
 
--- the fault lies with the words, and not with memory
+-- clap takes the words, and the value that they give for a range spells none
+pub record IsWithoutRange (words : List Text) : Type 0 where
+  pub choices : Choices
+  pub right : AreChoices choices
+  pub taken : IsTaken choices words
+  pub found : IsSomeAnd (subcommand_of (uca_with choices) words) LacksRange
+
+-- clap's text of the words is the fault
 abbrev pub IsUsage : JobFault → Type 0
 IsUsage (Usage text) = ⊤
 IsUsage OutOfMemory = ⊥
+IsUsage BadIdeographs = ⊥

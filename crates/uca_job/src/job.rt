@@ -1,15 +1,17 @@
 //! The words of the command line, and the job that they ask for.
-ghost use Rattle.std.specs.Prelude.{◌≡◌, ◌≢◌, IfErr, IfOk, IsSome, IsSomeAnd, codes, false, map, option_map, string_bytes};
+ghost use Rattle.std.specs.Prelude.{◌≡◌, ◌≢◌, ◌⊎◌, IfErr, IfOk, IsSome, IsSomeAnd, MatchResult, codes, false, map, option_map, string_bytes};
 ghost use Rattle.clap.specs.declared.builder.command.Command.TheViews.{out-Command};
 ghost use Rattle.clap.specs.Words.{app_of, first_of, found_of, kind_of, rows_of, rule_of, subcommand_rows_of};
-ghost use Rattle.uca_job.specs.CommandLine.{IsJobFrom, IsJobOf, IsRefused, IsUsage};
-ghost use Rattle.uca_job.specs.CommandLine.{command_with, key_command, raw_flag, raw_in, rules_option, strength_option, table_option, uca_with, variable_option, with_line_commands};
+ghost use Rattle.uca_job.specs.declared.job.JobFault.TheVariants.{OutOfMemory};
+ghost use Rattle.uca_job.specs.CommandLine.{IsJobFrom, IsJobOf, IsRefused, IsUsage, IsWithoutRange, LacksRange};
+ghost use Rattle.uca_job.specs.CommandLine.{command_with, ideographs_option, key_command, range_spelled, raw_flag, raw_in, rules_option, strength_option, table_option, uca_with, variable_option, with_line_commands, with_settings};
 ghost use Rattle.uca_job.specs.CommandLine.{strength_in, strength_named, task_named, weighting_in, weighting_named};
 
 use clap::error::ErrorKind;
 use clap::{Arg, ArgAction, ArgMatches, Command};
 use std::alloc::{AllocError, Global};
 use thiserror::Error;
+use uca_io::digits::code_point;
 use uca_weights::{Strength, Variable};
 
 /// The names that the option `--strength` takes.
@@ -55,6 +57,8 @@ pub struct Job {
     pub table: Option<String>,
     /// The path of the file of rules. Where there is none, the table is used as it is.
     pub rules: Option<String>,
+    /// The first and the last of a range of further unified ideographs, which the table gets before it is tailored.
+    pub ideographs: Option<(char, char)>,
 }
 
 /// Why no job was made of the words.
@@ -66,6 +70,17 @@ pub enum JobFault {
     /// Memory ran out.
     #[error("uca: OutOfMemory")]
     OutOfMemory,
+    /// The value of `--ideographs` is not two code points with `..` between.
+    #[error("uca: --ideographs: BadIdeographs")]
+    BadIdeographs,
+}
+
+impl From<AllocError> for JobFault {
+    ghost from_gives = { λ _ fault. fault ≡ OutOfMemory };
+
+    fn from(_refused: AllocError) -> JobFault {
+        JobFault::OutOfMemory
+    }
 }
 
 /// The job that the words after the program's name ask for. What they name is decided by `clap`. Where no option says
@@ -73,12 +88,13 @@ pub enum JobFault {
 pub fn job_of(alloc: Global, words: &[&str]) -> Result<Job, JobFault>
     ensures job { IfOk result (IsJobOf (map (λ w. w.now) words.now)) }
     ensures usage { IfErr result (λ f. IsUsage f → IsRefused (map (λ w. w.now) words.now)) }
+    ensures ideographs { IfErr result (λ f. f ≡ JobFault.BadIdeographs → IsWithoutRange (map (λ w. w.now) words.now)) }
 {
     let Ok(command) = uca_command(alloc, STRENGTHS.as_slice(), WEIGHTINGS.as_slice()) else {
         return Err(JobFault::OutOfMemory);
     };
     match command.try_get_matches_from(words) {
-        Ok(matches) => job_from(alloc, &matches).map_err(|_| JobFault::OutOfMemory),
+        Ok(matches) => job_from(alloc, &matches),
         Err(error) => Err(fault_from(alloc, &error)),
     }
 }
@@ -175,6 +191,22 @@ fn command<'a>(
         ≡ command_with (record { strengths = strengths.entry; weightings = weightings.entry }) name.entry.now) }
     ensures local { IfOk result (λ c. (out-Command c).has_globals ≡ false) }
 {
+    let with_settings = with_settings(alloc, name, about, strengths, weightings)?;
+    with_settings.arg(ideographs_option(alloc))
+}
+
+// A command with the options that name files and settings.
+fn with_settings<'a>(
+    alloc: Global,
+    name: &'a str,
+    about: &'a str,
+    strengths: &'a [&'a str],
+    weightings: &'a [&'a str],
+) -> Result<Command<'a>, AllocError>
+    ensures app { IfOk result (λ c. app_of c
+        ≡ with_settings (record { strengths = strengths.entry; weightings = weightings.entry }) name.entry.now) }
+    ensures local { IfOk result (λ c. (out-Command c).has_globals ≡ false) }
+{
     Command::new(alloc, name)
         .about(about)
         .arg(table_option(alloc))?
@@ -262,6 +294,17 @@ fn variable_option<'a>(alloc: Global, names: &'a [&'a str]) -> Arg<'a>
         .default_value("non-ignorable")
 }
 
+// The option `--ideographs A..B`.
+fn ideographs_option<'a>(alloc: Global) -> Arg<'a>
+    ensures rule { rule_of result ≡ ideographs_option }
+    ensures local { result.global ≡ false }
+{
+    Arg::new(alloc, "ideographs")
+        .long("ideographs")
+        .value_name("A..B")
+        .help("A range of further unified ideographs, by code points, as 323B0..33479")
+}
+
 // The task of the command of this name.
 fn task_named(name: &str) -> Option<Task>
     ensures { result ≡ task_named name.now }
@@ -305,9 +348,10 @@ fn weighting_named(name: &str) -> Option<Variable>
 }
 
 // The job of the command that was met. There is one, since the program requires it, and each has its task.
-fn job_from(alloc: Global, matches: &ArgMatches<'_>) -> Result<Job, AllocError>
+fn job_from(alloc: Global, matches: &ArgMatches<'_>) -> Result<Job, JobFault>
     requires { IsSomeAnd (subcommand_rows_of matches.now) (λ found. IsSome (task_named found.0)) }
-    ensures { IfOk result (λ job. IsSomeAnd (subcommand_rows_of matches.now) (IsJobFrom job)) }
+    ensures job { IfOk result (λ job. IsSomeAnd (subcommand_rows_of matches.now) (IsJobFrom job)) }
+    ensures fault { IfErr result (λ f. (f ≡ JobFault.OutOfMemory) ⊎ ((f ≡ JobFault.BadIdeographs) × IsSomeAnd (subcommand_rows_of matches.now) LacksRange)) }
 {
     let Some((name, options)) = matches.subcommand() else {
         unreachable!();
@@ -322,6 +366,7 @@ fn job_from(alloc: Global, matches: &ArgMatches<'_>) -> Result<Job, AllocError>
         raw: raw_in(options),
         table: path_of(alloc, options, "table")?,
         rules: path_of(alloc, options, "rules")?,
+        ideographs: ideographs_in(options)?,
     })
 }
 
@@ -353,6 +398,32 @@ fn raw_in(options: &ArgMatches<'_>) -> bool
     }
 }
 
+// The range that the option gives.
+fn ideographs_in(options: &ArgMatches<'_>) -> Result<Option<(char, char)>, JobFault>
+    ensures { MatchResult result
+        (λ range. option_map range_spelled (first_of (codes "ideographs") (rows_of (found_of options.now))) ≡ option_map Some range)
+        (λ f. (f ≡ JobFault.BadIdeographs) × (option_map range_spelled (first_of (codes "ideographs") (rows_of (found_of options.now))) ≡ Some None)) }
+{
+    match value_of(options, "ideographs") {
+        Some(value) => match range_spelled(value) {
+            Some(range) => Ok(Some(range)),
+            None => Err(JobFault::BadIdeographs),
+        },
+        None => Ok(None),
+    }
+}
+
+// The two code points that are written with `..` between.
+fn range_spelled(value: &str) -> Option<(char, char)>
+    ensures { result ≡ range_spelled value.now }
+{
+    let (first, rest) = value.split_once('.')?;
+    let last = rest.strip_prefix('.')?;
+    let first = code_point(first.as_bytes())?;
+    let last = code_point(last.as_bytes())?;
+    Some((first, last))
+}
+
 // The path that an option names.
 fn path_of(alloc: Global, options: &ArgMatches<'_>, id: &str) -> Result<Option<String>, AllocError>
     ensures { IfOk result (λ path. option_map string_bytes path ≡ first_of id.now (rows_of (found_of options.now))) }
@@ -372,7 +443,8 @@ fn value_of<'a>(options: &ArgMatches<'a>, id: &str) -> Option<&'a str>
 
 // What an error of clap's is to the caller.
 fn fault_from(alloc: Global, error: &clap::Error) -> JobFault
-    ensures { IsUsage result → kind_of error.now ≢ ErrorKind.OutOfMemory }
+    ensures usage { IsUsage result → kind_of error.now ≢ ErrorKind.OutOfMemory }
+    ensures own { result ≢ JobFault.BadIdeographs }
 {
     if error.kind() == ErrorKind::OutOfMemory {
         return JobFault::OutOfMemory;

@@ -64,7 +64,7 @@ some_lines (b ∷ bytes) some = go (b == line_feed) (split_lines bytes)
     go false [] = omega arith
     go false (line ∷ lines) = omega arith
 
--- bytes behind the first line are another one
+-- bytes after the first line are another one
 pub other_lines : (bytes line rest : List ℕ) → lines_of bytes ≡ line ∷ lines_of rest → 0 < length rest → ¬ IsOneLine bytes
 other_lines bytes line rest parts more one =
     let all : length (lines_of bytes) ≡ length (line ∷ lines_of rest) = ap length parts in

@@ -24,7 +24,7 @@ fn line_end(bytes: &[u8]) -> usize
 }
 
 /// What stands after the byte at `end`.
-fn behind(bytes: &[u8], end: usize) -> &[u8]
+fn rest_after(bytes: &[u8], end: usize) -> &[u8]
     ensures { result.now ≡ drop (end + 1) bytes.now }
 {
     if end < bytes.len() {
@@ -41,7 +41,7 @@ pub fn first_line(bytes: &[u8]) -> (&[u8], &[u8])
     ensures shorter { length result.1.now < length bytes.now }
 {
     let end = line_end(bytes);
-    (without_return(&bytes[..end]), behind(bytes, end))
+    (without_return(&bytes[..end]), rest_after(bytes, end))
 }
 
 /// Whether an input is one line.

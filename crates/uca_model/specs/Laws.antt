@@ -77,7 +77,7 @@ KeysBeginWithCompleteTexts = (t : ElementTable) (s : Settings) (p x : List ℕ) 
 abbrev pub AreBytes : List ℕ → Type 0
 AreBytes = AllByRecursion (λ b. b < 256)
 
--- the byte strings that begin with another are just those from it up to the end of its prefix
+-- the byte strings that begin with another are exactly those from it up to the end of its prefix
 abbrev pub PrefixesAreRanges : Type 0
 PrefixesAreRanges = (front bytes : List ℕ) → AreBytes bytes → IsBetween front (end_of_prefix front) bytes ↔ BeginsWith bytes front
 

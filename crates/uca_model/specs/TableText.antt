@@ -4,8 +4,8 @@ use Rattle.std.specs.List.{position_or_len, before_first, after_first, slice_spl
 use Rattle.std.specs.Option.{ok_or, is_some, option_and_then}
 use Rattle.std.specs.FinMap.{insert, empty}
 use Rattle.std.specs.Str.{bytes_eq}
-use lib.Utf8.{scalar}
-pub use Rattle.uca_io.specs.Digits.{number_after, number}
+pub use Rattle.uca_io.specs.Digits.{number_after, number, is_four_to_six, only_scalar}
+unfoldable pub use Rattle.uca_io.specs.Digits.{code_point}
 use Rattle.uca_io.specs.LineFold.{Fold, FaultAt, End, map_ok, with_text}
 pub use Rattle.uca_io.specs.LineFold.{ends, stops}
 pub use Rattle.uca_io.specs.Words.{tab, is_blank, skip_blanks, trim_end, words}
@@ -78,17 +78,6 @@ after_byte cause b (c ∷ bytes) = if c == b then Ok bytes else Err cause
 
 -- Numbers and code points
 
-abbrev pub is_four_to_six : ℕ → Bool
-is_four_to_six n = nat_le 4 n && nat_le n 6
-
--- a scalar value as it is: at most 10FFFF, and no surrogate
-abbrev pub only_scalar : ℕ → Option ℕ
-only_scalar c = if scalar c then Some c else None
-
--- the code point that four to six digits say
-unfoldable pub code_point : List ℕ → Option ℕ
-code_point digits = if is_four_to_six (length digits) then option_and_then only_scalar (number digits) else None
-
 -- the number that four digits say
 unfoldable pub four_digits : List ℕ → Option ℕ
 four_digits digits = if length digits == 4 then number digits else None
@@ -148,7 +137,7 @@ directive text =
 
 -- Entries
 
--- a key and the words behind it, each of which has to be a code point
+-- a key and the words after it, each of which has to be a code point
 abbrev pub key_after : List ℕ → List (List ℕ) → Result (List ℕ) Cause
 key_after key [] = Ok key
 key_after key (word ∷ more) = do

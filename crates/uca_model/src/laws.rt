@@ -35,7 +35,7 @@ pub fn keys_begin_with_complete_texts()
     ensures { KeysBeginWithCompleteTexts }
 {}
 
-/// The byte strings that begin with another are just those from it up to the end of its prefix: what two ends of an
+/// The byte strings that begin with another are exactly those from it up to the end of its prefix: what two ends of an
 /// index range say.
 pub fn prefixes_are_ranges()
     ensures { PrefixesAreRanges }

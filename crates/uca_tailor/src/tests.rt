@@ -185,12 +185,12 @@ fn assert_elements(
             assert_eq!(rt; [e.l1, e.l2, e.l3], *w, "{key:?}");
         }
     }
-    // The lent table stays as it is.
+    // The borrowed table stays as it is.
     assert_stands(rt, &t, &SMALL_TABLE, 1);
 }
 
 #[test]
-fn an_item_goes_directly_behind_its_anchor(rt: HostRuntime) {
+fn an_item_goes_directly_after_its_anchor(rt: HostRuntime) {
     let plain: [PlainChain; 2] = [
         (&['a'], &[(Op::First, &['b'], &[])]),
         (&['a'], &[(Op::First, &['c'], &[])]),
@@ -268,7 +268,7 @@ fn an_expansion_follows_its_item_and_not_the_next(rt: HostRuntime) {
 }
 
 #[test]
-fn a_chain_goes_on_behind_its_last_item(rt: HostRuntime) {
+fn a_chain_goes_on_after_its_last_item(rt: HostRuntime) {
     let plain: [PlainChain; 2] = [
         (
             &['a'],
@@ -335,7 +335,7 @@ fn a_reset_is_looked_up_under_the_table_so_far(rt: HostRuntime) {
 }
 
 #[test]
-fn an_item_may_stand_behind_itself(rt: HostRuntime) {
+fn an_item_may_stand_after_itself(rt: HostRuntime) {
     let plain: [PlainChain; 1] = [(&['a'], &[(Op::First, &['a'], &[])])];
     assert_elements(
         &rt,
@@ -555,7 +555,7 @@ fn an_item_has_at_most_sixty_four_elements(rt: HostRuntime) {
 }
 
 #[test]
-fn an_item_behind_a_variable_is_variable(rt: HostRuntime) {
+fn an_item_after_a_variable_is_variable(rt: HostRuntime) {
     let t = small_table(&rt, rt.alloc());
     let plain: [PlainChain; 1] = [(&['-'], &[(Op::First, &['x'], &[])])];
     let u = tailored(&rt, rt.alloc(), &t, &plain)

@@ -108,7 +108,7 @@ fn a_fault_of_the_input_leaves_the_writer_empty(rt: HostRuntime) {
     assert!(rt; writer.left() == Some(ORDERED.len()));
 }
 
-/// Whether a writer with so much room gets just the front of the output, and the fault says so.
+/// Whether a writer with so much room gets exactly the front of the output, and the fault says so.
 fn stops(alloc: Global, input: &[u8], output: &[u8], room: usize, cause: WriteCause) -> bool {
     let mut reader = Reading::new(input);
     let mut writer = Expecting::new(output, room, cause);

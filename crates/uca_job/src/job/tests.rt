@@ -22,6 +22,7 @@ fn job_at(command: Task, strength: Strength, weighting: Variable) -> Job {
         raw: false,
         table: None,
         rules: None,
+        ideographs: None,
     }
 }
 
@@ -164,6 +165,73 @@ fn each_command_has_the_path_of_its_rules(rt: HostRuntime) {
             "{name}"
         );
     }
+}
+
+#[test]
+fn each_command_takes_a_range_of_ideographs(rt: HostRuntime) {
+    let alloc = rt.alloc();
+    let ranges = [
+        ("323B0..33479", ('\u{323B0}', '\u{33479}')),
+        ("0061..10ffff", ('a', '\u{10FFFF}')),
+        // Its ends may stand the wrong way round: the table refuses that.
+        ("4E01..04E00", ('\u{4E01}', '\u{4E00}')),
+        ("E000..D7FF", ('\u{E000}', '\u{D7FF}')),
+    ];
+    for (name, command) in COMMANDS {
+        for (value, range) in ranges {
+            let mut job = plain_job(command);
+            job.ideographs = Some(range);
+            assert!(rt;
+                job_again(alloc, &[name, "--ideographs", value]) == Ok(job),
+                "{name} {value}"
+            );
+        }
+    }
+}
+
+#[test]
+fn a_value_that_spells_no_range_is_refused(rt: HostRuntime) {
+    let alloc = rt.alloc();
+    let values = [
+        "",
+        "..",
+        "323B0",
+        "323B0..",
+        "..33479",
+        "323B0.33479",
+        "323B0...33479",
+        "323B0 ..33479",
+        "323B0.. 33479",
+        "323B0..33479 ",
+        "061..0062",
+        "0061..0000062",
+        "0061..110000",
+        "D800..E000",
+        "0061..DFFF",
+        "0061..006G",
+        "U+0061..U+0062",
+        "0061..0062..0063",
+        "0061,.0062",
+    ];
+    for value in values {
+        let fault = job_again(alloc, &["key", "--ideographs", value]);
+        assert!(rt; fault == Err(JobFault::BadIdeographs), "{value:?}");
+    }
+    let text = JobFault::BadIdeographs.to_string(alloc);
+    if let Ok(text) = text {
+        assert_eq!(rt; text.as_str(), "uca: --ideographs: BadIdeographs");
+    }
+    // Other mistakes come first, and the option is given at most once.
+    assert!(rt; is_refused(alloc, &["key", "--ideographs", "x", "--strength", "third"]));
+    let twice = [
+        "key",
+        "--ideographs",
+        "0061..0062",
+        "--ideographs",
+        "0061..0062",
+    ];
+    assert!(rt; is_refused(alloc, &twice));
+    assert!(rt; is_refused(alloc, &["key", "--ideographs"]));
 }
 
 #[test]
@@ -383,7 +451,7 @@ fn a_refusal_shows_the_text_of_clap(rt: HostRuntime) {
 }
 
 #[test]
-fn a_refused_value_shows_the_names_that_serve(rt: HostRuntime) {
+fn a_refused_value_shows_the_allowed_names(rt: HostRuntime) {
     let alloc = rt.alloc();
     assert!(rt;
         shows(
@@ -402,7 +470,7 @@ fn a_refused_value_shows_the_names_that_serve(rt: HostRuntime) {
 }
 
 #[test]
-fn want_of_memory_shows_its_name(rt: HostRuntime) {
+fn an_allocation_failure_shows_its_name(rt: HostRuntime) {
     if let Ok(shown) = JobFault::OutOfMemory.to_string(rt.alloc()) {
         assert_eq!(rt; shown.as_str(), "uca: OutOfMemory");
     }

@@ -5,7 +5,7 @@ use uca_weights::{Settings, Strength, Variable, WriteCause};
 use uca_window::Passage;
 
 #[test]
-fn a_fault_tells_what_went_out(rt: HostRuntime) {
+fn a_fault_says_what_went_out(rt: HostRuntime) {
     let t = table(&rt, rt.alloc());
     let p = Passage::check("a").ok().expect(&rt, "a safe text");
     let settings = Settings {

@@ -4,7 +4,7 @@ use crate::rules::{Op, Rules};
 use std::alloc::{AllocError, Global};
 use std::process::Abort;
 
-/// The chains, each string in NFD behind its operator.
+/// The chains, each string in NFD after its operator.
 fn written(alloc: Global, rules: &Rules) -> Result<String, AllocError> {
     let mut text = String::new(alloc);
     for chain in rules.chains() {
@@ -192,7 +192,7 @@ fn the_fault_that_is_met_first_is_reported_with_its_byte(rt: HostRuntime) {
         "&-<⇒Syntax 1¦\
             &a< /b⇒EmptyString 3¦\
             &a<<<<⇒LeftOut 2",
-        // The byte of a fault at a string's end is the one behind its operator.
+        // The byte of a fault at a string's end is the one after its operator.
         "&a< # x\n ⇒EmptyString 3¦\
             &a< # nothing\n⇒EmptyString 3¦\
             &a<<\u{E9}<<<&⇒EmptyString 9¦\

@@ -37,7 +37,7 @@ const IGNORABLE: Element = Element {
 
 const NONE: [u16; 4] = [0; 4];
 
-/// Weighs the elements in order, and tells whether they got these weights.
+/// Weighs the elements in order, and returns whether they got these weights.
 fn weighs(v: Variable, elements: &[Element], want: &[[u16; 4]]) -> bool {
     let mut weigher = Weigher::new(v);
     elements.len() == want.len()
@@ -83,7 +83,7 @@ fn an_ignorable_does_not_end_after_a_variable(rt: HostRuntime) {
 }
 
 #[test]
-fn marks_at_the_start_and_behind_a_letter_keep_their_weights(rt: HostRuntime) {
+fn marks_at_the_start_and_after_a_letter_keep_their_weights(rt: HostRuntime) {
     let elements = [GRAVE, HYPHEN, GRAVE, LETTER, GRAVE, IGNORABLE];
     assert!(rt;
         weighs(

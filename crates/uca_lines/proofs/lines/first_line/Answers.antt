@@ -8,4 +8,4 @@ returns-clause-parts c =
     let bytes = c.args.bytes.now in let end : ℕ = c.line_end-end.result in
     let parts : lines_of bytes ≡ without_return (take end bytes) ∷ lines_of (drop (end + 1) bytes) = ap (map without_return) (split_lines-first bytes end c.requires c.line_end-end.ensures.within c.line_end-end.ensures.before c.line_end-end.ensures.there) in
     let first = c.without_return.ensures in
-    parts ∙ ap₂ (λ (line : List ℕ) (rest : List ℕ). line ∷ lines_of rest) (sym first) (sym c.behind.ensures)
+    parts ∙ ap₂ (λ (line : List ℕ) (rest : List ℕ). line ∷ lines_of rest) (sym first) (sym c.rest_after.ensures)

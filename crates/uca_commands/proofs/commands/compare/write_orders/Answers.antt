@@ -27,7 +27,7 @@ send_order-requires-clause-line g c =
     let line : List ℕ = c.first_line-in-loop-before.result.0.now in let rest : List ℕ = c.first_line-in-loop-before.result.1.now in
     All-head IsTextLine line (lines_of rest) (subst (All IsTextLine) c.first_line-in-loop-before.ensures.parts c.loop-before.invariant.texts)
 
--- the order of two lines, and of the lines behind them
+-- the order of two lines, and of the lines after them
 parts : (t : ElementTable) (s : Settings) (sent before line whole : List ℕ) (lines left : List (List ℕ)) → sent ++ compare_each t s before left ≡ whole → left ≡ line ∷ lines
     → (sent ++ compare_line t s before line) ++ compare_each t s line lines ≡ whole
 parts t s sent before line whole lines left complete is =

@@ -10,7 +10,7 @@ use Rattle.uca_table.specs.declared.well_formed.WellFormed.TheVariants.{WF1}
 use Rattle.uca_commands.specs.Sending.{finding_line}
 use Rattle.uca_commands.proofs.commands.lint.send_findings.Goals as goal
 
--- the line of a condition, and those behind it
+-- the line of a condition, and those after it
 here : (broken : List WellFormed) (i : ℕ) → i < length broken
     → flat_map finding_line (map condition_of (drop i broken)) ≡ finding_line (condition_of (get_or broken i WF1)) ++ flat_map finding_line (map condition_of (drop (i + 1) broken))
 here broken i within = ap (λ l. flat_map finding_line (map condition_of l)) (drop_more broken i WF1 within)

@@ -36,7 +36,7 @@ loop-keyed-init g c =
       room = omega (arith, waits, c.new-out.ensures.written);
     }
 
--- the next line, and those behind it
+-- the next line, and those after it
 text_more : (ks : List KeyedLine) (i : ℕ) (sent whole : List ℕ) → i < length ks → sent ++ text (drop i ks) ≡ whole → sent ++ (ended (get_or ks i none) ++ text (drop (i + 1) ks)) ≡ whole
 text_more ks i sent whole within complete = ap (λ l. sent ++ text l) (sym (drop_more ks i none within)) ∙ complete
 
