@@ -1,15 +1,14 @@
 -- The shift of a relation is strictly increasing on the weights that stand at its level: each of them has room.
-use Rattle.std.proofs.Common.{◌≡◌, ℕ, ◌≤◌, ◌<◌, Bool, true, false, ◌||◌, ◌==◌, eqb, eqb-true, List, [], ◌∷◌, map, slice_index, Some, unwrap_or, refl, sym, ap, subst, ◌∙◌, arith}
+use Rattle.std.proofs.Common.{◌≡◌, ℕ, ◌≤◌, ◌<◌, Bool, true, false, ◌||◌, ◌==◌, eqb, eqb-true, List, [], ◌∷◌, slice_index, unwrap_or, refl, sym, ap, subst, ◌∙◌, arith}
 use Rattle.std.proofs.lemmas.Bool.Decides.{nat_tests}
 use Rattle.std.specs.List.{list_any}
 use Rattle.std.specs.FinMap.{values}
-use Rattle.std.specs.Option.{option_map}
 use Rattle.uca_weights.specs.declared.element.Element.{Element}
 use Rattle.uca_weights.specs.Element.{weight}
 use Rattle.uca_model.specs.Table.{ElementTable, AreRanges, elements_at}
 use Rattle.uca_model.specs.ImplicitWeights.{implicit, implicit_over}
 use Rattle.uca_model.specs.Rules.{Relation}
-use Rattle.uca_model.specs.Room.{weight_with_room, with_room, table_with_room, has_no_room}
+use Rattle.uca_model.specs.Room.{weight_with_room, table_with_room, has_no_room}
 use Rattle.uca_model.specs.Tailoring.{least, Related}
 use Rattle.uca_model.proofs.RoomAtWeights.{weight_has_no_room, weight_with_room-zero, weight_with_room-high}
 use Rattle.uca_model.proofs.RoomLookups.{elements_at-with_room}
