@@ -28,6 +28,7 @@ pub mod GrowingLemmas
 pub mod RoomAtWeights
 pub mod RoomLookups
 pub mod AnchorElements
+pub mod AnchorPlaces
 pub mod RuleTextLemmas
 pub mod SafeCutLemmas
 pub mod PrefixLemmas

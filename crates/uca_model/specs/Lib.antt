@@ -25,6 +25,7 @@ pub mod CompareOutput
 pub mod Rules
 pub mod Room
 pub mod Tailoring
+pub mod AnchorLaws
 pub mod RuleText
 pub mod WellFormed
 pub mod OrderOutput

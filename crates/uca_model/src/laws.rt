@@ -1,4 +1,5 @@
 ghost use Rattle.uca_model.specs.Laws.{KeysFollowLevels, KeyOrderIsDecided, CanonicalTextIsReadBack, KeysGrowByLevels, TextsAreCutApart, KeysBeginWithCompleteTexts, PrefixesAreRanges, KeysBeginWithPrimaryWeights};
+ghost use Rattle.uca_model.specs.AnchorLaws.{AnchorsEndInAWeight, ItemsStandInTheRoom};
 
 /// Keys of weights are in the byte order in which their level lists are (UTS #10, section 7.4).
 pub fn keys_follow_levels()
@@ -45,4 +46,17 @@ pub fn prefixes_are_ranges()
 /// those of the other. So between the two byte strings stand no keys of other texts.
 pub fn keys_begin_with_primary_weights()
     ensures { KeysBeginWithPrimaryWeights }
+{}
+
+/// The anchor of a relation ends in the last element with a weight at the level: what stands after it, without such a weight,
+/// is dropped, and nothing else is.
+#[tactic(auto, using(crate::proofs::AnchorPlaces::ends_in_a_weight))]
+pub fn anchors_end_in_a_weight()
+    ensures { AnchorsEndInAWeight }
+{}
+
+/// An item next to an anchor has at the level the weights of the anchor's other elements, with room, and then its last weight
+/// raised by one. That is no weight that stood before: the room was made for it.
+pub fn items_stand_in_the_room()
+    ensures { ItemsStandInTheRoom }
 {}

@@ -23,6 +23,7 @@ pub mod BetweenLists
 pub mod PlainLists
 pub mod NextToAnchor
 pub mod RelatedTables
+pub mod IncreasingShifts
 pub mod ShiftLemmas
 pub mod TopLemmas
 pub mod RenumberedLemmas

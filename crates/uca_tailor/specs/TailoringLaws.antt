@@ -1,5 +1,6 @@
 -- Laws of tailoring, each of which is the contract of a public function: what a tailoring leaves as it is, and where an item stands.
-use Rattle.std.specs.Prelude.{◌≡◌, ◌≢◌, ℕ, ◌+◌, ◌<◌, ◌≤◌, not, ◌==◌, List, [], ◌∷◌, ◌++◌, map, filter, length, All, Some, Ok, false}
+use Rattle.std.specs.Prelude.{◌≡◌, ◌≢◌, ℕ, ◌+◌, ◌<◌, ◌≤◌, not, ◌==◌, Bool, true, List, [], ◌∷◌, ◌++◌, map, filter, length, All, Some, Ok, false}
+use Rattle.std.specs.Option.{option_map}
 use Rattle.std.specs.Char.{IsScalar}
 use Rattle.std.specs.List.{AllByRecursion, list_any}
 use Rattle.std.specs.Ordering.{eq_by_cmp}
@@ -18,8 +19,8 @@ use Rattle.uca_model.specs.LevelWeights.{level_list}
 use Rattle.uca_model.specs.SortKey.{sort_key, key_order}
 use Rattle.uca_model.specs.WellFormed.{skips_a_level}
 use Rattle.uca_model.specs.Rules.{Operator, first, second, third, same, Relation, Chain, IsRelation}
-use Rattle.uca_model.specs.Room.{weight_with_room}
-use Rattle.uca_model.specs.Tailoring.{Related, related, tailored, IsUntouched}
+use Rattle.uca_model.specs.Room.{weight_with_room, with_room}
+use Rattle.uca_model.specs.Tailoring.{Anchor, anchor_of, Related, related, tailored, IsUntouched}
 
 -- Untouched texts
 
@@ -113,3 +114,33 @@ abbrev pub RelatedTablesAreTables : Type 0
 RelatedTablesAreTables =
     (t : ElementTable) (anchor : List Element) (r : Relation) (next : Related) → IsTable t → 1 ≤ length anchor → AllByRecursion IsElement anchor → IsRelation r → All IsScalar r.item → All IsScalar r.expansion
     → related t anchor r ≡ Ok next → IsTable next.table × (1 ≤ length next.anchor) × AllByRecursion IsElement next.anchor
+
+-- Shifts
+
+-- some element has this weight at a level
+abbrev pub has_weight : ℕ → ℕ → List Element → Bool
+has_weight level x es = list_any (λ e. weight level e == x) es
+
+-- a weight that stands at a level of a table: zero, that of an entry or of an implicit element, and FFFF, with which level 4 compares those of level 1
+pub data StandsAt (level : ℕ) (t : ElementTable) (x : ℕ) : Type 0 where
+  is_none : x ≡ 0 → StandsAt level t x
+  of_entry : (key : List ℕ) (es : List Element) → elements_at t key ≡ Some es → has_weight level x es ≡ true → StandsAt level t x
+  of_implicit : (c : ℕ) → has_weight level x (implicit t c) ≡ true → StandsAt level t x
+  is_highest : level ≡ 1 → x ≡ 0xFFFF → StandsAt level t x
+
+-- what a relation does to the weights of its level, whose anchor's last weight there is w
+pub record IsShift (level w : ℕ) (t : ElementTable) (r : Relation) (next : Related) : Type 0 where
+  -- all entries but that of the item are shifted ..
+  pub entries : (key : List ℕ) → eq_by_cmp key_cmp key r.item ≡ false → elements_at next.table key ≡ option_map (map (with_room level w)) (elements_at t key)
+  -- .. the shift is strictly increasing on the weights that stand there ..
+  pub increases : (x y : ℕ) → StandsAt level t x → StandsAt level t y → x < y → weight_with_room level w x < weight_with_room level w y
+  -- .. and leaves zero, those of implicit elements, and FFFF at level 1
+  pub none_stays : weight_with_room level w 0 ≡ 0
+  pub implicit_stays : (c : ℕ) → map (with_room level w) (implicit t c) ≡ implicit t c
+  pub highest_stays : level ≡ 1 → weight_with_room level w 0xFFFF ≡ 0xFFFF
+
+-- so does each relation other than `=`
+abbrev pub EachShiftIsIncreasing : Type 0
+EachShiftIsIncreasing =
+    (level : ℕ) (t : ElementTable) (anchor : List Element) (r : Relation) (next : Related) → IsTable t → op_level r.op ≡ level → 1 ≤ level → related t anchor r ≡ Ok next
+    → (a : Anchor) × (anchor_of level anchor ≡ Some a) × IsShift level (weight level a.last) t r next

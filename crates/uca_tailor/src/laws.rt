@@ -1,4 +1,4 @@
-ghost use Rattle.uca_tailor.specs.TailoringLaws.{UntouchedTextsKeepTheirOrder, EachItemIsPlaced, EachItemIsNext, EachItemIsAnAnchor, RelatedTablesAreTables};
+ghost use Rattle.uca_tailor.specs.TailoringLaws.{UntouchedTextsKeepTheirOrder, EachItemIsPlaced, EachItemIsNext, EachItemIsAnAnchor, EachShiftIsIncreasing, RelatedTablesAreTables};
 
 /// Two texts that no rule touches keep their order: the byte order of their sort keys is the same under the given and
 /// the tailored table, at every strength and option. So a table may be tailored while an index of such texts stays in order.
@@ -35,4 +35,10 @@ pub fn each_item_is_an_anchor()
 /// the rules, too.
 pub fn related_tables_are_tables()
     ensures { RelatedTablesAreTables }
+{}
+
+/// A relation of a level shifts the weights of all entries but its item's. The shift is strictly increasing on the weights that
+/// stand at that level, so it keeps their order, and no two of them become one. It leaves zero and implicit elements as they are.
+pub fn each_shift_is_increasing()
+    ensures { EachShiftIsIncreasing }
 {}
