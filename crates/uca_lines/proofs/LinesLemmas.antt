@@ -1,10 +1,14 @@
 -- The first byte of a kind, and the first line with a fault.
-use Rattle.std.proofs.Common.{◌≡◌, ◌≢◌, ℕ, ◌+◌, ◌<◌, ◌==◌, Bool, true, false, List, [], ◌∷◌, ◌++◌, length, map, All, slice_index, sym, ap, ◌∙◌, arith, eq-eqb}
+use Rattle.std.proofs.Common.{◌≡◌, ◌≢◌, ◌⊎◌, ℕ, zero, suc, ◌+◌, ◌-◌, ◌<◌, ◌≤◌, ◌==◌, Bool, true, false, List, [], ◌∷◌, ◌++◌, length, map, take, drop, All, IsUtf8, slice_index, refl, sym, ap, ◌∙◌, inl, inr, arith, eq-eqb, length-drop}
+use Rattle.std.specs.Str.{IsCharBoundary}
+use Rattle.std.proofs.lemmas.Bool.{cases_Bool, cond-true, cond-false, cases_lt, eqb-true}
+use Rattle.std.proofs.lemmas.Str.{IsUtf8-nil, IsUtf8-take, IsUtf8-drop, IsCharBoundary-end, IsCharBoundary-before_ascii, IsCharBoundary-after_ascii}
 use Rattle.std.specs.Prelude.{if◌then◌else◌}
 use Rattle.std.proofs.Common.{append_assoc, append-nil, length-append, subst}
+use Rattle.std.proofs.lemmas.List.{nil_from_length}
 use Rattle.std.proofs.lemmas.List.Elements.{All-push}
 use Rattle.memchr.specs.Find.{Nowhere, Passes, is_byte}
-use Rattle.uca_model.specs.Lines.{IsTextLine, LineFault, HasFault, IsFirstFault, line_feed, lines_of, onto, split_lines, without_return, not_utf8, long_run}
+use Rattle.uca_model.specs.Lines.{carriage_return, IsTextLine, LineFault, HasFault, IsFirstFault, line_feed, lines_of, onto, split_lines, without_return, not_utf8, long_run}
 use Rattle.uca_lines.specs.declared.faults.InputCause.{InputCause}
 use Rattle.uca_lines.specs.declared.faults.InputCause.TheVariants.{NotUtf8, LongRun, TooLarge, Read, OutOfMemory, NotOneLine}
 use Rattle.uca_lines.specs.Input.{HasFaultAt, IsFirstFaultAt, IsOneLine}
@@ -69,3 +73,49 @@ pub other_lines : (bytes line rest : List ℕ) → lines_of bytes ≡ line ∷ l
 other_lines bytes line rest parts more one =
     let all : length (lines_of bytes) ≡ length (line ∷ lines_of rest) = ap length parts in
     omega (arith, all, one, some_lines rest more)
+
+-- ---- lines of a text
+
+-- the line ends where the text may be cut
+line_boundary : (bytes : List ℕ) (end : ℕ) → end ≤ length bytes → (end < length bytes → slice_index bytes end ≡ line_feed) → IsCharBoundary bytes end
+line_boundary bytes end within there =
+    elim (cases_lt end (length bytes)) [
+      | inl less ↦ IsCharBoundary-before_ascii bytes end less (omega (arith, there less))
+      | inr more ↦ subst (IsCharBoundary bytes) (omega arith) (IsCharBoundary-end bytes)
+    ]
+
+-- a line is cut at a CR
+record CutAtReturn (line : List ℕ) : Type 0 where
+  place : ℕ
+  inside : place < length line
+  return : slice_index line place ≡ carriage_return
+  same : without_return line ≡ take place line
+
+-- the line stays, or is cut
+return_parts : (line : List ℕ) → (without_return line ≡ line) ⊎ CutAtReturn line
+return_parts [] = inl refl
+return_parts (b ∷ []) = elim (cases_Bool (b == carriage_return)) [
+  | inl is ↦ inr (record { place = 0; inside = omega arith; return = eqb-true b carriage_return is; same = cond-true _ _ _ is })
+  | inr other ↦ inl (cond-false _ _ _ other)
+]
+return_parts (b ∷ c ∷ line) = elim (return_parts (c ∷ line)) [
+  | inl whole ↦ inl (ap (λ l. b ∷ l) whole)
+  | inr cut ↦ inr (record { place = suc cut.place; inside = omega (arith, cut.inside); return = cut.return; same = ap (λ l. b ∷ l) cut.same })
+]
+
+IsUtf8-return : (line : List ℕ) → IsUtf8 line → IsUtf8 (without_return line)
+IsUtf8-return line utf8 =
+    elim (return_parts line) [
+      | inl whole ↦ subst IsUtf8 (sym whole) utf8
+      | inr cut ↦ subst IsUtf8 (sym cut.same) (IsUtf8-take line cut.place utf8 (IsCharBoundary-before_ascii line cut.place cut.inside (omega (arith, cut.return))))
+    ]
+
+pub IsUtf8-line : (bytes : List ℕ) (end : ℕ) → IsUtf8 bytes → end ≤ length bytes → (end < length bytes → slice_index bytes end ≡ line_feed) → IsUtf8 (without_return (take end bytes))
+IsUtf8-line bytes end utf8 within there = IsUtf8-return (take end bytes) (IsUtf8-take bytes end utf8 (line_boundary bytes end within there))
+
+pub IsUtf8-after : (bytes : List ℕ) (end : ℕ) → IsUtf8 bytes → end ≤ length bytes → (end < length bytes → slice_index bytes end ≡ line_feed) → IsUtf8 (drop (end + 1) bytes)
+IsUtf8-after bytes end utf8 within there =
+    elim (cases_lt end (length bytes)) [
+      | inl less ↦ IsUtf8-drop bytes (end + 1) utf8 (IsCharBoundary-after_ascii bytes end utf8 less (omega (arith, there less)))
+      | inr more ↦ subst IsUtf8 (sym (nil_from_length (drop (end + 1) bytes) (omega (arith, length-drop (end + 1) bytes)))) IsUtf8-nil
+    ]

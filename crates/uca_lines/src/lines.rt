@@ -1,4 +1,4 @@
-ghost use Rattle.std.specs.Prelude.{◌≡◌, ◌≢◌, ◌∷◌, ℕ, ◌+◌, ◌<◌, ◌≤◌, length, drop, slice_index, All, IfErr, IfOk, IsFalse, IsTrue, MatchResult};
+ghost use Rattle.std.specs.Prelude.{◌≡◌, ◌≢◌, ◌∷◌, ℕ, ◌+◌, ◌<◌, ◌≤◌, length, drop, slice_index, All, IfErr, IfOk, IsFalse, IsTrue, IsUtf8, MatchResult};
 ghost use Rattle.uca_model.specs.Lines.{line_feed, lines_of, IsTextLine};
 ghost use Rattle.uca_lines.specs.Input.{HasInputFault, HasFaultAt, IsOneLine, ReadsLines, ReadsOneLine, RefusesInput, RefusesOneLine};
 
@@ -6,7 +6,9 @@ use crate::faults::{InputCause, InputFault};
 use crate::input::{read_input, refused};
 use memchr::memchr;
 use simdutf8::compat::from_utf8;
+use simdutf8::is_utf8;
 use std::alloc::Global;
+use std::str::from_utf8_unchecked;
 use uca_io::lines::without_return;
 use uca_weights::Reader;
 use uca_window::Passage;
@@ -34,14 +36,25 @@ fn rest_after(bytes: &[u8], end: usize) -> &[u8]
     }
 }
 
+/// The first line of an input, and the bytes after it. Those of a text are texts.
+fn split_line(bytes: &[u8]) -> (&[u8], &[u8])
+    requires { 0 < length bytes.now }
+    ensures parts { lines_of bytes.now ≡ result.0.now ∷ lines_of result.1.now }
+    ensures shorter { length result.1.now < length bytes.now }
+    ensures line { IsUtf8 bytes.now → IsUtf8 result.0.now }
+    ensures rest { IsUtf8 bytes.now → IsUtf8 result.1.now }
+{
+    let end = line_end(bytes);
+    (without_return(&bytes[..end]), rest_after(bytes, end))
+}
+
 /// The first line of an input, without what ends it, and the bytes after that.
 pub fn first_line(bytes: &[u8]) -> (&[u8], &[u8])
     requires { 0 < length bytes.now }
     ensures parts { lines_of bytes.now ≡ result.0.now ∷ lines_of result.1.now }
     ensures shorter { length result.1.now < length bytes.now }
 {
-    let end = line_end(bytes);
-    (without_return(&bytes[..end]), rest_after(bytes, end))
+    split_line(bytes)
 }
 
 /// Whether an input is one line.
@@ -56,29 +69,41 @@ pub fn is_one_line(bytes: &[u8]) -> bool
     others.is_empty()
 }
 
-/// What is wrong with a line, and at which of its bytes.
-fn line_fault(line: &[u8]) -> Result<(), (InputCause, usize)>
+/// What is wrong with a text, and at which of its bytes.
+fn text_fault(text: &str) -> Result<(), (InputCause, usize)>
+    ensures { MatchResult result (λ _. IsTextLine text.now) (λ f. HasFaultAt f.0 text.now f.1) }
+{
+    match Passage::check(text) {
+        Ok(_) => Ok(()),
+        Err(run) => Err((InputCause::LongRun, run.at)),
+    }
+}
+
+/// What is wrong with a line, and at which of its bytes. It may be known to be UTF-8.
+fn line_fault(line: &[u8], is_text: bool) -> Result<(), (InputCause, usize)>
+    requires { IsTrue is_text → IsUtf8 line.now }
     ensures { MatchResult result (λ _. IsTextLine line.now) (λ f. HasFaultAt f.0 line.now f.1) }
 {
+    if is_text {
+        return text_fault(unsafe { from_utf8_unchecked(line) });
+    }
     match from_utf8(line) {
-        Ok(text) => match Passage::check(text) {
-            Ok(_) => Ok(()),
-            Err(run) => Err((InputCause::LongRun, run.at)),
-        },
+        Ok(text) => text_fault(text),
         Err(error) => Err((InputCause::NotUtf8, error.valid_up_to())),
     }
 }
 
-/// Looks at each line of an input: it must be a safe text in UTF-8.
+/// Looks at each line of an input: it must be a safe text in UTF-8. Bytes that are UTF-8 as a whole are so in each line.
 pub fn check_lines(bytes: &[u8]) -> Result<(), InputFault>
     ensures { MatchResult result (λ _. All IsTextLine (lines_of bytes.now)) (HasInputFault (lines_of bytes.now)) }
 {
+    let is_text = is_utf8(bytes);
     let mut number = 0;
     let mut left = bytes;
     while !left.is_empty() {
-        let (line, rest) = first_line(left);
+        let (line, rest) = split_line(left);
         number += 1;
-        match line_fault(line) {
+        match line_fault(line, is_text) {
             Ok(()) => left = rest,
             Err((cause, at)) => {
                 return Err(InputFault {

@@ -10,6 +10,7 @@ returns c =
 
 pub loop-left-preserved : goal.loop-left-preserved
 loop-left-preserved c = record {
-  front = HasFineFront-more _ _ _ c.first_line.result.0.now c.loop-left.number c.loop-left.invariant.front c.first_line.ensures.parts c.in-Ok.ensures;
-  small = omega (arith, c.loop-left.invariant.small, c.first_line.ensures.shorter);
+  front = HasFineFront-more _ _ _ c.split_line.result.0.now c.loop-left.number c.loop-left.invariant.front c.split_line.ensures.parts c.in-Ok.ensures;
+  text = λ is. c.split_line.ensures.rest (c.loop-left.invariant.text is);
+  small = omega (arith, c.loop-left.invariant.small, c.split_line.ensures.shorter);
 }

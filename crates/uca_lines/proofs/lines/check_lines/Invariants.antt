@@ -1,4 +1,4 @@
-use Rattle.std.proofs.Common.{◌+◌, ◌≤◌, length}
+use Rattle.std.proofs.Common.{◌≡◌, ◌+◌, ◌≤◌, true, length, IsUtf8}
 use Rattle.uca_model.specs.Lines.{lines_of}
 use Rattle.uca_lines.proofs.LinesLemmas.{HasFineFront}
 use Rattle.uca_lines.proofs.lines.check_lines.Given as goal
@@ -6,6 +6,7 @@ use Rattle.uca_lines.proofs.lines.check_lines.Given as goal
 abbrev pub invariant-loop-left : goal.invariant-loop-left
 invariant-loop-left l = record {
   front : HasFineFront (lines_of l.bytes) (lines_of l.left) l.number;
+  text : l.is_text ≡ true → IsUtf8 l.left;
   small : l.number + length l.left ≤ length l.bytes;
 }
 
