@@ -2,3 +2,4 @@ pub mod CommandLemmas
 pub mod SendingLemmas
 pub mod NoLines
 pub mod OrderingLemmas
+pub mod KeyFrontLemmas

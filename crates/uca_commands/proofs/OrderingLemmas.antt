@@ -84,29 +84,29 @@ module _ {X : Type 0} (key line : X → List ℕ) (k : List ℕ → List ℕ) wh
       ∙ ap (λ b. is_lt (key_order (key (get_or (y ∷ ys) (i + 1) y)) b)) (sym key_here)
       ∙ up i y low (omega arith)
 
-  module _ (with_key : List ℕ → X) (keyed : (a : List ℕ) → key (with_key a) ≡ a) where
-    tie-line : (a : List ℕ) (z : X) → key z ≡ k (line z) → same_rank (k a) (k (line z)) ≡ same_rank (key (with_key (k a))) (key z)
-    tie-line a z has = ap (λ b. same_rank b (k (line z))) (sym (keyed (k a))) ∙ ap (same_rank (key (with_key (k a)))) (sym has)
+  module _ (with_key : List ℕ → X) (keyed : (a : List ℕ) → key (with_key a) ≡ k a) where
+    tie-line : (a : List ℕ) (z : X) → key z ≡ k (line z) → same_rank (k a) (k (line z)) ≡ same_rank (key (with_key a)) (key z)
+    tie-line a z has = ap (λ b. same_rank b (k (line z))) (sym (keyed a)) ∙ ap (same_rank (key (with_key a))) (sym has)
 
     map-cond : (b : Bool) (z : X) (zs : List X) → cond b (line z ∷ map line zs) (map line zs) ≡ map line (cond b (z ∷ zs) zs)
     map-cond true z zs = refl
     map-cond false z zs = refl
 
     -- the lines that tie with one are those of the elements whose keys do
-    tied_lines : (a : List ℕ) (zs : List X) → All HasKey zs → filter (λ b. same_rank (k a) (k b)) (map line zs) ≡ map line (filter (λ z. same_rank (key (with_key (k a))) (key z)) zs)
+    tied_lines : (a : List ℕ) (zs : List X) → All HasKey zs → filter (λ b. same_rank (k a) (k b)) (map line zs) ≡ map line (filter (λ z. same_rank (key (with_key a)) (key z)) zs)
     tied_lines a [] have = refl
     tied_lines a (z ∷ zs) have =
-        let rest : List X = filter (λ y. same_rank (key (with_key (k a))) (key y)) zs in
+        let rest : List X = filter (λ y. same_rank (key (with_key a)) (key y)) zs in
         ap (λ b. cond b (line z ∷ filter (λ y. same_rank (k a) (k y)) (map line zs)) (filter (λ y. same_rank (k a) (k y)) (map line zs))) (tie-line a z (All-head HasKey z zs have))
-        ∙ ap (λ l. cond (same_rank (key (with_key (k a))) (key z)) (line z ∷ l) l) (tied_lines a zs (All-tail HasKey z zs have))
-        ∙ map-cond (same_rank (key (with_key (k a))) (key z)) z rest
+        ∙ ap (λ l. cond (same_rank (key (with_key a)) (key z)) (line z ∷ l) l) (tied_lines a zs (All-tail HasKey z zs have))
+        ∙ map-cond (same_rank (key (with_key a)) (key z)) z rest
 
     stable_lines : (xs ys : List X) → All HasKey xs → All HasKey ys → IsStableByKey key key_order xs ys → IsStableByKey k key_order (map line xs) (map line ys)
-    stable_lines xs ys have has stable a = tied_lines a ys has ∙ ap (map line) (stable (with_key (k a))) ∙ sym (tied_lines a xs have)
+    stable_lines xs ys have has stable a = tied_lines a ys has ∙ ap (map line) (stable (with_key a)) ∙ sym (tied_lines a xs have)
 
 -- lines that were sorted beside their keys are in order
 pub IsInOrder-from_keyed : {X : Type 0} (key line : X → List ℕ) (with_key : List ℕ → X) (t : ElementTable) (s : Settings) (lines : List (List ℕ)) (xs ys : List X)
-    → ((a : List ℕ) → key (with_key a) ≡ a) → map line xs ≡ lines → map key xs ≡ map (line_key t s) lines
+    → ((a : List ℕ) → key (with_key a) ≡ line_key t s a) → map line xs ≡ lines → map key xs ≡ map (line_key t s) lines
     → IsPermutation xs ys → IsSortedByKey key key_order ys → IsStableByKey key key_order xs ys → IsInOrder t s lines (map line ys)
 IsInOrder-from_keyed {X} key line with_key t s lines xs ys keyed is keys same up stable =
     let k : List ℕ → List ℕ = line_key t s in

@@ -1,3 +1,4 @@
 pub mod Commands
 pub mod Sending
 pub mod Ordering
+pub mod KeyFronts

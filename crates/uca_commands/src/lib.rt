@@ -5,6 +5,7 @@
 
 pub mod commands;
 pub mod faults;
+mod keyed_line;
 mod output;
 
 pub use commands::order::order;

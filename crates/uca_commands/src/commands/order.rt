@@ -10,6 +10,7 @@ ghost use Rattle.uca_commands.specs.Ordering.{cut_up, AreKeys, Orders, RefusesOr
 ghost use Rattle.uca_commands.specs.Commands.{Does, Fails, order_command};
 
 use crate::faults::CliFault;
+use crate::keyed_line::KeyedLine;
 use crate::output::text_of_line;
 use std::alloc::{AllocError, Global};
 use uca_io::OutputBuffer;
@@ -24,13 +25,6 @@ use uca_weights::{Reader, Settings, WriteFault, Writer};
 struct Keys {
     bytes: Vec<u8>,
     lengths: Vec<usize>,
-}
-
-/// A line and its sort key.
-#[derive(Clone, Copy)]
-struct KeyedLine<'a> {
-    key: &'a [u8],
-    line: &'a [u8],
 }
 
 /// The sort keys of the lines of an input, which was checked.
@@ -71,7 +65,7 @@ fn keyed_lines<'a>(
     for size in &keys.lengths {
         let (key, other_keys) = keys_left.split_at(*size);
         let (line, rest) = first_line(left);
-        lines.push(KeyedLine { key, line })?;
+        lines.push(KeyedLine::new(key, line))?;
         keys_left = other_keys;
         left = rest;
     }
@@ -84,7 +78,7 @@ fn sort_lines(lines: &mut Vec<KeyedLine<'_>>) -> Result<(), AllocError>
     ensures sorted { OnOk result (IsSortedByKey (λ l. l.key.now) key_order lines.new.items) }
     ensures stable { IsStableByKey (λ l. l.key.now) key_order lines.old.items lines.new.items }
 {
-    lines.sort_by_key(|line| line.key)
+    lines.sort_by(|a, b| a.compare_keys(b))
 }
 
 /// Writes bytes to a buffer, however many they are.

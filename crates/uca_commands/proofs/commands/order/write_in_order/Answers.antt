@@ -1,21 +1,28 @@
-use Rattle.std.proofs.Common.{◌≡◌, ℕ, List, [], length, map, IsPermutation, IsSortedByKey, sym, ap, refl, ◌∙◌, arith, eqb-true}
+use Rattle.std.proofs.Common.{◌≡◌, ℕ, List, length, map, IsPermutation, IsSortedByKey, sym, ap, refl, ◌∙◌, arith, eqb-true}
 use Rattle.std.specs.List.Sorted.{IsStableByKey}
 use Rattle.std.proofs.lemmas.List.{length-map, nil_from_length}
 use Rattle.std.proofs.lemmas.List.Sorted.{length_permutation}
 use Rattle.uca_weights.specs.declared.settings.Settings.{Settings}
 use Rattle.uca_model.specs.Lines.{lines_of}
-use Rattle.uca_model.specs.OrderOutput.{IsInOrder, IsOrderOutput, text_of_lines}
+use Rattle.uca_model.specs.OrderOutput.{line_key, IsInOrder, IsOrderOutput, text_of_lines}
 use Rattle.uca_model.specs.SortKey.{key_order}
 use Rattle.uca_model.specs.Table.{ElementTable}
 use Rattle.uca_commands.specs.Ordering.{cut_up, AreKeys}
-use Rattle.uca_commands.specs.declared.commands.order.KeyedLine.{KeyedLine}
+use Rattle.uca_commands.specs.declared.keyed_line.KeyedLine.{KeyedLine}
+use Rattle.uca_commands.specs.KeyFronts.{front}
+use Rattle.uca_commands.proofs.KeyFrontLemmas.{IsFront-line_key}
 use Rattle.uca_commands.proofs.NoLines.{WritesInOrder-none}
 use Rattle.uca_commands.proofs.OrderingLemmas.{AreKeys-cut_up, AreKeys-within, IsInOrder-from_keyed, length-lines_of}
 use Rattle.uca_commands.proofs.commands.order.write_in_order.Goals as goal
 
--- an element with this key
-abbrev with_key : List ℕ → KeyedLine
-with_key key = record { key = record { ref_ptr = (0, 0); now = key }; line = record { ref_ptr = (0, 0); now = [] } }
+-- an element with the key of this line
+abbrev with_key : ElementTable → Settings → List ℕ → KeyedLine
+with_key t s line = record {
+  front = front 8 (line_key t s line);
+  key = record { ref_ptr = (0, 0); now = line_key t s line };
+  line = record { ref_ptr = (0, 0); now = line };
+  fronts = IsFront-line_key t s line;
+}
 
 pub returns-then-is_empty : goal.returns-then-is_empty
 returns-then-is_empty g c = WritesInOrder-none c.args.t.now c.args.s c.args.bytes.now _ (nil_from_length c.args.bytes.now (eqb-true (length c.args.bytes.now) 0 (sym c.is_empty.ensures ∙ c.if-is_empty.true)))
@@ -36,7 +43,7 @@ write_keyed-requires g c =
 in_order : (t : ElementTable) (s : Settings) (bytes kept lengths : List ℕ) (xs ys : List KeyedLine) → AreKeys t s (lines_of bytes) kept lengths → map (λ l. l.key.now) xs ≡ cut_up lengths kept → map (λ l. l.line.now) xs ≡ lines_of bytes
     → IsPermutation xs ys → IsSortedByKey (λ l. l.key.now) key_order ys → IsStableByKey (λ l. l.key.now) key_order xs ys → IsInOrder t s (lines_of bytes) (map (λ l. l.line.now) ys)
 in_order t s bytes kept lengths xs ys are keys lines same sorted stable =
-    IsInOrder-from_keyed (λ l. l.key.now) (λ l. l.line.now) with_key t s (lines_of bytes) xs ys (λ a. refl) lines (keys ∙ AreKeys-cut_up t s (lines_of bytes) kept lengths are) same sorted stable
+    IsInOrder-from_keyed (λ l. l.key.now) (λ l. l.line.now) (with_key t s) t s (lines_of bytes) xs ys (λ a. refl) lines (keys ∙ AreKeys-cut_up t s (lines_of bytes) kept lengths are) same sorted stable
 
 -- what goes out of them
 made : (t : ElementTable) (s : Settings) (bytes kept lengths : List ℕ) (xs ys : List KeyedLine) → AreKeys t s (lines_of bytes) kept lengths → map (λ l. l.key.now) xs ≡ cut_up lengths kept → map (λ l. l.line.now) xs ≡ lines_of bytes

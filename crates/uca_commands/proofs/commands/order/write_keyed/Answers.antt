@@ -1,5 +1,5 @@
 use Rattle.std.proofs.Common.{◌≡◌, ℕ, ◌+◌, ◌-◌, ◌<◌, List, [], ◌∷◌, ◌++◌, length, drop, get_or, map, Result, Ok, Err, MatchResult, refl, sym, ap, subst, ◌∙◌, arith, append-nil, drop_of_length-le}
-use Rattle.std.proofs.lemmas.List.{drop_more, length-drop}
+use Rattle.std.proofs.lemmas.List.{drop_more, get_or_read, length-drop}
 use Rattle.std.proofs.lemmas.Result.{err_from_is_err_and}
 use Rattle.uca_io.specs.WriterState.{WriterState}
 use Rattle.uca_io.specs.Writer.{WritesAll, WritesFront}
@@ -10,12 +10,8 @@ use Rattle.uca_io.proofs.BufferLemmas.{Accepts-more, Accepts-none, Accepts-all, 
 use Rattle.uca_io.proofs.SendLemmas.{sent_more, stopped_there, stopped_last}
 use Rattle.uca_model.specs.Lines.{line_feed}
 use Rattle.uca_model.specs.OrderOutput.{text_of_lines}
-use Rattle.uca_commands.specs.declared.commands.order.KeyedLine.{KeyedLine}
+use Rattle.uca_commands.specs.declared.keyed_line.KeyedLine.{KeyedLine}
 use Rattle.uca_commands.proofs.commands.order.write_keyed.Goals as goal
-
--- an element that stands nowhere
-abbrev none : KeyedLine
-none = record { key = record { ref_ptr = (0, 0); now = [] }; line = record { ref_ptr = (0, 0); now = [] } }
 
 -- a line with LF
 abbrev ended : KeyedLine → List ℕ
@@ -37,23 +33,25 @@ loop-keyed-init g c =
     }
 
 -- the next line, and those after it
-text_more : (ks : List KeyedLine) (i : ℕ) (sent whole : List ℕ) → i < length ks → sent ++ text (drop i ks) ≡ whole → sent ++ (ended (get_or ks i none) ++ text (drop (i + 1) ks)) ≡ whole
-text_more ks i sent whole within complete = ap (λ l. sent ++ text l) (sym (drop_more ks i none within)) ∙ complete
+text_more : (ks : List KeyedLine) (i : ℕ) (k : KeyedLine) (sent whole : List ℕ) → i < length ks → k ≡ get_or ks i k → sent ++ text (drop i ks) ≡ whole → sent ++ (ended k ++ text (drop (i + 1) ks)) ≡ whole
+text_more ks i k sent whole within is complete = ap (λ l. sent ++ (ended l ++ text (drop (i + 1) ks))) is ∙ ap (λ l. sent ++ text l) (sym (drop_more ks i k within)) ∙ complete
 
 pub returns-in_err-send_line : goal.returns-in_err-send_line
 returns-in_err-send_line g c =
     let p = err_from_is_err_and c.from_residual.result c.from_residual.ensures.1 in
     let ks : List KeyedLine = c.args.lines.now in let i : ℕ = c.loop-keyed.keyed-index in
-    let piece : List ℕ = ended (get_or ks i none) in let rest : List ℕ = text (drop (i + 1) ks) in
-    let complete : c.loop-keyed.invariant.sent ++ (piece ++ rest) ≡ text ks = text_more ks i c.loop-keyed.invariant.sent (text ks) c.loop-keyed-test.true c.loop-keyed.invariant.complete in
+    let k : KeyedLine = c.keyed-item.result in
+    let piece : List ℕ = ended k in let rest : List ℕ = text (drop (i + 1) ks) in
+    let complete : c.loop-keyed.invariant.sent ++ (piece ++ rest) ≡ text ks = text_more ks i k c.loop-keyed.invariant.sent (text ks) c.loop-keyed-test.true (get_or_read ks i k c.loop-keyed-test.true c.keyed-item.is k) c.loop-keyed.invariant.complete in
     rw (p.1, p.2) (FailsPartway-front _ _ c.new-out.result (text ks) _ c.new-out.ensures.waiting c.new-out.ensures.written
     (stopped_there _ _ _ c.new-out.result c.loop-keyed.out c.loop-keyed.invariant.sent piece rest (text ks) piece _ c.loop-keyed.invariant.sends complete refl c.in_err-send_line.ensures.sends))
 
 pub loop-keyed-preserved : goal.loop-keyed-preserved
 loop-keyed-preserved g c =
     let ks : List KeyedLine = c.args.lines.now in let i : ℕ = c.loop-keyed.keyed-index in
-    let piece : List ℕ = ended (get_or ks i none) in let rest : List ℕ = text (drop (i + 1) ks) in
-    let complete : c.loop-keyed.invariant.sent ++ (piece ++ rest) ≡ text ks = text_more ks i c.loop-keyed.invariant.sent (text ks) c.loop-keyed-test.true c.loop-keyed.invariant.complete in
+    let k : KeyedLine = c.keyed-item.result in
+    let piece : List ℕ = ended k in let rest : List ℕ = text (drop (i + 1) ks) in
+    let complete : c.loop-keyed.invariant.sent ++ (piece ++ rest) ≡ text ks = text_more ks i k c.loop-keyed.invariant.sent (text ks) c.loop-keyed-test.true (get_or_read ks i k c.loop-keyed-test.true c.keyed-item.is k) c.loop-keyed.invariant.complete in
     let more = sent_more _ _ _ c.new-out.result c.loop-keyed.out c.send_line.new.out c.loop-keyed.invariant.sent piece rest (text ks) piece c.loop-keyed.invariant.sends complete refl c.in_ok-send_line.ensures.sends in
     let left : length (drop i ks) ≡ length ks - i = length-drop i ks in
     let less : length (drop (i + 1) ks) ≡ length ks - (i + 1) = length-drop (i + 1) ks in
