@@ -1,5 +1,5 @@
 -- What stands for an optional mutable reference in a contract.
-use Rattle.std.specs.Prelude.{◌⊎◌, Option, Some, None, option_map}
+use Rattle.std.specs.Prelude.{⊤, ℕ, ◌+◌, ◌≤◌, ◌⊎◌, Option, Some, None, option_map}
 use Rattle.std.proofs.Common.{inl, inr}
 use Rattle.std.specs.Borrow.{MutBor}
 
@@ -12,3 +12,9 @@ abbrev pub given_back : {A : Type 0} → Unit {0} ⊎ ((MutBor A × Unit {0}) �
 given_back (inl none) = None
 given_back (inr (inl r)) = Some r.0.now
 given_back (inr (inr e)) = absurd e
+
+-- where there is a count, it went up by at most so many
+abbrev pub GoesUpTo : ℕ → Option ℕ → Option ℕ → Type 0
+GoesUpTo most (Some old) (Some new) = new ≤ old + most
+GoesUpTo most None None = ⊤
+GoesUpTo most _ _ = ⊥

@@ -1,5 +1,6 @@
-ghost use Rattle.std.specs.Prelude.{◌≡◌, IfErr, IfOk, None, Some, option_map};
-ghost use Rattle.uca_cli.specs.Borrowed.{borrowed, given_back};
+ghost use Rattle.std.specs.Prelude.{◌≡◌, ◌+◌, ◌≤◌, IfErr, IfOk, None, Some, option_map};
+ghost use Rattle.uca_weights.specs.declared.limits.TheConstants.{MAX_INPUT, MAX_RULES};
+ghost use Rattle.uca_cli.specs.Borrowed.{borrowed, given_back, GoesUpTo};
 ghost use Rattle.uca_commands.specs.Commands.{Does, Fails};
 ghost use Rattle.uca_cli.specs.Performing.{command_of, Performs, ReadsTable, Refuses, StopsTable, settings_of};
 
@@ -17,6 +18,7 @@ use uca_weights::{Reader, Settings, Writer};
 fn table_in<T: Reader>(alloc: Global, reader: &mut T) -> Result<Table, CliFault>
     ensures ok { IfOk result (ReadsTable (Some (T.state reader.old)) (Some (T.state reader.new))) }
     ensures err { IfErr result (StopsTable (Some (T.state reader.old)) (Some (T.state reader.new))) }
+    ensures calls { T.calls reader.new ≤ T.calls reader.old + (MAX_INPUT + 1) }
 {
     match read_table(alloc, reader) {
         Ok(t) => Ok(t),
@@ -49,6 +51,7 @@ fn work<I: Reader, W: Writer>(
     ensures fault { IfErr result (Fails (command_of job.now.command job.now.raw) t.now (settings_of job.now)
         (record { input = I.state input.old; output = W.state output.old })
         (record { input = I.state input.new; output = W.state output.new })) }
+    ensures calls { I.calls input.new ≤ I.calls input.old + (MAX_INPUT + 1) }
 {
     let settings = Settings {
         strength: job.strength,
@@ -86,6 +89,9 @@ fn perform_tailored<T: Reader, U: Reader, I: Reader, W: Writer>(
     ensures fault { IfErr result (Refuses job.now (record { table = Some (T.state table.old); rules = Some (U.state rules.old) }) (record { table = Some (T.state table.new); rules = Some (U.state rules.new) })
         (record { input = I.state input.old; output = W.state output.old })
         (record { input = I.state input.new; output = W.state output.new })) }
+    ensures table_calls { T.calls table.new ≤ T.calls table.old + (MAX_INPUT + 1) }
+    ensures rule_calls { U.calls rules.new ≤ U.calls rules.old + (MAX_RULES + 1) }
+    ensures calls { I.calls input.new ≤ I.calls input.old + (MAX_INPUT + 1) }
 {
     match table_in(alloc, table) {
         Ok(t) => match tailored_in(alloc, t, rules) {
@@ -110,6 +116,8 @@ fn perform_with<T: Reader, I: Reader, W: Writer>(
     ensures fault { IfErr result (Refuses job.now (record { table = Some (T.state table.old); rules = None }) (record { table = Some (T.state table.new); rules = None })
         (record { input = I.state input.old; output = W.state output.old })
         (record { input = I.state input.new; output = W.state output.new })) }
+    ensures table_calls { T.calls table.new ≤ T.calls table.old + (MAX_INPUT + 1) }
+    ensures calls { I.calls input.new ≤ I.calls input.old + (MAX_INPUT + 1) }
 {
     match table_in(alloc, table) {
         Ok(t) => work(alloc, job, &t, input, output),
@@ -131,6 +139,8 @@ fn perform_own_tailored<U: Reader, I: Reader, W: Writer>(
     ensures fault { IfErr result (Refuses job.now (record { table = None; rules = Some (U.state rules.old) }) (record { table = None; rules = Some (U.state rules.new) })
         (record { input = I.state input.old; output = W.state output.old })
         (record { input = I.state input.new; output = W.state output.new })) }
+    ensures rule_calls { U.calls rules.new ≤ U.calls rules.old + (MAX_RULES + 1) }
+    ensures calls { I.calls input.new ≤ I.calls input.old + (MAX_INPUT + 1) }
 {
     match own_table(alloc) {
         Ok(t) => match tailored_in(alloc, t, rules) {
@@ -154,6 +164,7 @@ fn perform_alone<I: Reader, W: Writer>(
     ensures fault { IfErr result (Refuses job.now (record { table = None; rules = None }) (record { table = None; rules = None })
         (record { input = I.state input.old; output = W.state output.old })
         (record { input = I.state input.new; output = W.state output.new })) }
+    ensures calls { I.calls input.new ≤ I.calls input.old + (MAX_INPUT + 1) }
 {
     match own_table(alloc) {
         Ok(t) => work(alloc, job, &t, input, output),
@@ -168,7 +179,8 @@ fn perform_alone<I: Reader, W: Writer>(
 /// Where there is no reader of a table, it works with the built-in table, and where there is none of rules, with the table
 /// as it is. At a fault of the table nothing else was read, at one of the rules nothing of the input, and at each of these
 /// and at one of the input nothing was written. On a fault of the output, or on an allocation failure while it is written,
-/// its front went out; `written` counts over the whole run. It does not flush the writer.
+/// its front went out; `written` counts over the whole run. It does not flush the writer. Of a reader that counts its calls
+/// it makes at most one more than the limit of that text has bytes.
 pub fn perform<T: Reader, U: Reader, I: Reader, W: Writer>(
     alloc: Global,
     job: &Job,
@@ -187,6 +199,9 @@ pub fn perform<T: Reader, U: Reader, I: Reader, W: Writer>(
         (record { table = option_map T.state (given_back table.exit); rules = option_map U.state (given_back rules.exit) })
         (record { input = I.state input.old; output = W.state output.old })
         (record { input = I.state input.new; output = W.state output.new })) }
+    ensures table_calls { GoesUpTo (MAX_INPUT + 1) (option_map T.calls (borrowed table.entry)) (option_map T.calls (given_back table.exit)) }
+    ensures rule_calls { GoesUpTo (MAX_RULES + 1) (option_map U.calls (borrowed rules.entry)) (option_map U.calls (given_back rules.exit)) }
+    ensures calls { I.calls input.new ≤ I.calls input.old + (MAX_INPUT + 1) }
 {
     match table {
         Some(table) => {

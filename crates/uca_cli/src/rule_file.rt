@@ -1,4 +1,5 @@
-ghost use Rattle.std.specs.Prelude.{IfErr, IfOk};
+ghost use Rattle.std.specs.Prelude.{◌+◌, ◌≤◌, IfErr, IfOk};
+ghost use Rattle.uca_weights.specs.declared.limits.TheConstants.{MAX_RULES};
 ghost use Rattle.uca_cli.specs.RuleFile.{ReadsRuleBytes, ReadsRules, RefusesRules, StopsTailoring, TailorsBy};
 
 use simdutf8::compat::from_utf8;
@@ -13,6 +14,7 @@ use uca_weights::{MAX_RULES, Reader};
 fn read_rules<U: Reader>(alloc: Global, reader: &mut U) -> Result<Vec<u8>, CliFault>
     ensures ok { IfOk result (λ v. ReadsRuleBytes (U.state reader.old) (U.state reader.new) v.items) }
     ensures err { IfErr result (RefusesRules (U.state reader.old) (U.state reader.new)) }
+    ensures calls { U.calls reader.new ≤ U.calls reader.old + (MAX_RULES + 1) }
 {
     match read_whole(alloc, reader, MAX_RULES) {
         Ok(bytes) => Ok(bytes),
@@ -32,6 +34,7 @@ fn read_rules<U: Reader>(alloc: Global, reader: &mut U) -> Result<Vec<u8>, CliFa
 fn rules_in<U: Reader>(alloc: Global, reader: &mut U) -> Result<Rules, CliFault>
     ensures ok { IfOk result (λ r. ReadsRules (U.state reader.old) (U.state reader.new) r) }
     ensures err { IfErr result (RefusesRules (U.state reader.old) (U.state reader.new)) }
+    ensures calls { U.calls reader.new ≤ U.calls reader.old + (MAX_RULES + 1) }
 {
     let bytes = read_rules(alloc, reader)?;
     match from_utf8(&bytes) {
@@ -47,6 +50,7 @@ fn rules_in<U: Reader>(alloc: Global, reader: &mut U) -> Result<Rules, CliFault>
 pub fn tailored_in<U: Reader>(alloc: Global, t: Table, reader: &mut U) -> Result<Table, CliFault>
     ensures ok { IfOk result (TailorsBy (U.state reader.old) (U.state reader.new) t) }
     ensures err { IfErr result (StopsTailoring (U.state reader.old) (U.state reader.new) t) }
+    ensures calls { U.calls reader.new ≤ U.calls reader.old + (MAX_RULES + 1) }
 {
     let rules = rules_in(alloc, reader)?;
     Ok(tailor(alloc, &t, &rules)?)

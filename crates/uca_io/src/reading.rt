@@ -28,11 +28,13 @@ fn asked_for(room: usize) -> usize
     if room < CHUNK { room + 1 } else { CHUNK }
 }
 
-/// Reads bytes to their end, which are at most `limit`. It never asks for more than the first byte past the limit.
+/// Reads bytes to their end, which are at most `limit`. It never asks for more than the first byte past the limit, and makes at
+/// most `limit` + 1 calls of a reader that counts its calls.
 pub fn read_whole<R: Reader>(alloc: Global, reader: &mut R, limit: usize) -> Result<Vec<u8>, Stop>
-    ensures { MatchResult result
+    ensures reads { MatchResult result
         (λ v. GivesAll (R.state reader.old) (R.state reader.new) v.items × (length v.items ≤ limit))
         (λ stop. StopsAt limit stop (R.state reader.old) (R.state reader.new)) }
+    ensures calls { R.calls reader.new ≤ R.calls reader.old + (limit + 1) }
 {
     let mut bytes = Vec::new(alloc);
     let mut chunk = [0; CHUNK];

@@ -1,4 +1,9 @@
-use crate::{MAX_INPUT, MAX_LINE, Reader, Reading, Refused, WriteCause, Writing, write_whole};
+ghost use Rattle.std.specs.Prelude.{None};
+
+use crate::{
+    MAX_INPUT, MAX_LINE, Reader, Reading, Refused, Stop, WriteCause, Writing, read_whole,
+    write_whole,
+};
 use std::io;
 use std::io::{Read, Write};
 use std::test::Fail;
@@ -37,6 +42,38 @@ fn an_interrupted_read_is_refused_and_not_tried_again(rt: HostRuntime) {
     assert_eq!(rt; reader.pull(&mut buf), Ok(1));
     assert_eq!(rt; reader.pull(&mut buf), Err(Refused));
     assert_eq!(rt; reader.pull(&mut buf), Ok(1));
+}
+
+/// Gives a byte a call without end, and counts its calls.
+#[derive(Drop)]
+struct Drip {
+    calls: u64,
+}
+
+impl Reader for Drip {
+    ghost state = { λ _. record { coming = None; failures = 0 } };
+
+    ghost calls = { λ s. s.calls };
+
+    fn pull(&mut self, buf: &mut [u8]) -> Result<usize, Refused> {
+        self.calls = self.calls.saturating_add(1);
+        Ok(buf.len().min(1))
+    }
+}
+
+#[test]
+fn bytes_without_end_are_refused_at_the_first_one_past_the_limit(rt: HostRuntime) {
+    for limit in [0, 1, 1_000] {
+        let mut reader = Drip { calls: 0 };
+        let mut answer = read_whole(rt.alloc(), &mut reader, limit);
+        // Memory may be refused for the bytes.
+        if matches!(&answer, Err(Stop::OutOfMemory)) {
+            reader.calls = 0;
+            answer = read_whole(rt.alloc(), &mut reader, limit);
+        }
+        assert!(rt; matches!(&answer, Err(Stop::TooLarge)));
+        assert_eq!(rt; reader.calls, limit as u64 + 1);
+    }
 }
 
 /// Takes so many bytes, then fails or takes none.

@@ -1,4 +1,4 @@
-ghost use Rattle.std.specs.Prelude.{◌≡◌, ◌≤◌, length, MatchResult};
+ghost use Rattle.std.specs.Prelude.{◌≡◌, ◌+◌, ◌≤◌, length, MatchResult};
 ghost use Rattle.uca_io.specs.Reader.{GivesAll};
 ghost use Rattle.uca_lines.specs.Input.{StopsReading};
 
@@ -18,11 +18,12 @@ pub fn refused(cause: InputCause) -> InputFault
     }
 }
 
-/// Reads an input of lines to its end.
+/// Reads an input of lines to its end, by at most `MAX_INPUT` + 1 calls of a reader that counts its calls.
 pub fn read_input<I: Reader>(alloc: Global, input: &mut I) -> Result<Vec<u8>, InputFault>
-    ensures { MatchResult result
+    ensures reads { MatchResult result
         (λ v. GivesAll (I.state input.old) (I.state input.new) v.items × (length v.items ≤ MAX_INPUT))
         (λ f. StopsReading (I.state input.old) (I.state input.new) f) }
+    ensures calls { I.calls input.new ≤ I.calls input.old + (MAX_INPUT + 1) }
 {
     match read_whole(alloc, input, MAX_INPUT) {
         Ok(bytes) => Ok(bytes),

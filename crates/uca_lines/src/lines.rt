@@ -1,4 +1,5 @@
 ghost use Rattle.std.specs.Prelude.{◌≡◌, ◌≢◌, ◌∷◌, ℕ, ◌+◌, ◌<◌, ◌≤◌, length, drop, slice_index, All, IfErr, IfOk, IsFalse, IsTrue, IsUtf8, MatchResult};
+ghost use Rattle.uca_weights.specs.declared.limits.TheConstants.{MAX_INPUT};
 ghost use Rattle.uca_model.specs.Lines.{line_feed, lines_of, IsTextLine};
 ghost use Rattle.uca_lines.specs.Input.{HasInputFault, HasFaultAt, IsOneLine, ReadsLines, ReadsOneLine, RefusesInput, RefusesOneLine};
 
@@ -121,6 +122,7 @@ pub fn check_lines(bytes: &[u8]) -> Result<(), InputFault>
 pub fn read_lines<I: Reader>(alloc: Global, input: &mut I) -> Result<Vec<u8>, InputFault>
     ensures ok { IfOk result (λ v. ReadsLines (I.state input.old) (I.state input.new) v.items) }
     ensures err { IfErr result (RefusesInput (I.state input.old) (I.state input.new)) }
+    ensures calls { I.calls input.new ≤ I.calls input.old + (MAX_INPUT + 1) }
 {
     let bytes = read_input(alloc, input)?;
     check_lines(&bytes)?;
@@ -131,6 +133,7 @@ pub fn read_lines<I: Reader>(alloc: Global, input: &mut I) -> Result<Vec<u8>, In
 pub fn read_one_line<I: Reader>(alloc: Global, input: &mut I) -> Result<Vec<u8>, InputFault>
     ensures ok { IfOk result (λ v. ReadsOneLine (I.state input.old) (I.state input.new) v.items) }
     ensures err { IfErr result (RefusesOneLine (I.state input.old) (I.state input.new)) }
+    ensures calls { I.calls input.new ≤ I.calls input.old + (MAX_INPUT + 1) }
 {
     let bytes = read_lines(alloc, input)?;
     if !is_one_line(&bytes) {

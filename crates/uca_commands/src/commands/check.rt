@@ -1,4 +1,5 @@
 ghost use Rattle.std.specs.Prelude.{◌≡◌, ◌≤◌, ◌+◌, ◌++◌, ◌∷◌, [], length, decimal, IfErr, IfOk, MatchResult};
+ghost use Rattle.uca_weights.specs.declared.limits.TheConstants.{MAX_INPUT};
 ghost use Rattle.uca_io.specs.Writer.{WritesAll, WritesFront};
 ghost use Rattle.uca_model.specs.Lines.{line_feed};
 ghost use Rattle.uca_model.specs.TestFile.{failure_text, report_text};
@@ -85,6 +86,7 @@ pub fn run<I: Reader, W: Writer>(
     ensures fault { IfErr result (Fails check_command t.now s
         (record { input = I.state input.old; output = W.state output.old })
         (record { input = I.state input.new; output = W.state output.new })) }
+    ensures calls { I.calls input.new ≤ I.calls input.old + (MAX_INPUT + 1) }
 {
     let report = conform(t, s, input)?;
     write_report(report, output)?;

@@ -99,6 +99,7 @@ pub fn run<I: Reader, W: Writer>(
     ensures fault { IfErr result (Fails compare_command t.now s
         (record { input = I.state input.old; output = W.state output.old })
         (record { input = I.state input.new; output = W.state output.new })) }
+    ensures calls { I.calls input.new ≤ I.calls input.old + (MAX_INPUT + 1) }
 {
     let bytes = read_lines(alloc, input)?;
     write_orders(t, s, &bytes, output)?;

@@ -1,4 +1,5 @@
-ghost use Rattle.std.specs.Prelude.{IfErr, IfOk};
+ghost use Rattle.std.specs.Prelude.{◌+◌, ◌≤◌, IfErr, IfOk};
+ghost use Rattle.uca_weights.specs.declared.limits.TheConstants.{MAX_INPUT};
 ghost use Rattle.uca_commands.specs.Commands.{Does, Fails, elements_command};
 
 use crate::faults::CliFault;
@@ -22,6 +23,7 @@ pub fn run<I: Reader, W: Writer>(
     ensures fault { IfErr result (Fails elements_command t.now s
         (record { input = I.state input.old; output = W.state output.old })
         (record { input = I.state input.new; output = W.state output.new })) }
+    ensures calls { I.calls input.new ≤ I.calls input.old + (MAX_INPUT + 1) }
 {
     let bytes = read_lines(alloc, input)?;
     write_lines(alloc, LineForm::Elements, t, s, &bytes, output)?;

@@ -1,4 +1,5 @@
-ghost use Rattle.std.specs.Prelude.{All, IfErr, IfOk, MatchResult};
+ghost use Rattle.std.specs.Prelude.{◌+◌, ◌≤◌, All, IfErr, IfOk, MatchResult};
+ghost use Rattle.uca_weights.specs.declared.limits.TheConstants.{MAX_INPUT};
 ghost use Rattle.uca_io.specs.Writer.{WritesAll, WritesFront};
 ghost use Rattle.uca_model.specs.Lines.{lines_of, IsTextLine};
 ghost use Rattle.uca_commands.specs.Commands.{Does, Fails, key_command, raw_key_command, raw_key_output};
@@ -26,6 +27,7 @@ pub fn run<I: Reader, W: Writer>(
     ensures fault { IfErr result (Fails key_command t.now s
         (record { input = I.state input.old; output = W.state output.old })
         (record { input = I.state input.new; output = W.state output.new })) }
+    ensures calls { I.calls input.new ≤ I.calls input.old + (MAX_INPUT + 1) }
 {
     let bytes = read_lines(alloc, input)?;
     write_lines(alloc, LineForm::Key, t, s, &bytes, output)?;
@@ -66,6 +68,7 @@ pub fn run_raw<I: Reader, W: Writer>(
     ensures fault { IfErr result (Fails raw_key_command t.now s
         (record { input = I.state input.old; output = W.state output.old })
         (record { input = I.state input.new; output = W.state output.new })) }
+    ensures calls { I.calls input.new ≤ I.calls input.old + (MAX_INPUT + 1) }
 {
     let bytes = read_one_line(alloc, input)?;
     write_raw_key(t, s, &bytes, output)?;

@@ -170,13 +170,14 @@ pub fn order<R: Reader, W: Writer>(
     r: &mut R,
     w: &mut W,
 ) -> Result<u64, CliFault>
-    ensures { MatchResult result
+    ensures orders { MatchResult result
         (Orders t.now s
         (record { input = R.state r.old; output = W.state w.old })
         (record { input = R.state r.new; output = W.state w.new }))
         (RefusesOrder t.now s
         (record { input = R.state r.old; output = W.state w.old })
         (record { input = R.state r.new; output = W.state w.new })) }
+    ensures calls { R.calls r.new ≤ R.calls r.old + (MAX_INPUT + 1) }
 {
     match read_lines(alloc, r) {
         Ok(bytes) => write_in_order(alloc, t, s, &bytes, w),
@@ -198,6 +199,7 @@ pub fn run<I: Reader, W: Writer>(
     ensures fault { IfErr result (Fails order_command t.now s
         (record { input = I.state input.old; output = W.state output.old })
         (record { input = I.state input.new; output = W.state output.new })) }
+    ensures calls { I.calls input.new ≤ I.calls input.old + (MAX_INPUT + 1) }
 {
     order(alloc, t, s, input, output)?;
     Ok(0)

@@ -17,3 +17,15 @@ returns-in-Some-rules-2-clause-done g c = rw (c.in-None.is, c.in-Some-rules-2.is
 
 pub returns-in-Some-rules-2-clause-fault : goal.returns-in-Some-rules-2-clause-fault
 returns-in-Some-rules-2-clause-fault g c = rw (c.in-None.is, c.in-Some-rules-2.is) c.perform_own_tailored.ensures.fault
+
+pub returns-in-Some-rules-clause-table_calls : goal.returns-in-Some-rules-clause-table_calls
+returns-in-Some-rules-clause-table_calls g c = rw (c.in-Some.is) c.perform_tailored.ensures.table_calls
+
+pub returns-in-Some-rules-clause-rule_calls : goal.returns-in-Some-rules-clause-rule_calls
+returns-in-Some-rules-clause-rule_calls g c = rw (c.in-Some-rules.is) c.perform_tailored.ensures.rule_calls
+
+pub returns-in_default-clause-table_calls : goal.returns-in_default-clause-table_calls
+returns-in_default-clause-table_calls g c = rw (c.in-Some.is) c.perform_with.ensures.table_calls
+
+pub returns-in-Some-rules-2-clause-rule_calls : goal.returns-in-Some-rules-2-clause-rule_calls
+returns-in-Some-rules-2-clause-rule_calls g c = rw (c.in-Some-rules-2.is) c.perform_own_tailored.ensures.rule_calls

@@ -4,6 +4,6 @@ use Rattle.uca_lines.proofs.lines.read_lines.Goals as goal
 
 pub returns-clause-ok : goal.returns-clause-ok
 returns-clause-ok g c = record {
-  input = record { given = c.in_ok-bytes.ensures.0; small = c.in_ok-bytes.ensures.1 };
+  input = record { given = c.in_ok-bytes.ensures.reads.0; small = c.in_ok-bytes.ensures.reads.1 };
   lines = subst (λ (bytes : List ℕ). All IsTextLine (lines_of bytes)) c.deref.ensures.value c.in_ok-check_lines.ensures;
 }
