@@ -1,14 +1,12 @@
 -- Lemmas on safe texts: what one more character does to the longest run, and where the characters of a text stand.
-use Rattle.std.proofs.Common.{◌≡◌, ℕ, suc, ◌+◌, ◌≤◌, ◌<◌, max, true, cond, List, [], ◌∷◌, ◌++◌, length, take, drop, flat_map, All, if◌then◌else◌, append_assoc, length-append, encode_utf8_all, encode_utf8, refl, sym, ap, ap₂, subst, ◌∙◌, arith, inl, inr, append-nil}
+use Rattle.std.proofs.Common.{◌≡◌, ℕ, suc, ◌+◌, ◌-◌, ◌≤◌, ◌<◌, max, true, cond, List, [], ◌∷◌, ◌++◌, length, take, drop, flat_map, All, if◌then◌else◌, append_assoc, length-append, encode_utf8_all, encode_utf8, refl, sym, ap, ap₂, subst, ◌∙◌, arith, inl, inr, append-nil}
 use Rattle.std.proofs.lemmas.Bool.{cases_Bool, not_from_false}
 use Rattle.std.proofs.lemmas.List.Concat.{flat_map-append}
 use Rattle.std.proofs.lemmas.List.Elements.{All-push, All-take, All-drop, All-head}
-use Rattle.std.proofs.lemmas.List.{drop_at, take_at}
+use Rattle.std.proofs.lemmas.List.{drop_at, take_at, nil_from_length}
 use Rattle.std.proofs.lemmas.Str.{encode_same, length-encode, len_utf8_bounds, encodes-append, encodes-chars, chars_from_encodes}
 use Rattle.std.specs.Str.{chars, IsUtf8}
 use Rattle.std.specs.Char.{len_utf8}
-use Rattle.std.specs.Str.Iter.{char_indices_rest, char_indices_offset}
-use Rattle.std.specs.declared.str.CharIndices.{CharIndices}
 use Rattle.unicode_normalization.specs.Decompose.{decompose_canonical}
 use Rattle.unicode_normalization.specs.Forms.{nfd, decomposed, normalize}
 use Rattle.unicode_normalization.specs.Order.{is_nonstarter, is_reorderable, sink, canonical_order}
@@ -152,62 +150,49 @@ begins (y ∷ ys) (x ∷ xs) rest e =
     let same = encode_same x y (encode_utf8_all xs) (encode_utf8_all ys ++ rest) (e ∙ append_assoc (encode_utf8 y) (encode_utf8_all ys) rest) in
     ap₂ (λ z zs. z ∷ zs) same.0 (begins ys xs rest same.1)
 
--- the bytes of a text with one more character
-encode_push : (front : List ℕ) (c : ℕ) → encode_utf8_all (front ++ c ∷ []) ≡ encode_utf8_all front ++ encode_utf8 c
-encode_push front c = encodes-append front (c ∷ []) ∙ ap (λ xs. encode_utf8_all front ++ xs) (append-nil (encode_utf8 c))
+-- the bytes of the text are those of `front` and then others
+abbrev pub StandsAfter : List ℕ → List ℕ → List ℕ → Type 0
+StandsAfter text rest front = text ≡ encode_utf8_all front ++ rest
 
--- the iterator over the characters of the text stands after those of `front`
-pub record StandsAfter (text : List ℕ) (it : CharIndices) (front : List ℕ) : Type 0 where
-  pub bytes : text ≡ encode_utf8_all front ++ char_indices_rest it
-  pub offset : char_indices_offset it ≡ length (encode_utf8_all front)
+-- more characters were passed
+pub stands_over : (text rest front cs more : List ℕ) → StandsAfter text rest front → rest ≡ encode_utf8_all cs ++ more → StandsAfter text more (front ++ cs)
+stands_over text rest front cs more at is =
+    at ∙ ap (λ bs. encode_utf8_all front ++ bs) is ∙ sym (append_assoc (encode_utf8_all front) (encode_utf8_all cs) more) ∙ ap (λ bs. bs ++ more) (sym (encodes-append front cs))
 
--- at first it stands after none
-pub stands_first : (text : List ℕ) (it : CharIndices) → char_indices_rest it ≡ text → char_indices_offset it ≡ 0 → StandsAfter text it []
-stands_first text it rest none = record { bytes = sym rest; offset = none }
-
--- a step takes it past a character
-pub stands_next : (text : List ℕ) (s t : CharIndices) (front : List ℕ) (c : ℕ) → StandsAfter text s front → char_indices_rest s ≡ encode_utf8 c ++ char_indices_rest t → char_indices_offset t ≡ char_indices_offset s + length (encode_utf8 c) → StandsAfter text t (front ++ c ∷ [])
-stands_next text s t front c at rest offset = record {
-  bytes = at.bytes ∙ ap (λ bs. encode_utf8_all front ++ bs) rest ∙ sym (append_assoc (encode_utf8_all front) (encode_utf8 c) (char_indices_rest t)) ∙ ap (λ bs. bs ++ char_indices_rest t) (sym (encode_push front c));
-  offset = offset ∙ ap (λ k. k + length (encode_utf8 c)) at.offset ∙ sym (length-append (encode_utf8_all front) (encode_utf8 c)) ∙ ap length (sym (encode_push front c));
-}
+-- one more character was passed
+pub stands_next : (text rest front : List ℕ) (c : ℕ) (more : List ℕ) → StandsAfter text rest front → rest ≡ encode_utf8 c ++ more → StandsAfter text more (front ++ c ∷ [])
+stands_next text rest front c more at is = stands_over text rest front (c ∷ []) more at (is ∙ ap (λ bs. bs ++ more) (sym (append-nil (encode_utf8 c))))
 
 -- with the next character, `front` begins the text
-pub stands_in : (text : List ℕ) (s : CharIndices) (front : List ℕ) (c : ℕ) (rest : List ℕ) → StandsAfter text s front → IsUtf8 text → char_indices_rest s ≡ encode_utf8 c ++ rest → chars text ≡ (front ++ c ∷ []) ++ drop (length (front ++ c ∷ [])) (chars text)
-stands_in text s front c rest at utf8 is =
-    let whole : text ≡ encode_utf8_all front ++ (encode_utf8 c ++ rest) = at.bytes ∙ ap (λ bs. encode_utf8_all front ++ bs) is in
-    begins (front ++ c ∷ []) (chars text) rest (encodes-chars text utf8 ∙ whole ∙ sym (append_assoc (encode_utf8_all front) (encode_utf8 c) rest) ∙ ap (λ bs. bs ++ rest) (sym (encode_push front c)))
+stands_in : (text rest front : List ℕ) (c : ℕ) (more : List ℕ) → StandsAfter text rest front → IsUtf8 text → rest ≡ encode_utf8 c ++ more → chars text ≡ (front ++ c ∷ []) ++ drop (length (front ++ c ∷ [])) (chars text)
+stands_in text rest front c more at utf8 is = begins (front ++ c ∷ []) (chars text) more (encodes-chars text utf8 ∙ stands_next text rest front c more at is)
 
 -- at the end `front` is the text
-pub stands_last : (text : List ℕ) (s : CharIndices) (front : List ℕ) → StandsAfter text s front → IsUtf8 text → length (char_indices_rest s) ≡ 0 → front ≡ chars text
-stands_last text s front at utf8 none =
-    let nothing : char_indices_rest s ≡ [] = empty (char_indices_rest s) none in
-    let whole : encode_utf8_all front ≡ text = sym (append-nil (encode_utf8_all front)) ∙ ap (λ bs. encode_utf8_all front ++ bs) (sym nothing) ∙ sym at.bytes in
-    chars_from_encodes front text utf8 whole
-  where
-    empty : (xs : List ℕ) → length xs ≡ 0 → xs ≡ []
-    empty [] h = refl
-    empty (x ∷ xs) h = absurd (omega arith)
+pub stands_last : (text rest front : List ℕ) → StandsAfter text rest front → IsUtf8 text → length rest ≡ 0 → front ≡ chars text
+stands_last text rest front at utf8 none =
+    chars_from_encodes front text utf8 (sym (append-nil (encode_utf8_all front)) ∙ ap (λ bs. encode_utf8_all front ++ bs) (sym (nil_from_length rest none)) ∙ sym at)
 
 -- a text is not safe where some front with the next character isn't
-pub unsafe_from : (text : List ℕ) (s : CharIndices) (front : List ℕ) (c : ℕ) (rest : List ℕ) → StandsAfter text s front → IsUtf8 text → char_indices_rest s ≡ encode_utf8 c ++ rest → ¬ (IsSafe (front ++ c ∷ [])) → ¬ (IsSafe (chars text))
-unsafe_from text s front c rest at utf8 is unsafe safe =
-    unsafe (IsSafe-front (front ++ c ∷ []) (drop (length (front ++ c ∷ [])) (chars text)) (subst IsSafe (stands_in text s front c rest at utf8 is) safe))
+pub unsafe_from : (text rest front : List ℕ) (c : ℕ) (more : List ℕ) → StandsAfter text rest front → IsUtf8 text → rest ≡ encode_utf8 c ++ more → ¬ (IsSafe (front ++ c ∷ [])) → ¬ (IsSafe (chars text))
+unsafe_from text rest front c more at utf8 is unsafe safe =
+    unsafe (IsSafe-front (front ++ c ∷ []) (drop (length (front ++ c ∷ [])) (chars text)) (subst IsSafe (stands_in text rest front c more at utf8 is) safe))
 
 -- where a safe front and the next character aren't safe together, this character is the first with which the text isn't
-pub long_run_here : (text : List ℕ) (s : CharIndices) (front : List ℕ) (c : ℕ) (rest : List ℕ) (offset : ℕ) → StandsAfter text s front → IsUtf8 text → offset ≡ char_indices_offset s → char_indices_rest s ≡ encode_utf8 c ++ rest → IsSafe front → ¬ (IsSafe (front ++ c ∷ [])) → IsLongRunAt (chars text) offset
-long_run_here text s front c rest offset at utf8 o is safe unsafe =
-    let all : chars text ≡ (front ++ c ∷ []) ++ drop (length (front ++ c ∷ [])) (chars text) = stands_in text s front c rest at utf8 is in
-    let more = drop (length (front ++ c ∷ [])) (chars text) in
+pub long_run_here : (text rest front : List ℕ) (c : ℕ) (more : List ℕ) (offset : ℕ) → StandsAfter text rest front → IsUtf8 text → offset ≡ length text - length rest → rest ≡ encode_utf8 c ++ more → IsSafe front → ¬ (IsSafe (front ++ c ∷ [])) → IsLongRunAt (chars text) offset
+long_run_here text rest front c more offset at utf8 o is safe unsafe =
+    let all : chars text ≡ (front ++ c ∷ []) ++ drop (length (front ++ c ∷ [])) (chars text) = stands_in text rest front c more at utf8 is in
+    let others = drop (length (front ++ c ∷ [])) (chars text) in
     let n = length front in
-    let before : take n (chars text) ≡ front = ap (take n) (all ∙ append_assoc front (c ∷ []) more) ∙ take_at front (c ∷ more) n refl in
+    let before : take n (chars text) ≡ front = ap (take n) (all ∙ append_assoc front (c ∷ []) others) ∙ take_at front (c ∷ others) n refl in
     let longer : length (front ++ c ∷ []) ≡ suc n = length-append front (c ∷ []) ∙ (let e : n + 1 ≡ suc n = omega arith in e) in
-    let through : take (suc n) (chars text) ≡ front ++ c ∷ [] = ap (take (suc n)) all ∙ take_at (front ++ c ∷ []) more (suc n) longer in
-    let total : length (chars text) ≡ length (front ++ c ∷ []) + length more = ap length all ∙ length-append (front ++ c ∷ []) more in
+    let through : take (suc n) (chars text) ≡ front ++ c ∷ [] = ap (take (suc n)) all ∙ take_at (front ++ c ∷ []) others (suc n) longer in
+    let total : length (chars text) ≡ length (front ++ c ∷ []) + length others = ap length all ∙ length-append (front ++ c ∷ []) others in
+    let size : length text ≡ length (encode_utf8_all front) + length rest = ap length at ∙ length-append (encode_utf8_all front) rest in
+    let passed : offset ≡ length (encode_utf8_all front) = omega arith in
     record {
       place = n;
       inside = omega arith;
-      offset = o ∙ at.offset ∙ ap (λ cs. length (encode_utf8_all cs)) (sym before);
+      offset = passed ∙ ap (λ cs. length (encode_utf8_all cs)) (sym before);
       before = subst IsSafe (sym before) safe;
       through = λ both. unsafe (subst IsSafe through both);
     }

@@ -6,3 +6,7 @@ pub mod PlacedPoints
 pub mod SegmentLemmas
 pub mod WindowCalls
 pub mod FillingLemmas
+pub mod PassedCharacters
+pub mod PassedRuns
+pub mod PassedBytes
+pub mod PassedLanes

@@ -1,10 +1,9 @@
 -- Lemmas on a scan: what it knows of the characters so far, and what one more shows.
-use Rattle.std.proofs.Common.{◌≡◌, ℕ, ◌+◌, ◌≤◌, ◌<◌, max, not, false, ◌==◌, List, [], ◌∷◌, ◌++◌, length, drop, get_or, flat_map, ne_eqb, encode_utf8, refl, sym, ap, subst, ◌∙◌, arith}
-use Rattle.std.proofs.lemmas.Bool.{cond-false}
+use Rattle.std.proofs.Common.{◌≡◌, ℕ, ◌+◌, ◌-◌, ◌≤◌, ◌<◌, max, not, true, false, ◌==◌, List, [], ◌∷◌, ◌++◌, length, drop, get_or, flat_map, ne_eqb, encode_utf8, refl, sym, ap, subst, ◌∙◌, arith, append_assoc, append-nil}
+use Rattle.std.proofs.lemmas.Bool.{cond-false, and_parts}
 use Rattle.std.proofs.lemmas.List.{drop_more}
 use Rattle.std.specs.Str.{chars, IsUtf8}
-use Rattle.std.specs.Str.Iter.{char_indices_rest, char_indices_offset}
-use Rattle.std.specs.declared.str.CharIndices.{CharIndices}
+use Rattle.std.specs.List.{list_all}
 use Rattle.unicode.specs.CanonicalCombiningClass.{canonical_combining_class as ccc}
 use Rattle.unicode_normalization.specs.Decompose.{decompose_canonical}
 use Rattle.unicode_normalization.specs.Forms.{nfd, Nfd}
@@ -13,8 +12,10 @@ use Rattle.unicode_normalization.proofs.DecomposeLemmas.{decompose-final}
 use Rattle.unicode_normalization.proofs.FormsLemmas.{is_final-Nfd, quick_check-below, class-latin}
 use Rattle.uca_weights.specs.declared.limits.TheConstants.{MAX_RUN, MAX_DECOMPOSITION}
 use Rattle.uca_model.specs.SafeText.{longest_run_after, longest_run, IsSafe, IsLongRunAt}
-use Rattle.uca_model.proofs.SafeLemmas.{run_after, one_too_many, ends-append, length-nfd_one, parts-push, runs-push, safe_none, safe_more, short_last, StandsAfter, stands_first, stands_next, stands_last, unsafe_from, long_run_here}
+use Rattle.uca_model.proofs.SafeLemmas.{run_after, one_too_many, ends-append, length-nfd_one, parts-push, runs-push, safe_none, safe_more, short_last, StandsAfter, stands_over, stands_next, stands_last, unsafe_from, long_run_here}
+use Rattle.uca_window.specs.Passing.{is_passed, last_of, Passes, ending}
 use Rattle.uca_window.specs.Scan.{Fits}
+use Rattle.uca_window.proofs.PassedRuns.{passed_fits, passed_ends, own_run_within, ending-passed}
 
 -- the characters so far are safe, and end in so many nonstarters
 pub record Scanned (front : List ℕ) (count : ℕ) : Type 0 where
@@ -73,33 +74,53 @@ full_run n i c class points h is k mark full =
     let g : n < longest_run_after n (c ∷ drop (i + 1) points) = one_too_many n c (drop (i + 1) points) (ap not (ne_eqb (ccc c) 0 (λ z. mark (k ∙ z)))) in
     omega arith
 
--- the iterator stands after characters that are safe, and end in so many nonstarters
-pub record ScannedTo (text : List ℕ) (it : CharIndices) (count : ℕ) : Type 0 where
+-- what is left of the text stands after characters that are safe, and end in so many nonstarters
+pub record ScannedTo (text rest : List ℕ) (count : ℕ) : Type 0 where
   pub front : List ℕ
-  pub stands : StandsAfter text it front
+  pub stands : StandsAfter text rest front
   pub scan : Scanned front count
 
 -- at first none are scanned
-pub scanned_start : (text : List ℕ) (it : CharIndices) → char_indices_rest it ≡ text → char_indices_offset it ≡ 0 → ScannedTo text it 0
-scanned_start text it rest none = record { front = []; stands = stands_first text it rest none; scan = scanned_none }
+pub scanned_start : (text : List ℕ) (count : ℕ) → count ≡ 0 → ScannedTo text text count
+scanned_start text count none = record { front = []; stands = refl; scan = subst (Scanned []) (sym none) scanned_none }
+
+-- one more character that is passed
+scanned_one : (front : List ℕ) (last run c : ℕ) → Scanned front (ending last run) → is_passed c ≡ true → Scanned (front ++ c ∷ []) (ending c run)
+scanned_one front last run c s passed =
+    let is : ending c run ≡ run_after 0 (decompose_canonical c) = ending-passed c run passed in
+    scanned_more front (ending last run) c (ending c run) s (passed_fits (ending last run) c s.within passed) (subst (λ n. n ≤ MAX_RUN) (sym is) (own_run_within c)) (is ∙ sym (passed_ends (ending last run) c passed))
+
+-- and more of them
+scanned_all : (front : List ℕ) (last run : ℕ) (cs : List ℕ) → Scanned front (ending last run) → list_all is_passed cs ≡ true → Scanned (front ++ cs) (ending (last_of last cs) run)
+scanned_all front last run [] s all = subst (λ xs. Scanned xs (ending last run)) (sym (append-nil front)) s
+scanned_all front last run (c ∷ cs) s all =
+    let parts = and_parts (is_passed c) (list_all is_passed cs) all in
+    subst (λ xs. Scanned xs (ending (last_of c cs) run)) (append_assoc front (c ∷ []) cs) (scanned_all (front ++ c ∷ []) c run cs (scanned_one front last run c s parts.0) parts.1)
+
+-- past characters that are passed
+pub scanned_pass : (text rest others : List ℕ) (last end run : ℕ) → ScannedTo text rest (ending last run) → Passes rest last others end → ScannedTo text others (ending end run)
+scanned_pass text rest others last end run at p = record {
+  front = at.front ++ p.front;
+  stands = stands_over text rest at.front p.front others at.stands p.parts;
+  scan = subst (λ c. Scanned (at.front ++ p.front) (ending c run)) (sym p.end_is) (scanned_all at.front last run p.front at.scan p.passed);
+}
 
 -- a step past a character that fits
-pub scanned_step : (text : List ℕ) (s t : CharIndices) (count c n : ℕ) → ScannedTo text s count → char_indices_rest s ≡ encode_utf8 c ++ char_indices_rest t → char_indices_offset t ≡ char_indices_offset s + length (encode_utf8 c)
-    → Fits count c → n ≤ MAX_RUN → n ≡ run_after count (decompose_canonical c) → ScannedTo text t n
-scanned_step text s t count c n at rest offset fits within is = record {
+pub scanned_step : (text rest more : List ℕ) (count c n : ℕ) → ScannedTo text rest count → rest ≡ encode_utf8 c ++ more → Fits count c → n ≤ MAX_RUN → n ≡ run_after count (decompose_canonical c) → ScannedTo text more n
+scanned_step text rest more count c n at is fits within run = record {
   front = at.front ++ c ∷ [];
-  stands = stands_next text s t at.front c at.stands rest offset;
-  scan = scanned_more at.front count c n at.scan fits within is;
+  stands = stands_next text rest at.front c more at.stands is;
+  scan = scanned_more at.front count c n at.scan fits within run;
 }
 
 -- a text with a character that doesn't fit is not safe
-pub not_safe : (text : List ℕ) (s : CharIndices) (count c : ℕ) (rest : List ℕ) → ScannedTo text s count → IsUtf8 text → char_indices_rest s ≡ encode_utf8 c ++ rest → ¬ (Fits count c) → ¬ (IsSafe (chars text))
-not_safe text s count c rest at utf8 is unfit = unsafe_from text s at.front c rest at.stands utf8 is (scanned_stop at.front count c at.scan unfit)
+pub not_safe : (text rest more : List ℕ) (count c : ℕ) → ScannedTo text rest count → IsUtf8 text → rest ≡ encode_utf8 c ++ more → ¬ (Fits count c) → ¬ (IsSafe (chars text))
+not_safe text rest more count c at utf8 is unfit = unsafe_from text rest at.front c more at.stands utf8 is (scanned_stop at.front count c at.scan unfit)
 
 -- and this character is the first with which it isn't
-pub long_run_at : (text : List ℕ) (s : CharIndices) (count c : ℕ) (rest : List ℕ) (offset : ℕ) → ScannedTo text s count → IsUtf8 text → offset ≡ char_indices_offset s → char_indices_rest s ≡ encode_utf8 c ++ rest → ¬ (Fits count c) → IsLongRunAt (chars text) offset
-long_run_at text s count c rest offset at utf8 o is unfit = long_run_here text s at.front c rest offset at.stands utf8 o is at.scan.safe (scanned_stop at.front count c at.scan unfit)
+pub long_run_at : (text rest more : List ℕ) (count c offset : ℕ) → ScannedTo text rest count → IsUtf8 text → offset ≡ length text - length rest → rest ≡ encode_utf8 c ++ more → ¬ (Fits count c) → IsLongRunAt (chars text) offset
+long_run_at text rest more count c offset at utf8 o is unfit = long_run_here text rest at.front c more offset at.stands utf8 o is at.scan.safe (scanned_stop at.front count c at.scan unfit)
 
 -- a text that is scanned to its end is safe
-pub all_safe : (text : List ℕ) (s : CharIndices) (count : ℕ) → ScannedTo text s count → IsUtf8 text → length (char_indices_rest s) ≡ 0 → IsSafe (chars text)
-all_safe text s count at utf8 none = subst IsSafe (stands_last text s at.front at.stands utf8 none) at.scan.safe
+pub all_safe : (text rest : List ℕ) (count : ℕ) → ScannedTo text rest count → IsUtf8 text → length rest ≡ 0 → IsSafe (chars text)
+all_safe text rest count at utf8 none = subst IsSafe (stands_last text rest at.front at.stands utf8 none) at.scan.safe

@@ -3,3 +3,4 @@ pub mod Scan
 pub mod PassageSource
 pub mod Segment
 pub mod Filling
+pub mod Passing

@@ -9,6 +9,7 @@
 pub mod decomposition;
 pub mod passage;
 pub mod passage_source;
+mod passing;
 mod points;
 pub mod source;
 pub mod window;

@@ -1,8 +1,10 @@
 ghost use Rattle.std.specs.Prelude.{◌≡◌, ◌≤◌, ◌<◌, ◌↔◌, length, chars, IfOk, IfErr, IsOk, IfSome, IfNone, IsSome};
 ghost use Rattle.unicode_normalization.specs.Decompose.{decompose_canonical};
 ghost use Rattle.uca_model.specs.SafeText.{IsSafe, IsLongRunAt, longest_run_after};
+ghost use Rattle.uca_window.specs.Passing.{ending};
 ghost use Rattle.uca_window.specs.Scan.{run_after, Fits};
 
+use crate::passing::{is_passed, pass};
 use thiserror::Error;
 use uca_weights::{MAX_DECOMPOSITION, MAX_RUN};
 use unicode_normalization::Form;
@@ -55,19 +57,58 @@ impl<'t> Passage<'t> {
 }
 
 /// Goes over the characters to the first with which the text is no longer safe. The NFD has its nonstarters in
-/// another order, but their runs are as long as those of the decompositions, so nothing is put in order.
+/// another order, but their runs are as long as those of the decompositions, so nothing is put in order. Most characters
+/// are passed: the nonstarters after one of these are counted from the last alone.
 fn scan(text: &str) -> Result<(), LongRun>
     ensures safe { IsOk result ↔ IsSafe (chars text.now) }
     ensures long { IfErr result (λ e. IsLongRunAt (chars text.now) e.at) }
 {
+    let mut rest = text;
+    let mut last = '\0';
     let mut run = 0;
-    for (at, c) in text.char_indices() {
-        match run_after_char(run, c) {
+    loop {
+        let (others, end) = pass(rest, last);
+        let mut characters = others.chars();
+        let Some(c) = characters.next() else {
+            return Ok(());
+        };
+        match run_with(end, run, c) {
             Some(n) => run = n,
-            None => return Err(LongRun { at }),
+            None => {
+                return Err(LongRun {
+                    at: text.len() - others.len(),
+                });
+            }
         }
+        last = c;
+        rest = characters.as_str();
     }
-    Ok(())
+}
+
+/// How many nonstarters the NFD of a character ends in.
+fn own_run(c: char) -> usize
+    ensures { result ≡ run_after 0 (decompose_canonical c) }
+{
+    run_after_char(0, c).unwrap_or(0)
+}
+
+/// How many nonstarters stand in a row at a place: those of the character before it where that is passed, else `run`.
+fn run_at(last: char, run: usize) -> usize
+    ensures { result ≡ ending last run }
+{
+    if is_passed(last) { own_run(last) } else { run }
+}
+
+/// The same after one more character, unless the text is no longer safe with it.
+fn run_with(last: char, run: usize, c: char) -> Option<usize>
+    requires { ending last run ≤ MAX_RUN }
+    ensures count { IfSome result (λ n. (ending c n ≤ MAX_RUN) × (ending c n ≡ run_after (ending last run) (decompose_canonical c))) }
+    ensures fits { IsSome result ↔ Fits (ending last run) c }
+{
+    if is_passed(c) {
+        return Some(0);
+    }
+    run_after_char(run_at(last, run), c)
 }
 
 /// How many nonstarters stand in a row after a character, unless they are too many or its decomposition is too

@@ -57,7 +57,7 @@ fn long_decompositions_are_accepted(rt: HostRuntime) {
 
 #[test]
 fn runs_are_counted_across_characters(rt: HostRuntime) {
-    let texts: [(&[(&str, usize)], Option<usize>); 20] = [
+    let texts: [(&[(&str, usize)], Option<usize>); 30] = [
         (&[], None),
         (&[("plain text, \u{E9}t\u{E9}", 3)], None),
         (&[("a", 1), ("\u{301}", 60), ("b", 1)], None),
@@ -94,6 +94,20 @@ fn runs_are_counted_across_characters(rt: HostRuntime) {
         ),
         (&[("\u{301}", 60), ("a", 64), ("\u{301}", 60)], None),
         (&[("\u{301}", 60), ("a", 64), ("\u{301}", 61)], Some(304)),
+        // Marks after a block of passed characters, of which the last may end in marks of its own.
+        (&[("a", 31), ("\u{301}", 60)], None),
+        (&[("a", 31), ("\u{301}", 61)], Some(151)),
+        (&[("\u{439}", 40), ("\u{301}", 59)], None),
+        (&[("\u{439}", 40), ("\u{301}", 60)], Some(198)),
+        (&[("\u{4E00}", 11), ("\u{301}", 60), ("\u{AC01}", 1)], None),
+        (&[("\u{4E00}", 11), ("\u{301}", 61)], Some(153)),
+        (&[("\u{304C}", 1), ("\u{3099}", 59)], None),
+        (&[("\u{304C}", 1), ("\u{3099}", 60)], Some(180)),
+        (
+            &[("\u{301}", 59), ("\u{304B}", 1), ("\u{309A}", 61)],
+            Some(301),
+        ),
+        (&[("\u{483}", 61)], Some(120)),
     ];
     for (pieces, want) in texts {
         let Ok(text) = join(rt.alloc(), pieces) else {

@@ -1,43 +1,52 @@
-use Rattle.std.proofs.Common.{◌≡◌, ◌+◌, length, encode_utf8, true, false, refl, ap, ◌∙◌, arith, length-append}
+use Rattle.std.proofs.Common.{◌≡◌, ◌≤◌, true, false, refl, sym, ap, subst, ◌∙◌, arith, encode_utf8, ◌++◌, length}
 use Rattle.std.specs.Str.{chars}
-use Rattle.std.specs.Str.Iter.{char_indices_rest, char_indices_offset}
+use Rattle.std.specs.Str.Iter.{chars_rest}
 use Rattle.uca_model.specs.SafeText.{IsSafe}
+use Rattle.uca_window.specs.Passing.{ending}
 use Rattle.uca_window.specs.Scan.{Fits}
-use Rattle.uca_window.proofs.RunScan.{scanned_start, scanned_step, not_safe, long_run_at, all_safe}
+use Rattle.uca_window.proofs.RunScan.{ScannedTo, latin_ends, scanned_start, scanned_pass, scanned_step, not_safe, long_run_at, all_safe}
 use Rattle.uca_window.proofs.passage.scan.Goals as goal
 
-pub loop-at-init : goal.loop-at-init
-loop-at-init c =
-    let it = c.into_iter-at-iterator.result in
-    let same : it ≡ c.char_indices-at-items.result = c.into_iter-at-iterator.ensures.into_iter_gives in
-    let rest : char_indices_rest it ≡ c.args.text.now = ap char_indices_rest same ∙ c.char_indices-at-items.ensures.rest in
-    let none : char_indices_offset it ≡ 0 = ap char_indices_offset same ∙ c.char_indices-at-items.ensures.offset in
-    let long : length (char_indices_rest it) ≡ length c.args.text.now = ap length rest in
-    record { can = omega (arith, c.char_indices-at-items.ensures.len); finite = tt; scanned = scanned_start c.args.text.now it rest none }
+pub loop-c-init : goal.loop-c-init
+loop-c-init c = (c.utf8.text, scanned_start c.args.text.now _ (sym (latin_ends 0 0 (omega arith))))
 
-pub loop-at-preserved : goal.loop-at-preserved
-loop-at-preserved c =
-    let s = c.in-Some.ensures.steps in
-    let n = c.in-Some-run_after_char.ensures.count in
-    let long : length (char_indices_rest c.loop-at.at-iterator) ≡ length (encode_utf8 c.in-Some.c) + length (char_indices_rest c.next.new.self) = ap length s.1 ∙ length-append (encode_utf8 c.in-Some.c) (char_indices_rest c.next.new.self) in
-    record {
-      can = omega (arith, c.loop-at.invariant.can, s.2);
-      finite = tt;
-      scanned = scanned_step c.args.text.now c.loop-at.at-iterator c.next.new.self c.loop-at.run c.in-Some.c c.in-Some-run_after_char.n c.loop-at.invariant.scanned s.1 s.2 (c.in-Some-run_after_char.ensures.fits.0 refl) n.0 n.1;
-    }
+pub returns-in_default-clause-safe : goal.returns-in_default-clause-safe
+returns-in_default-clause-safe c =
+    let others = c.pass-end.result.0.now in
+    let at : ScannedTo c.args.text.now others (ending c.pass-end.result.1 c.loop-c.run) = scanned_pass c.args.text.now c.loop-c.rest.now others c.loop-c.last c.pass-end.result.1 c.loop-c.run c.loop-c.invariant.1 c.pass-end.ensures in
+    let none : length others ≡ 0 = ap length (sym c.chars-characters.ensures.rest) ∙ c.in_default.ensures.steps.0.0 in
+    (λ _. all_safe c.args.text.now others _ at c.utf8.text none, λ _. refl)
 
-pub returns-in-None-run_after_char-clause-safe : goal.returns-in-None-run_after_char-clause-safe
-returns-in-None-run_after_char-clause-safe c =
-    let s = c.in-Some.ensures.steps in
-    let unfit : ¬ (Fits c.loop-at.run c.in-Some.c) = λ f. let e : false ≡ true = c.in-None-run_after_char.ensures.fits.1 f in cc in
-    let unsafe : ¬ (IsSafe (chars c.args.text.now)) = not_safe c.args.text.now c.loop-at.at-iterator c.loop-at.run c.in-Some.c (char_indices_rest c.next.new.self) c.loop-at.invariant.scanned c.utf8.text s.1 unfit in
+pub run_with-requires : goal.run_with-requires
+run_with-requires c =
+    let others = c.pass-end.result.0.now in
+    let at : ScannedTo c.args.text.now others (ending c.pass-end.result.1 c.loop-c.run) = scanned_pass c.args.text.now c.loop-c.rest.now others c.loop-c.last c.pass-end.result.1 c.loop-c.run c.loop-c.invariant.1 c.pass-end.ensures in
+    at.scan.within
+
+pub returns-in-None-clause-safe : goal.returns-in-None-clause-safe
+returns-in-None-clause-safe c =
+    let others = c.pass-end.result.0.now in
+    let at : ScannedTo c.args.text.now others (ending c.pass-end.result.1 c.loop-c.run) = scanned_pass c.args.text.now c.loop-c.rest.now others c.loop-c.last c.pass-end.result.1 c.loop-c.run c.loop-c.invariant.1 c.pass-end.ensures in
+    let is : others ≡ encode_utf8 c.in-Some.c ++ chars_rest c.next.new.self = sym c.chars-characters.ensures.rest ∙ c.in-Some.ensures.steps.0 in
+    let unfit : ¬ (Fits (ending c.pass-end.result.1 c.loop-c.run) c.in-Some.c) = λ f. let e : false ≡ true = c.in-None.ensures.fits.1 f in cc in
+    let unsafe : ¬ (IsSafe (chars c.args.text.now)) = not_safe c.args.text.now others _ _ c.in-Some.c at c.utf8.text is unfit in
     (λ (e : false ≡ true). cc, λ safe. absurd (unsafe safe))
 
-pub returns-in-None-run_after_char-clause-long : goal.returns-in-None-run_after_char-clause-long
-returns-in-None-run_after_char-clause-long c =
-    let s = c.in-Some.ensures.steps in
-    let unfit : ¬ (Fits c.loop-at.run c.in-Some.c) = λ f. let e : false ≡ true = c.in-None-run_after_char.ensures.fits.1 f in cc in
-    long_run_at c.args.text.now c.loop-at.at-iterator c.loop-at.run c.in-Some.c (char_indices_rest c.next.new.self) c.in-Some.at c.loop-at.invariant.scanned c.utf8.text s.0 s.1 unfit
+pub returns-in-None-clause-long : goal.returns-in-None-clause-long
+returns-in-None-clause-long c =
+    let others = c.pass-end.result.0.now in
+    let at : ScannedTo c.args.text.now others (ending c.pass-end.result.1 c.loop-c.run) = scanned_pass c.args.text.now c.loop-c.rest.now others c.loop-c.last c.pass-end.result.1 c.loop-c.run c.loop-c.invariant.1 c.pass-end.ensures in
+    let is : others ≡ encode_utf8 c.in-Some.c ++ chars_rest c.next.new.self = sym c.chars-characters.ensures.rest ∙ c.in-Some.ensures.steps.0 in
+    let unfit : ¬ (Fits (ending c.pass-end.result.1 c.loop-c.run) c.in-Some.c) = λ f. let e : false ≡ true = c.in-None.ensures.fits.1 f in cc in
+    long_run_at c.args.text.now others _ _ c.in-Some.c _ at c.utf8.text refl is unfit
 
-pub returns-clause-safe : goal.returns-clause-safe
-returns-clause-safe c = (λ _. all_safe c.args.text.now c.loop-at.at-iterator c.loop-at.run c.loop-at.invariant.scanned c.utf8.text c.in-None.ensures.steps.0, λ _. refl)
+pub loop-c-preserved : goal.loop-c-preserved
+loop-c-preserved c =
+    let others = c.pass-end.result.0.now in
+    let at : ScannedTo c.args.text.now others (ending c.pass-end.result.1 c.loop-c.run) = scanned_pass c.args.text.now c.loop-c.rest.now others c.loop-c.last c.pass-end.result.1 c.loop-c.run c.loop-c.invariant.1 c.pass-end.ensures in
+    let is : others ≡ encode_utf8 c.in-Some.c ++ chars_rest c.next.new.self = sym c.chars-characters.ensures.rest ∙ c.in-Some.ensures.steps.0 in
+    let count = c.in-Some-run_with.ensures.count in (
+      c.as_str-rest.utf8,
+      subst (λ more. ScannedTo c.args.text.now more (ending c.in-Some.c c.in-Some-run_with.n)) (sym c.as_str-rest.ensures)
+          (scanned_step c.args.text.now others (chars_rest c.next.new.self) (ending c.pass-end.result.1 c.loop-c.run) c.in-Some.c _ at is (c.in-Some-run_with.ensures.fits.0 refl) count.0 count.1),
+    )

@@ -1,9 +1,12 @@
+use Rattle.std.proofs.Common.{length}
+use denote.Text.{Utf8}
+use denote.Shadow.{shadow}
+use Rattle.uca_window.specs.Passing.{ending}
 use Rattle.uca_window.proofs.RunScan.{ScannedTo}
 use Rattle.uca_window.proofs.passage.scan.Given as goal
 
-abbrev pub invariant-loop-at : goal.invariant-loop-at
-invariant-loop-at l = record {
-  can : (goal.iterator-loop-at).can_next l.at-iterator;
-  finite : (goal.iterator-loop-at).is_finite l.at-iterator;
-  scanned : ScannedTo l.text l.at-iterator l.run;
-}
+abbrev pub invariant-loop-c : goal.invariant-loop-c
+invariant-loop-c l = shadow (Utf8 l.rest) × ScannedTo l.text l.rest (ending l.last l.run)
+
+abbrev pub decreases-loop-c : goal.decreases-loop-c
+decreases-loop-c l = length l.rest

@@ -1,0 +1,159 @@
+-- The NFD of a passed code point begins with a starter, by the rows of the kit.
+use Rattle.std.proofs.Common.{◌≡◌, ℕ, zero, suc, ◌+◌, ◌-◌, ◌/◌, ◌%◌, ◌≤◌, ◌<◌, Bool, true, false, not, ◌||◌, ◌==◌, nat_le, List, [], ◌∷◌, ◌++◌, length, flat_map, refl, sym, ap, ◌∙◌, arith, inl, inr}
+use Rattle.std.proofs.lemmas.Bool.{cases_Bool, cases_eq, cond-false, cond-true, and_parts}
+use Rattle.std.proofs.lemmas.Bool.Decides.{nat_tests}
+use Rattle.ucd_table.proofs.Facts.{tree_value, tree_of, tree_value-tree_of}
+use Rattle.ucd_table.proofs.RangedFacts.{points_ok, values_ok, Stepped-at_points}
+use Rattle.ucd_table.proofs.Computing.{tables}
+use Rattle.ucd_normal.specs.declared.forms.Form.TheVariants.{Nfd}
+use Rattle.ucd_normal.specs.CanonicalCombiningClass.{canonical_combining_class as ccc}
+use Rattle.ucd_normal.specs.Decomposition.{decomposition, canonical_mapping, if_canonical, or_itself, expand, canonical_decomposition}
+use Rattle.ucd_normal.specs.DecompositionRows.{Tag}
+use Rattle.ucd_normal.proofs.CanonicalCombiningClassLemmas.{canonical_combining_class_stepped}
+use Rattle.ucd_normal.proofs.CompositionLemmas.{is_empty}
+use Rattle.ucd_normal.proofs.DecompositionLemmas.{decomposition_stepped}
+use Rattle.unicode_normalization.specs.Decompose.{decompose}
+use Rattle.unicode_normalization.specs.Hangul.{is_syllable, decompose_hangul}
+use Rattle.unicode_normalization.specs.Order.{is_nonstarter}
+use Rattle.unicode_normalization.proofs.DecomposeLemmas.{decompose-syllable}
+use Rattle.unicode_normalization.proofs.HangulLemmas.{is_syllable-true, decompose_hangul-two, decompose_hangul-three}
+use Rattle.uca_model.specs.SafeText.{longest_run_after}
+use Rattle.uca_model.proofs.SafeLemmas.{run_after}
+use Rattle.uca_window.specs.Passing.{is_within, is_passed}
+
+-- ---- the rows
+
+-- no code point of another class than 0 is passed
+class-rows : (c : ℕ) → (ccc c == 0) ≡ false → not (is_passed c) ≡ true
+unfolding points_ok tables canonical_combining_class_stepped
+class-rows = Stepped-at_points ccc canonical_combining_class_stepped (λ n. n == 0) (λ c _. not (is_passed c)) refl
+
+-- there is a first code point, and it is passed
+abbrev pub first_passed : List ℕ → Bool
+first_passed [] = false
+first_passed (x ∷ xs) = is_passed x
+
+-- a mapping of a passed code point begins with one
+mapping-rows : (c : ℕ) → is_empty (canonical_mapping c) ≡ false → (not (is_passed c) || first_passed (canonical_mapping c)) ≡ true
+unfolding points_ok tables decomposition_stepped
+mapping-rows = Stepped-at_points decomposition decomposition_stepped (λ e. is_empty (if_canonical e)) (λ c e. not (is_passed c) || first_passed (if_canonical e)) refl
+
+-- the mappings, read by a tree
+entry_by_tree : ℕ → Tag × List ℕ
+unfolding tables points_ok values_ok decomposition_stepped
+entry_by_tree = tree_value decomposition_stepped.default (tree_of decomposition decomposition_stepped)
+
+same_entries : decomposition ≡ entry_by_tree
+unfolding entry_by_tree
+same_entries = tree_value-tree_of decomposition decomposition_stepped
+
+abbrev full : (ℕ → Tag × List ℕ) → ℕ → List ℕ
+full entry c = expand (λ y. if_canonical (entry y)) 3 c
+
+-- no full decomposition is longer than four code points
+length-rows : (c : ℕ) → is_empty (canonical_mapping c) ≡ false → nat_le (length (full decomposition c)) 4 ≡ true
+unfolding entry_by_tree expand points_ok tables decomposition_stepped
+length-rows c some =
+    ap (λ entry. nat_le (length (full entry c)) 4) same_entries
+    ∙ Stepped-at_points decomposition decomposition_stepped (λ e. is_empty (if_canonical e)) (λ x e. nat_le (length (full entry_by_tree x)) 4) refl c some
+
+-- ---- what follows from them
+
+-- a passed code point is a starter
+pub passed-starter : (c : ℕ) → is_passed c ≡ true → is_nonstarter c ≡ false
+passed-starter c passed = elim (cases_Bool (ccc c == 0)) [
+  | inl starter ↦ ap not starter
+  | inr other ↦ let clash : not true ≡ true = ap not (sym passed) ∙ class-rows c other in cc
+]
+
+-- of nothing, or of a list that begins with a passed code point
+abbrev AllRight : List ℕ → Type 0
+AllRight xs = (is_empty xs || first_passed xs) ≡ true
+
+itself-passed : (c : ℕ) (xs : List ℕ) → is_passed c ≡ true → AllRight xs → first_passed (or_itself c xs) ≡ true
+itself-passed c [] own right = own
+itself-passed c (x ∷ xs) own right = right
+
+front-passed : (xs ys : List ℕ) → first_passed xs ≡ true → first_passed (xs ++ ys) ≡ true
+front-passed [] ys h = cc
+front-passed (x ∷ xs) ys h = h
+
+right-first : (xs : List ℕ) → first_passed xs ≡ true → AllRight xs
+right-first [] h = refl
+right-first (x ∷ xs) h = h
+
+-- the mapping of a passed code point
+mapping-passed : (c : ℕ) → is_passed c ≡ true → AllRight (canonical_mapping c)
+mapping-passed c own = elim (cases_Bool (is_empty (canonical_mapping c))) [
+  | inl none ↦ ap (λ b. b || first_passed (canonical_mapping c)) none
+  | inr some ↦ right-first (canonical_mapping c) (ap (λ b. not b || first_passed (canonical_mapping c)) (sym own) ∙ mapping-rows c some)
+]
+
+flat_map-passed : (f : ℕ → List ℕ) → ((x : ℕ) → is_passed x ≡ true → first_passed (f x) ≡ true) → (xs : List ℕ) → AllRight xs → AllRight (flat_map f xs)
+flat_map-passed f keeps [] right = refl
+flat_map-passed f keeps (x ∷ xs) right = right-first (f x ++ flat_map f xs) (front-passed (f x) (flat_map f xs) (keeps x right))
+
+expand-passed : (depth c : ℕ) → is_passed c ≡ true → AllRight (expand canonical_mapping depth c)
+unfolding expand
+expand-passed zero c own = mapping-passed c own
+expand-passed (suc depth) c own =
+    flat_map-passed (λ x. or_itself x (expand canonical_mapping depth x)) (λ x h. itself-passed x (expand canonical_mapping depth x) h (expand-passed depth x h)) (canonical_mapping c) (mapping-passed c own)
+
+-- what is no Hangul syllable decomposes by the table
+decompose-other : (c : ℕ) → is_syllable c ≡ false → decompose Nfd c ≡ or_itself c (expand canonical_mapping 3 c)
+unfolding decompose canonical_decomposition
+decompose-other c h = cond-false _ _ _ h
+
+-- the first jamo of a syllable is passed
+passed-jamo : (x : ℕ) → 0x1100 ≤ x → x < 0x1200 → is_passed x ≡ true
+passed-jamo x low high = grind (arith, nat_tests)
+
+hangul-passed : (c : ℕ) → is_syllable c ≡ true → first_passed (decompose_hangul c) ≡ true
+hangul-passed c h =
+    let range = is_syllable-true c h in
+    let l = passed-jamo (0x1100 + (c - 0xAC00) / 588) (omega arith) (omega arith) in
+    elim (cases_eq ((c - 0xAC00) % 28) 0) [
+      | inl two ↦ ap first_passed (decompose_hangul-two c two) ∙ l
+      | inr three ↦ ap first_passed (decompose_hangul-three c three) ∙ l
+    ]
+
+-- the decomposition of a passed code point begins with one
+pub decompose-passed : (c : ℕ) → is_passed c ≡ true → first_passed (decompose Nfd c) ≡ true
+decompose-passed c own = elim (cases_Bool (is_syllable c)) [
+  | inl syllable ↦ ap first_passed (decompose-syllable Nfd c syllable) ∙ hangul-passed c syllable
+  | inr other ↦ ap first_passed (decompose-other c other) ∙ itself-passed c (expand canonical_mapping 3 c) own (expand-passed 3 c own)
+]
+
+-- ---- lengths
+
+hangul-short : (c : ℕ) → length (decompose_hangul c) ≤ 4
+hangul-short c = elim (cases_eq ((c - 0xAC00) % 28) 0) [
+  | inl two ↦ let e : length (decompose_hangul c) ≡ 2 = ap length (decompose_hangul-two c two) in omega arith
+  | inr three ↦ let e : length (decompose_hangul c) ≡ 3 = ap length (decompose_hangul-three c three) in omega arith
+]
+
+itself-short : (c : ℕ) (xs : List ℕ) → length xs ≤ 4 → length (or_itself c xs) ≤ 4
+itself-short c [] h = omega arith
+itself-short c (x ∷ xs) h = h
+
+expand-none : (c : ℕ) (depth : ℕ) → canonical_mapping c ≡ [] → expand canonical_mapping depth c ≡ []
+unfolding expand
+expand-none c zero none = none
+expand-none c (suc depth) none = ap (flat_map (λ x. or_itself x (expand canonical_mapping depth x))) none
+
+nothing : (xs : List ℕ) → is_empty xs ≡ true → xs ≡ []
+nothing [] h = refl
+nothing (x ∷ xs) h = cc
+
+expand-short : (c : ℕ) → length (expand canonical_mapping 3 c) ≤ 4
+expand-short c = elim (cases_Bool (is_empty (canonical_mapping c))) [
+  | inl none ↦ let e : length (expand canonical_mapping 3 c) ≡ 0 = ap length (expand-none c 3 (nothing (canonical_mapping c) none)) in omega arith
+  | inr some ↦ let h : nat_le (length (expand canonical_mapping 3 c)) 4 ≡ true = length-rows c some in grind (arith, nat_tests)
+]
+
+-- no decomposition is longer than four code points
+pub decompose-short : (c : ℕ) → length (decompose Nfd c) ≤ 4
+decompose-short c = elim (cases_Bool (is_syllable c)) [
+  | inl syllable ↦ let e : length (decompose Nfd c) ≡ length (decompose_hangul c) = ap length (decompose-syllable Nfd c syllable) in omega (arith, hangul-short c)
+  | inr other ↦ let e : length (decompose Nfd c) ≡ length (or_itself c (expand canonical_mapping 3 c)) = ap length (decompose-other c other) in omega (arith, itself-short c (expand canonical_mapping 3 c) (expand-short c))
+]

@@ -1,0 +1,12 @@
+use Rattle.std.proofs.Common.{arith}
+use Rattle.std.proofs.lemmas.Simd.{zip2_splat, zip2_splat_left}
+use Rattle.uca_window.specs.Passing.{is_stop}
+use Rattle.uca_window.proofs.PassedLanes.{hit, below, at_most, less, either, against, masked}
+use Rattle.uca_window.proofs.passing.stops.Goals as goal
+
+pub returns : goal.returns
+returns c =
+    let v = c.args.block in
+    let long = c.fits-block.0 in
+    masked _ is_stop v _ (omega arith) c.fits-block.1
+    (either _ _ v (either _ _ v (either _ _ v (either _ _ v (against below _ 2 32 v long (zip2_splat less v 32 0xCC long)) (zip2_splat hit v 32 0xD2 long)) (against below _ 14 32 v long (zip2_splat less v 32 0xD6 long))) (zip2_splat hit v 32 0xEA long)) (zip2_splat_left at_most 0xEE 32 v long)) tt

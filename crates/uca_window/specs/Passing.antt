@@ -1,0 +1,36 @@
+-- Characters that a scan passes without a look at their decompositions, and the bytes at which it looks.
+use Rattle.std.specs.Prelude.{◌≡◌, ℕ, true, Bool, ◌&&◌, ◌||◌, ◌==◌, nat_lt, nat_le, List, [], ◌∷◌, ◌++◌, encode_utf8_all, if◌then◌else◌}
+use Rattle.std.specs.List.{list_all}
+use Rattle.unicode_normalization.specs.Decompose.{decompose_canonical}
+use Rattle.uca_model.proofs.SafeLemmas.{run_after}
+
+-- at least the first number and below the second
+abbrev pub is_within : ℕ → ℕ → ℕ → Bool
+is_within low high n = nat_le low n && nat_lt n high
+
+-- a code point of a range in which each NFD begins with a starter
+abbrev pub is_passed : ℕ → Bool
+is_passed c =
+    nat_lt c 0x300
+    || (is_within 0x370 0x483 c || (is_within 0x48A 0x591 c || (is_within 0x1100 0x1200 c || (is_within 0x1E00 0x20D0 c || (is_within 0x2100 0x2CEF c
+    || (is_within 0x2E00 0x302A c || (is_within 0x3030 0x3099 c || (is_within 0x309B 0xA66F c || (is_within 0xAC00 0xFB00 c || nat_le 0x1F000 c)))))))))
+
+-- a byte with which code points of no such range begin in UTF-8
+abbrev pub is_stop : ℕ → Bool
+is_stop b = is_within 0xCC 0xCE b || (b == 0xD2 || (is_within 0xD6 0xE4 b || (b == 0xEA || nat_le 0xEE b)))
+
+-- the last of some code points, or another one where there are none
+abbrev pub last_of : ℕ → List ℕ → ℕ
+last_of c [] = c
+last_of c (d ∷ ds) = last_of d ds
+
+-- bytes without the passed characters at their front, and the last of these
+pub record Passes (bytes : List ℕ) (last : ℕ) (others : List ℕ) (end : ℕ) : Type 0 where
+  pub front : List ℕ
+  pub parts : bytes ≡ encode_utf8_all front ++ others
+  pub passed : list_all is_passed front ≡ true
+  pub end_is : end ≡ last_of last front
+
+-- how many nonstarters the NFD of a text ends in, by its last code point where that is passed
+abbrev pub ending : ℕ → ℕ → ℕ
+ending last run = if is_passed last then run_after 0 (decompose_canonical last) else run

@@ -1,0 +1,100 @@
+//! Characters that a scan passes without a look at their decompositions.
+ghost use Rattle.std.specs.Prelude.{◌≡◌, ◌+◌, ◌≤◌, ◌<◌, ℕ, false, true, not, length, map, slice_index};
+ghost use Rattle.std.specs.List.{prefix_len};
+ghost use Rattle.std.specs.Simd.Lanes.{chunk, mask_l};
+ghost use Rattle.uca_window.specs.Passing.{is_passed, is_stop, Passes};
+
+use std::simd::prelude::*;
+
+/// How many bytes are looked at together.
+const LANES: usize = 32;
+
+/// Whether a character is of a range in which each NFD begins with a starter: Latin, Greek and Cyrillic letters, Han,
+/// kana, Hangul, punctuation and symbols. Whatever nonstarters stood before it, they end there.
+pub(crate) fn is_passed(c: char) -> bool
+    ensures { result ≡ is_passed c }
+{
+    c < '\u{300}'
+        || ('\u{370}' <= c && c < '\u{483}')
+        || ('\u{48A}' <= c && c < '\u{591}')
+        || ('\u{1100}' <= c && c < '\u{1200}')
+        || ('\u{1E00}' <= c && c < '\u{20D0}')
+        || ('\u{2100}' <= c && c < '\u{2CEF}')
+        || ('\u{2E00}' <= c && c < '\u{302A}')
+        || ('\u{3030}' <= c && c < '\u{3099}')
+        || ('\u{309B}' <= c && c < '\u{A66F}')
+        || ('\u{AC00}' <= c && c < '\u{FB00}')
+        || '\u{1F000}' <= c
+}
+
+/// Whether characters that are not all passed begin with a byte.
+fn is_stop(byte: u8) -> bool
+    ensures { result ≡ is_stop byte }
+{
+    (0xCC <= byte && byte < 0xCE)
+        || byte == 0xD2
+        || (0xD6 <= byte && byte < 0xE4)
+        || byte == 0xEA
+        || 0xEE <= byte
+}
+
+/// The same of each byte of a block, as a bit.
+#[inline(always)]
+fn stops(block: u8x32) -> u64
+    ensures { result ≡ mask_l (map is_stop block) }
+{
+    ((block - u8x32::splat(0xCC)).simd_lt(u8x32::splat(2))
+        | block.simd_eq(u8x32::splat(0xD2))
+        | (block - u8x32::splat(0xD6)).simd_lt(u8x32::splat(14))
+        | block.simd_eq(u8x32::splat(0xEA))
+        | block.simd_ge(u8x32::splat(0xEE))).to_bitmask()
+}
+
+/// How many bytes of a block stand before the first that is a stop.
+#[inline(always)]
+fn passed_in(bytes: &[u8], at: usize) -> usize
+    requires { at + LANES ≤ length bytes.now }
+    ensures { result ≡ prefix_len (λ b. not (is_stop b)) (chunk at 32 bytes.now) }
+{
+    let found = stops(u8x32::from_slice(&bytes[at..]));
+    if found == 0 {
+        LANES
+    } else {
+        found.trailing_zeros() as usize
+    }
+}
+
+/// How many bytes of a text stand before the first that is a stop.
+fn passed_len(bytes: &[u8]) -> usize
+    ensures within { result ≤ length bytes.now }
+    ensures passed { (k : ℕ) → k < result → is_stop (slice_index bytes.now k) ≡ false }
+    ensures stop { result < length bytes.now → is_stop (slice_index bytes.now result) ≡ true }
+{
+    let mut at = 0;
+    while at + LANES <= bytes.len() {
+        let passed = passed_in(bytes, at);
+        at += passed;
+        if passed < LANES {
+            return at;
+        }
+    }
+    while at < bytes.len() {
+        if is_stop(bytes[at]) {
+            return at;
+        }
+        at += 1;
+    }
+    at
+}
+
+/// What is left of a text after characters at its front that are all passed, and the last of these; `last` where there is
+/// none.
+pub(crate) fn pass<'t>(text: &'t str, last: char) -> (&'t str, char)
+    ensures { Passes text.now last result.0.now result.1 }
+{
+    let (front, others) = text.split_at(passed_len(text.as_bytes()));
+    match front.chars().next_back() {
+        Some(end) => (others, end),
+        None => (others, last),
+    }
+}
