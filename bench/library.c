@@ -106,6 +106,19 @@ static double same(const char *text, int (*order)(const struct line *, const str
     return best;
 }
 
+/* What a call takes beside its work: a comparison by a collator that has no table; and the checks of two empty texts. */
+static int closed_order(const struct line *a, const struct line *b) {
+    static uca_collator closed = UCA_CLOSED;
+    uca_fault fault;
+    int32_t order = 0;
+    return uca_compare(&closed, &settings, (uint8_t *)a->text, a->size, (uint8_t *)b->text, b->size, &order, &fault);
+}
+
+static int two_checks(const struct line *a, const struct line *b) {
+    uca_fault fault;
+    return uca_check((uint8_t *)a->text, a->size, &fault) + uca_check((uint8_t *)b->text, b->size, &fault);
+}
+
 static int by_order(const void *a, const void *b) { return uca_order(a, b); }
 
 int main(int words, char **word) {
@@ -131,6 +144,7 @@ int main(int words, char **word) {
         at = end + 1;
     }
     printf("open %.1f ms; two empty texts %.0f ns (ICU %.0f); a and a %.0f (%.0f)\n", opened / 1e6, same("", uca_order), same("", icu_order), same("a", uca_order), same("a", icu_order));
+    printf("a comparison that finds no table %.1f ns; two checks of an empty text %.1f\n", same("", closed_order), same("", two_checks));
     double uca = pairs(uca_order), other = pairs(icu_order);
     printf("neighbours: %.0f ns (ICU %.0f, %.1f times)\n", uca, other, uca / other);
     uca = keys(uca_key), other = keys(icu_key);

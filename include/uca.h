@@ -20,7 +20,7 @@
  * Every call returns a status, and most say in a uca_fault where a fault is. Where a call returns any status but UCA_OK,
  * it has changed nothing but the fault.
  *
- * Memory: uca_open, uca_clone, uca_sort_key and uca_fingerprint call malloc, realloc and free. uca_compare, uca_check and
+ * Memory: uca_open, uca_clone, uca_sort_key, uca_prefix_bounds and uca_fingerprint call malloc, realloc and free. uca_compare, uca_check and
  * uca_version allocate nothing. No call keeps a pointer that it was given.
  *
  * Threads: one call at a time may use a collator. A collator may go from thread to thread. To use one table in several
@@ -64,7 +64,8 @@ typedef enum uca_status {
     UCA_NO_MEMORY = 5,     /* an allocation failed */
     UCA_BAD_TABLE = 6,     /* the text of the table is refused, at the line `at`, counted from 1 */
     UCA_BAD_RULES = 7,     /* the text of the rules is refused, at the byte `at`, counted from 0 */
-    UCA_BAD_TAILORING = 8  /* the rules cannot tailor the table: the relation `at`, counted from 1, has no place */
+    UCA_BAD_TAILORING = 8, /* the rules cannot tailor the table: the relation `at`, counted from 1, has no place */
+    UCA_INCOMPLETE = 9     /* the text is not complete: what follows it may change its primary weights */
 } uca_status;
 
 /* Why a table, rules or a tailoring are refused. The numbers never change. */
@@ -185,6 +186,20 @@ uint32_t uca_sort_key(uca_collator *collator, const uca_settings *settings, cons
                       size_t capacity, size_t *needed, uca_fault *fault);
 
 /*
+ * The range in which an index has the keys of all texts that begin with a text: each such key, of whatever strength, is not
+ * before `lower` and is before `upper`, and no key of a text with other primary weights at its beginning is. `lower` is the
+ * key of the text at strength UCA_PRIMARY, and `upper` the first byte string after all that begin with it. Of each the first
+ * bytes are written, at most its capacity, and the number of bytes of the whole to `lower_needed` and `upper_needed`. An
+ * upper end has at least one byte. Where `upper_needed` is 0 there is none, and all keys from `lower` on are in the range:
+ * that is so where `lower` has no bytes, or none but FF. The strength of the settings does not matter.
+ * A text is not complete where some character that follows it can change its primary weights, as `c` where `ch` is a letter.
+ * Returns UCA_OK, UCA_BAD_SETTINGS, UCA_NOT_OPEN, UCA_NOT_UTF8, UCA_LONG_RUN, UCA_INCOMPLETE or UCA_NO_MEMORY.
+ */
+uint32_t uca_prefix_bounds(uca_collator *collator, const uca_settings *settings, const uint8_t *text, size_t size, uint8_t *lower,
+                           size_t lower_capacity, uint8_t *upper, size_t upper_capacity, size_t *lower_needed,
+                           size_t *upper_needed, uca_fault *fault);
+
+/*
  * Writes the SHA-256 digest of all that sort keys depend on: the table in its canonical form, the settings, and the version
  * of Unicode. Store it with an index of sort keys: while it is the same, the keys are right. It takes about as long as
  * uca_open.
@@ -195,7 +210,7 @@ uint32_t uca_fingerprint(uca_collator *collator, const uca_settings *settings, u
 /* The name of a status. */
 static inline const char *uca_status_name(uint32_t status) {
     static const char *const names[] = {"ok", "not UTF-8", "too many nonstarters in a row", "the collator is not open",
-        "bad settings", "out of memory", "bad table", "bad rules", "bad tailoring"};
+        "bad settings", "out of memory", "bad table", "bad rules", "bad tailoring", "incomplete text"};
     return status < sizeof names / sizeof names[0] ? names[status] : "unknown status";
 }
 
@@ -225,10 +240,20 @@ static inline uint32_t uca_private_sort_key(uca_collator *collator, const uca_se
     return uca_sort_key(collator, settings, uca_private_bytes(text), size, out ? out : none, capacity, needed, fault);
 }
 
+static inline uint32_t uca_private_prefix_bounds(uca_collator *collator, const uca_settings *settings, const uint8_t *text,
+                                                 size_t size, uint8_t *lower, size_t lower_capacity, uint8_t *upper,
+                                                 size_t upper_capacity, size_t *lower_needed, size_t *upper_needed,
+                                                 uca_fault *fault) {
+    uint8_t none[2];
+    return uca_prefix_bounds(collator, settings, uca_private_bytes(text), size, lower ? lower : none, lower_capacity,
+                             upper ? upper : none + 1, upper_capacity, lower_needed, upper_needed, fault);
+}
+
 #define uca_open uca_private_open
 #define uca_check uca_private_check
 #define uca_compare uca_private_compare
 #define uca_sort_key uca_private_sort_key
+#define uca_prefix_bounds uca_private_prefix_bounds
 
 #ifdef __cplusplus
 }

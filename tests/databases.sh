@@ -6,6 +6,11 @@ export LC_ALL=C.UTF-8
 is_built
 published=$(published_table)
 [ -n "$published" ] || { echo "$script: no allkeys.txt in perl's folders, so nothing was tried"; exit 0; }
+command -v cc >/dev/null && command -v make >/dev/null && command -v objcopy >/dev/null ||
+    { echo "$script: no C compiler, make or objcopy, so nothing was tried"; exit 0; }
+make -s -C bindings/c all OUT="$work/c" >"$work/log" 2>&1 &&
+    cc -std=c11 -Wall -Wextra -Werror -O1 -Iinclude -o "$work/bounds_of" bindings/c/tests/bounds.c "$work/c/libuca.a" ||
+    { cat "$work/log"; echo "$script: the C library could not be built"; exit 1; }
 
 # Words whose beginnings are looked for: those of Latin languages, and generated ones.
 cat tests/rules/{cs,da,de-u-co-phonebk,es,hu,pl,tr,vi}.words >"$work/words"
@@ -14,30 +19,34 @@ keys <"$work/words" >"$work/keys"
 keys --strength primary <"$work/words" >"$work/primary"
 is "keys at primary are the beginning of those at tertiary" "0" "$(paste "$work/primary" "$work/keys" | awk '$1 "0000" != substr($2, 1, length($1) + 4) { n++ } END { print n + 0 }')"
 
-# below RANGE: K, and K with 1 added to it, its trailing bytes FF dropped
-successor() { perl -ne 'chomp; s/(FF)+$//; s/(..)$/sprintf "%02X", 1 + hex $1/e; print "$_\n"'; }
+# The two ends of the keys of all texts that begin with each line, by the C library
+bounds() { "$work/bounds_of" "$published" "${1:-/dev/null}"; }
 
 # Each beginning of each word, cut before a letter that is no mark: its range has the word, and nothing but words whose primary weights begin so.
 perl -CSD -Mutf8 -MUnicode::Normalize=NFD -ne 'chomp; my $word = $_; for my $i (1 .. length($word) - 1) { my $rest = NFD(substr $word, $i); next if $rest =~ /^\p{M}/; print substr($word, 0, $i), "\t$word\n" }' "$work/words" >"$work/cuts"
-cut -f1 "$work/cuts" | keys --strength primary >"$work/low"
-successor <"$work/low" >"$work/high"
+cut -f1 "$work/cuts" | bounds >"$work/ends"
+is "beginnings that are not complete" "0" "$(grep -c incomplete "$work/ends")"
+is "the lower end is the key at primary" "" "$(cut -f1 "$work/cuts" | keys --strength primary | cmp - <(cut -d' ' -f1 "$work/ends") 2>&1)"
 cut -f2 "$work/cuts" | keys >"$work/own"
 is "a word is in the range of its beginnings" "$(wc -l <"$work/cuts") of $(wc -l <"$work/cuts")" \
-    "$(paste "$work/low" "$work/own" "$work/high" | awk '($1 "" <= $2 "") && ($2 "" < $3 "") { n++ } END { print n + 0 " of " NR }')"
-is "what is in a range begins with the same primary weights" "0" "$(head -n 60 <(paste "$work/low" "$work/high") | while read -r low high; do
+    "$(paste -d' ' "$work/ends" "$work/own" | awk '($1 "" <= $3 "") && ($3 "" < $2 "") { n++ } END { print n + 0 " of " NR }')"
+is "what is in a range begins with the same primary weights" "0" "$(head -n 60 "$work/ends" | while read -r low high; do
     awk -v low="$low" -v high="$high" '($0 "" >= low "") && ($0 "" < high "") && substr($0, 1, length(low)) != low' "$work/keys"
 done | wc -l)"
 
-# The premise: what joins the end of the text is not in the range.
+# The premise: where what follows may join the end of the text, there are no ends.
 in_range() {
     local low high key
-    low=$(printf '%s' "$1" | ./uca key --table "$published" --rules "rules/$3.rules" --strength primary | tr -d ' ')
-    high=$(successor <<<"$low")
+    read -r low high < <(printf '%s\n' "$1" | bounds "rules/$3.rules")
+    [ "$low" = incomplete ] && echo incomplete && return
     key=$(printf '%s' "$2" | ./uca key --table "$published" --rules "rules/$3.rules" | tr -d ' ')
     [[ ! $key < $low && $key < $high ]] && echo yes || echo no
 }
-is "cena is in the range of c in Czech, chleba is in that of ch alone" "yes no yes" "$(in_range c cena cs) $(in_range c chleba cs) $(in_range ch chleba cs)"
-is "å is not in the range of a in Danish, á is" "no no yes" "$(in_range a $'\u00E5' da) $(in_range a $'a\u030A' da) $(in_range a $'\u00E1' da)"
+is "chleba and cena in the ranges of c, ce and ch in Czech" "incomplete yes no no yes" \
+    "$(in_range c cena cs) $(in_range ce cena cs) $(in_range ce chleba cs) $(in_range ch cena cs) $(in_range ch chleba cs)"
+is "a and å have no range in Danish, where a with a ring is a letter; b has one" "incomplete incomplete yes no" \
+    "$(in_range a $'\u00E5' da) $(in_range $'\u00E5' $'a\u030A' da) $(in_range b $'b\u0301' da) $(in_range b a da)"
+is "the range of the empty text has no upper end" "- -" "$(echo | bounds)"
 
 # An index of SQLite is in this order, and answers the same.
 if command -v sqlite3 >/dev/null; then
@@ -48,9 +57,9 @@ if command -v sqlite3 >/dev/null; then
     } | sqlite3 "$work/names.db"
     ./uca order --table "$published" <"$work/words" >"$work/wanted"
     is "SQLite's order" "same" "$(sqlite3 "$work/names.db" 'SELECT name FROM names ORDER BY sort_key, rowid' | cmp -s - "$work/wanted" && echo same)"
-    low=$(printf ch | keys --strength primary)
+    read -r low high < <(echo ch | bounds)
     is "SQLite's range of ch" "$(perl -CSD -MUnicode::Normalize=NFD -ne '(my $bare = lc NFD $_) =~ s/\p{M}//g; print if $bare =~ /^ch/' "$work/wanted" | paste -sd' ')" \
-        "$(sqlite3 "$work/names.db" "SELECT name FROM names WHERE sort_key >= X'$low' AND sort_key < X'$(successor <<<"$low")' ORDER BY sort_key, rowid" | paste -sd' ')"
+        "$(sqlite3 "$work/names.db" "SELECT name FROM names WHERE sort_key >= X'$low' AND sort_key < X'$high' ORDER BY sort_key, rowid" | paste -sd' ')"
 else
     echo "$script: there is no sqlite3, so no database was tried"
 fi

@@ -15,8 +15,12 @@ EXPLAIN (COSTS OFF) SELECT t FROM w ORDER BY uca_key(t);
 EXPLAIN (COSTS OFF) SELECT t FROM w ORDER BY t USING <~;
 EXPLAIN (COSTS OFF) SELECT t FROM w WHERE uca_key(t) BETWEEN uca_key('l') AND uca_key('m');
 EXPLAIN (COSTS OFF) SELECT t FROM w WHERE t >=~ 'l' AND t <=~ 'm';
+EXPLAIN (COSTS OFF) SELECT t FROM w WHERE uca_key(t) >= uca_prefix_lower('lo') AND uca_key(t) < uca_prefix_upper('lo');
 SELECT (SELECT count(*) FROM w WHERE uca_key(t) BETWEEN uca_key('l') AND uca_key('m')) = (SELECT count(*) FROM w WHERE t >=~ 'l' AND t <=~ 'm');
 SELECT uca_cmp('a', 'b'), uca_cmp('b', 'a'), uca_cmp(E'a\u0301', E'\u00e1'), uca_key(NULL) IS NULL;
+SELECT uca_prefix_upper('') IS NULL, length(uca_prefix_lower(''));
+SELECT string_agg(b.t, ' ' ORDER BY uca_key(b.t)) FROM (VALUES ('lp'), ('Lómo'), ('l'), ('lo'), ('ln')) AS b (t)
+    WHERE uca_key(b.t) >= uca_prefix_lower('lo') AND uca_key(b.t) < uca_prefix_upper('lo');
 SELECT encode(uca_fix(), 'hex');
 RESET enable_sort;
 \copy (SELECT t FROM w ORDER BY uca_key(t), n) TO '@WORK@/by_key.csv' WITH (FORMAT csv, FORCE_QUOTE *)

@@ -4,6 +4,13 @@
 CREATE FUNCTION uca_key(text) RETURNS bytea
     AS 'MODULE_PATHNAME', 'uca_pg_key' LANGUAGE C IMMUTABLE STRICT PARALLEL SAFE;
 
+-- The ends of the range that the keys of all texts that begin with a text are in: none is before the lower one, and all are before
+-- the upper one. That is null where there is no such end.
+CREATE FUNCTION uca_prefix_lower(text) RETURNS bytea
+    AS 'MODULE_PATHNAME', 'uca_pg_prefix_lower' LANGUAGE C IMMUTABLE STRICT PARALLEL SAFE;
+CREATE FUNCTION uca_prefix_upper(text) RETURNS bytea
+    AS 'MODULE_PATHNAME', 'uca_pg_prefix_upper' LANGUAGE C IMMUTABLE STRICT PARALLEL SAFE;
+
 -- -1, 0 or 1 if the first text comes before, with or after the second.
 CREATE FUNCTION uca_cmp(text, text) RETURNS integer
     AS 'MODULE_PATHNAME', 'uca_pg_cmp' LANGUAGE C IMMUTABLE STRICT PARALLEL SAFE;

@@ -147,6 +147,38 @@ Datum uca_pg_key(PG_FUNCTION_ARGS) {
     PG_RETURN_BYTEA_P(key);
 }
 
+/* One of the two ends of the keys of all texts that begin with a text; null where there is no upper one. */
+static Datum bound(FunctionCallInfo fcinfo, bool is_upper) {
+    text *given = PG_GETARG_TEXT_PP(0);
+    size_t size = VARSIZE_ANY_EXHDR(given), room = 4 * size + 64, needed[2] = {0, 0};
+    uca_settings settings = settings_now();
+    uca_fault fault;
+    uint32_t status;
+    bytea *end;
+    make_ready();
+    for (;;) {
+        uint8_t *out;
+        end = palloc_extended(VARHDRSZ + room, MCXT_ALLOC_HUGE);
+        out = (uint8_t *)VARDATA(end);
+        status = uca_prefix_bounds(&collator, &settings, (uint8_t *)VARDATA_ANY(given), size, is_upper ? NULL : out, is_upper ? 0 : room,
+                                   is_upper ? out : NULL, is_upper ? room : 0, &needed[0], &needed[1], &fault);
+        if (status != UCA_OK) report(is_upper ? "uca_prefix_upper" : "uca_prefix_lower", status, &fault);
+        if (needed[is_upper] <= room) break;
+        pfree(end);
+        room = needed[is_upper];
+    }
+    if (is_upper && needed[1] == 0) PG_RETURN_NULL();
+    if (needed[is_upper] > MaxAllocSize - VARHDRSZ) ereport(ERROR, (errcode(ERRCODE_PROGRAM_LIMIT_EXCEEDED), errmsg("uca: the key is too long")));
+    SET_VARSIZE(end, VARHDRSZ + needed[is_upper]);
+    PG_RETURN_BYTEA_P(end);
+}
+
+PG_FUNCTION_INFO_V1(uca_pg_prefix_lower);
+Datum uca_pg_prefix_lower(PG_FUNCTION_ARGS) { return bound(fcinfo, false); }
+
+PG_FUNCTION_INFO_V1(uca_pg_prefix_upper);
+Datum uca_pg_prefix_upper(PG_FUNCTION_ARGS) { return bound(fcinfo, true); }
+
 static int32_t order_of(FunctionCallInfo fcinfo) {
     text *a = PG_GETARG_TEXT_PP(0), *b = PG_GETARG_TEXT_PP(1);
     uca_settings settings = settings_now();

@@ -31,6 +31,12 @@ with uca.Collator(table) as collator:
     refuses(lambda: collator.compare("a", "x" + "\u0301" * 61), 2)
     refuses(lambda: collator.key("\udc80"), 1, 0)
     assert collator.key("a" * 10000) > collator.key("a" * 9999)
+    assert collator.prefix_bounds("") == (b"", None)
+    lower, upper = collator.prefix_bounds("lo" * 3000)
+    assert len(lower) == len(upper) == 12000 and lower < collator.key("LÓ" * 3000 + "x") < upper
+    lower, upper = collator.prefix_bounds("lo")
+    assert [lower <= collator.key(word) < upper for word in ("lo", "Lómo", "l", "lp", "ln\uffff")] == [True, True, False, False, False]
+    refuses(lambda: collator.prefix_bounds(b"a\xff"), 1, 1)
 
     wanted, sums = [collator.key(line) for line in few], []
     clones = [collator.clone() for _ in range(3)]
@@ -41,6 +47,9 @@ with uca.Collator(table) as collator:
         thread.join()
     assert sums == [True] * 3
 refuses(lambda: collator.key("a"), 3)
+with uca.Collator(table, "&h<ch") as czech:
+    refuses(lambda: czech.prefix_bounds("ac"), 9, 0)
+    assert czech.prefix_bounds("ach")[0] < czech.key("achát") < czech.prefix_bounds("ach")[1]
 refuses(lambda: uca.Collator(b"0061 ; zzz\n"), 6, 1)
 refuses(lambda: uca.Collator(b"0061 ; [.1000.0020.0002]\n", "&a<"), 7, 3)
 refuses(lambda: uca.Collator(b"", strength=9).key("a"), 4)

@@ -14,7 +14,7 @@ PRIMARY, SECONDARY, TERTIARY, QUATERNARY, IDENTICAL = range(1, 6)
 NON_IGNORABLE, BLANKED, SHIFTED = range(3)
 
 _NAMES = ("ok", "not UTF-8", "too many nonstarters in a row", "the collator is not open", "bad settings", "out of memory",
-          "bad table", "bad rules", "bad tailoring")
+          "bad table", "bad rules", "bad tailoring", "incomplete text")
 _NO_MEMORY = 5
 
 
@@ -43,6 +43,8 @@ def _load():
         ("uca_check", [text, size, fault], ctypes.c_uint32),
         ("uca_compare", [collator, settings, text, size, text, size, ctypes.POINTER(ctypes.c_int32), fault], ctypes.c_uint32),
         ("uca_sort_key", [collator, settings, text, size, ctypes.c_char_p, size, ctypes.POINTER(size), fault], ctypes.c_uint32),
+        ("uca_prefix_bounds", [collator, settings, text, size, ctypes.c_char_p, size, ctypes.c_char_p, size, ctypes.POINTER(size),
+                               ctypes.POINTER(size), fault], ctypes.c_uint32),
         ("uca_fingerprint", [collator, settings, ctypes.c_char_p], ctypes.c_uint32),
     ):
         function = getattr(library, name)
@@ -64,7 +66,7 @@ class Error(ValueError):
         place = ""
         if status in (1, 2):
             place = ", text %d, byte %d" % (fault.text, fault.at)
-        elif status >= 6:
+        elif status in (6, 7, 8):
             place = ", kind %d, at %d" % (fault.kind, fault.at)
         super().__init__(name + place)
 
@@ -139,6 +141,22 @@ class Collator:
             if needed.value <= room:
                 return out.raw[:needed.value]
             room = needed.value
+
+    def prefix_bounds(self, text):
+        """The ends of the range that the keys of all texts that begin with `text` are in, as bytes: those keys are not before
+        the first, and before the second. The second is None where there is no such end."""
+        text, lower_size, upper_size, fault = _bytes(text), ctypes.c_size_t(), ctypes.c_size_t(), _Fault()
+        room = 8 * len(text) + 64
+        while True:
+            lower, upper = ctypes.create_string_buffer(room), ctypes.create_string_buffer(room)
+            with self._lock:
+                status = _library.uca_prefix_bounds(self._collator, self._settings, text, len(text), lower, room, upper, room,
+                                                    lower_size, upper_size, fault)
+            if status:
+                _refuse(status, fault)
+            if max(lower_size.value, upper_size.value) <= room:
+                return lower.raw[:lower_size.value], upper.raw[:upper_size.value] if upper_size.value else None
+            room = max(lower_size.value, upper_size.value)
 
     def fingerprint(self):
         """The digest of all that keys depend on: store it with them."""

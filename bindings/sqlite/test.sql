@@ -23,6 +23,11 @@ EXPLAIN QUERY PLAN SELECT t FROM w WHERE t COLLATE uca BETWEEN 'l' AND 'm';
 EXPLAIN QUERY PLAN SELECT t FROM w WHERE uca_key(t) BETWEEN uca_key('l') AND uca_key('m');
 SELECT (SELECT count(*) FROM w WHERE t COLLATE uca BETWEEN 'l' AND 'm') = (SELECT count(*) FROM w WHERE uca_key(t) BETWEEN uca_key('l') AND uca_key('m'));
 SELECT group_concat(column1, ' ') FROM (SELECT column1 FROM (VALUES ('mano'), ('lomo'), ('llano'), ('luna')) ORDER BY column1 COLLATE es);
+EXPLAIN QUERY PLAN SELECT t FROM w WHERE uca_key(t) >= uca_prefix_lower('lo') AND uca_key(t) < uca_prefix_upper('lo');
+SELECT group_concat(column1, ' ') FROM (SELECT column1 FROM (VALUES ('lp'), ('Lómo'), ('l'), ('lo'), ('ln'))
+    WHERE uca_key(column1) >= uca_prefix_lower('lo') AND uca_key(column1) < uca_prefix_upper('lo') ORDER BY uca_key(column1));
+SELECT hex(uca_prefix_lower('')), uca_prefix_upper('') IS NULL, uca_prefix_lower(NULL) IS NULL, length(uca_prefix_upper(printf('%.*c', 1000, 'a'))),
+    uca_prefix_lower('ch', 'es') = uca_prefix_lower('ch');
 SELECT lower(hex(uca_fingerprint('uca')));
 PRAGMA integrity_check;
 .bail off

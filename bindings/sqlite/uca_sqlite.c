@@ -8,6 +8,8 @@
  *     CREATE INDEX by_key ON words(uca_key(t));                        -- a sort key as a blob, by the collation 'uca'
  *     SELECT t FROM words ORDER BY uca_key(t);
  *     SELECT uca_key(t, 'es') FROM words;                              -- by the collation of this name
+ *     SELECT t FROM words WHERE uca_key(t) >= uca_prefix_lower('l') AND uca_key(t) < uca_prefix_upper('l');
+ *                                                                      -- the texts that begin with a text
  *     SELECT uca_fingerprint('uca');                                   -- store it with an index, and compare before use
  *
  * uca_load has to run on each connection before a statement that needs its collation. A file that it names is read by the
@@ -111,6 +113,35 @@ static void key(sqlite3_context *context, int count, sqlite3_value **values) {
     else sqlite3_result_blob64(context, out, needed, SQLITE_TRANSIENT);
     if (out != room) sqlite3_free(out);
 }
+
+/* One of the two ends of the keys of all texts that begin with a text; null where there is no upper one. */
+static void bound(sqlite3_context *context, int count, sqlite3_value **values, int is_upper) {
+    struct collation *collation = wanted(context, count, values, 1);
+    if (!collation || sqlite3_value_type(values[0]) == SQLITE_NULL) return;
+    const uint8_t *text = sqlite3_value_text(values[0]);
+    size_t size = sqlite3_value_bytes(values[0]), capacity = 1024, needed[2] = {0, 0};
+    uint8_t room[1024], *out = room;
+    uca_fault fault;
+    uint32_t status;
+    for (;;) {
+        status = uca_prefix_bounds(&collation->collator, &collation->settings, text, size, is_upper ? NULL : out, is_upper ? 0 : capacity,
+                                   is_upper ? out : NULL, is_upper ? capacity : 0, &needed[0], &needed[1], &fault);
+        if (status != UCA_OK || needed[is_upper] <= capacity) break;
+        capacity = needed[is_upper];
+        out = sqlite3_malloc64(capacity);
+        if (!out) {
+            sqlite3_result_error_nomem(context);
+            return;
+        }
+    }
+    if (status != UCA_OK) report(context, is_upper ? "uca_prefix_upper" : "uca_prefix_lower", status, &fault);
+    else if (!is_upper || needed[1] > 0) sqlite3_result_blob64(context, out, needed[is_upper], SQLITE_TRANSIENT);
+    if (out != room) sqlite3_free(out);
+}
+
+static void lower_bound(sqlite3_context *context, int count, sqlite3_value **values) { bound(context, count, values, 0); }
+
+static void upper_bound(sqlite3_context *context, int count, sqlite3_value **values) { bound(context, count, values, 1); }
 
 static void fingerprint(sqlite3_context *context, int count, sqlite3_value **values) {
     struct collation *collation = wanted(context, count, values, 0);
@@ -239,6 +270,10 @@ int sqlite3_ucasqlite_init(sqlite3 *connection, char **error, const sqlite3_api_
     int result = sqlite3_create_function_v2(connection, "uca_load", -1, SQLITE_UTF8 | SQLITE_DIRECTONLY, registry, load, NULL, NULL, let_all_go);
     if (result == SQLITE_OK) result = sqlite3_create_function_v2(connection, "uca_key", 1, flags, registry, key, NULL, NULL, NULL);
     if (result == SQLITE_OK) result = sqlite3_create_function_v2(connection, "uca_key", 2, flags, registry, key, NULL, NULL, NULL);
+    for (int count = 1; count <= 2; count++) {
+        if (result == SQLITE_OK) result = sqlite3_create_function_v2(connection, "uca_prefix_lower", count, flags, registry, lower_bound, NULL, NULL, NULL);
+        if (result == SQLITE_OK) result = sqlite3_create_function_v2(connection, "uca_prefix_upper", count, flags, registry, upper_bound, NULL, NULL, NULL);
+    }
     if (result == SQLITE_OK) result = sqlite3_create_function_v2(connection, "uca_fingerprint", -1, SQLITE_UTF8, registry, fingerprint, NULL, NULL, NULL);
     return result;
 }

@@ -71,6 +71,13 @@ static void *makes_a_key(void *none) {
     return none;
 }
 
+static void *finds_bounds(void *none) {
+    uca_fault fault;
+    size_t lower_size, upper_size;
+    CHECK(uca_prefix_bounds(&collator, &settings, long_text.bytes, long_text.size, key, room / 2, key + room / 2, room / 2, &lower_size, &upper_size, &fault) == UCA_OK);
+    return none;
+}
+
 static void *takes_a_fingerprint(void *none) {
     uca_digest digest;
     CHECK(uca_fingerprint(&collator, &settings, &digest) == UCA_OK);
@@ -111,6 +118,7 @@ int main(int count, char **words) {
     printf("uca_check %zu\n", taken(checks, NULL) - own);
     printf("uca_compare %zu\n", taken(compares, NULL) - own);
     printf("uca_sort_key %zu\n", taken(makes_a_key, NULL) - own);
+    printf("uca_prefix_bounds %zu\n", taken(finds_bounds, NULL) - own);
     printf("uca_fingerprint %zu\n", taken(takes_a_fingerprint, NULL) - own);
     uca_close(&other);
     printf("uca_close %zu\n", taken(closes, &collator) - own);

@@ -9,8 +9,8 @@ static void layout(void) {
     CHECK(sizeof(uca_settings) == 32 && offsetof(uca_settings, strength) == 0 && offsetof(uca_settings, variable) == 4);
     CHECK(offsetof(uca_settings, reserved) == 8 && sizeof(uca_digest) == 32);
     CHECK(UCA_OK == 0 && UCA_NOT_UTF8 == 1 && UCA_LONG_RUN == 2 && UCA_NOT_OPEN == 3 && UCA_BAD_SETTINGS == 4 && UCA_NO_MEMORY == 5);
-    CHECK(UCA_BAD_TABLE == 6 && UCA_BAD_RULES == 7 && UCA_BAD_TAILORING == 8);
-    CHECK(strcmp(uca_status_name(UCA_BAD_TAILORING), "bad tailoring") == 0 && strcmp(uca_status_name(99), "unknown status") == 0);
+    CHECK(UCA_BAD_TABLE == 6 && UCA_BAD_RULES == 7 && UCA_BAD_TAILORING == 8 && UCA_INCOMPLETE == 9);
+    CHECK(strcmp(uca_status_name(UCA_INCOMPLETE), "incomplete text") == 0 && strcmp(uca_status_name(99), "unknown status") == 0);
 }
 
 static void versions(void) {
@@ -123,6 +123,62 @@ static void keys(void) {
     SAME_FAULT(0, 0, 0);
 }
 
+static void bounds(void) {
+    /* The last table has primary weights that end in FF, and one that is FFFF. */
+    static const char full_table[] = "0061 ; [.10FF.0020.0002]\n0062 ; [.FFFF.0020.0002]\n";
+    static const struct { const char *text, *lower, *upper; size_t lower_size, upper_size; int variable, is_full; } cases[] = {
+        {"", "", "", 0, 0, 0, 0}, {"a", "\x10\0", "\x10\1", 2, 2, 0, 0}, {"\xC3\xA1", "\x10\0", "\x10\1", 2, 2, 0, 0},
+        {"ch", "\x10\3", "\x10\4", 2, 2, 0, 0}, {"A b", "\x10\0\2\1\x10\1", "\x10\0\2\1\x10\2", 6, 6, 0, 0},
+        {"A b", "\x10\0\x10\1", "\x10\0\x10\2", 4, 4, 2, 0}, {" ", "", "", 0, 0, 1, 0},
+        {"a", "\x10\xFF", "\x11", 2, 1, 0, 1}, {"ab", "\x10\xFF\xFF\xFF", "\x11", 4, 1, 0, 1}, {"bb", "\xFF\xFF\xFF\xFF", "", 4, 0, 0, 1},
+    };
+    uca_collator small = UCA_CLOSED, full = UCA_CLOSED;
+    uca_fault fault;
+    uint8_t lower[8], upper[8];
+    size_t lower_size, upper_size;
+    open_small(&small);
+    CHECK(uca_open(&full, TEXT(full_table), NULL, 0, &fault) == UCA_OK);
+    for (size_t i = 0; i < sizeof cases / sizeof cases[0]; i++) {
+        uca_settings settings = UCA_SETTINGS(UCA_IDENTICAL, cases[i].variable);
+        const uint8_t *text = (const uint8_t *)cases[i].text;
+        for (size_t capacity = 0; capacity <= sizeof lower; capacity++) {
+            size_t room = sizeof upper - capacity;
+            size_t of_lower = capacity < cases[i].lower_size ? capacity : cases[i].lower_size;
+            size_t of_upper = room < cases[i].upper_size ? room : cases[i].upper_size;
+            memset(lower, 0xEE, sizeof lower);
+            memset(upper, 0xEE, sizeof upper);
+            CHECK(uca_prefix_bounds(cases[i].is_full ? &full : &small, &settings, text, strlen(cases[i].text), lower, capacity, upper, room,
+                                    &lower_size, &upper_size, &fault) == UCA_OK);
+            SAME_FAULT(0, 0, 0);
+            CHECK(lower_size == cases[i].lower_size && memcmp(lower, cases[i].lower, of_lower) == 0);
+            CHECK(upper_size == cases[i].upper_size && memcmp(upper, cases[i].upper, of_upper) == 0);
+            for (size_t at = of_lower; at < sizeof lower; at++) CHECK(lower[at] == 0xEE);
+            for (size_t at = of_upper; at < sizeof upper; at++) CHECK(upper[at] == 0xEE);
+        }
+    }
+    uca_settings settings = UCA_TERTIARY_SETTINGS;
+    CHECK(uca_prefix_bounds(&small, &settings, TEXT("ab"), NULL, 0, NULL, 0, &lower_size, &upper_size, &fault) == UCA_OK);
+    CHECK(lower_size == 4 && upper_size == 4);
+    memset(lower, 0xEE, sizeof lower);
+    memset(upper, 0xEE, sizeof upper);
+    CHECK(uca_prefix_bounds(&small, &settings, TEXT("ac"), lower, 8, upper, 8, &lower_size, &upper_size, &fault) == UCA_INCOMPLETE);
+    SAME_FAULT(0, 0, 0);
+    CHECK(uca_prefix_bounds(&small, &settings, TEXT("a\xFF"), lower, 8, upper, 8, &lower_size, &upper_size, &fault) == UCA_NOT_UTF8);
+    SAME_FAULT(0, 1, 1);
+    char run[2 * 61];
+    for (int i = 0; i < 61; i++) memcpy(run + 2 * i, "\xCC\x81", 2);
+    CHECK(uca_prefix_bounds(&small, &settings, (uint8_t *)run, sizeof run, lower, 8, upper, 8, &lower_size, &upper_size, &fault) == UCA_LONG_RUN);
+    SAME_FAULT(0, 1, 120);
+    uca_settings refused = UCA_SETTINGS(UCA_TERTIARY, 3);
+    CHECK(uca_prefix_bounds(&small, &refused, TEXT("a"), lower, 8, upper, 8, &lower_size, &upper_size, &fault) == UCA_BAD_SETTINGS);
+    SAME_FAULT(0, 0, 0);
+    uca_close(&small);
+    uca_close(&full);
+    CHECK(uca_prefix_bounds(&small, &settings, TEXT("a"), lower, 8, upper, 8, &lower_size, &upper_size, &fault) == UCA_NOT_OPEN);
+    SAME_FAULT(0, 0, 0);
+    CHECK(lower[0] == 0xEE && upper[0] == 0xEE && lower_size == 4 && upper_size == 4);
+}
+
 /* The digests are those of the canonical text of the table and of the settings, computed outside by sha256sum. */
 static void fingerprints(const char *expected) {
     uca_settings settings = UCA_TERTIARY_SETTINGS, shifted = UCA_SETTINGS(UCA_TERTIARY, UCA_SHIFTED);
@@ -211,6 +267,7 @@ int main(int count, char **words) {
     comparing();
     settings();
     keys();
+    bounds();
     fingerprints(count > 1 ? words[1] : NULL);
     opening();
     cloning();

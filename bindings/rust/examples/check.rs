@@ -15,6 +15,12 @@ fn main() {
     for pair in sorted.windows(2) {
         assert_eq!(collator.compare(pair[0].1, pair[1].1), Ok(pair[0].0.cmp(&pair[1].0)));
     }
+    let bounds = collator.prefix_bounds("lo").unwrap();
+    let upper = bounds.upper.unwrap();
+    let is_between = |key: Key| key.as_bytes() >= &bounds.lower[..] && key.as_bytes() < &upper[..];
+    let inside: Vec<bool> = ["lo", "Lómo", "l", "lp"].iter().map(|word| is_between(collator.key(word).unwrap())).collect();
+    assert_eq!(inside, [true, true, false, false]);
+    assert_eq!(collator.prefix_bounds(&"\u{FDFA}".repeat(100)).map(|ends| ends.lower.len() > 32), Ok(true));
     let digits: String = collator.fingerprint().unwrap().iter().map(|byte| format!("{byte:02x}")).collect();
     assert_eq!(digits, words[3]);
 
@@ -28,6 +34,9 @@ fn main() {
     let settings = Settings { strength: Strength::Identical, variable: Variable::Shifted };
     let mut empty = Collator::open(b"", b"", settings).unwrap();
     assert_eq!(empty.compare("", ""), Ok(Ordering::Equal));
+    assert_eq!(empty.prefix_bounds("").map(|ends| (ends.lower, ends.upper)), Ok((vec![], None)));
+    let mut joined = Collator::open(b"0063 ; [.1000.0020.0002]\n0063 0068 ; [.1001.0020.0002]\n", b"", settings).unwrap();
+    assert_eq!(joined.prefix_bounds("c").err().map(|error| (error.status, error.text, error.at)), Some((9, 0, 0)));
     assert_eq!(empty.key(&"\u{301}".repeat(61)).err().map(|error| (error.status, error.at)), Some((2, 120)));
     assert_eq!(uca::check(b"a\xFF").err().map(|error| (error.status, error.text, error.at)), Some((1, 1, 1)));
     assert_eq!((uca::version(), uca::unicode_version()), (0x010000, 0x120000));

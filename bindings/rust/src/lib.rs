@@ -32,6 +32,7 @@ mod ffi {
         pub fn uca_check(text: *const u8, size: usize, fault: *mut RawFault) -> u32;
         pub fn uca_compare(c: *mut RawCollator, s: *const RawSettings, a: *const u8, a_size: usize, b: *const u8, b_size: usize, order: *mut i32, fault: *mut RawFault) -> u32;
         pub fn uca_sort_key(c: *mut RawCollator, s: *const RawSettings, text: *const u8, size: usize, out: *mut u8, capacity: usize, needed: *mut usize, fault: *mut RawFault) -> u32;
+        pub fn uca_prefix_bounds(c: *mut RawCollator, s: *const RawSettings, text: *const u8, size: usize, lower: *mut u8, lower_capacity: usize, upper: *mut u8, upper_capacity: usize, lower_needed: *mut usize, upper_needed: *mut usize, fault: *mut RawFault) -> u32;
         pub fn uca_fingerprint(c: *mut RawCollator, s: *const RawSettings, out: *mut [u8; 32]) -> u32;
     }
 }
@@ -121,6 +122,14 @@ impl Key {
     }
 }
 
+/// The ends of the range that the keys of all texts that begin with a text are in: these keys are not before `lower`, and before
+/// `upper` where there is such an end.
+#[derive(Clone, Debug, PartialEq, Eq)]
+pub struct PrefixBounds {
+    pub lower: Vec<u8>,
+    pub upper: Option<Vec<u8>>,
+}
+
 /// A table and settings. One call at a time uses it, so each takes it by `&mut`; another thread takes a clone.
 pub struct Collator {
     raw: ffi::RawCollator,
@@ -168,6 +177,24 @@ impl Collator {
             out.resize(needed, 0);
             if whole {
                 return Ok(Key(out));
+            }
+        }
+    }
+
+    /// The range of the keys of all texts that begin with a text. A text that what follows may change is refused: status 9.
+    pub fn prefix_bounds(&mut self, text: &str) -> Result<PrefixBounds, Error> {
+        let (mut lower, mut upper) = (vec![0; 4 * text.len() + 32], vec![0; 4 * text.len() + 32]);
+        loop {
+            let (mut lower_needed, mut upper_needed, mut fault) = (0, 0, RawFault::default());
+            let status = unsafe {
+                ffi::uca_prefix_bounds(&mut self.raw, &self.settings, text.as_ptr(), text.len(), lower.as_mut_ptr(), lower.len(), upper.as_mut_ptr(), upper.len(), &mut lower_needed, &mut upper_needed, &mut fault)
+            };
+            answer(status, fault, ())?;
+            let whole = lower_needed <= lower.len() && upper_needed <= upper.len();
+            lower.resize(lower_needed, 0);
+            upper.resize(upper_needed, 0);
+            if whole {
+                return Ok(PrefixBounds { lower, upper: Some(upper).filter(|end| !end.is_empty()) });
             }
         }
     }

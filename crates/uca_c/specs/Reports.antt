@@ -1,5 +1,6 @@
 -- What the exports report of the outcome of a call: a status and a fault.
 use Rattle.std.specs.Prelude.{◌≡◌, ℕ, ◌==◌, ℤ, pos, negsuc, List, Result, Ok, Err, if◌then◌else◌}
+use Rattle.std.specs.Option.{option_map_or}
 use Rattle.std.specs.declared.cmp.Ordering.{Ordering}
 use Rattle.std.specs.declared.cmp.Ordering.TheVariants.{Less, Equal, Greater}
 use Rattle.uca_allkeys.specs.declared.faults.ReadCause.{ReadCause}
@@ -8,6 +9,9 @@ use Rattle.uca_tailor.specs.declared.faults.RuleCause.{RuleCause}
 use Rattle.uca_tailor.specs.declared.faults.RuleCause.TheVariants as rules
 use Rattle.uca_tailor.specs.declared.faults.TailorCause.{TailorCause}
 use Rattle.uca_tailor.specs.declared.faults.TailorCause.TheVariants as tailoring
+use Rattle.uca_handle.specs.declared.bounds.BoundsSize.{BoundsSize}
+use Rattle.uca_handle.specs.declared.faults.BoundsFault.{BoundsFault}
+use Rattle.uca_handle.specs.declared.faults.BoundsFault.TheVariants as bounds
 use Rattle.uca_handle.specs.declared.faults.CompareFault.{CompareFault}
 use Rattle.uca_handle.specs.declared.faults.CompareFault.TheVariants as compare
 use Rattle.uca_handle.specs.declared.faults.FingerprintFault.{FingerprintFault}
@@ -20,7 +24,7 @@ use Rattle.uca_handle.specs.declared.faults.ShareFault.{ShareFault}
 use Rattle.uca_handle.specs.declared.faults.ShareFault.TheVariants as share
 use Rattle.uca_handle.specs.declared.faults.TextFault.{TextFault}
 use Rattle.uca_handle.specs.declared.faults.TextFault.TheVariants.{NotUtf8, LongRun}
-use Rattle.uca_c.specs.declared.numbers.TheConstants.{OK, NOT_UTF8, LONG_RUN, CLOSED, BAD_SETTINGS, NO_MEMORY, BAD_TABLE, BAD_RULES, BAD_TAILORING, TABLE_LINE_TOO_LONG, TABLE_BAD_DIRECTIVE, TABLE_BAD_CODE_POINT, TABLE_KEY_TOO_LONG, TABLE_NO_SEMICOLON, TABLE_BAD_ELEMENT, TABLE_NO_ELEMENT, TABLE_TOO_MANY_ELEMENTS, TABLE_REPEATED, TABLE_BAD_RANGE, TABLE_TOO_LARGE, RULES_SYNTAX, RULES_LEFT_OUT, RULES_EMPTY_STRING, RULES_LONG_RUN, RULES_KEY_TOO_LONG, RULES_TOO_MANY_RELATIONS, RULES_NOT_UTF8, TAILOR_SMALL_WEIGHT, TAILOR_HIGH_RESET, TAILOR_FULL_PRIMARY, TAILOR_FULL_SECONDARY, TAILOR_FULL_TERTIARY, TAILOR_TOO_MANY_ELEMENTS}
+use Rattle.uca_c.specs.declared.numbers.TheConstants.{OK, NOT_UTF8, LONG_RUN, CLOSED, BAD_SETTINGS, NO_MEMORY, BAD_TABLE, BAD_RULES, BAD_TAILORING, INCOMPLETE, TABLE_LINE_TOO_LONG, TABLE_BAD_DIRECTIVE, TABLE_BAD_CODE_POINT, TABLE_KEY_TOO_LONG, TABLE_NO_SEMICOLON, TABLE_BAD_ELEMENT, TABLE_NO_ELEMENT, TABLE_TOO_MANY_ELEMENTS, TABLE_REPEATED, TABLE_BAD_RANGE, TABLE_TOO_LARGE, RULES_SYNTAX, RULES_LEFT_OUT, RULES_EMPTY_STRING, RULES_LONG_RUN, RULES_KEY_TOO_LONG, RULES_TOO_MANY_RELATIONS, RULES_NOT_UTF8, TAILOR_SMALL_WEIGHT, TAILOR_HIGH_RESET, TAILOR_FULL_PRIMARY, TAILOR_FULL_SECONDARY, TAILOR_FULL_TERTIARY, TAILOR_TOO_MANY_ELEMENTS}
 use Rattle.uca_c.specs.declared.reports.Digest.{Digest}
 use Rattle.uca_c.specs.declared.reports.Fault.{Fault}
 use Rattle.uca_c.specs.declared.reports.Report.{Report}
@@ -102,6 +106,13 @@ key_report (Err key.Closed) = plain CLOSED
 key_report (Err (key.Text f)) = text_report 1 f
 key_report (Err key.OutOfMemory) = plain NO_MEMORY
 
+abbrev pub bounds_report : Result BoundsSize BoundsFault → Report
+bounds_report (Ok _) = plain OK
+bounds_report (Err bounds.Closed) = plain CLOSED
+bounds_report (Err (bounds.Text f)) = text_report 1 f
+bounds_report (Err bounds.Incomplete) = plain INCOMPLETE
+bounds_report (Err bounds.OutOfMemory) = plain NO_MEMORY
+
 abbrev pub fingerprint_status : Result (List ℕ) FingerprintFault → ℕ
 fingerprint_status (Ok _) = OK
 fingerprint_status (Err fingerprint.Closed) = CLOSED
@@ -121,6 +132,15 @@ order_after before (Err _) = before
 abbrev pub size_after : ℕ → Result ℕ KeyFault → ℕ
 size_after before (Ok size) = size
 size_after before (Err _) = before
+
+abbrev pub lower_size_after : ℕ → Result BoundsSize BoundsFault → ℕ
+lower_size_after before (Ok size) = size.lower
+lower_size_after before (Err _) = before
+
+-- 0 where there is no upper end
+abbrev pub upper_size_after : ℕ → Result BoundsSize BoundsFault → ℕ
+upper_size_after before (Ok size) = option_map_or (λ n. n) size.upper 0
+upper_size_after before (Err _) = before
 
 abbrev pub digest_after : Digest → Result (List ℕ) FingerprintFault → Digest
 digest_after before (Ok digest) = record { bytes = digest }

@@ -4,9 +4,9 @@
 
 ghost use Rattle.std.specs.Prelude.{◌≡◌, ◌+◌, ◌*◌, None, MatchOption};
 ghost use Rattle.ucd_table.specs.declared.version.TheConstants.{UNICODE_VERSION};
-ghost use Rattle.uca_handle.specs.Calls.{Checks, Compares, Fingerprints, MakesKey, Opens, Shares};
+ghost use Rattle.uca_handle.specs.Calls.{Checks, Compares, Fingerprints, MakesKey, Opens, PutsBounds, Shares};
 ghost use Rattle.uca_handle.specs.Collator.{held};
-ghost use Rattle.uca_c.specs.Reports.{IsRefused, Reports, ReportsStatus, check_report, compare_report, digest_after, fingerprint_status, key_report, open_report, order_after, share_status, size_after};
+ghost use Rattle.uca_c.specs.Reports.{IsRefused, Reports, ReportsStatus, bounds_report, check_report, compare_report, digest_after, fingerprint_status, key_report, lower_size_after, open_report, order_after, share_status, size_after, upper_size_after};
 ghost use Rattle.uca_c.specs.Settings.{settings_named};
 
 mod numbers;
@@ -16,7 +16,8 @@ mod settings;
 use numbers::BAD_SETTINGS;
 pub use reports::{Digest, Fault};
 use reports::{
-    NO_FAULT, of_check, of_comparison, of_fingerprint, of_key, of_opening, of_sharing, order_number,
+    NO_FAULT, of_bounds, of_check, of_comparison, of_fingerprint, of_key, of_opening, of_sharing,
+    order_number,
 };
 pub use settings::RawSettings;
 use settings::settings_of;
@@ -141,6 +142,40 @@ pub extern "C" fn uca_sort_key(
         *needed = size;
     }
     let report = of_key(outcome);
+    *fault = report.fault;
+    report.status
+}
+
+/// Puts the two ends of the keys of all texts that begin with a text into the fronts of two buffers, or as many of their
+/// bytes as fit, and reports how many they have. An upper end that is there has at least one byte; where there is none, it is
+/// reported to have 0.
+#[unsafe(no_mangle)]
+pub extern "C" fn uca_prefix_bounds(
+    alloc: Global,
+    collator: &mut Collator,
+    settings: &RawSettings,
+    text: &[u8],
+    lower: &mut [u8],
+    upper: &mut [u8],
+    lower_needed: &mut usize,
+    upper_needed: &mut usize,
+    fault: &mut Fault,
+) -> u32
+    ensures bounds { MatchOption (settings_named settings.now)
+        (IsRefused result fault.new × (lower.new ≡ lower.old) × (upper.new ≡ upper.old) × (lower_needed.new ≡ lower_needed.old) × (upper_needed.new ≡ upper_needed.old))
+        (λ s. Reports bounds_report result fault.new (λ outcome. PutsBounds (held collator.old) s.weighting text.now lower.old lower.new upper.old upper.new outcome × (lower_needed.new ≡ lower_size_after lower_needed.old outcome) × (upper_needed.new ≡ upper_size_after upper_needed.old outcome))) }
+    ensures same { held collator.new ≡ held collator.old }
+{
+    let Some(s) = settings_of(settings) else {
+        *fault = NO_FAULT;
+        return BAD_SETTINGS;
+    };
+    let outcome = collator.prefix_bounds(alloc, s.weighting, text, lower, upper);
+    if let Ok(size) = outcome {
+        *lower_needed = size.lower;
+        *upper_needed = size.upper.unwrap_or(0);
+    }
+    let report = of_bounds(outcome);
     *fault = report.fault;
     report.status
 }

@@ -1,10 +1,13 @@
 ghost use Rattle.std.specs.Prelude.{◌≡◌};
-ghost use Rattle.uca_c.specs.Reports.{check_report, compare_report, fingerprint_status, key_report, open_report, order_number, placed, plain, rule_kind, share_status, table_kind, tailoring_kind, text_report};
+ghost use Rattle.uca_c.specs.Reports.{bounds_report, check_report, compare_report, fingerprint_status, key_report, open_report, order_number, placed, plain, rule_kind, share_status, table_kind, tailoring_kind, text_report};
 
 use crate::numbers::*;
 use std::cmp::Ordering;
 use uca_allkeys::ReadCause;
-use uca_handle::{CompareFault, FingerprintFault, KeyFault, OpenFault, ShareFault, TextFault};
+use uca_handle::{
+    BoundsFault, BoundsSize, CompareFault, FingerprintFault, KeyFault, OpenFault, ShareFault,
+    TextFault,
+};
 use uca_tailor::{RuleCause, TailorCause};
 
 /// Where a fault is, and of what kind.
@@ -199,6 +202,19 @@ pub(crate) fn of_key(outcome: Result<usize, KeyFault>) -> Report
         Err(KeyFault::Closed) => Report::plain(CLOSED),
         Err(KeyFault::Text(fault)) => Report::of_text(1, fault),
         Err(KeyFault::OutOfMemory) => Report::plain(NO_MEMORY),
+    }
+}
+
+/// What `uca_prefix_bounds` reports.
+pub(crate) fn of_bounds(outcome: Result<BoundsSize, BoundsFault>) -> Report
+    ensures { result ≡ bounds_report outcome }
+{
+    match outcome {
+        Ok(_) => Report::plain(OK),
+        Err(BoundsFault::Closed) => Report::plain(CLOSED),
+        Err(BoundsFault::Text(fault)) => Report::of_text(1, fault),
+        Err(BoundsFault::Incomplete) => Report::plain(INCOMPLETE),
+        Err(BoundsFault::OutOfMemory) => Report::plain(NO_MEMORY),
     }
 }
 

@@ -1,3 +1,4 @@
+mod BoundsLemmas
 mod HandleValues
 mod OpeningLemmas
 mod Values

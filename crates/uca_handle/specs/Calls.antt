@@ -1,14 +1,20 @@
 -- What the calls of a collator answer, by its table.
-use Rattle.std.specs.Prelude.{◌≡◌, ℕ, List, ◌++◌, length, take, drop, Option, Some, None, Result, Ok, Err, chars}
+use Rattle.std.specs.Prelude.{◌≡◌, ◌≢◌, ℕ, true, false, List, [], ◌++◌, length, take, drop, Option, Some, None, Result, Ok, Err, chars}
+use Rattle.std.specs.Option.{option_map, option_map_or}
 use Rattle.std.specs.declared.cmp.Ordering.{Ordering}
 use Rattle.sha2.specs.Sha256.{sha256}
 use Rattle.uca_model.specs.Lines.{IsTextLine}
+use Rattle.uca_model.specs.Prefix.{end_of_prefix, is_complete, primary_key}
 use Rattle.uca_model.specs.SortKey.{key_order, sort_key}
 use Rattle.uca_model.specs.Table.{ElementTable}
 use Rattle.uca_weights.specs.declared.settings.Settings.{Settings}
+use Rattle.uca_weights.specs.declared.settings.Variable.{Variable}
 use Rattle.uca_handle.specs.Fingerprint.{fingerprinted}
 use Rattle.uca_handle.specs.Opening.{SaysTable, RefusesTable}
 use Rattle.uca_handle.specs.Texts.{IsFault}
+use Rattle.uca_handle.specs.declared.bounds.BoundsSize.{BoundsSize}
+use Rattle.uca_handle.specs.declared.faults.BoundsFault.{BoundsFault}
+use Rattle.uca_handle.specs.declared.faults.BoundsFault.TheVariants as bounds
 use Rattle.uca_handle.specs.declared.faults.CompareFault.{CompareFault}
 use Rattle.uca_handle.specs.declared.faults.CompareFault.TheVariants as compare
 use Rattle.uca_handle.specs.declared.faults.FingerprintFault.{FingerprintFault}
@@ -84,6 +90,37 @@ MakesKeyBy t s text before after (Err key.OutOfMemory) = IsTextLine text × (aft
 abbrev pub MakesKey : Option ElementTable → Settings → List ℕ → List ℕ → List ℕ → Result ℕ KeyFault → Type 0
 MakesKey None s text before after result = (result ≡ Err key.Closed) × (after ≡ before)
 MakesKey (Some t) s text before after result = MakesKeyBy t s text before after result
+
+-- the bytes of an end of a range of keys: none where there is no end
+abbrev pub end_bytes : Option (List ℕ) → List ℕ
+end_bytes end = option_map_or (λ bytes. bytes) end []
+
+-- the first byte string after all that begin with the primary key of a text
+abbrev pub upper_end : ElementTable → Variable → List ℕ → Option (List ℕ)
+upper_end t v text = end_of_prefix (primary_key t v text)
+
+-- the two ends of the keys of all texts that begin with a text are in the fronts of two buffers, and these are their lengths
+pub record AreBoundsIn (t : ElementTable) (v : Variable) (text lower_before lower_after upper_before upper_after : List ℕ) (size : BoundsSize) : Type 0 where
+  pub safe : IsTextLine text
+  pub complete : is_complete t (chars text) ≡ true
+  pub lower_is : size.lower ≡ length (primary_key t v (chars text))
+  pub lower_written : lower_after ≡ with_front (primary_key t v (chars text)) lower_before
+  pub upper_is : size.upper ≡ option_map length (upper_end t v (chars text))
+  pub upper_some : size.upper ≢ Some 0
+  pub upper_written : upper_after ≡ with_front (end_bytes (upper_end t v (chars text))) upper_before
+
+-- the bounds are found, or both buffers stay as they were
+abbrev pub PutsBoundsBy : ElementTable → Variable → List ℕ → List ℕ → List ℕ → List ℕ → List ℕ → Result BoundsSize BoundsFault → Type 0
+PutsBoundsBy t v text lower lower_after upper upper_after (Ok size) = AreBoundsIn t v text lower lower_after upper upper_after size
+PutsBoundsBy t v text lower lower_after upper upper_after (Err bounds.Closed) = ⊥
+PutsBoundsBy t v text lower lower_after upper upper_after (Err (bounds.Text f)) = IsFault text f × (lower_after ≡ lower) × (upper_after ≡ upper)
+PutsBoundsBy t v text lower lower_after upper upper_after (Err bounds.Incomplete) = IsTextLine text × (is_complete t (chars text) ≡ false) × (lower_after ≡ lower) × (upper_after ≡ upper)
+PutsBoundsBy t v text lower lower_after upper upper_after (Err bounds.OutOfMemory) = IsTextLine text × (is_complete t (chars text) ≡ true) × (lower_after ≡ lower) × (upper_after ≡ upper)
+
+-- the same by a collator, which may have no table
+abbrev pub PutsBounds : Option ElementTable → Variable → List ℕ → List ℕ → List ℕ → List ℕ → List ℕ → Result BoundsSize BoundsFault → Type 0
+PutsBounds None v text lower lower_after upper upper_after result = (result ≡ Err bounds.Closed) × (lower_after ≡ lower) × (upper_after ≡ upper)
+PutsBounds (Some t) v text lower lower_after upper upper_after result = PutsBoundsBy t v text lower lower_after upper upper_after result
 
 -- the fingerprint of a table and settings
 abbrev pub FingerprintsBy : ElementTable → Settings → Result (List ℕ) FingerprintFault → Type 0

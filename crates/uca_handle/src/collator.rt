@@ -2,8 +2,9 @@ ghost use Rattle.std.specs.Prelude.{◌≡◌, None, Some, IfOk, is_some, option
 ghost use Rattle.std.specs.Arc.{arc_value};
 ghost use Rattle.std.specs.Box.{box_value};
 
+use crate::bounds::{BoundsSize, put_bounds};
 use crate::digest::digest_of;
-use crate::faults::{CompareFault, FingerprintFault, KeyFault, OpenFault, ShareFault};
+use crate::faults::{BoundsFault, CompareFault, FingerprintFault, KeyFault, OpenFault, ShareFault};
 use crate::handle::Handle;
 use crate::keys::put_key;
 use crate::loose::Loose;
@@ -14,7 +15,7 @@ use std::cmp::Ordering;
 use std::mem::replace;
 use std::sync::Arc;
 use uca_table::Table;
-use uca_weights::Settings;
+use uca_weights::{Settings, Variable};
 
 /// A table that several collators own together.
 type Shared = Box<Arc<Table, Global>, Global>;
@@ -35,7 +36,7 @@ impl Drop for Collator {
 }
 
 impl Collator {
-    ghost use Rattle.uca_handle.specs.Calls.{Compares, Fingerprints, MakesKey, Opens, Shares};
+    ghost use Rattle.uca_handle.specs.Calls.{Compares, Fingerprints, MakesKey, Opens, PutsBounds, Shares};
     ghost use Rattle.uca_handle.specs.Collator.{held};
 
     /// A collator without a table.
@@ -151,6 +152,28 @@ impl Collator {
             return Err(KeyFault::Closed);
         };
         let answer = put_key(alloc, table_in(&table), s, text, out);
+        self.fill(table);
+        answer
+    }
+
+    /// Puts the two ends of the keys of all texts that begin with a text into the fronts of two buffers, or as many of their
+    /// bytes as fit, and returns how many bytes the ends have. The keys, of whatever strength, stand from the lower end up
+    /// to the upper one.
+    pub fn prefix_bounds(
+        &mut self,
+        alloc: Global,
+        v: Variable,
+        text: &[u8],
+        lower: &mut [u8],
+        upper: &mut [u8],
+    ) -> Result<BoundsSize, BoundsFault>
+        ensures bounds { PutsBounds (held self.old) v text.now lower.old lower.new upper.old upper.new result }
+        ensures same { held self.new ≡ held self.old }
+    {
+        let Some(table) = self.take(alloc) else {
+            return Err(BoundsFault::Closed);
+        };
+        let answer = put_bounds(alloc, table_in(&table), v, text, lower, upper);
         self.fill(table);
         answer
     }

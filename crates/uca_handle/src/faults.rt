@@ -62,6 +62,19 @@ pub enum KeyFault {
     OutOfMemory,
 }
 
+/// Why a text has no bounds of the keys that begin as its own does.
+#[derive(Clone, Copy, Debug, PartialEq, Eq)]
+pub enum BoundsFault {
+    /// The collator has no table.
+    Closed,
+    /// The text is at fault.
+    Text(TextFault),
+    /// The text is not complete: what follows it may change its primary weights.
+    Incomplete,
+    /// An allocation failed.
+    OutOfMemory,
+}
+
 /// Why no fingerprint was made.
 #[derive(Clone, Copy, Debug, PartialEq, Eq)]
 pub enum FingerprintFault {

@@ -9,7 +9,7 @@ use uca_table::Table;
 use uca_weights::Settings;
 
 /// Copies bytes into the front of a buffer, or as many of them as fit.
-fn copy_front(bytes: &[u8], out: &mut [u8])
+pub(crate) fn copy_front(bytes: &[u8], out: &mut [u8])
     ensures { out.new ≡ with_front bytes.now out.old }
 {
     let n = bytes.len().min(out.len());

@@ -3,9 +3,11 @@
 //!
 //! [`Collator::load`] gives it the table that two texts say, and [`Collator::share`] gives another collator the same
 //! table. The table is freed with the last collator that has it. [`Collator::compare`], [`Collator::sort_key`] and
-//! [`Collator::fingerprint`] work on bytes: they check them, and report where a text ends or is not safe.
+//! [`Collator::prefix_bounds`] work on bytes: they check them, and report where a text ends or is not safe.
+//! [`Collator::fingerprint`] is of the table and the settings alone.
 #![tactic(auto)]
 
+pub mod bounds;
 mod bytes;
 pub mod collator;
 mod digest;
@@ -16,8 +18,11 @@ mod loose;
 mod opening;
 pub mod texts;
 
+pub use bounds::BoundsSize;
 pub use collator::Collator;
-pub use faults::{CompareFault, FingerprintFault, KeyFault, OpenFault, ShareFault, TextFault};
+pub use faults::{
+    BoundsFault, CompareFault, FingerprintFault, KeyFault, OpenFault, ShareFault, TextFault,
+};
 pub use texts::check;
 
 #[cfg(test)]

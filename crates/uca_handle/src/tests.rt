@@ -1,5 +1,10 @@
-use crate::{Collator, CompareFault, TextFault, check};
+use crate::{
+    BoundsFault, BoundsSize, Collator, CompareFault, FingerprintFault, KeyFault, OpenFault,
+    ShareFault, TextFault, check,
+};
+use std::alloc::Global;
 use std::cmp::Ordering;
+use std::process::Abort;
 use uca_weights::{Settings, Strength, Variable};
 
 const TABLE: &[u8] = b"0061 ; [.1000.0020.0002]\n\
@@ -15,6 +20,34 @@ const TERTIARY: Settings = Settings {
 // A value that another thread may have.
 fn goes<T: Send>(_value: &T) {}
 
+/// Gives a collator a table, once more where memory was refused.
+fn load(
+    alloc: Global,
+    collator: &mut Collator,
+    table: &[u8],
+    rules: &[u8],
+) -> Result<(), OpenFault> {
+    match collator.load(alloc, table, rules) {
+        Err(OpenFault::OutOfMemory) => collator.load(alloc, table, rules),
+        answer => answer,
+    }
+}
+
+/// Gives another collator the same table, once more where memory was refused.
+fn share(alloc: Global, collator: &mut Collator, other: &mut Collator) -> Result<(), ShareFault> {
+    match collator.share(alloc, other) {
+        Err(ShareFault::OutOfMemory) => collator.share(alloc, other),
+        answer => answer,
+    }
+}
+
+/// A collator that has the small table, tailored by these rules.
+fn opened(rt: &impl Abort, alloc: Global, rules: &[u8]) -> Collator {
+    let mut collator = Collator::closed(alloc);
+    assert_eq!(rt; load(alloc, &mut collator, TABLE, rules), Ok(()));
+    collator
+}
+
 #[test]
 fn each_call_once(rt: HostRuntime) {
     let alloc = rt.alloc();
@@ -24,9 +57,9 @@ fn each_call_once(rt: HostRuntime) {
         collator.compare(alloc, TERTIARY, b"a", b"c"),
         Err(CompareFault::Closed)
     );
-    assert_eq!(rt; collator.load(alloc, TABLE, b"&c<ch"), Ok(()));
+    assert_eq!(rt; load(alloc, &mut collator, TABLE, b"&c<ch"), Ok(()));
     let mut other = Collator::closed(alloc);
-    assert_eq!(rt; collator.share(alloc, &mut other), Ok(()));
+    assert_eq!(rt; share(alloc, &mut collator, &mut other), Ok(()));
     collator.close(alloc);
     assert_eq!(rt;
         other.compare(alloc, TERTIARY, b"cz", b"ch"),
@@ -36,10 +69,117 @@ fn each_call_once(rt: HostRuntime) {
         other.compare(alloc, TERTIARY, b"a", b"\xFF"),
         Err(CompareFault::Second(TextFault::NotUtf8(0)))
     );
-    let mut key = [9; 12];
-    assert_eq!(rt; other.sort_key(alloc, TERTIARY, b"a", &mut key), Ok(10));
-    assert_eq!(rt; key, [0x10, 0, 0, 0, 0, 0x20, 0, 0, 0, 2, 9, 9]);
-    let digest = other.fingerprint(alloc, TERTIARY).ok();
-    assert!(rt; digest.is_some());
     assert_eq!(rt; check(b"a\xC3"), Err(TextFault::NotUtf8(1)));
+}
+
+#[test]
+fn a_key_is_written_as_far_as_it_fits(rt: HostRuntime) {
+    let alloc = rt.alloc();
+    let mut collator = opened(&rt, alloc, b"");
+    let wanted = [0x10, 0, 0, 0, 0, 0x20, 0, 0, 0, 2, 9, 9];
+    for room in [12, 10, 3, 0] {
+        let mut key = [9; 12];
+        let written = match collator.sort_key(alloc, TERTIARY, b"a", &mut key[..room]) {
+            Err(KeyFault::OutOfMemory) => {
+                collator.sort_key(alloc, TERTIARY, b"a", &mut key[..room])
+            }
+            answer => answer,
+        };
+        assert_eq!(rt; written, Ok(10));
+        assert_eq!(rt; key[..room], wanted[..room]);
+        assert_eq!(rt; key[room..], [9; 12][room..]);
+    }
+}
+
+#[test]
+fn a_fingerprint_is_of_the_table_and_the_settings(rt: HostRuntime) {
+    let alloc = rt.alloc();
+    let mut collator = opened(&rt, alloc, b"");
+    let primary = Settings {
+        strength: Strength::Primary,
+        weighting: Variable::NonIgnorable,
+    };
+    let mut found = [[0; 32]; 3];
+    let settings = [TERTIARY, TERTIARY, primary];
+    for (digest, s) in found.iter_mut().zip(settings) {
+        let answer = match collator.fingerprint(alloc, s) {
+            Err(FingerprintFault::OutOfMemory) => collator.fingerprint(alloc, s),
+            answer => answer,
+        };
+        *digest = answer.ok().expect(&rt, "a digest");
+    }
+    assert_eq!(rt; found[0], found[1]);
+    assert!(rt; found[0] != found[2]);
+}
+
+/// The bounds of a text in buffers of eight bytes, asked for once more where memory was refused.
+fn bounds(
+    alloc: Global,
+    collator: &mut Collator,
+    text: &[u8],
+    lower: &mut [u8; 8],
+    upper: &mut [u8; 8],
+) -> Result<BoundsSize, BoundsFault> {
+    let v = Variable::NonIgnorable;
+    match collator.prefix_bounds(alloc, v, text, lower, upper) {
+        Err(BoundsFault::OutOfMemory) => collator.prefix_bounds(alloc, v, text, lower, upper),
+        answer => answer,
+    }
+}
+
+#[test]
+fn a_complete_text_has_two_ends(rt: HostRuntime) {
+    let alloc = rt.alloc();
+    let mut collator = opened(&rt, alloc, b"&c<ch");
+    let (mut lower, mut upper) = ([9; 8], [9; 8]);
+    let found = bounds(alloc, &mut collator, b"zch", &mut lower, &mut upper);
+    let both = BoundsSize {
+        lower: 4,
+        upper: Some(4),
+    };
+    assert_eq!(rt; found, Ok(both));
+    assert_eq!(rt; lower, [0x10, 7, 0x10, 3, 9, 9, 9, 9]);
+    assert_eq!(rt; upper, [0x10, 7, 0x10, 4, 9, 9, 9, 9]);
+    let found = bounds(alloc, &mut collator, b"", &mut lower, &mut upper);
+    let none = BoundsSize {
+        lower: 0,
+        upper: None,
+    };
+    assert_eq!(rt; found, Ok(none));
+}
+
+#[test]
+fn other_texts_have_no_bounds(rt: HostRuntime) {
+    let alloc = rt.alloc();
+    let mut collator = opened(&rt, alloc, b"&c<ch");
+    let (mut lower, mut upper) = ([9; 8], [9; 8]);
+    let cases: [(&[u8], BoundsFault); 2] = [
+        (b"ac", BoundsFault::Incomplete),
+        (b"a\xFF", BoundsFault::Text(TextFault::NotUtf8(1))),
+    ];
+    for (text, fault) in cases {
+        let found = bounds(alloc, &mut collator, text, &mut lower, &mut upper);
+        assert_eq!(rt; found, Err(fault), "{text:?}");
+    }
+    collator.close(alloc);
+    let found = bounds(alloc, &mut collator, b"a", &mut lower, &mut upper);
+    assert_eq!(rt; found, Err(BoundsFault::Closed));
+    assert_eq!(rt; (lower, upper), ([9; 8], [9; 8]));
+}
+
+/// Texts of a table and of rules that are refused, and why.
+const REFUSED: [(&[u8], &[u8]); 3] = [(b"zzz", b""), (TABLE, b"&a<"), (TABLE, b"&a\xFF")];
+
+#[test]
+fn what_is_refused_leaves_the_collator_as_it_was(rt: HostRuntime) {
+    let alloc = rt.alloc();
+    let mut collator = opened(&rt, alloc, b"");
+    for (table, rules) in REFUSED {
+        let answer = load(alloc, &mut collator, table, rules);
+        assert!(rt; matches!(answer, Err(fault) if fault != OpenFault::OutOfMemory));
+        assert_eq!(rt;
+            collator.compare(alloc, TERTIARY, b"cz", b"ch"),
+            Ok(Ordering::Greater)
+        );
+    }
 }

@@ -1,4 +1,5 @@
 use super::parse;
+use crate::faults::{RuleCause, RuleFault};
 use crate::rules::{Op, Rules};
 use std::alloc::{AllocError, Global};
 use std::process::Abort;
@@ -33,9 +34,17 @@ fn push_all(text: &mut String, string: &[char]) -> Result<(), AllocError> {
     Ok(())
 }
 
+/// Parses a text, once more where memory was refused.
+fn parse_again(alloc: Global, text: &str) -> Result<Rules, RuleFault> {
+    match parse(alloc, text) {
+        Err(fault) if fault.cause == RuleCause::OutOfMemory => parse(alloc, text),
+        parsed => parsed,
+    }
+}
+
 /// What `parse` says: the chains, or the fault and its byte.
 fn answer(alloc: Global, text: &str) -> Result<String, AllocError> {
-    match parse(alloc, text) {
+    match parse_again(alloc, text) {
         Ok(rules) => written(alloc, &rules),
         Err(fault) => format!(in alloc; "{} {}", fault.cause, fault.at),
     }
@@ -304,7 +313,7 @@ fn twenty_thousand_relations_are_accepted(rt: HostRuntime) {
     let Ok(text) = join(rt.alloc(), &[("&a", 1), ("=b", 20_000)]) else {
         return;
     };
-    match parse(rt.alloc(), &text) {
+    match parse_again(rt.alloc(), &text) {
         Ok(rules) => {
             assert!(rt; rules.chains().len() == 1);
             for chain in rules.chains() {
