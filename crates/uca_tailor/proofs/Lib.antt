@@ -24,6 +24,7 @@ pub mod PlainLists
 pub mod NextToAnchor
 pub mod RelatedTables
 pub mod ShiftLemmas
+pub mod BlockLemmas
 pub mod TopLemmas
 pub mod RenumberedLemmas
 pub mod CopyLemmas
