@@ -25,6 +25,7 @@ pub mod NextToAnchor
 pub mod RelatedTables
 pub mod IncreasingShifts
 pub mod ShiftLemmas
+pub mod BlockLemmas
 pub mod TopLemmas
 pub mod RenumberedLemmas
 pub mod CopyLemmas

@@ -1,5 +1,5 @@
 -- Rooms that are made at one level one after the other, and how far they move a weight together.
-use Rattle.std.specs.Prelude.{◌≡◌, ℕ, ◌+◌, ◌-◌, ◌≤◌, min, ◌==◌, nat_lt, nat_le, List, [], ◌∷◌, if◌then◌else◌}
+use Rattle.std.specs.Prelude.{◌≡◌, ℕ, ◌+◌, ◌-◌, ◌%◌, ◌≤◌, min, ◌==◌, nat_lt, nat_le, List, [], ◌∷◌, length, take, drop, if◌then◌else◌}
 use Rattle.std.specs.List.{AllByRecursion}
 use Rattle.uca_model.specs.Room.{weight_with_room}
 
@@ -33,3 +33,8 @@ Rise (b ∷ bs) = AllByRecursion (λ c. b ≤ c) bs × Rise bs
 pub record AreBounds (bounds ws : List ℕ) : Type 0 where
   pub rise : Rise bounds
   pub same : (level x : ℕ) → moved_at_once level bounds x ≡ moved level ws x
+
+-- the bounds of so many rooms in a row, for each such block by itself
+pub record AreBlocks (size : ℕ) (bounds ws : List ℕ) : Type 0 where
+  pub same_length : length bounds ≡ length ws
+  pub blocks : (at : ℕ) → at % size ≡ 0 → AreBounds (take size (drop at bounds)) (take size (drop at ws))

@@ -1,10 +1,15 @@
 //! The rooms that were made at one level, one after the other.
-ghost use Rattle.std.specs.Prelude.{◌≡◌, ◌+◌, ◌-◌, ◌<◌, ◌≤◌, ◌++◌, ◌∷◌, [], min, length, drop, insert, OnOk, OnErr};
+ghost use Rattle.std.specs.Prelude.{◌≡◌, ◌+◌, ◌-◌, ◌<◌, ◌≤◌, ◌++◌, ◌∷◌, [], min, length, take, drop, insert, vec_len, vec_capacity, OnOk, OnErr};
 ghost use Rattle.uca_model.specs.Room.{weight_with_room};
 ghost use Rattle.uca_tailor.specs.Shifts.{moved, moved_at_once, count_below, bounds_with, Rise};
 
 use std::alloc::{AllocError, Global};
 use std::marker::Model;
+
+/// How many rooms in a row have their bounds together in a small block, and in a large one.
+const SMALL: usize = 64;
+
+const LARGE: usize = 4096;
 
 /// The weights of one level above which room was made, in the order in which it was made.
 #[derive(Debug, Drop)]
@@ -12,17 +17,21 @@ pub(crate) struct Shifts {
     made: Vec<u16>,
     // Of each room the greatest weight that it leaves, among those before all rooms; in rising order.
     bounds: Vec<u16>,
+    // The same of each `SMALL` rooms in a row by themselves, for weights that were put in between.
+    small: Vec<u16>,
+    // And of each `LARGE` rooms.
+    large: Vec<u16>,
 }
 
 impl Model for Shifts {
     ghost use Rattle.std.specs.Prelude.{ℕ, List};
-    ghost use Rattle.uca_tailor.specs.Shifts.{AreBounds};
+    ghost use Rattle.uca_tailor.specs.Shifts.{AreBounds, AreBlocks};
 
     ghost Value = { List ℕ };
 
     ghost view = { λ s. s.made.items };
 
-    ghost invariant = { λ s. AreBounds s.bounds.items s.made.items };
+    ghost invariant = { λ s. AreBounds s.bounds.items s.made.items × AreBlocks 64 s.small.items s.made.items × AreBlocks 4096 s.large.items s.made.items };
 }
 
 impl Shifts {
@@ -33,6 +42,8 @@ impl Shifts {
         Shifts {
             made: Vec::new(alloc),
             bounds: Vec::new(alloc),
+            small: Vec::new(alloc),
+            large: Vec::new(alloc),
         }
     }
 
@@ -48,10 +59,14 @@ impl Shifts {
         ensures ok { OnOk result (self.new ≡ self.old ++ w ∷ []) }
         ensures err { OnErr result (self.new ≡ self.old) }
     {
+        let count = self.made.len();
         self.bounds.reserve(1)?;
+        self.small.reserve(1)?;
+        self.large.reserve(1)?;
         self.made.push(w)?;
-        let at = place_of(&self.bounds, w);
-        let _fits = self.bounds.insert(at, w - at as u16);
+        insert_bound(&mut self.bounds, 0, w);
+        insert_bound(&mut self.small, count - count % SMALL, w);
+        insert_bound(&mut self.large, count - count % LARGE, w);
         Ok(())
     }
 
@@ -63,8 +78,49 @@ impl Shifts {
         if after == 0 {
             return moved_at_once(level, &self.bounds, weight);
         }
-        moved_in_turn(level, &self.made[after..], weight)
+        let mut moved = weight;
+        let mut at = after;
+        while at < self.made.len() {
+            let is_large = at % LARGE == 0;
+            let is_small = at % SMALL == 0;
+            if is_large {
+                let wide = block(&self.large, at, LARGE);
+                let by_wide = moved_at_once(level, wide, moved);
+                moved = by_wide;
+                at += wide.len();
+            } else if is_small {
+                let narrow = block(&self.small, at, SMALL);
+                let by_narrow = moved_at_once(level, narrow, moved);
+                moved = by_narrow;
+                at += narrow.len();
+            } else {
+                let by_room = with_room(level, self.made[at], moved);
+                moved = by_room;
+                at += 1;
+            }
+        }
+        moved
     }
+}
+
+/// The bounds of the block that begins at a place.
+fn block(bounds: &[u16], at: usize, size: usize) -> &[u16]
+    requires { at ≤ length bounds.now }
+    ensures { result.now ≡ take size (drop at bounds.now) }
+{
+    let rest = &bounds[at..];
+    &rest[..rest.len().min(size)]
+}
+
+/// Inserts the bound of one more room among those of the last rooms, which begin at a place. It takes no memory.
+fn insert_bound(bounds: &mut Vec<u16>, from: usize, w: u16)
+    requires from { from ≤ length bounds.old.items }
+    requires room { vec_len bounds.old < vec_capacity bounds.old }
+    requires rise { Rise (drop from bounds.old.items) }
+    ensures { bounds.new.items ≡ take from bounds.old.items ++ bounds_with w (drop from bounds.old.items) }
+{
+    let at = place_of(&bounds[from..], w);
+    let _fits = bounds.insert(from + at, w - at as u16);
 }
 
 /// The place of the bound of one more room.
@@ -129,15 +185,4 @@ pub(crate) fn with_room(level: u8, w: u16, weight: u16) -> u16
     } else {
         weight
     }
-}
-
-/// A weight moved by one room after the other, at most 65535.
-fn moved_in_turn(level: u8, rooms: &[u16], weight: u16) -> u16
-    ensures { result ≡ min (moved level rooms.now weight) 65535 }
-{
-    let mut moved = weight;
-    for w in rooms {
-        moved = with_room(level, *w, moved);
-    }
-    moved
 }
