@@ -8,7 +8,7 @@ ghost use Rattle.uca_model.specs.StandAlone.{begins, leads, continues, joining_o
 ghost use Rattle.uca_table.specs.Cells.{AreKeyFlags, IsCell, AreCells, HoldsCells, Grows};
 
 use crate::collation::{push_elements, push_matches};
-use crate::key_flags::{KeyFlags, LIMIT, key_flags_of};
+use crate::key_flags::{KeyFlags, key_flags_of, limit_for};
 use crate::stored::Stored;
 use std::alloc::{AllocError, Global};
 use uca_weights::Element;
@@ -254,7 +254,7 @@ impl Cells {
     {
         let key_flags = key_flags_of(alloc, t)?;
         let mut made = Cells::none(alloc);
-        for point in 0..LIMIT as u32 {
+        for point in 0..limit_for(t.entries.len()) {
             made.push_point(alloc, t, &key_flags, point)?;
         }
         Ok(made)
@@ -315,7 +315,7 @@ impl Cells {
         }
     }
 
-    // The elements of the first character of a text, where they stand alone.
+    // The elements of the first character of a text, where they stand alone. The next one is looked up only where they may not.
     fn alone(&self, t: &Stored, text: &[char]) -> Option<&[Element]>
         requires some { 0 < length text.now }
         requires cells { HoldsCells t.now self.now }
@@ -325,7 +325,7 @@ impl Cells {
         if cell.count == 0 {
             return None;
         }
-        if self.joining_at(text, 1) > cell.bearing {
+        if cell.bearing < 2 && self.joining_at(text, 1) > cell.bearing {
             return None;
         }
         Some(self.elements_of(cell))
@@ -373,18 +373,29 @@ impl Cells {
     }
 }
 
-// Appends the elements of a text, whatever stands in it.
+// Appends elements. Most characters have one, which is appended without a copy of a slice.
+fn push_few(out: &mut Vec<Element>, elements: &[Element]) -> Result<(), AllocError>
+    ensures { OnOk result (out.new.items ≡ out.old.items ++ elements.now) }
+{
+    if let [element] = elements {
+        out.push(*element)?;
+        return Ok(());
+    }
+    out.extend_from_slice(elements)
+}
+
+// Appends the elements of a text, whatever stands in it. `points` is room for its code points in NFD.
 fn push_run(
-    alloc: Global,
+    points: &mut Vec<char>,
     out: &mut Vec<Element>,
     t: &Stored,
     run: &[char],
 ) -> Result<(), AllocError>
     ensures { OnOk result (out.new.items ≡ out.old.items ++ elements t.now (nfd run.now)) }
 {
-    let mut points = Vec::new(alloc);
-    slice::extend_nfd(&mut points, run)?;
-    push_matches(out, t, &mut points)
+    points.clear();
+    slice::extend_nfd(points, run)?;
+    push_matches(out, t, points)
 }
 
 /// Appends the elements of a text. A character whose elements stand alone takes those of its cell.
@@ -398,16 +409,17 @@ pub fn push_text(
     requires { HoldsCells t.now cells.now }
     ensures { OnOk result (out.new.items ≡ out.old.items ++ elements t.now (nfd text.now)) }
 {
+    let mut points = Vec::new(alloc);
     let mut at = 0;
     'characters: while at < text.len() {
         match cells.alone(t, &text[at..]) {
             Some(elements) => {
-                out.extend_from_slice(elements)?;
+                push_few(out, elements)?;
                 at += 1;
             }
             None => {
                 let n = cells.run_len(t, &text[at..]);
-                push_run(alloc, out, t, &text[at..at + n])?;
+                push_run(&mut points, out, t, &text[at..at + n])?;
                 at += n;
             }
         }

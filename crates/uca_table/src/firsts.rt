@@ -7,11 +7,9 @@ ghost use Rattle.uca_table.specs.Fronts.{code_at};
 ghost use Rattle.uca_table.specs.Span.{entries_in};
 
 use crate::flat::Span;
+use crate::key_flags::limit_for;
 use crate::span::code_at;
 use std::alloc::{AllocError, Global};
-
-/// Code points below this one have a place in the index.
-const LIMIT: u32 = 0x1_0000;
 
 /// Where among entries in their order those begin whose keys begin with a code point or a higher one. It goes from the
 /// first code point on as far as it does; the entries beyond are searched.
@@ -52,9 +50,10 @@ impl Firsts {
         requires { IsNonDecreasingBy (λ e. code_at 0 e.0) (entries_in entries.now) }
         ensures { IfOk result (HoldsFirsts (entries_in entries.now)) }
     {
-        let mut starts = Vec::with_capacity(alloc, LIMIT as usize + 1)?;
+        let limit = limit_for(entries.len());
+        let mut starts = Vec::with_capacity(alloc, limit as usize + 1)?;
         let mut at = 0;
-        for point in 0..LIMIT + 1 {
+        for point in 0..limit + 1 {
             at = advanced(entries, at, point + 1);
             let Some(start) = small(at) else {
                 return Ok(Firsts { starts });

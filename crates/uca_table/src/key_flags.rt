@@ -1,4 +1,4 @@
-ghost use Rattle.std.specs.Prelude.{◌≡◌, ◌==◌, ◌||◌, ◌<◌, ℕ, true, false, get_or, length, IfOk};
+ghost use Rattle.std.specs.Prelude.{◌≡◌, ◌==◌, ◌||◌, ◌<◌, ◌≤◌, ℕ, true, false, get_or, length, IfOk};
 ghost use Rattle.std.specs.List.{list_any};
 ghost use Rattle.uca_model.specs.StandAlone.{is_first, is_longer_from, is_inside};
 ghost use Rattle.uca_table.specs.Cells.{AreKeyFlags};
@@ -8,6 +8,21 @@ use std::alloc::{AllocError, Global};
 
 /// Characters below this one have cells.
 pub(crate) const LIMIT: usize = 0x1_0000;
+
+/// A table of fewer entries is small.
+const FEW: usize = 256;
+
+/// Characters of a small table below this one have cells.
+const LIMIT_OF_FEW: usize = 0x1000;
+
+/// Where the cells end of a table of so many entries, and the index of its first code points. Those of a small table end
+/// early, since all of them would take longer than its reading.
+pub(crate) fn limit_for(entries: usize) -> u32
+    ensures { result ≤ 65536 }
+{
+    let limit = if entries < FEW { LIMIT_OF_FEW } else { LIMIT };
+    limit as u32
+}
 
 /// Which code points begin a key of a table, which begin a key of two or more, and which stand in a key at the second
 /// place or later. Those from `LIMIT` on are taken to do all three.

@@ -14,7 +14,7 @@ characters-preserved-in-Some c =
     let step : P (drop at text) = subst P (take_rest text at) c.in-Some.ensures in
     record {
       within = omega arith;
-      same = ap (λ o. o ++ elements t (nfd (drop (at + 1) text))) c.in_ok-extend_from_slice-in-Some.ensures.items ∙ text-further t text at 1 c.characters.out.items c.in-Some.elements.now (c.args.out.now.items ++ elements t (nfd text)) c.characters.invariant.same step;
+      same = ap (λ o. o ++ elements t (nfd (drop (at + 1) text))) c.in_ok-push_few-in-Some.ensures ∙ text-further t text at 1 c.characters.out.items c.in-Some.elements.now (c.args.out.now.items ++ elements t (nfd text)) c.characters.invariant.same step;
     }
 
 pub returns : goal.returns

@@ -1,14 +1,24 @@
-use Rattle.std.proofs.Common.{◌≡◌, ℕ, ◌≤◌, ◌++◌, drop, get_or, ap, ◌∙◌, subst, arith}
+use Rattle.std.proofs.Common.{◌≡◌, ℕ, ◌<◌, ◌≤◌, ◌++◌, length, drop, get_or, ap, ◌∙◌, subst, arith}
 use Rattle.std.proofs.lemmas.List.{get_or_read}
+use Rattle.unicode_normalization.specs.Decompose.{decompose_canonical}
 use Rattle.unicode_normalization.specs.Forms.{nfd}
 use Rattle.uca_model.specs.CollationElements.{elements}
 use Rattle.uca_model.specs.StandAlone.{joining}
+use Rattle.uca_model.proofs.StandAloneLemmas.{joining-most}
 use Rattle.uca_table.specs.Cells.{IsCell}
 use Rattle.uca_table.proofs.CellLemmas.{alone-cell}
 use Rattle.uca_table.proofs.cells.Cells.alone.Goals as goal
+use Rattle.uca_table.proofs.cells.Cells.alone.Goals.{After-elements_of, else-cell-lt2-via-then-cell-lt2+else-joining_at-cell, else-cell-lt2-via-else-cell-lt2}
 
 pub elements_of-requires : goal.elements_of-requires
 elements_of-requires c = (c.cell-cell.ensures c.args.t.now c.requires.cells).within
+
+-- the next character joins no more than the cell bears
+bears : (c : After-elements_of) → 1 < length c.args.text.now → joining c.args.t.now (get_or c.args.text.now 1 0) ≤ c.cell-cell.result.bearing
+bears c more = elim c.else-cell-lt2.branch [
+  | else-cell-lt2-via-then-cell-lt2+else-joining_at-cell w ↦ let joins : joining c.args.t.now (get_or c.args.text.now 1 0) ≤ w.joining_at.result = w.joining_at.ensures c.args.t.now c.requires.cells more in omega (arith, joins, w.if-joining_at-cell.false)
+  | else-cell-lt2-via-else-cell-lt2 w ↦ let most : joining c.args.t.now (get_or c.args.text.now 1 0) ≤ 2 = joining-most c.args.t.now (decompose_canonical (get_or c.args.text.now 1 0)) in omega (arith, most, w.if-cell-lt2.false)
+]
 
 pub returns : goal.returns
 returns c =
@@ -16,5 +26,4 @@ returns c =
     let P : ℕ → Type 0 = λ x. IsCell c.args.t.now c.args.self.now.elements.items x c.cell-cell.result in
     let cell : IsCell c.args.t.now c.args.self.now.elements.items (get_or c.args.text.now 0 0) c.cell-cell.result = subst P first (c.cell-cell.ensures c.args.t.now c.requires.cells) in
     ap (λ es. es ++ elements c.args.t.now (nfd (drop 1 c.args.text.now))) c.elements_of.ensures
-    ∙ alone-cell c.args.t.now c.args.text.now c.args.self.now.elements.items c.cell-cell.result c.requires.some cell (omega arith)
-    (λ more. let joins : joining c.args.t.now (get_or c.args.text.now 1 0) ≤ c.joining_at.result = c.joining_at.ensures c.args.t.now c.requires.cells more in omega arith)
+    ∙ alone-cell c.args.t.now c.args.text.now c.args.self.now.elements.items c.cell-cell.result c.requires.some cell (omega (arith, c.if-cell-eq0.false)) (bears c)
