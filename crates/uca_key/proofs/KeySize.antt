@@ -8,6 +8,7 @@ use Rattle.std.specs.Option.{option_map_or}
 use Rattle.unicode_normalization.specs.Forms.{Nfd, nfd}
 use Rattle.unicode_normalization.proofs.LengthLemmas.{length-normalize}
 use Rattle.uca_weights.specs.declared.element.Element.{Element}
+use Rattle.uca_weights.specs.declared.range.Ideographs.{Ideographs}
 use Rattle.uca_weights.specs.declared.range.Range.{Range}
 use Rattle.uca_weights.specs.declared.settings.Settings.{Settings}
 use Rattle.uca_weights.specs.declared.settings.Variable.{Variable}
@@ -31,10 +32,10 @@ in_range_few : (ranges : List Range) (c : ℕ) (o : Option Range) (other : List 
 in_range_few ranges c None other h = h
 in_range_few ranges c (Some r) other h = omega arith
 
-implicit_few : (ranges : List Range) (c : ℕ) → length (implicit_over ranges c) ≤ 64
+implicit_few : (ranges : List Range) (added : List Ideographs) (c : ℕ) → length (implicit_over ranges added c) ≤ 64
 unfolding implicit_over
-implicit_few ranges c =
-    let parts : List Element = in_two_parts (two_parts_base c) c in
+implicit_few ranges added c =
+    let parts : List Element = in_two_parts (two_parts_base added c) c in
     let two : length parts ≤ 64 = omega arith in
     either_few (is_assigned c) (option_map_or (in_range ranges c) (range_of ranges c) parts) parts (in_range_few ranges c (range_of ranges c) parts two) two
 
@@ -42,7 +43,7 @@ given_few : (t : ElementTable) (key : List ℕ) → IsTable t → length (elemen
 given_few t key table = of_answer (elements_at t key) refl
   where
     of_answer : (o : Option (List Element)) → elements_at t key ≡ o → length (unwrap_or o (implicit t (slice_index key 0))) ≤ 64
-    of_answer None e = implicit_few t.ranges (slice_index key 0)
+    of_answer None e = implicit_few t.ranges t.ideographs (slice_index key 0)
     of_answer (Some es) e = (IsEntry-elements_at t key es table e).few_elements
 
 elements_few : (n : ℕ) (t : ElementTable) (xs : List ℕ) → length xs ≤ n → IsTable t → length (elements t xs) ≤ 64 * length xs

@@ -139,11 +139,11 @@ module _ (t : ElementTable) (was wus : SourceState) (xs ys : List ℕ) (left rig
 -- ---- one more weight
 
 -- implicit elements are two
-no_pair : (t : ElementTable) (c : ℕ) → first_of (implicit_over t.ranges c) ≡ None → ⊥
+no_pair : (t : ElementTable) (c : ℕ) → first_of (implicit_over t.ranges t.ideographs c) ≡ None → ⊥
 unfolding implicit_over
 no_pair t c e = by_test (is_assigned c) (range_of t.ranges c) e
   where
-    by_test : (b : Bool) (o : Option Range) → first_of (cond b (option_map_or (in_range t.ranges c) o (in_two_parts (two_parts_base c) c)) (in_two_parts (two_parts_base c) c)) ≡ None → ⊥
+    by_test : (b : Bool) (o : Option Range) → first_of (cond b (option_map_or (in_range t.ranges c) o (in_two_parts (two_parts_base t.ideographs c) c)) (in_two_parts (two_parts_base t.ideographs c) c)) ≡ None → ⊥
     by_test true None e = cc
     by_test true (Some r) e = cc
     by_test false o e = cc
@@ -156,7 +156,7 @@ some_of t key valid e = by_entry (elements_at t key) refl e
     nothing [] h e = absurd (omega arith)
     nothing (x ∷ es) h e = cc
 
-    by_entry : (o : Option (List Element)) → elements_at t key ≡ o → first_of (unwrap_or o (implicit_over t.ranges (slice_index key 0))) ≡ None → ⊥
+    by_entry : (o : Option (List Element)) → elements_at t key ≡ o → first_of (unwrap_or o (implicit_over t.ranges t.ideographs (slice_index key 0))) ≡ None → ⊥
     by_entry None f e = no_pair t (slice_index key 0) e
     by_entry (Some es) f e = nothing es (IsEntry-elements_at t key es valid f).some_elements e
 

@@ -1,4 +1,4 @@
--- The canonical text of a table is read back to it.
+-- The canonical text of a table is read back to it, without its further ideographs.
 use Rattle.std.proofs.Common.{◌≡◌, ℕ, ◌+◌, ◌<◌, false, List, [], ◌∷◌, ◌++◌, length, map, refl, sym, ap, subst, ◌∙◌, arith, append_assoc, append-nil, length-append}
 use Rattle.std.proofs.lemmas.Bool.{cond-false}
 use Rattle.std.proofs.lemmas.List.Elements.{recursion_from_All}
@@ -26,7 +26,7 @@ use Rattle.uca_model.proofs.TextSteps.{step_done}
 
 -- what some lines have said, with no version among them
 abbrev so_far : FinMap key_cmp (List Element) → List Range → TextState
-so_far m rs = record { table = record { entries = m; ranges = rs }; has_version = false }
+so_far m rs = record { table = record { entries = m; ranges = rs; ideographs = [] }; has_version = false }
 
 range_added : (m : FinMap key_cmp (List Element)) (front : List Range) (r : Range) (rest : List Range) → AreRanges (front ++ r ∷ rest) → AreByFirst (front ++ r ∷ rest) → add_line (so_far m front) (range_said r) ≡ Ok (so_far m (front ++ r ∷ []))
 range_added m front r rest are by_first =
@@ -35,7 +35,7 @@ range_added m front r rest are by_first =
 
 entry_added : (m : FinMap key_cmp (List Element)) (rs : List Range) (key : List ℕ) (es : List Element) → IsEntry (key, es) → IsAbove key (entries m) → add_line (so_far m rs) (entry_said (key, es)) ≡ Ok (so_far (insert m key es) rs)
 entry_added m rs key es is above =
-    let new : is_key (record { entries = m; ranges = rs }) key ≡ false = ap (λ (o : Option (List Element)). is_some o) (get-entries m key ∙ find-above key (entries m) above) in
+    let new : is_key (record { entries = m; ranges = rs; ideographs = [] }) key ≡ false = ap (λ (o : Option (List Element)). is_some o) (get-entries m key ∙ find-above key (entries m) above) in
     step_done _ _ (add_statement (so_far m rs)) (statement-entry key es is) ∙ cond-false _ _ _ new
 
 module _ (t : ElementTable) (table : IsTable t) where

@@ -16,6 +16,7 @@ use Rattle.unicode_normalization.specs.Order.{is_starter, is_reorderable, sink, 
 use Rattle.unicode_normalization.proofs.ComposeLemmas.{is_starter-true, not_starter_from}
 use Rattle.unicode_normalization.proofs.OrderLemmas.{canonical_order-at_starter, canonical_order-cons, canonical_order-nil, is_reorderable-true, sink-nil, sink-past, sink-stays, sink-starter}
 use Rattle.uca_weights.specs.declared.element.Element.{Element}
+use Rattle.uca_weights.specs.declared.range.Ideographs.{Ideographs}
 use Rattle.uca_weights.specs.declared.range.Range.{Range}
 use Rattle.uca_weights.specs.declared.settings.Variable.{Variable}
 use Rattle.uca_weights.specs.declared.settings.Variable.TheVariants.{NonIgnorable, Blanked, Shifted}
@@ -282,14 +283,14 @@ base_some true true n = omega arith
 base_some true false n = omega arith
 base_some false d n = omega arith
 
-begins-implicit : (rs : List Range) (c : ℕ) → AreRanges rs → BeginsPrimary (implicit_over rs c)
+begins-implicit : (rs : List Range) (added : List Ideographs) (c : ℕ) → AreRanges rs → BeginsPrimary (implicit_over rs added c)
 unfolding implicit_over
-begins-implicit rs c ranges = begins-cond (is_assigned c) _ _ (by_range (range_of rs c) refl) by_point
+begins-implicit rs added c ranges = begins-cond (is_assigned c) _ _ (by_range (range_of rs c) refl) by_point
   where
-    by_point : BeginsPrimary (in_two_parts (two_parts_base c) c)
-    by_point = begins-pair _ (c % 0x8000 + 0x8000) (base_some (is_unified_ideograph c) (in_some core_blocks c) (c / 0x8000))
+    by_point : BeginsPrimary (in_two_parts (two_parts_base added c) c)
+    by_point = begins-pair _ (c % 0x8000 + 0x8000) (base_some (is_unified_ideograph added c) (in_some core_blocks c) (c / 0x8000))
 
-    by_range : (o : Option Range) → range_of rs c ≡ o → BeginsPrimary (option_map_or (in_range rs c) o (in_two_parts (two_parts_base c) c))
+    by_range : (o : Option Range) → range_of rs c ≡ o → BeginsPrimary (option_map_or (in_range rs c) o (in_two_parts (two_parts_base added c) c))
     by_range None e = by_point
     by_range (Some r) e = begins-pair r.base (c - lowest_first rs r.base r.first + 0x8000) (let at : IsRange r = (found IsRange (λ q. is_between q.first q.last c) rs r ranges.each e).0 in omega (arith, at.above))
 
@@ -333,8 +334,8 @@ begins-key t s after valid safe = by_entry (elements_at t (s ∷ after)) refl
     by_elements [] e = absurd (let none : false ≡ true = safe.primary after [] e in cc)
     by_elements (x ∷ es) e = record { first = x; others = es; same = refl; some = safe.primary after (x ∷ es) e }
 
-    by_entry : (o : Option (List Element)) → elements_at t (s ∷ after) ≡ o → BeginsPrimary (unwrap_or o (implicit_over t.ranges s))
-    by_entry None e = begins-implicit t.ranges s valid.ranges
+    by_entry : (o : Option (List Element)) → elements_at t (s ∷ after) ≡ o → BeginsPrimary (unwrap_or o (implicit_over t.ranges t.ideographs s))
+    by_entry None e = begins-implicit t.ranges t.ideographs s valid.ranges
     by_entry (Some es) e = by_elements es e
 
 begins-elements : (t : ElementTable) (s : ℕ) (ys : List ℕ) → IsTable t → IsSafeStarter t s → BeginsPrimary (elements t (s ∷ ys))

@@ -8,6 +8,7 @@ use Rattle.std.specs.Option.{option_map_or}
 use Rattle.unicode_normalization.specs.Forms.{nfd}
 use Rattle.unicode_normalization.specs.Order.{is_starter}
 use Rattle.uca_weights.specs.declared.element.Element.{Element}
+use Rattle.uca_weights.specs.declared.range.Ideographs.{Ideographs}
 use Rattle.uca_weights.specs.declared.range.Range.{Range}
 use Rattle.uca_weights.specs.declared.settings.Settings.{Settings}
 use Rattle.uca_weights.specs.declared.settings.Variable.{Variable}
@@ -101,8 +102,8 @@ in_two_parts-elements base c low scalar =
     (record { l1 = omega arith; l2 = omega arith; l3 = omega arith }, (record { l1 = omega arith; l2 = omega arith; l3 = omega arith }, tt))
 
 -- no base is above that of all else
-two_parts_base-within : (c : ℕ) → two_parts_base c ≤ 0xFBC0
-two_parts_base-within c = of_tests (is_unified_ideograph c) (in_some core_blocks c)
+two_parts_base-within : (added : List Ideographs) (c : ℕ) → two_parts_base added c ≤ 0xFBC0
+two_parts_base-within added c = of_tests (is_unified_ideograph added c) (in_some core_blocks c)
   where
     of_tests : (unified core : Bool) → cond unified (cond core 0xFB40 0xFB80) 0xFBC0 ≤ 0xFBC0
     of_tests true true = omega arith
@@ -117,18 +118,18 @@ in_range-elements rs c r ranges e =
     (record { l1 = own.base; l2 = omega arith; l3 = omega arith }, (record { l1 = omega arith; l2 = omega arith; l3 = omega arith }, tt))
 
 -- implicit elements have weights of sixteen bits
-implicit_over-elements : (rs : List Range) (c : ℕ) → AreRanges rs → c < 0x110000 → AllByRecursion IsElement (implicit_over rs c)
+implicit_over-elements : (rs : List Range) (added : List Ideographs) (c : ℕ) → AreRanges rs → c < 0x110000 → AllByRecursion IsElement (implicit_over rs added c)
 unfolding implicit_over
-implicit_over-elements rs c ranges small = by_test (is_assigned c)
+implicit_over-elements rs added c ranges small = by_test (is_assigned c)
   where
-    by_code_point : AllByRecursion IsElement (in_two_parts (two_parts_base c) c)
-    by_code_point = in_two_parts-elements (two_parts_base c) c (two_parts_base-within c) small
+    by_code_point : AllByRecursion IsElement (in_two_parts (two_parts_base added c) c)
+    by_code_point = in_two_parts-elements (two_parts_base added c) c (two_parts_base-within added c) small
 
-    by_range : (o : Option Range) → range_of rs c ≡ o → AllByRecursion IsElement (option_map_or (in_range rs c) o (in_two_parts (two_parts_base c) c))
+    by_range : (o : Option Range) → range_of rs c ≡ o → AllByRecursion IsElement (option_map_or (in_range rs c) o (in_two_parts (two_parts_base added c) c))
     by_range None e = by_code_point
     by_range (Some r) e = in_range-elements rs c r ranges e
 
-    by_test : (b : Bool) → AllByRecursion IsElement (cond b (option_map_or (in_range rs c) (range_of rs c) (in_two_parts (two_parts_base c) c)) (in_two_parts (two_parts_base c) c))
+    by_test : (b : Bool) → AllByRecursion IsElement (cond b (option_map_or (in_range rs c) (range_of rs c) (in_two_parts (two_parts_base added c) c)) (in_two_parts (two_parts_base added c) c))
     by_test true = by_range (range_of rs c) refl
     by_test false = by_code_point
 
@@ -140,8 +141,8 @@ IsSmall c = c < 0x110000
 elements_or_implicit-elements : (t : ElementTable) (key : List ℕ) → Fits t → AllByRecursion IsSmall key → AllByRecursion IsElement (elements_or_implicit t key)
 elements_or_implicit-elements t key table small = of_answer (elements_at t key) refl
   where
-    of_answer : (o : Option (List Element)) → elements_at t key ≡ o → AllByRecursion IsElement (unwrap_or o (implicit_over t.ranges (slice_index key 0)))
-    of_answer None e = implicit_over-elements t.ranges (slice_index key 0) table.ranges (each-at IsSmall key 0 0 (omega arith) small)
+    of_answer : (o : Option (List Element)) → elements_at t key ≡ o → AllByRecursion IsElement (unwrap_or o (implicit_over t.ranges t.ideographs (slice_index key 0)))
+    of_answer None e = implicit_over-elements t.ranges t.ideographs (slice_index key 0) table.ranges (each-at IsSmall key 0 0 (omega arith) small)
     of_answer (Some es) e = table.entries key es e
 
 -- the same of a text of at most n code points

@@ -48,6 +48,6 @@ base_text base = codes "; " ++ four_digits base ++ line_feed ∷ []
 abbrev pub range_line : Range → List ℕ
 range_line r = codes "@implicitweights " ++ ends_text r ++ base_text r.base
 
--- the canonical text of a table: the ranges by their first code points, then the entries by key order
+-- the canonical text of a table: the ranges of implicit weights by their first code points, then the entries by key order, and nothing of further ideographs
 abbrev pub canonical : ElementTable → List ℕ
 canonical t = flat_map range_line t.ranges ++ flat_map entry_line (entries t.entries)

@@ -1,35 +1,17 @@
 -- Implicit weights (UTS #10, section 10.1, Derived Collation Elements).
-use Rattle.std.specs.Prelude.{ℕ, ◌+◌, ◌-◌, ◌/◌, ◌%◌, min, Bool, false, not, ◌&&◌, ◌==◌, nat_le, List, [], ◌∷◌, fold, map, find, filter, Option, if◌then◌else◌}
-use Rattle.std.specs.List.{list_any}
+use Rattle.std.specs.Prelude.{ℕ, ◌+◌, ◌-◌, ◌/◌, ◌%◌, min, Bool, false, not, ◌==◌, List, [], ◌∷◌, fold, map, find, filter, Option, if◌then◌else◌}
 use Rattle.std.specs.Option.{option_map_or}
 use Rattle.ucd_category.specs.declared.GeneralCategory.TheVariants.{Unassigned}
 use Rattle.ucd_category.specs.GeneralCategory.{general_category, general_category_eq}
 use Rattle.uca_weights.specs.declared.element.Element.{Element}
+use Rattle.uca_weights.specs.declared.range.Ideographs.{Ideographs}
 use Rattle.uca_weights.specs.declared.range.Range.{Range}
+pub use Rattle.uca_model.specs.UnifiedIdeographs.{is_between, in_some, is_unified_ideograph}
 use Rattle.uca_model.specs.Table.{ElementTable}
 
 -- a code point that Unicode assigns a character to
 abbrev pub is_assigned : ℕ → Bool
 is_assigned c = not (general_category_eq (general_category c) Unassigned)
-
--- the code point lies from one to another
-abbrev pub is_between : ℕ → ℕ → ℕ → Bool
-is_between first last c = nat_le first c && nat_le c last
-
--- the code point lies in one of the pairs of a first and a last one
-abbrev pub in_some : List (ℕ × ℕ) → ℕ → Bool
-in_some pairs c = list_any (λ (r : ℕ × ℕ). is_between r.0 r.1 c) pairs
-
--- 10.1.3: the code points with Unified_Ideograph=True, here a fixed list
-abbrev pub unified_ideographs : List (ℕ × ℕ)
-unified_ideographs =
-    (0x3400, 0x4DBF) ∷ (0x4E00, 0x9FFF)
-    ∷ (0xFA0E, 0xFA0F) ∷ (0xFA11, 0xFA11) ∷ (0xFA13, 0xFA14) ∷ (0xFA1F, 0xFA1F) ∷ (0xFA21, 0xFA21) ∷ (0xFA23, 0xFA24) ∷ (0xFA27, 0xFA29)
-    ∷ (0x20000, 0x2A6DF) ∷ (0x2A700, 0x2B739) ∷ (0x2B740, 0x2B81D) ∷ (0x2B820, 0x2CEA1) ∷ (0x2CEB0, 0x2EBE0) ∷ (0x2EBF0, 0x2EE5D)
-    ∷ (0x30000, 0x3134A) ∷ (0x31350, 0x323AF) ∷ []
-
-unfoldable pub is_unified_ideograph : ℕ → Bool
-is_unified_ideograph c = in_some unified_ideographs c
 
 -- the blocks CJK Unified Ideographs and CJK Compatibility Ideographs
 abbrev pub core_blocks : List (ℕ × ℕ)
@@ -55,16 +37,16 @@ in_range ranges c r = pair r.base (c - lowest_first ranges r.base r.first + 0x80
 abbrev pub in_two_parts : ℕ → ℕ → List Element
 in_two_parts base c = pair (base + c / 0x8000) (c % 0x8000 + 0x8000)
 
--- 10.1.3: the base of a code point in no range
-abbrev pub two_parts_base : ℕ → ℕ
-two_parts_base c = if is_unified_ideograph c then (if in_some core_blocks c then 0xFB40 else 0xFB80) else 0xFBC0
+-- 10.1.3: the base of a code point in no range, with further ranges of unified ideographs
+abbrev pub two_parts_base : List Ideographs → ℕ → ℕ
+two_parts_base added c = if is_unified_ideograph added c then (if in_some core_blocks c then 0xFB40 else 0xFB80) else 0xFBC0
 
--- 10.1.3: the same by the ranges
-unfoldable pub implicit_over : List Range → ℕ → List Element
-implicit_over ranges c =
-    let by_code_point = in_two_parts (two_parts_base c) c in
+-- 10.1.3: the same by the ranges of implicit weights, which decide first
+unfoldable pub implicit_over : List Range → List Ideographs → ℕ → List Element
+implicit_over ranges added c =
+    let by_code_point = in_two_parts (two_parts_base added c) c in
     if is_assigned c then option_map_or (in_range ranges c) (range_of ranges c) by_code_point else by_code_point
 
 -- 10.1.3: the elements that a table gives a code point that is no key where it stands alone
 abbrev pub implicit : ElementTable → ℕ → List Element
-implicit t c = implicit_over t.ranges c
+implicit t c = implicit_over t.ranges t.ideographs c

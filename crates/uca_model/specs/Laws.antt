@@ -1,5 +1,5 @@
 -- Laws of the definitions, which public functions with no body have as their contracts.
-use Rattle.std.specs.Prelude.{◌≡◌, ◌↔◌, ℕ, true, ◌<◌, ◌≤◌, ◌^◌, List, ◌++◌, All, map, flat_map, length, take, drop, Ok}
+use Rattle.std.specs.Prelude.{◌≡◌, ◌↔◌, ℕ, true, ◌<◌, ◌≤◌, ◌^◌, List, [], ◌++◌, All, map, flat_map, length, take, drop, Ok}
 use Rattle.std.specs.Char.{IsScalar}
 use Rattle.std.specs.List.{AllByRecursion}
 use Rattle.std.specs.Cmp.Lexicographic.{slice_cmp}
@@ -9,7 +9,7 @@ use Rattle.uca_weights.specs.declared.settings.Settings.{Settings}
 use Rattle.uca_weights.specs.declared.settings.Strength.{Strength}
 use Rattle.uca_weights.specs.declared.settings.Variable.{Variable}
 use Rattle.uca_weights.specs.Settings.{levels}
-use Rattle.uca_model.specs.Table.{ElementTable, IsTable}
+use Rattle.uca_model.specs.Table.{ElementTable, IsTable, with_ideographs}
 use Rattle.uca_model.specs.LevelWeights.{level_list}
 use Rattle.uca_model.specs.CollationElements.{elements}
 use Rattle.uca_model.specs.SafeCut.{cut_of}
@@ -39,9 +39,9 @@ abbrev pub KeyOrderIsDecided : Type 0
 KeyOrderIsDecided = (t : ElementTable) (s : Settings) (a b : List ℕ) → IsTable t → All IsScalar a → All IsScalar b
     → key_order (sort_key t s a) (sort_key t s b) ≡ list_order (level_list t s.weighting a (deciding_level t s a b)) (level_list t s.weighting b (deciding_level t s a b))
 
--- the canonical text of a table, unless it is too large to be read, says that very table
+-- the canonical text of a table, unless it is too large to be read, says that very table but for its further ideographs
 abbrev pub CanonicalTextIsReadBack : Type 0
-CanonicalTextIsReadBack = (t : ElementTable) → IsTable t → AreByFirst t.ranges → length (canonical t) ≤ MAX_INPUT → table_of_text ends (canonical t) ≡ Ok t
+CanonicalTextIsReadBack = (t : ElementTable) → IsTable t → AreByFirst t.ranges → length (canonical t) ≤ MAX_INPUT → table_of_text ends (canonical t) ≡ Ok (with_ideographs t [])
 
 -- a list begins with another
 pub record BeginsWith (whole front : List ℕ) : Type 0 where

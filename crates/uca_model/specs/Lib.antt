@@ -2,11 +2,13 @@
 pub use Rattle.uca_weights.specs.Element
 pub use Rattle.uca_weights.specs.Settings
 pub use Rattle.uca_weights.specs.VariableWeighting
+pub mod UnifiedIdeographs
 pub mod Table
 pub mod SafeText
 pub mod Match
 pub mod ImplicitWeights
 pub mod Ranges
+pub mod AddedIdeographs
 pub mod CollationElements
 pub mod StandAlone
 pub mod LevelWeights

@@ -33,6 +33,6 @@ has_no_room moving w e = moves moving w (weight moving e) && weight moving e == 
 abbrev pub entry_with_room : ℕ → ℕ → List ℕ × List Element → List ℕ × List Element
 entry_with_room moving w e = (e.0, map (with_room moving w) e.1)
 
--- a table with room above w: its ranges of implicit weights stay
+-- a table with room above w: its ranges of implicit weights and of ideographs stay
 abbrev pub table_with_room : ℕ → ℕ → ElementTable → ElementTable
-table_with_room moving w t = record { entries = from_entries {R = key_cmp} (map (entry_with_room moving w) (entries t.entries)); ranges = t.ranges }
+table_with_room moving w t = record { entries = from_entries {R = key_cmp} (map (entry_with_room moving w) (entries t.entries)); ranges = t.ranges; ideographs = t.ideographs }

@@ -8,16 +8,20 @@ use Rattle.std.specs.Cmp.Lexicographic.{slice_cmp}
 use Rattle.std.specs.FinMap.{FinMap, get, contains_key, keys, entries, insert}
 use Rattle.uca_weights.specs.declared.element.Element.{Element}
 use Rattle.uca_weights.specs.declared.limits.TheConstants.{MAX_KEY, MAX_ELEMENTS}
+use Rattle.uca_weights.specs.declared.range.Ideographs.{Ideographs}
 use Rattle.uca_weights.specs.declared.range.Range.{Range}
+use Rattle.uca_model.specs.UnifiedIdeographs.{AreIdeographs}
 
 -- the order of keys: by code points, a proper prefix first
 abbrev pub key_cmp : List ℕ → List ℕ → Ordering
 key_cmp = slice_cmp nat_cmp
 
--- UTS #10, 3: keys with their collation elements, and the ranges of implicit weights by their first code points (10.1.3)
+-- UTS #10, 3: keys with their collation elements, and by their first code points the ranges of implicit weights and those of unified
+-- ideographs besides the listed ones (10.1.3)
 pub record ElementTable : Type 0 where
   pub entries : FinMap key_cmp (List Element)
   pub ranges : List Range
+  pub ideographs : List Ideographs
 
 -- the elements that the table maps a key to
 abbrev pub elements_at : ElementTable → List ℕ → Option (List Element)
@@ -33,7 +37,11 @@ longest t = fold (λ n key. max n (length key)) 1 (keys t.entries)
 
 -- the table in which a key has these elements, whatever it had
 abbrev pub with_entry : ElementTable → List ℕ → List Element → ElementTable
-with_entry t key elements = record { entries = insert t.entries key elements; ranges = t.ranges }
+with_entry t key elements = record { entries = insert t.entries key elements; ranges = t.ranges; ideographs = t.ideographs }
+
+-- the table with these further ideographs, whatever it had
+abbrev pub with_ideographs : ElementTable → List Ideographs → ElementTable
+with_ideographs t added = record { entries = t.entries; ranges = t.ranges; ideographs = added }
 
 -- each weight has sixteen bits
 pub record IsElement (e : Element) : Type 0 where
@@ -77,3 +85,4 @@ pub record AreRanges (rs : List Range) : Type 0 where
 pub record IsTable (t : ElementTable) : Type 0 where
   pub entries : All IsEntry (entries t.entries)
   pub ranges : AreRanges t.ranges
+  pub ideographs : AreIdeographs t.ideographs

@@ -235,7 +235,7 @@ pub record TextState : Type 0 where
   pub has_version : Bool
 
 abbrev pub no_lines : TextState
-no_lines = record { table = record { entries = empty; ranges = [] }; has_version = false }
+no_lines = record { table = record { entries = empty; ranges = []; ideographs = [] }; has_version = false }
 
 abbrev pub with_table : TextState → ElementTable → TextState
 with_table s t = record { table = t; has_version = s.has_version }
@@ -244,8 +244,8 @@ with_table s t = record { table = t; has_version = s.has_version }
 abbrev pub add_statement : TextState → Statement → Result TextState Cause
 add_statement s nothing = Ok s
 add_statement s version = if s.has_version then Err bad_directive else Ok (record { table = s.table; has_version = true })
-add_statement s (range r) = if is_bad_range s.table.ranges r then Err bad_range else Ok (with_table s (record { entries = s.table.entries; ranges = put_range r s.table.ranges }))
-add_statement s (entry key es) = if is_key s.table key then Err repeated else Ok (with_table s (record { entries = insert s.table.entries key es; ranges = s.table.ranges }))
+add_statement s (range r) = if is_bad_range s.table.ranges r then Err bad_range else Ok (with_table s (record { entries = s.table.entries; ranges = put_range r s.table.ranges; ideographs = s.table.ideographs }))
+add_statement s (entry key es) = if is_key s.table key then Err repeated else Ok (with_table s (record { entries = insert s.table.entries key es; ranges = s.table.ranges; ideographs = s.table.ideographs }))
 
 -- what a line says, added
 abbrev pub add_line : TextState → List ℕ → Result TextState Cause

@@ -19,7 +19,7 @@ pub fn keys_grow_by_levels()
 {}
 
 /// The canonical text of a table, unless it is too large to be read, is read back to that very table (UTS #10,
-/// Allkeys File Format). So what is written of a table says all of it.
+/// Allkeys File Format) without its further ideographs. So what is written of a table says all else of it.
 pub fn canonical_text_is_read_back()
     ensures { CanonicalTextIsReadBack }
 {}

@@ -13,8 +13,10 @@ use Rattle.std.specs.FinMap.Entries.{is_sorted-put, by_order}
 use Rattle.std.proofs.lemmas.List.Elements.{All-from_recursion}
 use Rattle.uca_weights.specs.declared.element.Element.{Element}
 use Rattle.uca_weights.specs.declared.limits.TheConstants.{MAX_KEY}
+use Rattle.uca_weights.specs.declared.range.Ideographs.{Ideographs}
 use Rattle.uca_weights.specs.declared.range.Range.{Range}
-use Rattle.uca_model.specs.Table.{key_cmp, elements_at, is_key, longest, IsEntry, IsTable, with_entry}
+use Rattle.uca_model.specs.UnifiedIdeographs.{AreIdeographs}
+use Rattle.uca_model.specs.Table.{key_cmp, elements_at, is_key, longest, IsEntry, IsTable, with_entry, with_ideographs}
 use Rattle.uca_table.specs.Stored.{AreStored, pair_in, table_of, longest_of}
 
 -- the order of a map's keys
@@ -45,11 +47,11 @@ pub table_put : (es : List (List ℕ × List Element)) (rs : List Range) (k : Li
 table_put es rs k v sorted =
     let grown : entries (from_sorted {R = key_cmp} (put key_cmp k v es)) ≡ put key_cmp k v es = entries-from_sorted key_cmp (put key_cmp k v es) (is_sorted-put key_cmp nat_list_cmp_total k v es sorted) in
     let inserted : entries (insert (from_sorted {R = key_cmp} es) k v) ≡ put key_cmp k v es = entries-insert nat_list_cmp_total (from_sorted es) k v ∙ ap (put key_cmp k v) (entries-from_sorted key_cmp es sorted) in
-    ap (λ m. record { entries = m; ranges = rs }) (same_entries_map _ _ (grown ∙ sym inserted))
+    ap (λ m. record { entries = m; ranges = rs; ideographs = [] }) (same_entries_map _ _ (grown ∙ sym inserted))
 
 -- of no entry the table is empty
-pub table_none : (rs : List Range) → table_of [] rs ≡ record { entries = empty; ranges = rs }
-table_none rs = ap (λ m. record { entries = m; ranges = rs }) (empty_of_len (from_sorted []) (len-entries (from_sorted []) ∙ ap length (entries-from_sorted key_cmp [] tt)))
+pub table_none : (rs : List Range) → table_of [] rs ≡ record { entries = empty; ranges = rs; ideographs = [] }
+table_none rs = ap (λ m. record { entries = m; ranges = rs; ideographs = [] }) (empty_of_len (from_sorted []) (len-entries (from_sorted []) ∙ ap length (entries-from_sorted key_cmp [] tt)))
 
 -- each entry is as in a table, the new one among them
 all-put : (es : List (List ℕ × List Element)) (k : List ℕ) (v : List Element) → IsEntry (k, v) → AllByRecursion IsEntry es → AllByRecursion IsEntry (put key_cmp k v es)
@@ -74,8 +76,8 @@ pub is_key_stored : (es : List (List ℕ × List Element)) (rs : List Range) (q 
 is_key_stored es rs q sorted = ap is_some (get-from_sorted key_cmp es q sorted)
 
 -- such a list makes a table
-pub IsTable-stored : (es : List (List ℕ × List Element)) (rs : List Range) → AreStored es rs → IsTable (table_of es rs)
-IsTable-stored es rs stored = record { entries = subst (λ xs. All IsEntry xs) (sym (entries-from_sorted key_cmp es stored.sorted)) (All-from_recursion IsEntry es stored.entries); ranges = stored.ranges }
+pub IsTable-stored : (es : List (List ℕ × List Element)) (rs : List Range) (added : List Ideographs) → AreStored es rs → AreIdeographs added → IsTable (with_ideographs (table_of es rs) added)
+IsTable-stored es rs added stored are = record { entries = subst (λ xs. All IsEntry xs) (sym (entries-from_sorted key_cmp es stored.sorted)) (All-from_recursion IsEntry es stored.entries); ranges = stored.ranges; ideographs = are }
 
 -- the longest key by keys or by entries
 fold-keys : (n : ℕ) (es : List (List ℕ × List Element)) → fold (λ m key. max m (length key)) n (map (λ e. e.0) es) ≡ fold (λ m e. max m (length e.0)) n es

@@ -13,6 +13,7 @@ pub mod MovedForward
 pub mod ElementLemmas
 pub mod CellLemmas
 pub mod FrontLemmas
+pub mod IdeographLemmas
 pub mod WalkLemmas
 pub mod FirstsLemmas
 pub mod FlatLemmas

@@ -138,7 +138,7 @@ longest-with_room level w es = fold-with_room level w 1 es
 
 -- the entries with room are the table with room
 pub table-with_room : (level w : ℕ) (es : List (List ℕ × List Element)) (rs : List Range) → T (is_sorted key_cmp es) → table_of (map (entry_with_room level w) es) rs ≡ table_with_room level w (table_of es rs)
-table-with_room level w es rs sorted = ap (λ m. record { entries = m; ranges = rs }) (same_map nat_list_cmp_total (slice_cmp-IsAntisymmetric nat_cmp-IsAntisymmetric) _ _ (λ q.
+table-with_room level w es rs sorted = ap (λ m. record { entries = m; ranges = rs; ideographs = [] }) (same_map nat_list_cmp_total (slice_cmp-IsAntisymmetric nat_cmp-IsAntisymmetric) _ _ (λ q.
     get-from_sorted key_cmp (map (entry_with_room level w) es) q (subst T (sym (is_sorted-with_room level w es)) sorted)
     ∙ sym (get-from_entries nat_list_cmp_total (map (entry_with_room level w) es) q)
     ∙ ap (λ xs. get (from_entries {R = key_cmp} (map (entry_with_room level w) xs)) q) (sym (entries-from_sorted key_cmp es sorted))))

@@ -1,5 +1,5 @@
 -- How a table lies in a list of entries in order, and a list of ranges.
-use Rattle.std.specs.Prelude.{ℕ, T, max, List, length, fold}
+use Rattle.std.specs.Prelude.{ℕ, T, max, List, [], length, fold}
 use Rattle.arrayvec.specs.ArrayVec.{ArrayVec}
 use Rattle.std.specs.List.{AllByRecursion}
 use Rattle.std.specs.FinMap.{from_sorted, is_sorted}
@@ -18,9 +18,9 @@ pair_in e = (e.0.items, e.1.items)
 abbrev pub key_and_elements : ArrayVec ℕ × Bor (List Element) → List ℕ × List Element
 key_and_elements e = (e.0.items, e.1.now)
 
--- the table of entries whose keys rise
+-- the table of entries whose keys rise, without further ideographs
 abbrev pub table_of : List (List ℕ × List Element) → List Range → ElementTable
-table_of es rs = record { entries = from_sorted {R = key_cmp} es; ranges = rs }
+table_of es rs = record { entries = from_sorted {R = key_cmp} es; ranges = rs; ideographs = [] }
 
 -- the length of the longest key, 1 where there is none
 abbrev pub longest_of : List (List ℕ × List Element) → ℕ

@@ -45,7 +45,7 @@ impl TableBuilder {
 
     /// A builder without entries and ranges.
     pub fn new(alloc: Global) -> TableBuilder
-        ensures { result ≡ record { entries = empty; ranges = [] } }
+        ensures { result ≡ record { entries = empty; ranges = []; ideographs = [] } }
     {
         TableBuilder {
             entries: BTreeMap::new(alloc),
@@ -95,9 +95,11 @@ impl TableBuilder {
         self.ranges.put(range)
     }
 
-    /// The table of what was added. Where memory is refused, the builder comes back as it was.
+    /// The table of what was added, without ideographs besides the listed ones. Where memory is refused, the builder comes
+    /// back as it was.
     pub fn finish(self) -> Result<Table, FinishFault>
-        ensures { MatchResult result (λ t. t ≡ self) (λ f. f.builder ≡ self) }
+        ensures made { MatchResult result (λ t. t ≡ self) (λ f. f.builder ≡ self) }
+        ensures unlisted { IfOk result (λ t. t.ideographs ≡ []) }
     {
         let Ok(entries) = flat_entries(self.alloc, &self.entries) else {
             return Err(FinishFault { builder: self });
@@ -110,6 +112,7 @@ impl TableBuilder {
         let stored = Stored {
             entries,
             ranges: self.ranges.finish(range_room),
+            ideographs: Vec::new(self.alloc),
             longest_key,
             firsts,
         };

@@ -24,11 +24,12 @@ pub enum InsertFault {
     OutOfMemory,
 }
 
-/// Why a range of implicit weights wasn't added.
+/// Why a range of implicit weights, or of ideographs, wasn't added.
 #[derive(Clone, Copy, Debug, PartialEq, Eq, Error)]
 pub enum RangeFault {
-    /// The range ends before it begins, its base is below 8000h, it shares a code point with an earlier range, or with
-    /// the other ranges of its base it spans more than 8000h code points.
+    /// The range ends before it begins, or shares a code point with an earlier one of its kind. A range of implicit
+    /// weights: its base is below 8000h, or with the other ranges of its base it spans more than 8000h code points. A
+    /// range of ideographs: it shares a code point with the standard's list.
     #[error("BadRange")]
     BadRange,
     /// An allocation failed.

@@ -1,18 +1,20 @@
 ghost use Rattle.std.specs.Prelude.{◌≡◌};
 ghost use Rattle.uca_model.specs.Table.{AreRanges};
 ghost use Rattle.uca_model.specs.ImplicitWeights.{implicit_over, in_some, core_blocks, pair, is_unified_ideograph, is_assigned, two_parts_base};
+ghost use Rattle.uca_model.specs.UnifiedIdeographs.{is_listed_ideograph};
 ghost use Rattle.uca_model.specs.Ranges.{AreByFirst};
 
+use crate::ideographs::is_added;
 use crate::ranges::Ranges;
-use uca_weights::Element;
+use uca_weights::{Element, Ideographs};
 use unicode::properties::GeneralCategory;
 
 /// The elements of a code point that is no key (UTS #10, section 10.1.3).
 #[tactic(auto, unfolding(uca_model::specs::ImplicitWeights::implicit_over), using(uca_model::proofs::ImplicitLemmas::offset_below, uca_model::proofs::ImplicitLemmas::lowest_first_below))]
-pub(crate) fn implicit(ranges: &Ranges, c: char) -> [Element; 2]
+pub(crate) fn implicit(ranges: &Ranges, added: &[Ideographs], c: char) -> [Element; 2]
     requires ranges { AreRanges ranges.now }
     requires by_first { AreByFirst ranges.now }
-    ensures { result ≡ implicit_over ranges.now c }
+    ensures { result ≡ implicit_over ranges.now added.now c }
 {
     // Few code points lie in a range, so the general category is asked of those alone.
     if let Some(range) = ranges.range_of(c) {
@@ -23,7 +25,7 @@ pub(crate) fn implicit(ranges: &Ranges, c: char) -> [Element; 2]
     }
     let code = c as u32;
     pair(
-        (base_in_two_parts(c) + code / 0x8000) as u16,
+        (base_in_two_parts(added, c) + code / 0x8000) as u16,
         (code % 0x8000 + 0x8000) as u16,
     )
 }
@@ -36,10 +38,10 @@ fn is_assigned(c: char) -> bool
 }
 
 /// The base of the first weight of a code point in no range.
-fn base_in_two_parts(c: char) -> u32
-    ensures { result ≡ two_parts_base c }
+fn base_in_two_parts(added: &[Ideographs], c: char) -> u32
+    ensures { result ≡ two_parts_base added.now c }
 {
-    if !is_unified_ideograph(c) {
+    if !is_unified_ideograph(added, c) {
         0xFBC0
     } else if is_in_core_block(c) {
         0xFB40
@@ -55,10 +57,17 @@ fn is_in_core_block(c: char) -> bool
     matches!(c, '\u{4E00}'..='\u{9FFF}' | '\u{F900}'..='\u{FAFF}')
 }
 
-/// Whether the code point is a unified ideograph.
-#[tactic(auto, unfolding(uca_model::specs::ImplicitWeights::is_unified_ideograph))]
-fn is_unified_ideograph(c: char) -> bool
-    ensures { result ≡ is_unified_ideograph c }
+/// Whether the code point is a unified ideograph, of the list or of the added ranges.
+fn is_unified_ideograph(added: &[Ideographs], c: char) -> bool
+    ensures { result ≡ is_unified_ideograph added.now c }
+{
+    is_listed_ideograph(c) || is_added(added, c)
+}
+
+/// Whether the code point is in the standard's list of unified ideographs.
+#[tactic(auto, unfolding(uca_model::specs::UnifiedIdeographs::is_listed_ideograph))]
+fn is_listed_ideograph(c: char) -> bool
+    ensures { result ≡ is_listed_ideograph c }
 {
     matches!(
         c,

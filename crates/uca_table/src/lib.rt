@@ -1,8 +1,9 @@
-//! The collation element table (UTS #10, section 3): keys of code points with their collation elements, and the
-//! ranges of code points whose implicit weights stand over a base of their own (section 10.1.3).
+//! The collation element table (UTS #10, section 3): keys of code points with their collation elements, the
+//! ranges of code points whose implicit weights stand over a base of their own, and ranges of further unified
+//! ideographs (section 10.1.3).
 //!
 //! A [`TableBuilder`] collects entries, and [`TableBuilder::finish`] makes a [`Table`] of them. Contracts see both as
-//! one value, a finite map with a list of ranges. No look-up takes memory.
+//! one value, a finite map with two lists of ranges. No look-up takes memory.
 #![tactic(auto)]
 
 pub mod builder;
@@ -13,6 +14,7 @@ mod extent;
 pub mod fault;
 mod firsts;
 mod flat;
+mod ideographs;
 mod implicit_weights;
 mod key_flags;
 pub mod matching;
@@ -33,6 +35,6 @@ pub use builder::TableBuilder;
 pub use entries::Entries;
 pub use fault::{FinishFault, InsertFault, RangeFault};
 pub use table::Table;
-pub use uca_weights::{Element, Range};
+pub use uca_weights::{Element, Ideographs, Range};
 pub use walk::Walk;
 pub use well_formed::{WellFormed, lint};

@@ -1,23 +1,27 @@
-ghost use Rattle.std.specs.Prelude.{◌≡◌, ◌≤◌, ◌<◌, ◌^◌, ◌∷◌, [], false, length, All, option_copied, IfSome, IfOk, OnOk, OnErr};
+ghost use Rattle.std.specs.Prelude.{◌≡◌, ◌≤◌, ◌<◌, ◌^◌, ◌∷◌, [], false, length, All, option_copied, IfSome, IfOk, OnOk, OnErr, MatchResult, None};
 
 use crate::builder::{read_elements, read_key};
 use crate::entries::Entries;
+use crate::fault::RangeFault;
 use crate::firsts::Firsts;
 use crate::flat::{Flat, Span};
-use crate::implicit_weights;
 use crate::ranges::Ranges;
 use crate::search::{elements_of, put};
 use crate::walk::Walk;
+use crate::{ideographs, implicit_weights};
 use std::alloc::{AllocError, Global};
 use std::marker::Model;
-use uca_weights::{Element, Range};
+use uca_weights::{Element, Ideographs, Range};
 
-/// A collation element table: a finite map from keys to their elements, with ranges of implicit weights.
+/// A collation element table: a finite map from keys to their elements, with ranges of implicit weights and of
+/// ideographs.
 #[derive(Debug, Drop)]
 pub struct Stored {
     // By key order.
     pub(crate) entries: Flat,
     pub(crate) ranges: Ranges,
+    // By their first code points.
+    pub(crate) ideographs: Vec<Ideographs>,
     pub(crate) longest_key: usize,
     // Where the entries begin with a code point; none since the last change of the table.
     pub(crate) firsts: Firsts,
@@ -25,7 +29,8 @@ pub struct Stored {
 
 impl Model for Stored {
     ghost use Rattle.std.specs.Prelude.{◌≡◌};
-    ghost use Rattle.uca_model.specs.Table.{ElementTable};
+    ghost use Rattle.uca_model.specs.Table.{ElementTable, with_ideographs};
+    ghost use Rattle.uca_model.specs.UnifiedIdeographs.{AreIdeographs};
     ghost use Rattle.uca_table.specs.Stored.{AreStored, table_of, longest_of};
     ghost use Rattle.uca_table.specs.Coded.{coded_table};
     ghost use Rattle.uca_table.specs.Firsts.{HoldsFirsts};
@@ -34,14 +39,16 @@ impl Model for Stored {
 
     ghost coded = { coded_table };
 
-    ghost view = { λ t. table_of t.entries t.ranges };
+    ghost view = { λ t. with_ideographs (table_of t.entries t.ranges) t.ideographs.items };
 
-    ghost invariant = { λ t. AreStored t.entries t.ranges × (t.longest_key ≡ longest_of t.entries) × HoldsFirsts t.entries t.firsts };
+    ghost invariant = { λ t. AreStored t.entries t.ranges × (t.longest_key ≡ longest_of t.entries) × HoldsFirsts t.entries t.firsts × AreIdeographs t.ideographs.items };
 }
 
 impl Stored {
     ghost use Rattle.uca_weights.specs.declared.limits.TheConstants.{MAX_KEY, MAX_ELEMENTS};
-    ghost use Rattle.uca_model.specs.Table.{ElementTable, IsElement, IsTable, elements_at, longest, with_entry};
+    ghost use Rattle.uca_model.specs.Table.{ElementTable, IsElement, IsTable, elements_at, longest, with_entry, with_ideographs};
+    ghost use Rattle.uca_model.specs.UnifiedIdeographs.{AreIdeographs};
+    ghost use Rattle.uca_table.specs.Builder.{ideographs_fault, reported_range_fault, with_more_ideographs};
     ghost use Rattle.uca_model.specs.ImplicitWeights.{implicit};
     ghost use Rattle.uca_model.specs.Room.{has_no_room, table_with_room};
     ghost use Rattle.std.specs.List.{list_any};
@@ -105,7 +112,7 @@ impl Stored {
     pub fn implicit(&self, c: char) -> [Element; 2]
         ensures { result ≡ implicit self.now c }
     {
-        implicit_weights::implicit(&self.ranges, c)
+        implicit_weights::implicit(&self.ranges, self.ideographs.as_slice(), c)
     }
 
     /// The entries by key order: by code points, a proper prefix first.
@@ -125,9 +132,11 @@ impl Stored {
     {
         let entries = self.entries.try_clone(alloc)?;
         let ranges = self.ranges.try_clone(alloc)?;
+        let ideographs = self.ideographs.as_slice().to_vec(alloc)?;
         Ok(Stored {
             entries,
             ranges,
+            ideographs,
             longest_key: self.longest_key,
             firsts: Firsts::none(alloc),
         })
@@ -183,5 +192,37 @@ impl Stored {
         ensures by_first { AreByFirst result.now }
     {
         self.ranges.as_slice()
+    }
+
+    /// The ranges of ideographs by their first code points.
+    pub fn ideographs(&self) -> &[Ideographs]
+        ensures value { result.now ≡ self.now.ideographs }
+        ensures valid { AreIdeographs result.now }
+    {
+        self.ideographs.as_slice()
+    }
+
+    /// Adds the range of ideographs from `first` to `last`, both of which belong to it (UTS #10, section 10.1.3). On a
+    /// fault the table stays as it is.
+    pub fn add_ideographs(&mut self, first: char, last: char) -> Result<(), RangeFault>
+        ensures ok { OnOk result (self.new ≡ with_more_ideographs self.old (record { first = first; last = last })) }
+        ensures err { OnErr result (self.new ≡ self.old) }
+        ensures fault { let fault = ideographs_fault self.old.ideographs (record { first = first; last = last }) in MatchResult result (λ _. fault ≡ None) (λ f. fault ≡ reported_range_fault f) }
+    {
+        ideographs::add(&mut self.ideographs, Ideographs { first, last })
+    }
+
+    /// Takes ranges of ideographs in place of its own. Where memory is refused, the table stays as it is.
+    pub(crate) fn take_ideographs(
+        &mut self,
+        alloc: Global,
+        added: &[Ideographs],
+    ) -> Result<(), AllocError>
+        requires { AreIdeographs added.now }
+        ensures ok { OnOk result (self.new ≡ with_ideographs self.old added.now) }
+        ensures err { OnErr result (self.new ≡ self.old) }
+    {
+        self.ideographs = added.to_vec(alloc)?;
+        Ok(())
     }
 }

@@ -1,17 +1,19 @@
-ghost use Rattle.std.specs.Prelude.{◌≡◌, ◌≤◌, ◌<◌, ◌^◌, ◌++◌, ◌∷◌, [], false, length, chars, All, option_copied, IfSome, IfOk, OnOk, OnErr};
+ghost use Rattle.std.specs.Prelude.{◌≡◌, ◌≤◌, ◌<◌, ◌^◌, ◌++◌, ◌∷◌, [], false, length, chars, All, option_copied, IfSome, IfOk, OnOk, OnErr, MatchResult, None};
 ghost use Rattle.unicode_normalization.specs.Forms.{nfd};
 ghost use Rattle.uca_model.specs.CollationElements.{elements};
 
 use crate::cells::{Cells, push_text};
 use crate::entries::Entries;
+use crate::fault::RangeFault;
 use crate::starters::Starters;
 use crate::stored::Stored;
 use crate::walk::Walk;
 use std::alloc::{AllocError, Global};
 use std::marker::Model;
-use uca_weights::{Element, Range};
+use uca_weights::{Element, Ideographs, Range};
 
-/// A collation element table: a finite map from keys to their elements, with ranges of implicit weights.
+/// A collation element table: a finite map from keys to their elements, with ranges of implicit weights and of
+/// ideographs.
 #[derive(Debug, Drop)]
 pub struct Table {
     stored: Stored,
@@ -38,7 +40,9 @@ impl Model for Table {
 
 impl Table {
     ghost use Rattle.uca_weights.specs.declared.limits.TheConstants.{MAX_KEY, MAX_ELEMENTS};
-    ghost use Rattle.uca_model.specs.Table.{ElementTable, IsElement, IsTable, elements_at, longest, with_entry};
+    ghost use Rattle.uca_model.specs.Table.{ElementTable, IsElement, IsTable, elements_at, longest, with_entry, with_ideographs};
+    ghost use Rattle.uca_model.specs.UnifiedIdeographs.{AreIdeographs};
+    ghost use Rattle.uca_table.specs.Builder.{ideographs_fault, reported_range_fault, with_more_ideographs};
     ghost use Rattle.uca_model.specs.ImplicitWeights.{implicit};
     ghost use Rattle.uca_model.specs.SafeCut.{is_safe_starter};
     ghost use Rattle.uca_model.specs.Room.{has_no_room, table_with_room};
@@ -152,6 +156,38 @@ impl Table {
         self.stored.ranges()
     }
 
+    /// The ranges of unified ideographs besides the listed ones, by their first code points.
+    pub fn ideographs(&self) -> &[Ideographs]
+        ensures value { result.now ≡ self.now.ideographs }
+        ensures valid { AreIdeographs result.now }
+    {
+        self.stored.ideographs()
+    }
+
+    /// Makes the code points from `first` to `last` unified ideographs, both ends among them. Where such a code point has
+    /// no key, its implicit weights are those of an ideograph, unless it is assigned and lies in a range of implicit
+    /// weights (UTS #10, section 10.1.3). On a fault the table stays as it is.
+    pub fn add_ideographs(&mut self, first: char, last: char) -> Result<(), RangeFault>
+        ensures ok { OnOk result (self.new ≡ with_more_ideographs self.old (record { first = first; last = last })) }
+        ensures err { OnErr result (self.new ≡ self.old) }
+        ensures fault { let fault = ideographs_fault self.old.ideographs (record { first = first; last = last }) in MatchResult result (λ _. fault ≡ None) (λ f. fault ≡ reported_range_fault f) }
+    {
+        self.stored.add_ideographs(first, last)?;
+        self.cells.clear();
+        Ok(())
+    }
+
+    /// Takes the ranges of ideographs of another table in place of its own. Where memory is refused, the table stays as it
+    /// is.
+    pub fn take_ideographs(&mut self, alloc: Global, from: &Table) -> Result<(), AllocError>
+        ensures ok { OnOk result (self.new ≡ with_ideographs self.old from.now.ideographs) }
+        ensures err { OnErr result (self.new ≡ self.old) }
+    {
+        self.stored.take_ideographs(alloc, from.ideographs())?;
+        self.cells = Cells::of(alloc, &self.stored);
+        Ok(())
+    }
+
     /// Whether a text may be cut before a code point, so that its two parts have their elements by themselves: a starter
     /// that stands in no key at the second place or later, and whose keys all begin with a primary weight.
     pub fn safe_starter(&self, c: char) -> bool
@@ -160,7 +196,7 @@ impl Table {
         self.starters.is_safe(&self.stored, c)
     }
 
-    /// Makes anew what quick look-ups use, which `put` and `make_room` drop and a copy has not. Call it after the last change
+    /// Makes anew what quick look-ups use, which `put`, `make_room` and `add_ideographs` drop and a copy has not. Call it after the last change
     /// of a table. The table is the same before and after, and also where memory is refused.
     pub fn prepare(&mut self, alloc: Global) -> Result<(), AllocError>
         ensures { self.new ≡ self.old }

@@ -345,3 +345,5 @@ fn safe_starters_are_those_of_the_changed_table(rt: HostRuntime) {
         assert_eq!(rt; copy.safe_starter(c), wanted, "{c:?}");
     }
 }
+
+mod ideographs;

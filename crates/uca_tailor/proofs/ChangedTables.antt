@@ -37,7 +37,7 @@ by_entry m w (Some x) is e = refl
 
 pub elements_or_implicit-with_room : (m w : ℕ) (t : ElementTable) (q : List ℕ) → AreRanges t.ranges → least m ≤ w → elements_or_implicit (table_with_room m w t) q ≡ map (with_room m w) (elements_or_implicit t q)
 elements_or_implicit-with_room m w t q r h =
-    ap (λ o. unwrap_or o (implicit_over t.ranges (slice_index q 0))) (elements_at-with_room m w t q) ∙ by_entry m w (elements_at t q) _ (implicit-with_room m w t.ranges (slice_index q 0) r h)
+    ap (λ o. unwrap_or o (implicit_over t.ranges t.ideographs (slice_index q 0))) (elements_at-with_room m w t q) ∙ by_entry m w (elements_at t q) _ (implicit-with_room m w t.ranges t.ideographs (slice_index q 0) r h)
 
 -- where no entry is stuck, the elements of each match have room
 pub all_of_none : {A : Type 0} (p : A → Bool) (xs : List A) → list_any p xs ≡ false → AllByRecursion (λ x. p x ≡ false) xs
@@ -55,7 +55,7 @@ found_room m w q (x ∷ es) e is h =
 
 pub elements_or_implicit_room : (m w : ℕ) (t : ElementTable) (q : List ℕ) → IsLevel m → AreRanges t.ranges → least m ≤ w → list_any (list_any (has_no_room m w)) (values t.entries) ≡ false → AllHaveRoom m w (elements_or_implicit t q)
 elements_or_implicit_room m w t q l r h e =
-    subst (λ o. AllHaveRoom m w (unwrap_or o (implicit_over t.ranges (slice_index q 0)))) (sym (get-entries t.entries q)) (found_room m w q (entries t.entries) e _ (implicit_room m w t.ranges (slice_index q 0) l r h))
+    subst (λ o. AllHaveRoom m w (unwrap_or o (implicit_over t.ranges t.ideographs (slice_index q 0)))) (sym (get-entries t.entries q)) (found_room m w q (entries t.entries) e _ (implicit_room m w t.ranges t.ideographs (slice_index q 0) l r h))
 
 -- an entry is found at its key, and changes no other
 pub elements_at-same : (t : ElementTable) (k : List ℕ) (es : List Element) (q : List ℕ) → eq_by_cmp key_cmp q k ≡ true → elements_at (with_entry t k es) q ≡ Some es
@@ -68,7 +68,7 @@ pub elements_at-other : (t : ElementTable) (k : List ℕ) (es : List Element) (q
 elements_at-other t k es q other = get-insert nat_list_cmp_total t.entries k es q ∙ ap (λ b. cond b (Some es) (get t.entries q)) other
 
 pub elements_or_implicit-with_entry : (t : ElementTable) (k : List ℕ) (es : List Element) (q : List ℕ) → eq_by_cmp key_cmp q k ≡ false → elements_or_implicit (with_entry t k es) q ≡ elements_or_implicit t q
-elements_or_implicit-with_entry t k es q other = ap (λ o. unwrap_or o (implicit_over t.ranges (slice_index q 0))) (elements_at-other t k es q other)
+elements_or_implicit-with_entry t k es q other = ap (λ o. unwrap_or o (implicit_over t.ranges t.ideographs (slice_index q 0))) (elements_at-other t k es q other)
 
 -- the elements of many matches
 pub elements_of_keys-with_room : (m w : ℕ) (t : ElementTable) (ks : List (List ℕ)) → AreRanges t.ranges → least m ≤ w → elements_of_keys (table_with_room m w t) ks ≡ map (with_room m w) (elements_of_keys t ks)

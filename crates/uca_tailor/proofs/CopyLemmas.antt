@@ -11,9 +11,10 @@ use Rattle.std.specs.Cmp.Lexicographic.{nat_list_cmp_total}
 use Rattle.std.specs.FinMap.{FinMap, find, get, entries, get-insert, get-empty, get-from_entries, empty}
 use Rattle.std.specs.FinMap.Entries.{find-append, find_tied}
 use Rattle.uca_weights.specs.declared.element.Element.{Element}
+use Rattle.uca_weights.specs.declared.range.Ideographs.{Ideographs}
 use Rattle.uca_weights.specs.declared.range.Range.{Range}
 use Rattle.uca_model.specs.Ranges.{AreByFirst, put_range}
-use Rattle.uca_model.specs.Table.{ElementTable, key_cmp, elements_at, is_key, with_entry}
+use Rattle.uca_model.specs.Table.{ElementTable, key_cmp, elements_at, is_key, with_entry, with_ideographs}
 use Rattle.uca_table.specs.Builder.{with_range}
 use Rattle.uca_model.proofs.AddedRanges.{put_range-last}
 use Rattle.uca_model.proofs.WeightLemmas.{Fits}
@@ -145,8 +146,8 @@ cut_found : (u : ElementTable) (q : List ℕ) (o : Option (List Element)) → Fi
 cut_found u q None fits is = refl
 cut_found u q (Some es) fits is = ap Some (elements-cut es (fits.entries q es is))
 
-pub copied : {Y : Type 0} (m : Moves) (items : List (Vec ℕ Y × Item)) (t u : ElementTable) → Fits (renumbered m items t) → Holds u (map cut_entry (all_entries m items (entries t.entries))) → u.ranges ≡ t.ranges → u ≡ renumbered m items t
-copied m items t u fits holds rs = same_table _ _ rs (λ q.
+pub copied : {Y : Type 0} (m : Moves) (items : List (Vec ℕ Y × Item)) (t u : ElementTable) → Fits (renumbered m items t) → Holds u (map cut_entry (all_entries m items (entries t.entries))) → u.ranges ≡ t.ranges → with_ideographs u t.ideographs ≡ renumbered m items t
+copied m items t u fits holds rs = same_table _ _ rs refl (λ q.
     holds q ∙ find-map (map cut) q (all_entries m items (entries t.entries))
     ∙ ap (option_map (map cut)) (sym (get-from_entries nat_list_cmp_total (all_entries m items (entries t.entries)) q))
     ∙ cut_found (renumbered m items t) q _ fits refl)
@@ -158,6 +159,6 @@ ranges-more rs i d h by_first =
     let whole : take i rs ++ get_or rs i d ∷ drop (i + 1) rs ≡ rs = ap (λ xs. take i rs ++ xs) (sym (drop_more rs i d h)) ∙ take-append-drop i rs in
     put_range-last (take i rs) (get_or rs i d) (drop (i + 1) rs) (subst AreByFirst (sym whole) by_first) ∙ sym (take_more rs i d h)
 
-pub range_added : (b n : ElementTable) (es : FinMap key_cmp (List Element)) (rs : List Range) (i : ℕ) (d : Range) → i < length rs → AreByFirst rs → (let t : ElementTable = record { entries = es; ranges = take i rs } in b ≡ t)
-    → n ≡ with_range b (record { first = (get_or rs i d).first; last = (get_or rs i d).last; base = (get_or rs i d).base }) → (let t : ElementTable = record { entries = es; ranges = take (i + 1) rs } in n ≡ t)
-range_added b n es rs i d h by_first is grown = grown ∙ ap (λ t. with_range t (get_or rs i d)) is ∙ ap (λ x. record { entries = es; ranges = x }) (ranges-more rs i d h by_first)
+pub range_added : (b n : ElementTable) (es : FinMap key_cmp (List Element)) (rs : List Range) (added : List Ideographs) (i : ℕ) (d : Range) → i < length rs → AreByFirst rs → (let t : ElementTable = record { entries = es; ranges = take i rs; ideographs = added } in b ≡ t)
+    → n ≡ with_range b (record { first = (get_or rs i d).first; last = (get_or rs i d).last; base = (get_or rs i d).base }) → (let t : ElementTable = record { entries = es; ranges = take (i + 1) rs; ideographs = added } in n ≡ t)
+range_added b n es rs added i d h by_first is grown = grown ∙ ap (λ t. with_range t (get_or rs i d)) is ∙ ap (λ x. record { entries = es; ranges = x; ideographs = added }) (ranges-more rs i d h by_first)

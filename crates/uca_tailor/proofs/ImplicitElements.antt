@@ -3,6 +3,7 @@ use Rattle.std.proofs.Common.{◌≡◌, ℕ, ◌+◌, ◌-◌, ◌/◌, ◌%◌
 use Rattle.std.proofs.lemmas.Bool.Decides.{nat_tests}
 use Rattle.std.specs.Option.{option_map_or}
 use Rattle.uca_weights.specs.declared.element.Element.{Element}
+use Rattle.uca_weights.specs.declared.range.Ideographs.{Ideographs}
 use Rattle.uca_weights.specs.declared.range.Range.{Range}
 use Rattle.uca_model.specs.Table.{IsRange, AreRanges}
 use Rattle.uca_model.specs.ImplicitWeights.{pair, implicit_over, is_assigned, is_between, is_unified_ideograph, in_some, core_blocks, in_range, in_two_parts, range_of, lowest_first}
@@ -44,10 +45,10 @@ base_high true true = lit≤ tt
 base_high true false = lit≤ tt
 base_high false b = lit≤ tt
 
-pub implicit_pair : (rs : List Range) (c : ℕ) → AreRanges rs → ArePair (implicit_over rs c)
+pub implicit_pair : (rs : List Range) (added : List Ideographs) (c : ℕ) → AreRanges rs → ArePair (implicit_over rs added c)
 unfolding implicit_over
-implicit_pair rs c h =
-    let parts : ArePair (in_two_parts (cond (is_unified_ideograph c) (cond (in_some core_blocks c) 0xFB40 0xFB80) 0xFBC0) c) = two_parts _ c (base_high (is_unified_ideograph c) (in_some core_blocks c)) in
+implicit_pair rs added c h =
+    let parts : ArePair (in_two_parts (cond (is_unified_ideograph added c) (cond (in_some core_blocks c) 0xFB40 0xFB80) 0xFBC0) c) = two_parts _ c (base_high (is_unified_ideograph added c) (in_some core_blocks c)) in
     either (is_assigned c) _ _ (by_range rs c (range_of rs c) h refl _ parts) parts
 
 low_at : (m w j x : ℕ) (b : Bool) → eqb m j ≡ b → (m ≡ j → x ≤ w) → cond b (weight_with_room m w x) x ≡ x
@@ -72,8 +73,8 @@ pair-with_room m w a b h p q =
     (ap (λ k. element k (weight_with_room_at m w 2 32) (weight_with_room_at m w 3 2)) (weight_with_room_at-high m w a p) ∙ ap₂ (element a) second third)
     (ap (λ k. element k (weight_with_room_at m w 2 0) (weight_with_room_at m w 3 0)) (weight_with_room_at-high m w b q) ∙ ap₂ (element b) (weight_with_room_at-zero m w 2) (weight_with_room_at-zero m w 3))
 
-pub implicit-with_room : (m w : ℕ) (rs : List Range) (c : ℕ) → AreRanges rs → least m ≤ w → map (with_room m w) (implicit_over rs c) ≡ implicit_over rs c
-implicit-with_room m w rs c h g = let p = implicit_pair rs c h in ap (map (with_room m w)) p.are ∙ pair-with_room m w p.first p.second g p.first_high p.second_high ∙ sym p.are
+pub implicit-with_room : (m w : ℕ) (rs : List Range) (added : List Ideographs) (c : ℕ) → AreRanges rs → least m ≤ w → map (with_room m w) (implicit_over rs added c) ≡ implicit_over rs added c
+implicit-with_room m w rs added c h g = let p = implicit_pair rs added c h in ap (map (with_room m w)) p.are ∙ pair-with_room m w p.first p.second g p.first_high p.second_high ∙ sym p.are
 
 -- implicit elements have room
 high_has_room : (w x : ℕ) → 32768 ≤ x → weight_has_no_room 1 w x ≡ false
@@ -87,5 +88,5 @@ pair_room m w a b level_one h p q = (high_has_room w a p, (high_has_room w b q, 
 pair_room m w a b level_two h p q = (low_has_room 2 w 32 h, (low_has_room 2 w 0 (omega arith), tt))
 pair_room m w a b level_three h p q = (low_has_room 3 w 2 h, (low_has_room 3 w 0 (omega arith), tt))
 
-pub implicit_room : (m w : ℕ) (rs : List Range) (c : ℕ) → IsLevel m → AreRanges rs → least m ≤ w → AllHaveRoom m w (implicit_over rs c)
-implicit_room m w rs c l h g = let p = implicit_pair rs c h in subst (AllHaveRoom m w) (sym p.are) (pair_room m w p.first p.second l g p.first_high p.second_high)
+pub implicit_room : (m w : ℕ) (rs : List Range) (added : List Ideographs) (c : ℕ) → IsLevel m → AreRanges rs → least m ≤ w → AllHaveRoom m w (implicit_over rs added c)
+implicit_room m w rs added c l h g = let p = implicit_pair rs added c h in subst (AllHaveRoom m w) (sym p.are) (pair_room m w p.first p.second l g p.first_high p.second_high)

@@ -26,7 +26,7 @@ is_placed m t anchor r next l ranges full h =
     let room = is_below_top m t anchor place h.how in
     let base : next.anchor ≡ map (with_room m w) a.before ++ raised m a.last ∷ [] = h.entered.base ∙ ap (λ p. p.base) h.how.are in
     let moved : place.table ≡ table_with_room m w t = ap (λ p. p.table) h.how.are in
-    let wholly : LacksAll m (w + 1) (table_with_room m w t) no_key = record { entries = λ key es other e. lacks_table m w t key es l room e; implicit_ones = λ c. lacks_implicit m w t.ranges c l room h.how.free.large ranges } in
+    let wholly : LacksAll m (w + 1) (table_with_room m w t) no_key = record { entries = λ key es other e. lacks_table m w t key es l room e; implicit_ones = λ c. lacks_implicit m w t.ranges t.ideographs c l room h.how.free.large ranges } in
     record {
       old = placed_anchor m anchor a h.how.is_split;
       at = ap (weights_at m) base ∙ placed_base m w a l;

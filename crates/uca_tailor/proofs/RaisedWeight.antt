@@ -4,6 +4,7 @@ use Rattle.std.proofs.lemmas.Bool.Decides.{nat_tests}
 use Rattle.std.specs.List.{AllByRecursion}
 use Rattle.std.specs.Option.{option_map}
 use Rattle.uca_weights.specs.declared.element.Element.{Element}
+use Rattle.uca_weights.specs.declared.range.Ideographs.{Ideographs}
 use Rattle.uca_weights.specs.declared.range.Range.{Range}
 use Rattle.uca_weights.specs.Element.{weight}
 use Rattle.uca_model.specs.Table.{ElementTable, AreRanges, elements_at, is_key}
@@ -44,8 +45,8 @@ lacks_pair m w a b level_one h g p q = let f : w < 32767 = h refl in (λ e. omeg
 lacks_pair m w a b level_two h g p q = let f : 32 ≤ w = g in (λ e. omega arith, (λ e. omega arith, tt))
 lacks_pair m w a b level_three h g p q = let f : 2 ≤ w = g in (λ e. omega arith, (λ e. omega arith, tt))
 
-pub lacks_implicit : (m w : ℕ) (rs : List Range) (c : ℕ) → IsLevel m → IsBelowTop m w → least m ≤ w → AreRanges rs → Lacks m (w + 1) (implicit_over rs c)
-lacks_implicit m w rs c l h g r = let p = implicit_pair rs c r in subst (Lacks m (w + 1)) (sym p.are) (lacks_pair m w p.first p.second l h g p.first_high p.second_high)
+pub lacks_implicit : (m w : ℕ) (rs : List Range) (added : List Ideographs) (c : ℕ) → IsLevel m → IsBelowTop m w → least m ≤ w → AreRanges rs → Lacks m (w + 1) (implicit_over rs added c)
+lacks_implicit m w rs added c l h g r = let p = implicit_pair rs added c r in subst (Lacks m (w + 1)) (sym p.are) (lacks_pair m w p.first p.second l h g p.first_high p.second_high)
 
 lacks_entry : (m w : ℕ) (o : Option (List Element)) (es : List Element) → IsLevel m → IsBelowTop m w → option_map (map (with_room m w)) o ≡ Some es → Lacks m (w + 1) es
 lacks_entry m w None es l h e = absurd (cc)

@@ -68,6 +68,7 @@ shifted_is_table : (m w : ℕ) (t : ElementTable) → IsLevel m → list_any (li
 shifted_is_table m w t l h table = record {
   entries = All-from_recursion IsEntry _ (all-from_entries (map (entry_with_room m w) (entries t.entries)) (shifted_entries m w (entries t.entries) l h (recursion_from_All IsEntry (entries t.entries) table.entries)));
   ranges = table.ranges;
+  ideographs = table.ideographs;
 }
 
 -- ## Places
@@ -113,7 +114,7 @@ related_tables t anchor r next table some fit string item expansion e =
       few_elements = h.few;
       elements = All-from_recursion IsElement whole (each-append IsElement p.base _ f.base (elements-IsElement p.table r.expansion (Fits-IsTable p.table f.table) points));
     } in (
-      subst IsTable (sym h.table) (record { entries = All-from_recursion IsEntry _ (all-insert p.table.entries r.item whole entry (recursion_from_All IsEntry (entries p.table.entries) f.table.entries)); ranges = f.table.ranges }),
+      subst IsTable (sym h.table) (record { entries = All-from_recursion IsEntry _ (all-insert p.table.entries r.item whole entry (recursion_from_All IsEntry (entries p.table.entries) f.table.entries)); ranges = f.table.ranges; ideographs = f.table.ideographs }),
       subst (λ x. 1 ≤ length x) (sym h.base) f.some,
       subst (AllByRecursion IsElement) (sym h.base) f.base,
     )

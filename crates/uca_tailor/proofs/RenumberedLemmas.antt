@@ -20,7 +20,7 @@ use Rattle.uca_weights.specs.declared.element.Element.{Element}
 use Rattle.uca_weights.specs.declared.limits.TheConstants.{MAX_KEY}
 use Rattle.uca_weights.specs.Element.{weight}
 use Rattle.uca_model.specs.Room.{moves, weight_with_room, with_room, entry_with_room, table_with_room, has_no_room}
-use Rattle.uca_model.specs.Table.{ElementTable, key_cmp, elements_at, is_key, with_entry, longest, IsElement, IsTable}
+use Rattle.uca_model.specs.Table.{ElementTable, key_cmp, elements_at, is_key, with_entry, with_ideographs, longest, IsElement, IsTable}
 use Rattle.uca_model.specs.CollationElements.{step, matches, matches_within, elements, elements_or_implicit}
 use Rattle.uca_model.specs.ImplicitWeights.{implicit}
 use Rattle.uca_model.specs.Match as model
@@ -73,8 +73,10 @@ elements_at-renumbered m items t q =
     ∙ find-over q (map (item_entry m) items) (map (moved_entry m) (entries t.entries))
     ∙ ap (or_else (find key_cmp q (map (item_entry m) items))) (find-map (map (moved_element m start)) q (entries t.entries) ∙ ap (option_map (map (moved_element m start))) (sym (get-entries t.entries q)))
 
-pub same_table : (t u : ElementTable) → t.ranges ≡ u.ranges → ((q : List ℕ) → elements_at t q ≡ elements_at u q) → t ≡ u
-same_table t u rs is = ap₂ (λ es ranges. record { entries = es; ranges = ranges }) (same_map nat_list_cmp_total (slice_cmp-IsAntisymmetric nat_cmp-IsAntisymmetric) t.entries u.entries is) rs
+pub same_table : (t u : ElementTable) → t.ranges ≡ u.ranges → t.ideographs ≡ u.ideographs → ((q : List ℕ) → elements_at t q ≡ elements_at u q) → t ≡ u
+same_table t u rs added is =
+    ap₂ (λ es ranges. record { entries = es; ranges = ranges; ideographs = t.ideographs }) (same_map nat_list_cmp_total (slice_cmp-IsAntisymmetric nat_cmp-IsAntisymmetric) t.entries u.entries is) rs
+    ∙ ap (with_ideographs u) added
 
 -- what an item has is found at its key
 pub find-item : {Y : Type 0} (m : Moves) (items : List (Vec ℕ Y × Item)) (q : List ℕ)
@@ -99,7 +101,7 @@ same_option None = refl
 same_option (Some es) = ap Some (same_elements es)
 
 pub renumbered-none : {Y : Type 0} (t : ElementTable) (items : List (Vec ℕ Y × Item)) → items ≡ [] → renumbered no_moves items t ≡ t
-renumbered-none t items none = same_table _ t refl (λ q. elements_at-renumbered no_moves items t q ∙ ap (λ is. or_else (find key_cmp q (map (item_entry no_moves) is)) (option_map (map (moved_element no_moves start)) (elements_at t q))) none ∙ same_option (elements_at t q))
+renumbered-none t items none = same_table _ t refl refl (λ q. elements_at-renumbered no_moves items t q ∙ ap (λ is. or_else (find key_cmp q (map (item_entry no_moves) is)) (option_map (map (moved_element no_moves start)) (elements_at t q))) none ∙ same_option (elements_at t q))
 
 -- ## One more room
 
@@ -130,7 +132,7 @@ all-with : {Y : Type 0} (level w : ℕ) (m : Moves) (items : List (Vec ℕ Y × 
 all-with level w m items es l all = ap₂ (λ xs ys. xs ++ ys) (items-with level w m items l all) (entries-with level w m es l) ∙ sym (map-append (entry_with_room level w) (map (item_entry m) items) (map (moved_entry m) es))
 
 pub renumbered-with : {Y : Type 0} (level w : ℕ) (m : Moves) (items : List (Vec ℕ Y × Item)) (t : ElementTable) → IsLevel level → AllByRecursion (λ i. IsItem m i.1) items → renumbered (with_move level w m) items t ≡ table_with_room level w (renumbered m items t)
-renumbered-with level w m items t l all = same_table _ _ refl (λ q.
+renumbered-with level w m items t l all = same_table _ _ refl refl (λ q.
     get-from_entries nat_list_cmp_total (all_entries (with_move level w m) items (entries t.entries)) q
     ∙ ap (find key_cmp q) (all-with level w m items (entries t.entries) l all)
     ∙ find-map (map (with_room level w)) q (all_entries m items (entries t.entries))
@@ -243,7 +245,7 @@ or_else-cond true x o p = refl
 or_else-cond false x o p = refl
 
 pub renumbered-put : {Y : Type 0} (m : Moves) (items : List (Vec ℕ Y × Item)) (t : ElementTable) (k : Vec ℕ Y) (i : Item) → i.after ≡ now_of m → renumbered m (insert_entry vec_cmp items k i) t ≡ with_entry (renumbered m items t) k.items i.elements.items
-renumbered-put m items t k i now = same_table _ _ refl (λ q.
+renumbered-put m items t k i now = same_table _ _ refl refl (λ q.
     let es : map (moved_element m i.after) i.elements.items ≡ i.elements.items = ap (λ s. map (moved_element m s) i.elements.items) now ∙ now-moved m i.elements.items in
     let rest = option_map (map (moved_element m start)) (elements_at t q) in
     elements_at-renumbered m (insert_entry vec_cmp items k i) t q

@@ -27,7 +27,7 @@ abbrev pub all_entries : {Y : Type 0} → Moves → List (Vec ℕ Y × Item) →
 all_entries m items es = map (item_entry m) items ++ map (moved_entry m) es
 
 abbrev pub renumbered : {Y : Type 0} → Moves → List (Vec ℕ Y × Item) → ElementTable → ElementTable
-renumbered m items t = record { entries = from_entries {R = key_cmp} (all_entries m items (entries t.entries)); ranges = t.ranges }
+renumbered m items t = record { entries = from_entries {R = key_cmp} (all_entries m items (entries t.entries)); ranges = t.ranges; ideographs = t.ideographs }
 
 -- an item was entered after rooms that were made, and has elements
 pub record IsItem (m : Moves) (i : Item) : Type 0 where

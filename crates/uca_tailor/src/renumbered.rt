@@ -6,7 +6,7 @@ ghost use Rattle.uca_weights.specs.declared.limits.TheConstants.{MAX_KEY};
 ghost use Rattle.uca_model.specs.CollationElements.{elements, elements_or_implicit};
 ghost use Rattle.uca_model.specs.Ranges.{AreByFirst};
 ghost use Rattle.uca_model.specs.Room.{has_no_room, table_with_room};
-ghost use Rattle.uca_model.specs.Table.{with_entry, is_key, IsElement};
+ghost use Rattle.uca_model.specs.Table.{with_entry, with_ideographs, is_key, IsElement};
 ghost use Rattle.uca_match.specs.Keys.{key_set};
 ghost use Rattle.uca_tailor.specs.Copy.{Holds, cut_entry};
 ghost use Rattle.uca_tailor.specs.Renumbered.{item_entry, all_entries, IsItem};
@@ -68,7 +68,7 @@ fn read_element(element: &Element)
 fn add_ranges(builder: &mut TableBuilder, ranges: &[Range]) -> Result<(), AllocError>
     requires none { builder.old.ranges ≡ [] }
     requires by_first { AreByFirst ranges.now }
-    ensures { OnOk result (builder.new ≡ record { entries = builder.old.entries; ranges = ranges.now }) }
+    ensures { OnOk result (builder.new ≡ record { entries = builder.old.entries; ranges = ranges.now; ideographs = builder.old.ideographs }) }
 {
     for range in ranges {
         match builder.add_implicit(range.first, range.last, range.base) {
@@ -131,6 +131,17 @@ fn add_entries(
         add(builder, key.as_slice(), &moved)?;
     }
     Ok(())
+}
+
+/// A table without ideographs besides the listed ones, with those of another.
+fn with_ideographs_of(alloc: Global, mut table: Table, other: &Table) -> Result<Table, AllocError>
+    requires { table.ideographs ≡ [] }
+    ensures { IfOk result (λ t. t ≡ with_ideographs table other.now.ideographs) }
+{
+    if !other.ideographs().is_empty() {
+        table.take_ideographs(alloc, other)?;
+    }
+    Ok(table)
 }
 
 impl<'t> Renumbered<'t> {
@@ -207,7 +218,7 @@ impl<'t> Renumbered<'t> {
         add_items(alloc, &mut builder, &self.moves, &self.items)?;
         add_entries(alloc, &mut builder, &self.moves, &self.items, self.table)?;
         match builder.finish() {
-            Ok(table) => Ok(table),
+            Ok(table) => with_ideographs_of(alloc, table, self.table),
             Err(_) => Err(AllocError),
         }
     }

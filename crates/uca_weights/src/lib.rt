@@ -16,7 +16,7 @@ pub use limits::{
     MAX_DECOMPOSITION, MAX_ELEMENTS, MAX_INPUT, MAX_KEY, MAX_LINE, MAX_LOOKAHEAD, MAX_RELATIONS,
     MAX_RULES, MAX_RUN,
 };
-pub use range::Range;
+pub use range::{Ideographs, Range};
 pub use settings::{Settings, Strength, Variable};
 pub use uca_io::{Reader, Reading, Refused, WriteCause, WriteFault, Writer, Writing, write_whole};
 pub use weigher::Weigher;

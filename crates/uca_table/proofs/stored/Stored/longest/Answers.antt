@@ -9,7 +9,7 @@ returns-clause-value c =
     c.self.invariant.1 ∙ sym (longest_stored es c.self.inside.ranges c.self.invariant.0.sorted) ∙ ap longest c.self.view_is
 
 pub returns-clause-valid : goal.returns-clause-valid
-returns-clause-valid c = subst IsTable c.self.view_is (IsTable-stored c.self.inside.entries c.self.inside.ranges c.self.invariant.0)
+returns-clause-valid c = subst IsTable c.self.view_is (IsTable-stored c.self.inside.entries c.self.inside.ranges c.self.inside.ideographs.items c.self.invariant.0 c.self.invariant.3)
 
 pub returns-clause-bounds : goal.returns-clause-bounds
 returns-clause-bounds c =

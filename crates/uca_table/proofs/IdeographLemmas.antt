@@ -1,0 +1,51 @@
+-- A range of ideographs that is put among the others.
+use Rattle.std.proofs.Common.{◌≡◌, ℕ, ◌≤◌, ◌<◌, true, false, cond, nat_lt, List, [], ◌∷◌, ◌++◌, take, drop, arith, inl, inr}
+use Rattle.std.proofs.lemmas.Bool.{cases_Bool, ltb-false, or_parts}
+use Rattle.std.proofs.lemmas.Bool.Decides.{nat_tests}
+use Rattle.std.specs.Char.{IsScalar}
+use Rattle.std.specs.List.{AllByRecursion, list_any}
+use Rattle.uca_weights.specs.declared.range.Ideographs.{Ideographs}
+use Rattle.uca_model.specs.UnifiedIdeographs.{IsIdeographs, AreApart, AreIdeographs, repeats_listed}
+use Rattle.uca_model.specs.AddedIdeographs.{are_bad_ideographs, put_ideographs, shares}
+
+-- the range goes after the first i
+abbrev pub GoesAfter : Ideographs → List Ideographs → ℕ → Type 0
+GoesAfter r rs i = put_ideographs r rs ≡ take i rs ++ put_ideographs r (drop i rs)
+
+-- what holds of the range and of the others
+all-put : (P : Ideographs → Type 0) (r : Ideographs) (rs : List Ideographs) → P r → AllByRecursion P rs → AllByRecursion P (put_ideographs r rs)
+all-put P r [] new all = (new, tt)
+all-put P r (s ∷ ss) new all = elim (nat_lt r.first s.first) as (λ b. AllByRecursion P (cond b (r ∷ s ∷ ss) (s ∷ put_ideographs r ss))) [
+  | true ↦ (new, all)
+  | false ↦ (all.0, all-put P r ss new all.1)
+]
+
+-- what begins above the end of another range begins above all that ends below that
+all-above : (low high : ℕ) (rs : List Ideographs) → low ≤ high → AllByRecursion (λ t. high < t.first) rs → AllByRecursion (λ t. low < t.first) rs
+all-above low high [] h all = tt
+all-above low high (t ∷ ts) h all = (let g : high < t.first = all.0 in omega arith, all-above low high ts h all.1)
+
+-- ranges that share no code point are apart
+apart-put : (r : Ideographs) (rs : List Ideographs) → r.first ≤ r.last → list_any (shares r) rs ≡ false → AllByRecursion IsIdeographs rs → AreApart rs → AreApart (put_ideographs r rs)
+apart-put r [] ordered free each old = (tt, tt)
+apart-put r (s ∷ ss) ordered free each old =
+    let parts = or_parts (shares r s) (list_any (shares r) ss) free in
+    let other : s.first ≤ s.last = each.0.ordered in
+    elim (cases_Bool (nat_lt r.first s.first)) [
+      | inl below ↦
+          let before : r.last < s.first = grind (arith, nat_tests, parts.0, below, other) in
+          rw below (((before, all-above r.last s.last ss (omega arith) old.0), old))
+      | inr above ↦
+          let behind : s.last < r.first = grind (arith, nat_tests, parts.0, above, ordered) in
+          rw above ((all-put (λ t. s.last < t.first) r ss behind old.0, apart-put r ss ordered parts.1 each.1 old.1))
+    ]
+
+-- a range that isn't bad may stand beside the others
+pub AreIdeographs-put : (r : Ideographs) (rs : List Ideographs) → IsScalar r.first → IsScalar r.last → are_bad_ideographs rs r ≡ false → AreIdeographs rs → AreIdeographs (put_ideographs r rs)
+AreIdeographs-put r rs first last fine old =
+    let order = or_parts (nat_lt r.last r.first) _ fine in let listed = or_parts (repeats_listed r) _ order.1 in
+    let ordered : r.first ≤ r.last = ltb-false r.last r.first order.0 in
+    record {
+      each = all-put IsIdeographs r rs (record { first = first; last = last; ordered = ordered; unlisted = listed.0 }) old.each;
+      apart = apart-put r rs ordered listed.1 old.each old.apart;
+    }
