@@ -2,6 +2,7 @@ ghost use Rattle.std.specs.Prelude.{◌≤◌, All, map};
 ghost use Rattle.uca_model.specs.Rules.{IsString, IsRelation, IsChain, AreRules};
 ghost use Rattle.uca_tailor.specs.Chains.{relation_of, chain_of};
 
+mod ideographs;
 mod laws;
 
 use crate::{Chain, Op, Relation, Rules, TailorCause, TailorFault, tailor};
