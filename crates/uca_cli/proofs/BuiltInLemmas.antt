@@ -4,13 +4,13 @@ use Rattle.std.specs.FinMap.{FinMap, empty, put, entries, entries-from_sorted, e
 use Rattle.std.specs.Cmp.Lexicographic.{nat_list_cmp_total}
 use Rattle.uca_weights.specs.declared.element.Element.{Element}
 use Rattle.uca_weights.specs.declared.range.Range.{Range}
-use Rattle.uca_model.specs.Table.{ElementTable, key_cmp, with_entry}
+use Rattle.uca_model.specs.Table.{ElementTable, key_cmp, with_entry, with_ideographs}
 use Rattle.uca_cli.specs.BuiltIn.{plain, with_point, with_contractions, with_ranges, built_in_entries, built_in_table, tangut, tangut_supplement}
 use Rattle.uca_cli.specs.declared.built_in_table.TheConstants.{ENTRIES}
 
 -- the table of all of them
 abbrev pub whole_table : ElementTable
-whole_table = with_ranges (with_contractions (fold with_point (record { entries = empty; ranges = [] }) ENTRIES))
+whole_table = with_ranges (with_contractions (fold with_point (record { entries = empty; ranges = []; ideographs = [] }) ENTRIES))
 
 -- the entries of a table, with one more put into its place
 abbrev put_key : List (List ℕ × List Element) → List ℕ → List Element → List (List ℕ × List Element)
@@ -46,6 +46,10 @@ ranges-points : (ps : List (ℕ × Element)) (t : ElementTable) → (fold with_p
 ranges-points [] t = refl
 ranges-points (p ∷ ps) t = ranges-points ps (with_point t p)
 
+ideographs-points : (ps : List (ℕ × Element)) (t : ElementTable) → (fold with_point t ps).ideographs ≡ t.ideographs
+ideographs-points [] t = refl
+ideographs-points (p ∷ ps) t = ideographs-points ps (with_point t p)
+
 nothing : {A : Type 0} (xs : List A) → length xs ≡ 0 → xs ≡ []
 nothing [] e = refl
 nothing (x ∷ xs) e = absurd (omega arith)
@@ -60,8 +64,8 @@ ranges-all t none = rw none refl
 -- all of them make the table
 pub whole_table-all : whole_table ≡ built_in_table
 whole_table-all =
-    let start : ElementTable = record { entries = empty; ranges = [] } in
+    let start : ElementTable = record { entries = empty; ranges = []; ideographs = [] } in
     let made : entries whole_table.entries ≡ built_in_entries = entries-contractions (fold with_point start ENTRIES) (fold put_point [] ENTRIES) (entries-points ENTRIES start [] entries-empty) in
     let same : whole_table.entries ≡ built_in_table.entries = same_entries_map _ _ (made ∙ sym (entries-from_sorted key_cmp built_in_entries tt)) in
-    let f : FinMap key_cmp (List Element) → List Range → ElementTable = λ m rs. record { entries = m; ranges = rs } in
-    ap₂ f same (ranges-all (with_contractions (fold with_point start ENTRIES)) (ranges-points ENTRIES start))
+    let f : FinMap key_cmp (List Element) → List Range → ElementTable = λ m rs. record { entries = m; ranges = rs; ideographs = whole_table.ideographs } in
+    ap₂ f same (ranges-all (with_contractions (fold with_point start ENTRIES)) (ranges-points ENTRIES start)) ∙ ap (with_ideographs built_in_table) (ideographs-points ENTRIES start)

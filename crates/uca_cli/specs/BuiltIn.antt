@@ -66,4 +66,4 @@ abbrev pub with_ranges : ElementTable → ElementTable
 with_ranges t = with_range (with_range t tangut) tangut_supplement
 
 abbrev pub built_in_table : ElementTable
-built_in_table = record { entries = from_sorted {R = key_cmp} built_in_entries; ranges = tangut ∷ tangut_supplement ∷ [] }
+built_in_table = record { entries = from_sorted {R = key_cmp} built_in_entries; ranges = tangut ∷ tangut_supplement ∷ []; ideographs = [] }

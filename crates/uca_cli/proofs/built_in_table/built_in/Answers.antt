@@ -7,6 +7,6 @@ use Rattle.uca_cli.proofs.built_in_table.built_in.Goals as goal
 
 pub returns-in-Ok : goal.returns-in-Ok
 returns-in-Ok c =
-    c.in-Ok.ensures ∙ c.in_ok-add_ranges.ensures ∙ ap with_ranges c.in_ok-insert_contractions.ensures
+    c.in-Ok.ensures.made ∙ c.in_ok-add_ranges.ensures ∙ ap with_ranges c.in_ok-insert_contractions.ensures
     ∙ ap (λ (t : ElementTable). with_ranges (with_contractions t)) c.in_ok-insert_points.ensures
     ∙ ap (λ (t : ElementTable). with_ranges (with_contractions (fold with_point t ENTRIES))) c.new-builder.ensures ∙ whole_table-all
