@@ -41,8 +41,8 @@ list_room m w x (e ∷ es) all h = by_first m w x e (has_weight m x es) (weight 
 stands_room : (m w x : ℕ) (t : ElementTable) → IsLevel m → AreRanges t.ranges → least m ≤ w → list_any (list_any (has_no_room m w)) (values t.entries) ≡ false → StandsAt m t x → weight_has_no_room m w x ≡ false
 stands_room m w x t l ranges large free (is_none is) = subst (λ y. weight_has_no_room m w y ≡ false) (sym is) (none_room m w)
 stands_room m w x t l ranges large free (of_entry key es found has) =
-    list_room m w x es (subst (λ o. AllHaveRoom m w (unwrap_or o (implicit_over t.ranges (slice_index key 0)))) found (elements_or_implicit_room m w t key l ranges large free)) has
-stands_room m w x t l ranges large free (of_implicit c has) = list_room m w x (implicit t c) (implicit_room m w t.ranges c l ranges large) has
+    list_room m w x es (subst (λ o. AllHaveRoom m w (unwrap_or o (implicit_over t.ranges t.ideographs (slice_index key 0)))) found (elements_or_implicit_room m w t key l ranges large free)) has
+stands_room m w x t l ranges large free (of_implicit c has) = list_room m w x (implicit t c) (implicit_room m w t.ranges t.ideographs c l ranges large) has
 stands_room m w x t l ranges large free (is_highest first is) =
     subst (λ y. weight_has_no_room m w y ≡ false) (sym is) (subst (λ k. weight_has_no_room k w 0xFFFF ≡ false) (sym first) (highest_room w))
 
