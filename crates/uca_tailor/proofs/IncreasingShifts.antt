@@ -60,7 +60,7 @@ is_shift m t anchor r next l ranges h =
       entries = λ key other. ap (λ u. elements_at u key) h.entered.table ∙ elements_at-other h.entered.place.table r.item _ key other ∙ ap (λ u. elements_at u key) moved ∙ elements_at-with_room m w t key;
       increases = λ x y p q less. increasing m w x y (stands_room m w x t l ranges free.large free.table_room p) (stands_room m w y t l ranges free.large free.table_room q) less;
       none_stays = weight_with_room-zero m w;
-      implicit_stays = λ c. implicit-with_room m w t.ranges c ranges free.large;
+      implicit_stays = λ c. implicit-with_room m w t.ranges t.ideographs c ranges free.large;
       highest_stays = highest m w;
     }
 
