@@ -3,32 +3,43 @@ use Rattle.std.proofs.Common.{ℕ, Option, Result, Ok, Err, IfOk, IfErr, inl, in
 use Rattle.uca_io.specs.Reader.{ReaderState}
 use Rattle.uca_model.specs.Table.{ElementTable}
 use Rattle.uca_commands.specs.Commands.{Ends, Does, Fails}
-use Rattle.uca_cli.specs.Performing.{command_of, ReadsTable, StopsTable, Performs, Refuses, settings_of}
+use Rattle.uca_cli.specs.Performing.{command_of, MakesBase, ReadsTable, RefusesWidening, StopsBase, Performs, Refuses, Widens, settings_of}
 use Rattle.uca_cli.specs.RuleFile.{Tailors, RefusesTailoring}
 use Rattle.uca_commands.specs.declared.faults.CliFault.{CliFault}
 use Rattle.uca_job.specs.declared.job.Job.{Job}
 
+-- the table that was read has the range, or may not have it
+pub makes_base : (ends : Option (ℕ × ℕ)) (old new : Option ReaderState) (given : ElementTable) (result : Result ElementTable CliFault)
+    → ReadsTable old new given → IfOk result (Widens ends given) → IfOk result (MakesBase ends old new)
+makes_base ends old new given (Ok t) table range = record { given = given; table = table; range = range }
+makes_base ends old new given (Err f) table range = tt
+
+pub stops_widening : (ends : Option (ℕ × ℕ)) (old new : Option ReaderState) (given : ElementTable) (result : Result ElementTable CliFault)
+    → ReadsTable old new given → IfErr result (RefusesWidening ends given) → IfErr result (StopsBase ends old new)
+stops_widening ends old new given (Ok t) table range = tt
+stops_widening ends old new given (Err f) table range = inr (record { given = given; table = table; range = range })
+
 -- the command was done with the table
 pub performs : (job : Job) (old_table new_table old_rules new_rules : Option ReaderState) (base t : ElementTable) (old new : Ends) (result : Result ℕ CliFault)
-    → ReadsTable old_table new_table base → Tailors old_rules new_rules base t → IfOk result (Does (command_of job.command job.raw) t (settings_of job) old new)
+    → MakesBase job.ideographs old_table new_table base → Tailors old_rules new_rules base t → IfOk result (Does (command_of job.command job.raw) t (settings_of job) old new)
     → IfOk result (Performs job (record { table = old_table; rules = old_rules }) (record { table = new_table; rules = new_rules }) old new)
 performs job old_table new_table old_rules new_rules base t old new (Ok status) table rules work = record { t = t; table = record { base = base; table = table; rules = rules }; work = work }
 performs job old_table new_table old_rules new_rules base t old new (Err f) table rules work = tt
 
 -- the command was not done with the table
 pub stops : (job : Job) (old_table new_table old_rules new_rules : Option ReaderState) (base t : ElementTable) (old new : Ends) (result : Result ℕ CliFault)
-    → ReadsTable old_table new_table base → Tailors old_rules new_rules base t → IfErr result (Fails (command_of job.command job.raw) t (settings_of job) old new)
+    → MakesBase job.ideographs old_table new_table base → Tailors old_rules new_rules base t → IfErr result (Fails (command_of job.command job.raw) t (settings_of job) old new)
     → IfErr result (Refuses job (record { table = old_table; rules = old_rules }) (record { table = new_table; rules = new_rules }) old new)
 stops job old_table new_table old_rules new_rules base t old new (Ok status) table rules work = tt
 stops job old_table new_table old_rules new_rules base t old new (Err f) table rules work = inr (record { t = t; table = record { base = base; table = table; rules = rules }; work = work })
 
 -- there was a table, and no rules for it
 pub no_rules : (job : Job) (old_table new_table old_rules new_rules : Option ReaderState) (base : ElementTable) (ends : Ends) (f : CliFault)
-    → ReadsTable old_table new_table base → RefusesTailoring old_rules new_rules base f
+    → MakesBase job.ideographs old_table new_table base → RefusesTailoring old_rules new_rules base f
     → Refuses job (record { table = old_table; rules = old_rules }) (record { table = new_table; rules = new_rules }) ends ends f
 no_rules job old_table new_table old_rules new_rules base ends f table rules = inl (record { table = inr (record { base = base; table = table; rules = rules }); same = refl })
 
 -- there was no table
-pub no_table : (job : Job) (old_table new_table rules : Option ReaderState) (ends : Ends) (f : CliFault) → StopsTable old_table new_table f
+pub no_table : (job : Job) (old_table new_table rules : Option ReaderState) (ends : Ends) (f : CliFault) → StopsBase job.ideographs old_table new_table f
     → Refuses job (record { table = old_table; rules = rules }) (record { table = new_table; rules = rules }) ends ends f
 no_table job old_table new_table rules ends f table = inl (record { table = inl (record { table = table; rules = refl }); same = refl })

@@ -3,6 +3,9 @@ use Rattle.std.specs.Prelude.{◌≡◌, ⊤, ℕ, ◌⊎◌, Bool, true, false,
 use Rattle.uca_weights.specs.declared.settings.Settings.{Settings}
 use Rattle.uca_io.specs.Reader.{ReaderState}
 use Rattle.uca_model.specs.Table.{ElementTable}
+use Rattle.uca_table.specs.Builder.{ideographs_fault, with_more_ideographs}
+use Rattle.uca_table.specs.declared.fault.RangeFault.TheVariants as range
+use Rattle.uca_weights.specs.declared.range.Ideographs.{Ideographs}
 use Rattle.uca_allkeys.specs.Reading.{GivesTable, IsRefused}
 use Rattle.uca_allkeys.specs.declared.faults.ReadFault.{ReadFault}
 use Rattle.uca_cli.specs.BuiltIn.{built_in_table}
@@ -29,6 +32,10 @@ command_of Table raw = table_command
 abbrev pub settings_of : Job → Settings
 settings_of job = record { strength = job.strength; weighting = job.weighting }
 
+-- the range between two code points
+abbrev pub range_between : ℕ × ℕ → Ideographs
+range_between ends = record { first = ends.0; last = ends.1 }
+
 -- ---- the table before the rules
 
 -- the table is what the text in the reader says; where there is no reader it is the built-in one
@@ -53,6 +60,35 @@ StopsTable old new (fault.Table f) = RefusesText old new f
 StopsTable old new fault.OutOfMemory = LacksMemoryForTable old new
 StopsTable old new _ = ⊥
 
+-- ---- the table with the job's range of ideographs
+
+-- the table with the range, where there is one
+abbrev pub Widens : Option (ℕ × ℕ) → ElementTable → ElementTable → Type 0
+Widens None base t = t ≡ base
+Widens (Some ends) base t = (ideographs_fault base.ideographs (range_between ends) ≡ None) × (t ≡ with_more_ideographs base (range_between ends))
+
+-- the range may not be added, or memory for it was refused
+abbrev pub RefusesWidening : Option (ℕ × ℕ) → ElementTable → CliFault → Type 0
+RefusesWidening (Some ends) base fault.Ideographs = ideographs_fault base.ideographs (range_between ends) ≡ Some range.BadRange
+RefusesWidening (Some ends) base fault.OutOfMemory = ⊤
+RefusesWidening _ base f = ⊥
+
+-- the table was read, and the range was added
+pub record MakesBase (ends : Option (ℕ × ℕ)) (old new : Option ReaderState) (t : ElementTable) : Type 0 where
+  pub given : ElementTable
+  pub table : ReadsTable old new given
+  pub range : Widens ends given t
+
+-- the table was read, and the range was not added
+pub record StopsWidening (ends : Option (ℕ × ℕ)) (old new : Option ReaderState) (f : CliFault) : Type 0 where
+  pub given : ElementTable
+  pub table : ReadsTable old new given
+  pub range : RefusesWidening ends given f
+
+-- there is no table with the range
+abbrev pub StopsBase : Option (ℕ × ℕ) → Option ReaderState → Option ReaderState → CliFault → Type 0
+StopsBase ends old new f = StopsTable old new f ⊎ StopsWidening ends old new f
+
 -- ---- the table with the rules
 
 -- what is known of the readers of the table and of the rules, where there are any
@@ -60,46 +96,46 @@ pub record Sources : Type 0 where
   pub table : Option ReaderState
   pub rules : Option ReaderState
 
--- the table was read, and the rules tailored it
-pub record MakesTable (old new : Sources) (t : ElementTable) : Type 0 where
+-- the table was made, and the rules tailored it
+pub record MakesTable (ends : Option (ℕ × ℕ)) (old new : Sources) (t : ElementTable) : Type 0 where
   pub base : ElementTable
-  pub table : ReadsTable old.table new.table base
+  pub table : MakesBase ends old.table new.table base
   pub rules : Tailors old.rules new.rules base t
 
 -- there was no table, and the rules were not read
-pub record HasNoTable (old new : Sources) (f : CliFault) : Type 0 where
-  pub table : StopsTable old.table new.table f
+pub record HasNoTable (ends : Option (ℕ × ℕ)) (old new : Sources) (f : CliFault) : Type 0 where
+  pub table : StopsBase ends old.table new.table f
   pub rules : new.rules ≡ old.rules
 
--- the table was read, and there were no rules for it
-pub record HasNoRules (old new : Sources) (f : CliFault) : Type 0 where
+-- the table was made, and there were no rules for it
+pub record HasNoRules (ends : Option (ℕ × ℕ)) (old new : Sources) (f : CliFault) : Type 0 where
   pub base : ElementTable
-  pub table : ReadsTable old.table new.table base
+  pub table : MakesBase ends old.table new.table base
   pub rules : RefusesTailoring old.rules new.rules base f
 
 -- why there is no table to work with
-abbrev pub RefusesTable : Sources → Sources → CliFault → Type 0
-RefusesTable old new f = HasNoTable old new f ⊎ HasNoRules old new f
+abbrev pub RefusesTable : Option (ℕ × ℕ) → Sources → Sources → CliFault → Type 0
+RefusesTable ends old new f = HasNoTable ends old new f ⊎ HasNoRules ends old new f
 
 -- ---- the job
 
 -- there was a table, and the command was done with it
 pub record Performs (job : Job) (old new : Sources) (before after : Ends) (status : ℕ) : Type 0 where
   pub t : ElementTable
-  pub table : MakesTable old new t
+  pub table : MakesTable job.ideographs old new t
   pub work : Does (command_of job.command job.raw) t (settings_of job) before after status
 
 -- there was no table, and nothing else was done
-pub record LacksTable (old new : Sources) (before after : Ends) (f : CliFault) : Type 0 where
-  pub table : RefusesTable old new f
+pub record LacksTable (ends : Option (ℕ × ℕ)) (old new : Sources) (before after : Ends) (f : CliFault) : Type 0 where
+  pub table : RefusesTable ends old new f
   pub same : after ≡ before
 
 -- there was a table, and the command was not done
 pub record StopsAfterTable (job : Job) (old new : Sources) (before after : Ends) (f : CliFault) : Type 0 where
   pub t : ElementTable
-  pub table : MakesTable old new t
+  pub table : MakesTable job.ideographs old new t
   pub work : Fails (command_of job.command job.raw) t (settings_of job) before after f
 
 -- why a job was not done
 abbrev pub Refuses : Job → Sources → Sources → Ends → Ends → CliFault → Type 0
-Refuses job old new before after f = LacksTable old new before after f ⊎ StopsAfterTable job old new before after f
+Refuses job old new before after f = LacksTable job.ideographs old new before after f ⊎ StopsAfterTable job old new before after f

@@ -2,7 +2,7 @@ ghost use Rattle.std.specs.Prelude.{◌≡◌, ◌+◌, ◌≤◌, IfErr, IfOk, 
 ghost use Rattle.uca_weights.specs.declared.limits.TheConstants.{MAX_INPUT, MAX_RULES};
 ghost use Rattle.uca_cli.specs.Borrowed.{borrowed, given_back, GoesUpTo};
 ghost use Rattle.uca_commands.specs.Commands.{Does, Fails};
-ghost use Rattle.uca_cli.specs.Performing.{command_of, Performs, ReadsTable, Refuses, StopsTable, settings_of};
+ghost use Rattle.uca_cli.specs.Performing.{command_of, MakesBase, Performs, ReadsTable, Refuses, RefusesWidening, StopsBase, StopsTable, Widens, settings_of};
 
 use crate::built_in_table::built_in;
 use crate::rule_file::tailored_in;
@@ -11,7 +11,7 @@ use uca_allkeys::read_table;
 use uca_commands::commands::{check, compare, elements, key, lint, order, table};
 use uca_commands::faults::CliFault;
 use uca_job::{Job, Task};
-use uca_table::Table;
+use uca_table::{RangeFault, Table};
 use uca_weights::{Reader, Settings, Writer};
 
 /// The table that the text in a reader says.
@@ -34,6 +34,47 @@ fn own_table(alloc: Global) -> Result<Table, CliFault>
     match built_in(alloc) {
         Ok(t) => Ok(t),
         Err(_) => Err(CliFault::OutOfMemory),
+    }
+}
+
+/// Gives a table the range of ideographs of a job, where it has one.
+fn widened(alloc: Global, mut t: Table, ends: Option<(char, char)>) -> Result<Table, CliFault>
+    ensures ok { IfOk result (Widens ends t) }
+    ensures err { IfErr result (RefusesWidening ends t) }
+{
+    let Some((first, last)) = ends else {
+        return Ok(t);
+    };
+    match t.add_ideographs(first, last) {
+        Ok(()) => {
+            t.prepare(alloc)?;
+            Ok(t)
+        }
+        Err(RangeFault::BadRange) => Err(CliFault::Ideographs),
+        Err(RangeFault::OutOfMemory) => Err(CliFault::OutOfMemory),
+    }
+}
+
+/// The table that the text in a reader says, with a job's range of ideographs.
+fn base_in<T: Reader>(alloc: Global, job: &Job, reader: &mut T) -> Result<Table, CliFault>
+    ensures ok { IfOk result (MakesBase job.now.ideographs (Some (T.state reader.old)) (Some (T.state reader.new))) }
+    ensures err { IfErr result (StopsBase job.now.ideographs (Some (T.state reader.old)) (Some (T.state reader.new))) }
+    ensures calls { T.calls reader.new ≤ T.calls reader.old + (MAX_INPUT + 1) }
+{
+    match table_in(alloc, reader) {
+        Ok(t) => widened(alloc, t, job.ideographs),
+        Err(fault) => Err(fault),
+    }
+}
+
+/// The built-in table, with a job's range of ideographs.
+fn own_base(alloc: Global, job: &Job) -> Result<Table, CliFault>
+    ensures ok { IfOk result (MakesBase job.now.ideographs None None) }
+    ensures err { IfErr result (StopsBase job.now.ideographs None None) }
+{
+    match own_table(alloc) {
+        Ok(t) => widened(alloc, t, job.ideographs),
+        Err(fault) => Err(fault),
     }
 }
 
@@ -93,7 +134,7 @@ fn perform_tailored<T: Reader, U: Reader, I: Reader, W: Writer>(
     ensures rule_calls { U.calls rules.new ≤ U.calls rules.old + (MAX_RULES + 1) }
     ensures calls { I.calls input.new ≤ I.calls input.old + (MAX_INPUT + 1) }
 {
-    match table_in(alloc, table) {
+    match base_in(alloc, job, table) {
         Ok(t) => match tailored_in(alloc, t, rules) {
             Ok(tailored) => work(alloc, job, &tailored, input, output),
             Err(fault) => Err(fault),
@@ -119,7 +160,7 @@ fn perform_with<T: Reader, I: Reader, W: Writer>(
     ensures table_calls { T.calls table.new ≤ T.calls table.old + (MAX_INPUT + 1) }
     ensures calls { I.calls input.new ≤ I.calls input.old + (MAX_INPUT + 1) }
 {
-    match table_in(alloc, table) {
+    match base_in(alloc, job, table) {
         Ok(t) => work(alloc, job, &t, input, output),
         Err(fault) => Err(fault),
     }
@@ -142,7 +183,7 @@ fn perform_own_tailored<U: Reader, I: Reader, W: Writer>(
     ensures rule_calls { U.calls rules.new ≤ U.calls rules.old + (MAX_RULES + 1) }
     ensures calls { I.calls input.new ≤ I.calls input.old + (MAX_INPUT + 1) }
 {
-    match own_table(alloc) {
+    match own_base(alloc, job) {
         Ok(t) => match tailored_in(alloc, t, rules) {
             Ok(tailored) => work(alloc, job, &tailored, input, output),
             Err(fault) => Err(fault),
@@ -166,18 +207,18 @@ fn perform_alone<I: Reader, W: Writer>(
         (record { input = I.state input.new; output = W.state output.new })) }
     ensures calls { I.calls input.new ≤ I.calls input.old + (MAX_INPUT + 1) }
 {
-    match own_table(alloc) {
+    match own_base(alloc, job) {
         Ok(t) => work(alloc, job, &t, input, output),
         Err(fault) => Err(fault),
     }
 }
 
-/// Does a job: reads the table, then the rules, by which it tailors the table, then the input, which it checks whole, and
-/// only then writes the output. It returns the status of the program: 1 where `check` failed or `lint`
-/// found something, and else 0.
+/// Does a job: reads the table, to which it adds the job's range of ideographs, then the rules, by which it tailors the
+/// table, then the input, which it checks whole, and only then writes the output. It returns the status of the program:
+/// 1 where `check` failed or `lint` found something, and else 0.
 ///
 /// Where there is no reader of a table, it works with the built-in table, and where there is none of rules, with the table
-/// as it is. At a fault of the table nothing else was read, at one of the rules nothing of the input, and at each of these
+/// as it is. At a fault of the table or of the range nothing else was read, at one of the rules nothing of the input, and at each of these
 /// and at one of the input nothing was written. On a fault of the output, or on an allocation failure while it is written,
 /// its front went out; `written` counts over the whole run. It does not flush the writer. Of a reader that counts its calls
 /// it makes at most one more than the limit of that text has bytes.

@@ -44,6 +44,7 @@ fn plain_job(command: Task, settings: Settings) -> Job {
         raw: false,
         table: None,
         rules: None,
+        ideographs: None,
     }
 }
 
@@ -450,6 +451,44 @@ fn settings_are_those_of_the_job(rt: HostRuntime) {
     }
 }
 
+/// Does the job `key` without options but a range of ideographs, once more where memory was refused.
+fn run_with(alloc: Global, ends: (char, char), input: &[u8]) -> Outcome {
+    let first = run_with_once(alloc, ends, input);
+    match first.answer {
+        Err(CliFault::Output(_)) => run_with_once(alloc, ends, input),
+        _ if wants_memory(&first.answer) => run_with_once(alloc, ends, input),
+        _ => first,
+    }
+}
+
+fn run_with_once(alloc: Global, ends: (char, char), input: &[u8]) -> Outcome {
+    let mut job = plain_job(Task::Key, PLAIN);
+    job.ideographs = Some(ends);
+    let mut reader = Reading::new(input);
+    let mut writer = Writing::new(Vec::new(alloc));
+    let table: Option<&mut Repeating> = None;
+    let rules: Option<&mut Repeating> = None;
+    let answer = perform(alloc, &job, table, rules, &mut reader, &mut writer);
+    let output = writer.into_inner();
+    Outcome { answer, output }
+}
+
+#[test]
+fn a_range_of_ideographs_is_that_of_the_job(rt: HostRuntime) {
+    let alloc = rt.alloc();
+    let input = "\u{323B0}\n".as_bytes();
+    let done = run_with(alloc, ('\u{323B0}', '\u{33479}'), input);
+    assert!(rt; done.answer == Ok(0));
+    assert!(rt; done.output.as_slice() == b"FB 86 A3 B0 00 00 00 20 00 00 00 02\n");
+    let without = run(alloc, input);
+    assert!(rt; without.answer == Ok(0));
+    assert!(rt; without.output.as_slice() == b"FB C6 A3 B0 00 00 00 20 00 00 00 02\n");
+    // The range is refused before the input is read.
+    let refused = run_with(alloc, ('\u{4E00}', '\u{4E01}'), b"\xFF");
+    assert!(rt; refused.answer == Err(CliFault::Ideographs));
+    assert!(rt; refused.output.is_empty());
+}
+
 fn output_refused(written: u128, cause: WriteCause) -> CliFault {
     CliFault::Output(WriteFault { written, cause })
 }
@@ -470,6 +509,7 @@ fn faults_have_their_texts_and_status_three(rt: HostRuntime) {
             "uca: input: TooLarge",
         ),
         (input_refused(0, 0, InputCause::Read), "uca: input: Read"),
+        (CliFault::Ideographs, "uca: ideographs: BadRange"),
         (
             input_refused(0, 0, InputCause::NotOneLine),
             "uca: input: NotOneLine",

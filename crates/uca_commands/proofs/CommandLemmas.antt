@@ -6,7 +6,7 @@ use Rattle.uca_commands.specs.Commands.{Command, Ends, Fails, WritesSome, order_
 use Rattle.uca_commands.specs.Ordering.{RefusesOrder}
 use Rattle.uca_commands.specs.Sending.{StopsOutput}
 use Rattle.uca_commands.specs.declared.faults.CliFault.{CliFault}
-use Rattle.uca_commands.specs.declared.faults.CliFault.TheVariants.{Table, RulesText, Rules, Tailor, Input, Conform, Output, OutOfMemory}
+use Rattle.uca_commands.specs.declared.faults.CliFault.TheVariants.{Table, Ideographs, RulesText, Rules, Tailor, Input, Conform, Output, OutOfMemory}
 
 -- the output of a command stopped
 fails_with : (c : Command) (t : ElementTable) (s : Settings) (old new : Ends) (bytes output : List ℕ) (f : CliFault) → c.reads old.input new.input bytes → c.output t s bytes output
@@ -14,6 +14,7 @@ fails_with : (c : Command) (t : ElementTable) (s : Settings) (old new : Ends) (b
 fails_with c t s old new bytes output (Output f) reads made part stops = record { bytes = bytes; reads = reads; output = output; made = made; writes = stops }
 fails_with c t s old new bytes output OutOfMemory reads made part stops = record { bytes = bytes; reads = reads; writes = part stops }
 fails_with c t s old new bytes output (Table f) reads made part stops = absurd stops
+fails_with c t s old new bytes output Ideographs reads made part stops = absurd stops
 fails_with c t s old new bytes output (RulesText at cause) reads made part stops = absurd stops
 fails_with c t s old new bytes output (Rules f) reads made part stops = absurd stops
 fails_with c t s old new bytes output (Tailor f) reads made part stops = absurd stops
@@ -31,6 +32,7 @@ Fails-order t s old new (Input f) refuses = record { input = refuses.0; output =
 Fails-order t s old new (Output f) stops = record { bytes = stops.bytes; reads = stops.reads; output = stops.writes.output; made = stops.writes.made; writes = stops.writes.writes }
 Fails-order t s old new OutOfMemory stops = record { bytes = stops.bytes; reads = stops.reads; writes = stops.writes }
 Fails-order t s old new (Table f) stops = absurd stops.writes
+Fails-order t s old new Ideographs stops = absurd stops.writes
 Fails-order t s old new (RulesText at cause) stops = absurd stops.writes
 Fails-order t s old new (Rules f) stops = absurd stops.writes
 Fails-order t s old new (Tailor f) stops = absurd stops.writes

@@ -16,7 +16,7 @@ use Rattle.uca_model.specs.SortKey.{sort_key}
 use Rattle.uca_commands.specs.Commands.{WritesSome}
 use Rattle.uca_commands.specs.Sending.{line_text, lines_text, StopsLine, StopsOutput}
 use Rattle.uca_commands.specs.declared.faults.CliFault.{CliFault}
-use Rattle.uca_commands.specs.declared.faults.CliFault.TheVariants.{Table, RulesText, Rules, Tailor, Input, Conform, Output, OutOfMemory}
+use Rattle.uca_commands.specs.declared.faults.CliFault.TheVariants.{Table, Ideographs, RulesText, Rules, Tailor, Input, Conform, Output, OutOfMemory}
 use Rattle.uca_commands.specs.declared.output.LineForm.{LineForm}
 use Rattle.uca_commands.specs.declared.output.LineForm.TheVariants.{Elements, Key}
 use Rattle.unicode_normalization.specs.Forms.{nfd}
@@ -67,6 +67,7 @@ StopsOutput-line (Output f) form t s s0 s1 s2 o0 o1 o2 sent line rest whole empt
 StopsOutput-line OutOfMemory form t s s0 s1 s2 o0 o1 o2 sent line rest whole empty none sends stops is =
     subst (λ state. WritesSome s0 state whole) (sym stops.0) (WritesSome-line s0 s1 o0 o1 sent (line_text form t s line) rest whole empty sends (length-line_text form t s line) is)
 StopsOutput-line (Table f) form t s s0 s1 s2 o0 o1 o2 sent line rest whole empty none sends stops is = absurd stops
+StopsOutput-line Ideographs form t s s0 s1 s2 o0 o1 o2 sent line rest whole empty none sends stops is = absurd stops
 StopsOutput-line (Input f) form t s s0 s1 s2 o0 o1 o2 sent line rest whole empty none sends stops is = absurd stops
 StopsOutput-line (RulesText at cause) form t s s0 s1 s2 o0 o1 o2 sent line rest whole empty none sends stops is = absurd stops
 StopsOutput-line (Rules f) form t s s0 s1 s2 o0 o1 o2 sent line rest whole empty none sends stops is = absurd stops

@@ -27,6 +27,8 @@ pub enum RulesTextCause {
 #[derive(Clone, Copy, Debug, PartialEq, Eq)]
 pub enum CliFault {
     Table(ReadFault),
+    /// The range of ideographs ends before it begins, or shares a code point with the listed ones.
+    Ideographs,
     /// The bytes of the rules are no text.
     RulesText {
         /// How many bytes at the beginning are UTF-8; `MAX_RULES` where there are more; 0 where the reader failed.
@@ -119,6 +121,7 @@ impl fmt::Display for CliFault {
                 ReadCause::OutOfMemory => write!(f, "uca: {cause}"),
                 _ => write!(f, "uca: table line {line}: {cause}"),
             },
+            CliFault::Ideographs => write!(f, "uca: ideographs: BadRange"),
             CliFault::RulesText { at, cause } => write!(f, "uca: rules byte {at}: {cause}"),
             CliFault::Rules(RuleFault { at, cause }) => match cause {
                 RuleCause::OutOfMemory => write!(f, "uca: {cause}"),
