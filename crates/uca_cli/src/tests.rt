@@ -479,10 +479,10 @@ fn a_range_of_ideographs_is_that_of_the_job(rt: HostRuntime) {
     let input = "\u{323B0}\n".as_bytes();
     let done = run_with(alloc, ('\u{323B0}', '\u{33479}'), input);
     assert!(rt; done.answer == Ok(0));
-    assert!(rt; done.output.as_slice() == b"FB 86 A3 B0 00 00 00 20 00 00 00 02\n");
+    assert!(rt; done.output.as_slice() == b"FB 86 A3 B0 00 00 00 20 00 00 00 02\n".as_slice());
     let without = run(alloc, input);
     assert!(rt; without.answer == Ok(0));
-    assert!(rt; without.output.as_slice() == b"FB C6 A3 B0 00 00 00 20 00 00 00 02\n");
+    assert!(rt; without.output.as_slice() == b"FB C6 A3 B0 00 00 00 20 00 00 00 02\n".as_slice());
     // The range is refused before the input is read.
     let refused = run_with(alloc, ('\u{4E00}', '\u{4E01}'), b"\xFF");
     assert!(rt; refused.answer == Err(CliFault::Ideographs));
