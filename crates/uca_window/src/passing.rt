@@ -70,6 +70,10 @@ fn passed_len(bytes: &[u8]) -> usize
     ensures passed { (k : ℕ) → k < result → is_stop (slice_index bytes.now k) ≡ false }
     ensures stop { result < length bytes.now → is_stop (slice_index bytes.now result) ≡ true }
 {
+    // In scripts whose characters are not passed, most characters begin with a stop: no block is looked at for them.
+    if !bytes.is_empty() && is_stop(bytes[0]) {
+        return 0;
+    }
     let mut at = 0;
     while at + LANES <= bytes.len() {
         let passed = passed_in(bytes, at);
@@ -92,7 +96,11 @@ fn passed_len(bytes: &[u8]) -> usize
 pub(crate) fn pass<'t>(text: &'t str, last: char) -> (&'t str, char)
     ensures { Passes text.now last result.0.now result.1 }
 {
-    let (front, others) = text.split_at(passed_len(text.as_bytes()));
+    let passed = passed_len(text.as_bytes());
+    if passed == 0 {
+        return (text, last);
+    }
+    let (front, others) = text.split_at(passed);
     match front.chars().next_back() {
         Some(end) => (others, end),
         None => (others, last),
