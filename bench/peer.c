@@ -1,6 +1,7 @@
-// A collator beside uca over the lines of standard input: peer icu|LOCALE key|compare|order.
+// A collator beside uca over the lines of standard input: peer icu|LOCALE key|compare|order [shifted].
 // ICU's is its root collator with normalization, any other word names a locale of the C library. `key` writes each line's key
 // as digits, `compare` a word for each two neighbours, `order` the lines by their keys, those of equal keys as they stand.
+// With `shifted`, ICU compares four levels with shifted variable elements.
 #include <locale.h>
 #include <stdio.h>
 #include <stdlib.h>
@@ -129,11 +130,15 @@ static void tell_ordered(void) {
     }
 }
 
-static int open_collator(const char *name) {
-    if (strcmp(name, "icu") != 0) return setlocale(LC_ALL, name) != NULL;
+static int open_collator(const char *name, int shifted) {
+    if (strcmp(name, "icu") != 0) return !shifted && setlocale(LC_ALL, name) != NULL;
 #ifdef WITH_ICU
     root = ucol_open("root", &status);
     ucol_setAttribute(root, UCOL_NORMALIZATION_MODE, UCOL_ON, &status);
+    if (shifted) {
+        ucol_setAttribute(root, UCOL_ALTERNATE_HANDLING, UCOL_SHIFTED, &status);
+        ucol_setAttribute(root, UCOL_STRENGTH, UCOL_QUATERNARY, &status);
+    }
     return U_SUCCESS(status);
 #else
     return 0;
@@ -141,7 +146,7 @@ static int open_collator(const char *name) {
 }
 
 int main(int count, char **words) {
-    if (count < 3 || !open_collator(words[1])) return 3;
+    if (count < 3 || !open_collator(words[1], count > 3)) return 3;
     keys = grown(NULL, keys_room = 1 << 16);
     read_all();
     if (strcmp(words[2], "key") == 0) tell_keys();

@@ -1,0 +1,109 @@
+#!/usr/bin/env bash
+# `uca key`, `uca compare` of sorted neighbours and `uca order` beside ICU over one script at a time, in the same run: ratios of the
+# processor's time for a line, without the load, at strength tertiary with non-ignorable variable elements, and those of keys and
+# comparisons at strength quaternary with shifted ones. Then the same for texts that are as bad as they can be, in microseconds a
+# line. Prints tables; it is no test. corpora.sh [BYTES [OLD]]: with the path of another build, its worst texts are measured too.
+source "$(dirname "${BASH_SOURCE[0]}")/shared.bash"
+source tests/debian.bash
+source bench/lists.bash
+bytes=${1:-4000000}
+before=${2:-}
+[ -z "$before" ] || before=$(cd "$from" && readlink -f "$before")
+gcc -O2 -DWITH_ICU -o "$work/peer" bench/peer.c -licui18n -licuuc || refuses "ICU could not be had: it wants libicu-dev"
+fetched || exit 1
+
+# named NAME: the lists of a corpus
+named() {
+    case $1 in
+    Vietnamese) grep 'hunspell-vi' <<<"$lists" ;;
+    Latin) grep '^Latin' <<<"$lists" | grep -v 'hunspell-vi' ;;
+    Han) grep '^Chinese' <<<"$lists" ;;
+    Kana) grep '^Japanese' <<<"$lists" ;;
+    Indic) grep -E '^(Thai|Devanagari)' <<<"$lists" ;;
+    Mixed*) echo "$lists" ;;
+    *) grep "^$1" <<<"$lists" ;;
+    esac
+}
+
+# corpus NAME: its lines, in $work/lines
+corpus() {
+    local from=$work/drawn
+    named "$1" | perl bench/corpus.pl "$work/lists" "$bytes" >"$from" 2>/dev/null || return 1
+    case $1 in
+    Mixed-NFD) perl -MUnicode::Normalize -CSD -ne 'print NFD($_)' "$from" >"$work/lines" ;;
+    Mixed-long) paste -d' ' -s "$from" | perl -ne '
+        my @words = split " "; print join(" ", splice @words, 0, 40), "\n" while @words' >"$work/lines" ;;
+    Kana) perl -CSD -ne 'print if /[\p{Hiragana}\p{Katakana}]/ and !/\p{Han}/' "$from" >"$work/lines" ;;
+    *) mv "$from" "$work/lines" ;;
+    esac
+    [ -s "$work/lines" ]
+}
+
+# each INPUT COMMAND..: nanoseconds of a line, without the load
+each() {
+    local input=$1 load loaded lines
+    shift
+    lines=$(wc -l <"$input")
+    read -r load _ <<<"$(measured 5 /dev/null "$@")"
+    read -r loaded _ <<<"$(measured 5 "$input" "$@")"
+    [ -n "$loaded" ] || refuses "$* could not be run"
+    awk -v a="$load" -v b="$loaded" -v n="$lines" 'BEGIN { printf "%.0f", 1e9 * (b - a) / n }'
+}
+
+# beside INPUT JOB [shifted]: ICU's nanoseconds of a line, and the ratio of uca's
+beside() {
+    local words=(--table "$published") icu ours
+    [ "${3:-}" = shifted ] && words+=(--variable shifted --strength quaternary)
+    icu=$(each "$1" "$work/peer" icu "$2" ${3:+"$3"})
+    ours=$(each "$1" "$uca" "$2" "${words[@]}")
+    awk -v a="$icu" -v b="$ours" 'BEGIN { printf " %d | %.2f |", a, b / a }'
+}
+
+echo "ICU $(echo U_ICU_VERSION | gcc -E -include unicode/uvernum.h - | tail -n 1 | tr -d '"'); $(nproc) processors, load $(cut -d' ' -f1-3 /proc/loadavg)"
+echo
+echo '| Corpus | Lines | Characters a line | Key: ICU, ns | Ratio | Compare: ICU, ns | Ratio | Order: ICU, ns | Ratio | Key, shifted: ICU, ns | Ratio | Compare, shifted: ICU, ns | Ratio |'
+echo '|---|---|---|---|---|---|---|---|---|---|---|---|---|'
+for name in Latin Vietnamese Greek Cyrillic Arabic Hebrew Thai Devanagari Indic Hangul Han Kana Mixed Mixed-NFD Mixed-long; do
+    corpus "$name" || { echo "| $name | could not be had |"; continue; }
+    "$uca" order --table "$published" <"$work/lines" >"$work/sorted" || refuses "uca order could not be run"
+    printf '| %s | %d | %.1f |' "$name" "$(wc -l <"$work/lines")" "$(perl -CSD -ne '$n += length; END { print $n / $. - 1 }' "$work/lines")"
+    beside "$work/lines" key
+    beside "$work/sorted" compare
+    beside "$work/lines" order
+    beside "$work/lines" key shifted
+    beside "$work/sorted" compare shifted
+    echo
+done
+
+# worst NAME LINES: a text that is as bad as it can be, as so many lines
+worst() {
+    perl -CS -e '
+        my ($name, $lines) = @ARGV;
+        my %line = (
+            "sixty marks" => "a" . "\x{301}" x 60,
+            "sixty marks, two classes" => "a" . "\x{301}\x{323}" x 30,
+            "contractions" => "\x{FB2}\x{F71}\x{F80}" x 20,
+            "U+FDFA" => "\x{FDFA}" x 20,
+            "Hangul parts" => "\x{1100}\x{1161}\x{11A8}" x 20,
+            "variable" => "- " x 30,
+            "ideographs" => "\x{4E00}\x{20000}\x{9FFF}" x 20,
+        );
+        print "$line{$name}$_\n" for 1 .. $lines' "$1" "$2"
+}
+
+programs=("$uca")
+[ -z "$before" ] || programs+=("$before")
+echo
+echo "| Worst text | Key: ICU, µs a line | Compare: ICU |$([ -z "$before" ] || echo ' Key: before | Compare: before |') Key | Compare |"
+echo "|---|---|---|---|---|$([ -z "$before" ] || echo '---|---|')"
+for name in "sixty marks" "sixty marks, two classes" contractions U+FDFA "Hangul parts" variable ideographs; do
+    worst "$name" 5000 >"$work/lines"
+    row="| $name |"
+    for job in key compare; do row+=$(awk -v a="$(each "$work/lines" "$work/peer" icu "$job")" 'BEGIN { printf " %.2f |", a / 1000 }'); done
+    for ((at = ${#programs[@]} - 1; at >= 0; at--)); do
+        for job in key compare; do
+            row+=$(awk -v a="$(each "$work/lines" "${programs[at]}" "$job" --table "$published")" 'BEGIN { printf " %.2f |", a / 1000 }')
+        done
+    done
+    echo "$row"
+done
