@@ -12,7 +12,8 @@ use crate::span::code_at;
 use std::alloc::{AllocError, Global};
 
 /// Where among entries in their order those begin whose keys begin with a code point or a higher one. It goes from the
-/// first code point on as far as it does; the entries beyond are searched.
+/// first code point to the last that has a cell, or that begins a key of two or more where that is higher; the entries
+/// beyond are searched.
 #[derive(Debug, Drop)]
 pub(crate) struct Firsts {
     starts: Vec<u32>,
@@ -44,13 +45,37 @@ fn small(n: usize) -> Option<u32>
     }
 }
 
+// The number after the first code point of a key of two or more, and 0 of a shorter key.
+fn after_lead(key: &[char]) -> u32
+    ensures beyond { 1 < length key.now → code_at 0 key.now ≤ result }
+    ensures within { result ≤ 1114112 }
+{
+    if key.len() < 2 {
+        return 0;
+    }
+    key[0] as u32 + 1
+}
+
+// Where the index ends of the first code points of entries: where the cells do, or else after the last code point that
+// begins a key of two or more, so that no such key is ever searched for.
+fn limit_of(entries: &Span<'_>) -> u32
+    ensures beyond { (k : ℕ) (d : _) → k < length (entries_in entries.now) → 1 < length (get_or (entries_in entries.now) k d).0 → code_at 0 (get_or (entries_in entries.now) k d).0 ≤ result }
+    ensures within { result ≤ 1114112 }
+{
+    let mut limit = limit_for(entries.len());
+    for at in 0..entries.len() {
+        limit = limit.max(after_lead(entries.key(at)));
+    }
+    limit
+}
+
 impl Firsts {
     /// Those of entries in their order.
     pub(crate) fn new(alloc: Global, entries: &Span<'_>) -> Result<Firsts, AllocError>
         requires { IsNonDecreasingBy (λ e. code_at 0 e.0) (entries_in entries.now) }
         ensures { IfOk result (HoldsFirsts (entries_in entries.now)) }
     {
-        let limit = limit_for(entries.len());
+        let limit = limit_of(entries);
         let mut starts = Vec::with_capacity(alloc, limit as usize + 1)?;
         let mut at = 0;
         for point in 0..limit + 1 {

@@ -250,6 +250,22 @@ fn a_walk_goes_over_fronts_that_are_no_keys(rt: HostRuntime) {
     assert_eq!(rt; walk.elements(), Some([ELEMENT].as_slice()));
 }
 
+#[test]
+fn a_walk_begins_beyond_the_first_plane(rt: HostRuntime) {
+    let mut builder = TableBuilder::new(rt.alloc());
+    let key = ['\u{11131}', '\u{11127}'];
+    assert_eq!(rt; insert(&mut builder, &key, &[ELEMENT]), Ok(()));
+    let table = finish(builder).expect(&rt, "a table");
+    let mut walk = table.walk();
+    for other in ['\u{11130}', '\u{11132}', '\u{10FFFF}'] {
+        assert!(rt; !walk.step(other), "{other:?}");
+    }
+    assert!(rt; walk.step(key[0]));
+    assert_eq!(rt; walk.elements(), None);
+    assert!(rt; walk.step(key[1]));
+    assert_eq!(rt; walk.elements(), Some([ELEMENT].as_slice()));
+}
+
 /// Puts an entry, once more where memory was refused.
 fn put(table: &mut Table, alloc: Global, key: &[char], elements: &[Element]) -> bool
     requires some_points { 1 ≤ length key.now }
