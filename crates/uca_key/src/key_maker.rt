@@ -27,6 +27,14 @@ impl KeyMaker {
         }
     }
 
+    // Takes room for the characters and the elements of most texts of so many bytes, so that neither grows while they are read.
+    fn reserve(&mut self, bytes: usize) -> Result<(), AllocError> {
+        self.text.clear();
+        self.text.reserve(bytes)?;
+        self.elements.clear();
+        self.elements.reserve(bytes)
+    }
+
     /// Appends the sort key of a text to others (UTS #10, sections 7.1 to 7.3).
     pub fn push_key(
         &mut self,
@@ -38,6 +46,7 @@ impl KeyMaker {
     ) -> Result<(), AllocError>
         ensures { OnOk result (keys.new.items ≡ keys.old.items ++ sort_key t.now s (text_of p.now)) }
     {
+        self.reserve(p.as_str().len())?;
         read_elements(alloc, t, p, &mut self.text, &mut self.elements)?;
         let levels = s.levels();
         if levels < 5 {
