@@ -1,5 +1,6 @@
 use super::{LongRun, Passage};
 use std::alloc::{AllocError, Global};
+use std::test::Fail;
 
 /// The pieces one after the other, each as often as it says.
 fn join(alloc: Global, pieces: &[(&str, usize)]) -> Result<String, AllocError> {
@@ -21,7 +22,7 @@ fn refused_at(text: &str) -> Option<usize> {
 }
 
 #[test]
-fn runs_up_to_the_limit_are_accepted(rt: HostRuntime) {
+fn runs_up_to_the_limit_are_accepted(rt: HostRuntime) -> Result<(), Fail> {
     let acute = "\u{301}";
     let pieces: [(&str, &str, usize, Option<usize>); 8] = [
         ("a", acute, 60, None),
@@ -36,15 +37,14 @@ fn runs_up_to_the_limit_are_accepted(rt: HostRuntime) {
         ("a", "\u{F73}", 31, Some(91)),
     ];
     for (start, mark, times, want) in pieces {
-        let Ok(text) = join(rt.alloc(), &[(start, 1), (mark, times)]) else {
-            return;
-        };
+        let text = join(rt.alloc(), &[(start, 1), (mark, times)])?;
         assert_eq!(rt;
             refused_at(&text),
             want,
             "{start:?} with {times} times {mark:?}"
         );
     }
+    Ok(())
 }
 
 #[test]
@@ -56,7 +56,7 @@ fn long_decompositions_are_accepted(rt: HostRuntime) {
 }
 
 #[test]
-fn runs_are_counted_across_characters(rt: HostRuntime) {
+fn runs_are_counted_across_characters(rt: HostRuntime) -> Result<(), Fail> {
     let texts: [(&[(&str, usize)], Option<usize>); 30] = [
         (&[], None),
         (&[("plain text, \u{E9}t\u{E9}", 3)], None),
@@ -110,11 +110,10 @@ fn runs_are_counted_across_characters(rt: HostRuntime) {
         (&[("\u{483}", 61)], Some(120)),
     ];
     for (pieces, want) in texts {
-        let Ok(text) = join(rt.alloc(), pieces) else {
-            return;
-        };
+        let text = join(rt.alloc(), pieces)?;
         assert_eq!(rt; refused_at(&text), want, "{text:?}");
     }
+    Ok(())
 }
 
 #[test]

@@ -1,4 +1,4 @@
-ghost use Rattle.std.specs.Prelude.{◌≡◌, ◌≤◌, length, chars, IfOk, IfSome};
+ghost use Rattle.std.specs.Prelude.{◌≡◌, ◌≤◌, length, chars, IfOk};
 ghost use Rattle.unicode_normalization.specs.Forms.{nfd};
 ghost use Rattle.uca_weights.specs.declared.limits.TheConstants.{MAX_KEY};
 ghost use Rattle.uca_model.specs.SafeText.{IsSafe};
@@ -7,6 +7,8 @@ ghost use Rattle.uca_model.specs.Source.{unread};
 use crate::decomposition::chars_of;
 use crate::{Passage, PassageSource, Source, Window, nfd_of};
 use std::alloc::{AllocError, Global};
+use std::process::Abort;
+use std::test::Fail;
 use unicode_normalization::char::canonical_combining_class;
 
 /// Characters of a slice, with its calls counted.
@@ -80,16 +82,19 @@ fn text_of(
     Ok(text)
 }
 
-/// The characters of a text, if it is safe and memory is found.
-fn safe_chars(alloc: Global, text: &str) -> Option<Vec<char>>
-    ensures { IfSome result (λ v. IsSafe v.items) }
+/// The characters of a safe text, once more where memory was refused.
+fn safe_chars(rt: &impl Abort, alloc: Global, text: &str) -> Vec<char>
+    ensures { IsSafe result.items }
 {
-    let p = Passage::check(text).ok()?;
-    chars_of(alloc, p.as_str()).ok()
+    let p = Passage::check(text).ok().expect(rt, "a safe text");
+    match chars_of(alloc, p.as_str()) {
+        Ok(chars) => chars,
+        Err(_) => chars_of(alloc, p.as_str()).expect(rt, "characters"),
+    }
 }
 
 #[test]
-fn a_fill_reads_no_more_than_it_must(rt: HostRuntime) {
+fn a_fill_reads_no_more_than_it_must(rt: HostRuntime) -> Result<(), Fail> {
     // How many points there are then, how many of them are closed, and how often `next` was called.
     let rows: [(&str, char, usize, &str, usize, [usize; 3]); 8] = [
         ("", 'a', 0, "", 1, [0, 0, 1]),
@@ -105,12 +110,8 @@ fn a_fill_reads_no_more_than_it_must(rt: HostRuntime) {
         ("b\u{301}", '\u{323}', 1, "a", 3, [4, 3, 4]),
     ];
     for (start, mark, times, end, longest, [points, closed, reads]) in rows {
-        let Ok(text) = text_of(rt.alloc(), start, mark, times, end) else {
-            return;
-        };
-        let Some(chars) = safe_chars(rt.alloc(), &text) else {
-            return;
-        };
+        let text = text_of(rt.alloc(), start, mark, times, end)?;
+        let chars = safe_chars(&rt, rt.alloc(), &text);
         let mut source = source_of(&chars);
         let mut window = Window::new(longest);
         window.fill(&mut source);
@@ -125,13 +126,12 @@ fn a_fill_reads_no_more_than_it_must(rt: HostRuntime) {
             "{text:?}"
         );
     }
+    Ok(())
 }
 
 #[test]
 fn marks_are_put_in_order_and_taken_out(rt: HostRuntime) {
-    let Some(chars) = safe_chars(rt.alloc(), "b\u{301}\u{323}a") else {
-        return;
-    };
+    let chars = safe_chars(&rt, rt.alloc(), "b\u{301}\u{323}a");
     let mut source = source_of(&chars);
     let mut window = Window::new(3);
     window.fill(&mut source);
@@ -154,9 +154,7 @@ fn marks_are_put_in_order_and_taken_out(rt: HostRuntime) {
 
 #[test]
 fn marks_of_one_character_at_the_start_are_shown(rt: HostRuntime) {
-    let Some(chars) = safe_chars(rt.alloc(), "\u{344}a") else {
-        return;
-    };
+    let chars = safe_chars(&rt, rt.alloc(), "\u{344}a");
     let mut source = source_of(&chars);
     let mut window = Window::new(1);
     window.fill(&mut source);
@@ -166,9 +164,7 @@ fn marks_of_one_character_at_the_start_are_shown(rt: HostRuntime) {
 
 #[test]
 fn a_window_that_was_given_the_end_asks_no_more(rt: HostRuntime) {
-    let Some(chars) = safe_chars(rt.alloc(), "ab") else {
-        return;
-    };
+    let chars = safe_chars(&rt, rt.alloc(), "ab");
     let mut source = source_of(&chars);
     let mut window = Window::new(5);
     window.fill(&mut source);
@@ -185,9 +181,7 @@ fn a_window_that_was_given_the_end_asks_no_more(rt: HostRuntime) {
 
 #[test]
 fn a_window_wants_characters_until_enough_points_are_closed(rt: HostRuntime) {
-    let Some(chars) = safe_chars(rt.alloc(), "a\u{301}b") else {
-        return;
-    };
+    let chars = safe_chars(&rt, rt.alloc(), "a\u{301}b");
     let mut source = source_of(&chars);
     let mut window = Window::new(1);
     assert!(rt; window.wants());
@@ -224,7 +218,7 @@ fn nfd_by_window<S: Source>(
 }
 
 #[test]
-fn the_windows_of_a_text_are_its_nfd(rt: HostRuntime) {
+fn the_windows_of_a_text_are_its_nfd(rt: HostRuntime) -> Result<(), Fail> {
     let texts = [
         "",
         "plain text, \u{E9}t\u{E9}",
@@ -234,17 +228,12 @@ fn the_windows_of_a_text_are_its_nfd(rt: HostRuntime) {
         "\u{AC01}\u{1F82}\u{301}\u{345}\u{323}x",
     ];
     for text in texts {
-        let Ok(p) = Passage::check(text) else {
-            return;
-        };
-        let Ok(want) = nfd_of(rt.alloc(), &p) else {
-            return;
-        };
+        let p = Passage::check(text).ok().expect(&rt, "a safe text");
+        let want = nfd_of(rt.alloc(), &p)?;
         for longest in [1, 3, 32] {
-            let Ok(all) = nfd_by_window(rt.alloc(), &mut PassageSource::new(&p), longest) else {
-                return;
-            };
+            let all = nfd_by_window(rt.alloc(), &mut PassageSource::new(&p), longest)?;
             assert_eq!(rt; all.as_slice(), want.as_slice(), "{text:?}, {longest}");
         }
     }
+    Ok(())
 }
