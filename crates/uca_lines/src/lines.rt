@@ -94,11 +94,23 @@ fn line_fault(line: &[u8], is_text: bool) -> Result<(), (InputCause, usize)>
     }
 }
 
-/// Looks at each line of an input: it must be a safe text in UTF-8. Bytes that are UTF-8 as a whole are so in each line.
+/// Whether a text is safe as a whole, and so in each of its lines.
+fn is_safe_text(text: &[u8]) -> bool
+    requires { IsUtf8 text.now }
+    ensures { IsTrue result → All IsTextLine (lines_of text.now) }
+{
+    Passage::check(unsafe { from_utf8_unchecked(text) }).is_ok()
+}
+
+/// Looks at each line of an input: it must be a safe text in UTF-8. Bytes that are so as a whole are so in each line, which
+/// need not be found then: a line is looked at by itself only for the first fault.
 pub fn check_lines(bytes: &[u8]) -> Result<(), InputFault>
     ensures { MatchResult result (λ _. All IsTextLine (lines_of bytes.now)) (HasInputFault (lines_of bytes.now)) }
 {
     let is_text = is_utf8(bytes);
+    if is_text && is_safe_text(bytes) {
+        return Ok(());
+    }
     let mut number = 0;
     let mut left = bytes;
     while !left.is_empty() {

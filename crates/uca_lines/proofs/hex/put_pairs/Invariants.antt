@@ -1,4 +1,4 @@
-use Rattle.std.proofs.Common.{◌≡◌, ◌*◌, ◌++◌, length, take, drop}
+use Rattle.std.proofs.Common.{◌≡◌, ◌*◌, ◌++◌, take, drop}
 use Rattle.uca_lines.specs.Hex.{spaced_pairs}
 use Rattle.uca_lines.proofs.hex.put_pairs.Given as goal
 
