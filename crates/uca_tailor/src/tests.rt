@@ -317,6 +317,22 @@ fn an_equal_item_has_the_elements_of_its_anchor(rt: HostRuntime) {
 }
 
 #[test]
+fn an_equal_item_leaves_all_other_entries(rt: HostRuntime) {
+    let t = small_table(&rt, rt.alloc());
+    let plain: [PlainChain; 1] = [(&['a', 'b'], &[(Op::Same, &['a'], &[])])];
+    let u = tailored(&rt, rt.alloc(), &t, &plain)
+        .ok()
+        .expect(&rt, "a tailored table");
+    assert_eq!(rt; u.entries().count(), SMALL_TABLE.len());
+    for (key, starred, weights) in SMALL_TABLE {
+        if key != ['a'].as_slice() {
+            let element = copies(starred, weights)[0];
+            assert_eq!(rt; u.get(key), Some([element].as_slice()), "{key:?}");
+        }
+    }
+}
+
+#[test]
 fn a_reset_is_looked_up_under_the_table_so_far(rt: HostRuntime) {
     let plain: [PlainChain; 2] = [
         (&['a'], &[(Op::Same, &['b', 'c'], &[])]),
@@ -632,5 +648,6 @@ fn the_anchor_is_tested_before_its_room(rt: HostRuntime) {
         let t = table(&rt, rt.alloc(), entries, 1);
         let answer = tailored(&rt, rt.alloc(), &t, plain).err();
         assert_eq!(rt; answer, fault(relation, cause));
+        assert_stands(&rt, &t, entries, 1);
     }
 }
