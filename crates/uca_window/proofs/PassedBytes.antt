@@ -1,14 +1,14 @@
 -- Bytes of a text of which none is a stop spell passed characters.
-use Rattle.std.proofs.Common.{◌≡◌, ℕ, ◌+◌, ◌-◌, ◌/◌, ◌≤◌, ◌<◌, Bool, true, false, cond, ltb, List, [], ◌∷◌, ◌++◌, length, take, drop, get_or, encode_utf8_all, chars, IsUtf8, refl, sym, ap, subst, ◌∙◌, arith, inl, inr, append-nil, length-append, lt-ltb, le-leb}
+use Rattle.std.proofs.Common.{◌≡◌, ℕ, ◌+◌, ◌/◌, ◌≤◌, ◌<◌, Bool, true, false, cond, ltb, List, [], ◌∷◌, ◌++◌, length, take, drop, get_or, encode_utf8_all, chars, IsUtf8, refl, sym, ap, subst, ◌∙◌, arith, inl, inr, append-nil, length-append, lt-ltb, le-leb}
 use Rattle.std.proofs.lemmas.Bool.Decides.{nat_tests}
-use Rattle.std.proofs.lemmas.Bool.{cases_lt, cases_eq, and_from, or_left, or_right, ltb-true, ltb-false}
+use Rattle.std.proofs.lemmas.Bool.{cases_lt, and_from, or_left, or_right, ltb-true, ltb-false}
 use Rattle.std.proofs.lemmas.List.{get_or-append-add, get_or-take, length-take-le, nil_from_length, take_at, take-append-drop}
 use Rattle.std.proofs.lemmas.Str.{IsUtf8-take, encodes-chars, chars_from_encodes, encodes-append, len_utf8_bounds, length-encode}
 use Rattle.std.specs.List.{list_all}
 use Rattle.std.specs.Char.{len_utf8}
 use Rattle.std.specs.Str.{IsCharBoundary}
 use lib.Utf8.{encode}
-use Rattle.uca_window.specs.Passing.{is_within, is_passed, is_stop, last_of, Passes}
+use Rattle.uca_window.specs.Passing.{is_within, is_passed, is_passed_outside, is_passed_between, is_stop, last_of, Passes}
 
 within-true : (low high n : ℕ) → low ≤ n → n < high → is_within low high n ≡ true
 within-true low high n above below = and_from _ _ (le-leb low n above) (lt-ltb n high below)
@@ -16,19 +16,19 @@ within-true low high n above below = and_from _ _ (le-leb low n above) (lt-ltb n
 -- ---- ranges of code points that are passed
 
 below_marks : (c : ℕ) → c < 0x300 → is_passed c ≡ true
-below_marks c h = or_left _ _ (lt-ltb c 0x300 h)
+below_marks c h = or_left _ _ (or_left _ _ (lt-ltb c 0x300 h))
 
 greek : (c : ℕ) → 0x370 ≤ c → c < 0x483 → is_passed c ≡ true
-greek c low high = or_right _ _ (or_left _ _ (within-true 0x370 0x483 c low high))
+greek c low high = or_left _ _ (or_right _ _ (or_left _ _ (within-true 0x370 0x483 c low high)))
 
 cyrillic : (c : ℕ) → 0x48A ≤ c → c < 0x591 → is_passed c ≡ true
-cyrillic c low high = or_right _ _ (or_right _ _ (or_left _ _ (within-true 0x48A 0x591 c low high)))
+cyrillic c low high = or_left _ _ (or_right _ _ (or_right _ _ (or_left _ _ (within-true 0x48A 0x591 c low high))))
 
 han : (c : ℕ) → 0x309B ≤ c → c < 0xA66F → is_passed c ≡ true
-han c low high = grind (arith, nat_tests)
+han c low high = or_left (is_passed_outside c) (is_passed_between c) (grind (arith, nat_tests))
 
 hangul : (c : ℕ) → 0xAC00 ≤ c → c < 0xFB00 → is_passed c ≡ true
-hangul c low high = grind (arith, nat_tests)
+hangul c low high = or_left (is_passed_outside c) (is_passed_between c) (grind (arith, nat_tests))
 
 -- ---- bytes that are stops
 

@@ -1,6 +1,6 @@
 -- The NFD of a passed code point begins with a starter, by the rows of the kit.
 use Rattle.std.proofs.Common.{◌≡◌, ℕ, zero, suc, ◌+◌, ◌-◌, ◌/◌, ◌%◌, ◌≤◌, ◌<◌, Bool, true, false, not, ◌||◌, ◌==◌, nat_le, List, [], ◌∷◌, ◌++◌, length, flat_map, refl, sym, ap, ◌∙◌, arith, inl, inr}
-use Rattle.std.proofs.lemmas.Bool.{cases_Bool, cases_eq, cond-false, cond-true, and_parts}
+use Rattle.std.proofs.lemmas.Bool.{cases_Bool, cases_eq, cond-false, or_left}
 use Rattle.std.proofs.lemmas.Bool.Decides.{nat_tests}
 use Rattle.ucd_table.proofs.Facts.{tree_value, tree_of, tree_value-tree_of}
 use Rattle.ucd_table.proofs.RangedFacts.{points_ok, values_ok, Stepped-at_points}
@@ -17,9 +17,7 @@ use Rattle.unicode_normalization.specs.Hangul.{is_syllable, decompose_hangul}
 use Rattle.unicode_normalization.specs.Order.{is_nonstarter}
 use Rattle.unicode_normalization.proofs.DecomposeLemmas.{decompose-syllable}
 use Rattle.unicode_normalization.proofs.HangulLemmas.{is_syllable-true, decompose_hangul-two, decompose_hangul-three}
-use Rattle.uca_model.specs.SafeText.{longest_run_after}
-use Rattle.uca_model.proofs.SafeLemmas.{run_after}
-use Rattle.uca_window.specs.Passing.{is_within, is_passed}
+use Rattle.uca_window.specs.Passing.{is_passed, is_passed_outside, is_passed_between}
 
 -- ---- the rows
 
@@ -106,7 +104,7 @@ decompose-other c h = cond-false _ _ _ h
 
 -- the first jamo of a syllable is passed
 passed-jamo : (x : ℕ) → 0x1100 ≤ x → x < 0x1200 → is_passed x ≡ true
-passed-jamo x low high = grind (arith, nat_tests)
+passed-jamo x low high = or_left (is_passed_outside x) (is_passed_between x) (grind (arith, nat_tests))
 
 hangul-passed : (c : ℕ) → is_syllable c ≡ true → first_passed (decompose_hangul c) ≡ true
 hangul-passed c h =

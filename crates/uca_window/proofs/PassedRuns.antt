@@ -1,10 +1,10 @@
 -- The run of nonstarters after a passed character is that of its own decomposition.
-use Rattle.std.proofs.Common.{◌≡◌, ℕ, ◌+◌, ◌≤◌, max, true, false, List, [], ◌∷◌, length, Option, None, Some, refl, sym, ap, ◌∙◌, arith, inl, inr}
+use Rattle.std.proofs.Common.{◌≡◌, ℕ, ◌+◌, ◌≤◌, max, true, List, [], ◌∷◌, length, Option, None, Some, refl, arith, inl, inr}
 use Rattle.std.specs.Prelude.{IsSome, IfSome, unwrap_or}
 use Rattle.std.proofs.lemmas.Bool.{cases_Bool, cond-true}
 use Rattle.unicode_normalization.specs.Decompose.{decompose_canonical}
 use Rattle.unicode_normalization.specs.Order.{is_nonstarter}
-use Rattle.uca_weights.specs.declared.limits.TheConstants.{MAX_RUN, MAX_DECOMPOSITION}
+use Rattle.uca_weights.specs.declared.limits.TheConstants.{MAX_RUN}
 use Rattle.uca_model.specs.SafeText.{longest_run_after}
 use Rattle.uca_model.proofs.SafeLemmas.{run_after}
 use Rattle.uca_window.specs.Passing.{is_passed, ending}

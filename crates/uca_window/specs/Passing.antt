@@ -8,12 +8,23 @@ use Rattle.uca_model.proofs.SafeLemmas.{run_after}
 abbrev pub is_within : ℕ → ℕ → ℕ → Bool
 is_within low high n = nat_le low n && nat_lt n high
 
--- a code point of a range in which each NFD begins with a starter
-abbrev pub is_passed : ℕ → Bool
-is_passed c =
+-- a code point of a range in which each NFD begins with a starter, before Hebrew or after Lao
+abbrev pub is_passed_outside : ℕ → Bool
+is_passed_outside c =
     nat_lt c 0x300
     || (is_within 0x370 0x483 c || (is_within 0x48A 0x591 c || (is_within 0x1100 0x1200 c || (is_within 0x1E00 0x20D0 c || (is_within 0x2100 0x2CEF c
     || (is_within 0x2E00 0x302A c || (is_within 0x3030 0x3099 c || (is_within 0x309B 0xA66F c || (is_within 0xAC00 0xFB00 c || nat_le 0x1F000 c)))))))))
+
+-- the same from Hebrew to Lao
+abbrev pub is_passed_between : ℕ → Bool
+is_passed_between c =
+    is_within 0x904 0x93C c
+    || (is_within 0x93D 0x94D c || (is_within 0x955 0x9BC c || (is_within 0x9BD 0x9CD c || (is_within 0xA5F 0xABC c || (is_within 0xB5E 0xBCD c || (is_within 0xC57 0xCBC c
+    || (is_within 0xDCB 0xE38 c || (is_within 0xE3B 0xE48 c || (is_within 0xE4C 0xEB8 c || (is_within 0x5D0 0x610 c || (is_within 0x61B 0x64B c || is_within 0x671 0x6D6 c)))))))))))
+
+-- a code point of a range in which each NFD begins with a starter
+abbrev pub is_passed : ℕ → Bool
+is_passed c = is_passed_outside c || is_passed_between c
 
 -- a byte with which code points of no such range begin in UTF-8
 abbrev pub is_stop : ℕ → Bool

@@ -2,17 +2,17 @@
 ghost use Rattle.std.specs.Prelude.{◌≡◌, ◌+◌, ◌≤◌, ◌<◌, ℕ, false, true, not, length, map, slice_index};
 ghost use Rattle.std.specs.List.{prefix_len};
 ghost use Rattle.std.specs.Simd.Lanes.{chunk, mask_l};
-ghost use Rattle.uca_window.specs.Passing.{is_passed, is_stop, Passes};
+ghost use Rattle.uca_window.specs.Passing.{is_passed, is_passed_outside, is_passed_between, is_stop, Passes};
 
 use std::simd::prelude::*;
 
 /// How many bytes are looked at together.
 const LANES: usize = 32;
 
-/// Whether a character is of a range in which each NFD begins with a starter: Latin, Greek and Cyrillic letters, Han,
-/// kana, Hangul, punctuation and symbols. Whatever nonstarters stood before it, they end there.
-pub(crate) fn is_passed(c: char) -> bool
-    ensures { result ≡ is_passed c }
+/// Whether a character before Hebrew or after Lao is of a range in which each NFD begins with a starter: Latin, Greek and
+/// Cyrillic letters, Han, kana, Hangul, punctuation and symbols.
+fn is_passed_outside(c: char) -> bool
+    ensures { result ≡ is_passed_outside c }
 {
     c < '\u{300}'
         || ('\u{370}' <= c && c < '\u{483}')
@@ -25,6 +25,38 @@ pub(crate) fn is_passed(c: char) -> bool
         || ('\u{309B}' <= c && c < '\u{A66F}')
         || ('\u{AC00}' <= c && c < '\u{FB00}')
         || '\u{1F000}' <= c
+}
+
+/// The same from Hebrew to Lao: most letters and vowel signs, those of Devanagari first.
+fn is_passed_between(c: char) -> bool
+    ensures { result ≡ is_passed_between c }
+{
+    ('\u{904}' <= c && c < '\u{93C}')
+        || ('\u{93D}' <= c && c < '\u{94D}')
+        || ('\u{955}' <= c && c < '\u{9BC}')
+        || ('\u{9BD}' <= c && c < '\u{9CD}')
+        || ('\u{A5F}' <= c && c < '\u{ABC}')
+        || ('\u{B5E}' <= c && c < '\u{BCD}')
+        || ('\u{C57}' <= c && c < '\u{CBC}')
+        || ('\u{DCB}' <= c && c < '\u{E38}')
+        || ('\u{E3B}' <= c && c < '\u{E48}')
+        || ('\u{E4C}' <= c && c < '\u{EB8}')
+        || ('\u{5D0}' <= c && c < '\u{610}')
+        || ('\u{61B}' <= c && c < '\u{64B}')
+        || ('\u{671}' <= c && c < '\u{6D6}')
+}
+
+/// Whether a character is of a range in which each NFD begins with a starter. Whatever nonstarters stood before it, they
+/// end there.
+pub(crate) fn is_passed(c: char) -> bool
+    ensures { result ≡ is_passed c }
+{
+    let is_between = '\u{591}' <= c && c < '\u{1100}';
+    if is_between {
+        is_passed_between(c)
+    } else {
+        is_passed_outside(c)
+    }
 }
 
 /// Whether characters that are not all passed begin with a byte.

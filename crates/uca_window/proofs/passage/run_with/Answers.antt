@@ -1,5 +1,5 @@
-use Rattle.std.proofs.Common.{◌≡◌, subst, sym, refl, ◌≤◌, ◌∙◌, arith}
-use Rattle.uca_window.specs.Passing.{is_passed, ending}
+use Rattle.std.proofs.Common.{subst, sym, refl, ◌≤◌, ◌∙◌}
+use Rattle.uca_window.specs.Passing.{ending}
 use Rattle.uca_weights.specs.declared.limits.TheConstants.{MAX_RUN}
 use Rattle.uca_window.proofs.PassedRuns.{passed_fits, passed_ends, own_run_within, ending-passed}
 use Rattle.uca_window.proofs.passage.run_with.Goals as goal

@@ -1,4 +1,4 @@
-use Rattle.std.proofs.Common.{◌≡◌, ℕ, ◌<◌, ◌≤◌, false, true, length, slice_index, List, subst, sym, ap, ◌∙◌, arith}
+use Rattle.std.proofs.Common.{◌≡◌, ℕ, ◌<◌, ◌≤◌, false, true, length, slice_index, List, subst, sym, ◌∙◌}
 use Rattle.std.specs.Str.Iter.{chars_rest}
 use Rattle.uca_window.specs.Passing.{is_stop}
 use Rattle.uca_window.proofs.PassedBytes.{passes-some}
