@@ -1,10 +1,15 @@
-ghost use Rattle.std.specs.Prelude.{◌≡◌, IsTrue, chars, length, take, ◌≤◌};
+ghost use Rattle.std.specs.Prelude.{◌≡◌, IsTrue, chars, length, take, ◌+◌, ◌≤◌};
+ghost use Rattle.std.specs.Simd.Lanes.{chunk};
 ghost use Rattle.uca_model.specs.SafeCut.{is_cut};
 ghost use Rattle.uca_levels.specs.WithoutFront.{AreWithoutFront, MayFollow};
 
+use std::simd::prelude::*;
 use uca_table::Table;
 use unicode_normalization::Form;
 use unicode_normalization::char::decomposition;
+
+/// How many bytes are looked at together.
+const LANES: usize = 16;
 
 /// Whether a text may be cut before a character.
 pub(crate) fn may_cut(t: &Table, c: char) -> bool
@@ -28,11 +33,35 @@ fn may_follow(t: &Table, left: &str) -> bool
     }
 }
 
+// How many bytes of a block two texts have in common from its start.
+#[inline(always)]
+fn common_in_block(a: &[u8], b: &[u8], at: usize) -> usize
+    requires in_a { at + LANES ≤ length a.now }
+    requires in_b { at + LANES ≤ length b.now }
+    ensures within { result ≤ LANES }
+    ensures same { take result (chunk at 16 a.now) ≡ take result (chunk at 16 b.now) }
+{
+    let block = u8x16::from_slice(&a[at..]);
+    let differ = block.simd_ne(u8x16::from_slice(&b[at..])).to_bitmask();
+    if differ == 0 {
+        LANES
+    } else {
+        differ.trailing_zeros() as usize
+    }
+}
+
 // How many bytes two texts have in common from their start.
 fn common_len(a: &[u8], b: &[u8]) -> usize
     ensures { take result a.now ≡ take result b.now }
 {
     let mut at = 0;
+    while at + LANES <= a.len() && at + LANES <= b.len() {
+        let common = common_in_block(a, b, at);
+        at += common;
+        if common < LANES {
+            return at;
+        }
+    }
     while at < a.len() && at < b.len() && a[at] == b[at] {
         at += 1;
     }

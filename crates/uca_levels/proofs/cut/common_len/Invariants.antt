@@ -10,3 +10,13 @@ invariant-loop-at l = record {
 
 abbrev pub decreases-loop-at : goal.decreases-loop-at
 decreases-loop-at l = length l.a - l.at
+
+abbrev pub invariant-loop-at-2 : goal.invariant-loop-at-2
+invariant-loop-at-2 l = record {
+  in_a : l.at ≤ length l.a;
+  in_b : l.at ≤ length l.b;
+  same : take l.at l.a ≡ take l.at l.b;
+}
+
+abbrev pub decreases-loop-at-2 : goal.decreases-loop-at-2
+decreases-loop-at-2 l = length l.a - l.at
