@@ -1,22 +1,16 @@
 -- What an insertion answers.
-use Rattle.std.proofs.Common.{◌≡◌, ℕ, ◌≤◌, Bool, cond, List, length, Option, Some, None, Result, Ok, Err, OnOk, OnErr, IfErr, MatchResult, refl, sym, ap, ◌∙◌, arith}
+use Rattle.std.proofs.Common.{◌≡◌, ℕ, ◌≤◌, Bool, cond, List, length, Some, None, Result, Ok, Err, OnOk, OnErr, refl, arith}
 use Rattle.std.proofs.lemmas.Bool.{ne_eqb, le-ltb}
 use Rattle.uca_weights.specs.declared.element.Element.{Element}
 use Rattle.uca_weights.specs.declared.limits.TheConstants.{MAX_KEY, MAX_ELEMENTS}
 use Rattle.uca_model.specs.Table.{ElementTable, is_key}
-use Rattle.uca_table.specs.declared.fault.InsertFault.{InsertFault}
-use Rattle.uca_table.specs.declared.fault.InsertFault.TheVariants.{Repeated, OutOfMemory}
-use Rattle.uca_table.specs.Builder.{insert_fault, reported_fault}
+use Rattle.uca_table.specs.declared.fault.InsertFault.TheVariants.{Repeated}
+use Rattle.uca_table.specs.Builder.{insert_fault}
 
 -- within the limits a repeated key is the only fault
 pub fault_within : (t : ElementTable) (key : List ℕ) (es : List Element) (b : Bool) → 1 ≤ length key → length key ≤ MAX_KEY → 1 ≤ length es → length es ≤ MAX_ELEMENTS → is_key t key ≡ b → insert_fault t key es ≡ cond b (Some Repeated) None
 fault_within t key es b some few some_es few_es known =
     rw (ne_eqb (length key) 0 (omega arith), le-ltb MAX_KEY (length key) few, ne_eqb (length es) 0 (omega arith), le-ltb MAX_ELEMENTS (length es) few_es, known) refl
-
--- where the arguments have no fault, only an allocation may fail
-pub faultless : (r : Result (Unit {0}) InsertFault) (fault : Option InsertFault) → fault ≡ None → IfErr r (λ f. f ≡ OutOfMemory) → MatchResult r (λ _. fault ≡ None) (λ f. fault ≡ reported_fault f)
-faultless (Ok x) fault none memory = none
-faultless (Err f) fault none memory = none ∙ sym (ap reported_fault memory)
 
 -- a fact of an `Ok` turned into another
 pub on_ok : {A E : Type 0} (P Q : Type 0) (r : Result A E) → (P → Q) → OnOk r P → OnOk r Q

@@ -1,12 +1,12 @@
 -- Tables that lie in a list of entries whose keys rise.
-use Rattle.std.proofs.Common.{◌≡◌, ℕ, ◌≤◌, max, true, false, cond, T, List, [], ◌∷◌, length, fold, map, Option, Some, None, is_some, IfSome, option_copied, Bor, refl, sym, ap, subst, ◌∙◌, arith, lit≤}
+use Rattle.std.proofs.Common.{◌≡◌, ℕ, ◌≤◌, max, Bool, true, false, cond, T, List, [], ◌∷◌, length, drop, fold, map, unwrap_or, Option, Some, None, is_some, IsSome, IfSome, option_copied, Bor, refl, sym, ap, subst, ◌∙◌, arith, lit≤}
 use Rattle.std.specs.declared.cmp.Ordering.{Ordering}
 use Rattle.std.specs.declared.cmp.Ordering.TheVariants.{Less, Equal, Greater}
 use Rattle.std.specs.declared.vec.Vec.{Vec}
 use Rattle.std.specs.List.{All, AllByRecursion}
-use Rattle.std.specs.Ordering.{nat_cmp, eq_by_cmp, match_ordering}
+use Rattle.std.specs.Ordering.{nat_cmp, eq_by_cmp, is_eq, match_ordering}
 use Rattle.std.specs.BTreeMap.{insert_entry, is_at}
-use Rattle.std.specs.Map.{lookup}
+use Rattle.std.specs.Map.{lookup, keys_of, set_value}
 use Rattle.std.specs.Cmp.Lexicographic.{slice_cmp, nat_list_cmp_total}
 use Rattle.std.specs.FinMap.{find, put, is_sorted, empty, insert, entries, from_sorted, entries-from_sorted, entries-insert, get-from_sorted, same_entries_map, empty_of_len, len-entries}
 use Rattle.std.specs.FinMap.Entries.{is_sorted-put, by_order}
@@ -17,6 +17,8 @@ use Rattle.uca_weights.specs.declared.range.Ideographs.{Ideographs}
 use Rattle.uca_weights.specs.declared.range.Range.{Range}
 use Rattle.uca_model.specs.UnifiedIdeographs.{AreIdeographs}
 use Rattle.uca_model.specs.Table.{key_cmp, elements_at, is_key, longest, IsEntry, IsTable, with_entry, with_ideographs}
+use Rattle.uca_table.specs.declared.fault.InsertFault.TheVariants.{Repeated}
+use Rattle.uca_table.specs.Builder.{known_fault}
 use Rattle.uca_table.specs.Stored.{AreStored, pair_in, table_of, longest_of}
 
 -- the order of a map's keys
@@ -41,6 +43,29 @@ found_in (e ∷ es) q =
       | true ↦ refl
       | false ↦ found_in es q
     ]
+
+-- the value that an insertion replaced, written back, leaves the entries as they were
+pub put_back_same : {Y Z : Type 0} (es : List (Vec ℕ Y × Vec Element Z)) (k : Vec ℕ Y) (v w : Vec Element Z) → lookup (is_at (vec_cmp k)) es ≡ Some w → keys_of (insert_entry vec_cmp es k v) ≡ keys_of es → set_value (is_at (vec_cmp k)) (insert_entry vec_cmp es k v) w ≡ es
+put_back_same [] k v w found same = absurd (omega (arith, ap length same))
+put_back_same {Y} {Z} (e ∷ es) k v w found same =
+    let test : Vec ℕ Y → Bool = is_at (vec_cmp k) in
+    (elim (slice_cmp nat_cmp k.items e.0.items) as (λ o. test e.0 ≡ is_eq o → cond (is_eq o) (Some e.1) (lookup test es) ≡ Some w → keys_of (match_ordering o ((k, v) ∷ e ∷ es) ((e.0, v) ∷ es) (e ∷ insert_entry vec_cmp es k v)) ≡ keys_of (e ∷ es)
+    → set_value test (match_ordering o ((k, v) ∷ e ∷ es) ((e.0, v) ∷ es) (e ∷ insert_entry vec_cmp es k v)) w ≡ e ∷ es) [
+      | Less ↦ λ tested f s. absurd (omega (arith, ap length s))
+      | Equal ↦ λ tested f s. ap (λ b. cond b ((e.0, w) ∷ es) ((e.0, v) ∷ set_value test es w)) tested ∙ ap (λ x. (e.0, x) ∷ es) (sym (ap (λ o. unwrap_or o w) f))
+      | Greater ↦ λ tested f s. ap (λ b. cond b ((e.0, w) ∷ insert_entry vec_cmp es k v) (e ∷ set_value test (insert_entry vec_cmp es k v) w)) tested ∙ ap (λ xs. e ∷ xs) (put_back_same es k v w f (ap (drop 1) s))
+    ]) refl found same
+
+-- so do those of a map into which a key was inserted and its value then written back
+pub restored : {Y Z : Type 0} (es ns last : List (Vec ℕ Y × Vec Element Z)) (q : List ℕ) (k : Vec ℕ Y) (v w : Vec Element Z) → k.items ≡ q → lookup (is_at (vec_cmp k)) es ≡ Some w → lookup (is_at (vec_cmp k)) ns ≡ Some v → ns ≡ insert_entry vec_cmp es k v → keys_of ns ≡ keys_of es
+    → (IsSome (lookup (is_at (λ (x : Vec ℕ Y). slice_cmp nat_cmp q x.items)) ns) → last ≡ set_value (is_at (λ (x : Vec ℕ Y). slice_cmp nat_cmp q x.items)) ns w) → last ≡ es
+restored {Y} es ns last q k v w same found now grown keys back =
+    let written : IsSome (lookup (is_at (vec_cmp k)) ns) → last ≡ set_value (is_at (vec_cmp k)) ns w = subst (λ p. IsSome (lookup (is_at (λ (x : Vec ℕ Y). slice_cmp nat_cmp p x.items)) ns) → last ≡ set_value (is_at (λ (x : Vec ℕ Y). slice_cmp nat_cmp p x.items)) ns w) (sym same) back in
+    written (ap is_some now) ∙ ap (λ xs. set_value (is_at (vec_cmp k)) xs w) grown ∙ put_back_same es k v w found (ap keys_of (sym grown) ∙ keys)
+
+-- what a look-up found says whether the key is known
+pub known_by : {Y Z : Type 0} (es : List (Vec ℕ Y × Vec Element Z)) (q : List ℕ) (k : Vec ℕ Y) (o : Option (Vec Element Z)) → k.items ≡ q → lookup (is_at (vec_cmp k)) es ≡ o → known_fault (map pair_in es) q ≡ cond (is_some o) (Some Repeated) None
+known_by es q k o same found = subst (λ p. known_fault (map pair_in es) p ≡ cond (is_some o) (Some Repeated) None) same (ap (λ b. cond b (Some Repeated) None) (sym (found_in es k.items) ∙ ap is_some found))
 
 -- to put an entry is to insert it
 pub table_put : (es : List (List ℕ × List Element)) (rs : List Range) (k : List ℕ) (v : List Element) → T (is_sorted key_cmp es) → table_of (put key_cmp k v es) rs ≡ with_entry (table_of es rs) k v

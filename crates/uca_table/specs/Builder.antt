@@ -1,10 +1,11 @@
 -- What a builder does to a table, and what it refuses.
-use Rattle.std.specs.Prelude.{ℕ, ◌==◌, nat_lt, List, length, Option, Some, None, if◌then◌else◌}
+use Rattle.std.specs.Prelude.{ℕ, ◌==◌, nat_lt, List, length, Option, Some, None, is_some, if◌then◌else◌}
+use Rattle.std.specs.FinMap.{find}
 use Rattle.uca_weights.specs.declared.element.Element.{Element}
 use Rattle.uca_weights.specs.declared.limits.TheConstants.{MAX_KEY, MAX_ELEMENTS}
 use Rattle.uca_weights.specs.declared.range.Ideographs.{Ideographs}
 use Rattle.uca_weights.specs.declared.range.Range.{Range}
-use Rattle.uca_model.specs.Table.{ElementTable, is_key, with_ideographs}
+use Rattle.uca_model.specs.Table.{ElementTable, is_key, key_cmp, with_ideographs}
 use Rattle.uca_table.specs.declared.fault.InsertFault.{InsertFault}
 use Rattle.uca_table.specs.declared.fault.InsertFault.TheVariants.{EmptyKey, KeyTooLong, NoElement, TooManyElements, Repeated, OutOfMemory}
 use Rattle.uca_table.specs.declared.fault.RangeFault.{RangeFault}
@@ -21,6 +22,10 @@ insert_fault t key elements =
     else if nat_lt MAX_ELEMENTS (length elements) then Some TooManyElements
     else if is_key t key then Some Repeated
     else None
+
+-- the fault of a key that entries in key order may have already
+abbrev pub known_fault : List (List ℕ × List Element) → List ℕ → Option InsertFault
+known_fault es key = if is_some (find key_cmp key es) then Some Repeated else None
 
 -- the fault of the arguments that a call reported; an allocation failure is none of theirs
 abbrev pub reported_fault : InsertFault → Option InsertFault

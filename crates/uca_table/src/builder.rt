@@ -1,8 +1,13 @@
-ghost use Rattle.std.specs.Prelude.{◌≡◌, max, length, [], OnOk, OnErr, IfErr, IfOk, MatchResult, All, map, None};
+ghost use Rattle.std.specs.Prelude.{◌≡◌, max, length, [], OnOk, OnErr, IfOk, MatchResult, All, map, None, IsSome};
+ghost use Rattle.std.specs.BTreeMap.{is_at};
+ghost use Rattle.std.specs.Cmp.Lexicographic.{slice_cmp};
+ghost use Rattle.std.specs.Map.{lookup, set_value};
+ghost use Rattle.std.specs.Ordering.{nat_cmp};
 ghost use Rattle.std.specs.Char.{IsScalar};
 ghost use Rattle.std.specs.FinMap.{empty, put};
 ghost use Rattle.std.specs.List.{AllByRecursion};
 ghost use Rattle.uca_model.specs.Table.{key_cmp, IsElement, IsEntry};
+ghost use Rattle.uca_table.specs.Builder.{known_fault, reported_fault};
 ghost use Rattle.uca_table.specs.Stored.{pair_in, longest_of};
 
 use crate::fault::{FinishFault, InsertFault, RangeFault};
@@ -72,9 +77,6 @@ impl TableBuilder {
         }
         if elements.len() > MAX_ELEMENTS {
             return Err(InsertFault::TooManyElements);
-        }
-        if self.entries.contains_key(key) {
-            return Err(InsertFault::Repeated);
         }
         read_key(key);
         read_elements(elements);
@@ -147,7 +149,27 @@ fn read_element(element: &Element)
     let _tertiary = element.l3;
 }
 
-/// Puts copies of a new key and its elements into a map.
+/// The fault of a key where an allocation failed.
+fn fault_of_allocation(entries: &BTreeMap<Vec<char>, Vec<Element>>, key: &[char]) -> InsertFault
+    ensures { known_fault (map pair_in entries.now.entries) key.now ≡ reported_fault result }
+{
+    if entries.contains_key(key) {
+        return InsertFault::Repeated;
+    }
+    InsertFault::OutOfMemory
+}
+
+/// Gives a key of a map other elements.
+fn put_back(entries: &mut BTreeMap<Vec<char>, Vec<Element>>, key: &[char], elements: Vec<Element>)
+    ensures { IsSome (lookup (is_at (λ k. slice_cmp nat_cmp key.now k.items)) entries.old.entries) → entries.new.entries ≡ set_value (is_at (λ k. slice_cmp nat_cmp key.now k.items)) entries.old.entries elements }
+{
+    if let Some(place) = entries.get_mut(key) {
+        *place = elements;
+    }
+}
+
+/// Puts copies of a key and its elements into a map. A map that has the key stays as it is; one search finds both the key
+/// and its place.
 fn store(
     alloc: Global,
     entries: &mut BTreeMap<Vec<char>, Vec<Element>>,
@@ -156,16 +178,20 @@ fn store(
 ) -> Result<(), InsertFault>
     ensures ok { OnOk result (map pair_in entries.new.entries ≡ put key_cmp key.now elements.now (map pair_in entries.old.entries)) }
     ensures err { OnErr result (entries.new.entries ≡ entries.old.entries) }
-    ensures memory { IfErr result (λ f. f ≡ InsertFault.OutOfMemory) }
+    ensures fault { let fault = known_fault (map pair_in entries.old.entries) key.now in MatchResult result (λ _. fault ≡ None) (λ f. fault ≡ reported_fault f) }
 {
-    let Ok(key) = key.to_vec(alloc) else {
-        return Err(InsertFault::OutOfMemory);
+    let Ok(copy) = key.to_vec(alloc) else {
+        return Err(fault_of_allocation(entries, key));
     };
     let Ok(elements) = elements.to_vec(alloc) else {
-        return Err(InsertFault::OutOfMemory);
+        return Err(fault_of_allocation(entries, key));
     };
-    match entries.insert(key, elements) {
-        Ok(_) => Ok(()),
+    match entries.insert(copy, elements) {
+        Ok(None) => Ok(()),
+        Ok(Some(before)) => {
+            put_back(entries, key, before);
+            Err(InsertFault::Repeated)
+        }
         Err(_) => Err(InsertFault::OutOfMemory),
     }
 }

@@ -1,16 +1,11 @@
-use Rattle.std.proofs.Common.{◌≡◌, true, false, map, subst, sym, ap, ◌∙◌, rules}
-use Rattle.uca_model.specs.Table.{is_key, IsEntry, with_entry}
-use Rattle.uca_table.specs.Builder.{insert_fault}
+use Rattle.std.proofs.Common.{◌≡◌, None, MatchResult, is_some, map, subst, sym, ap, ◌∙◌, rules}
+use Rattle.std.specs.FinMap.{find}
+use Rattle.uca_model.specs.Table.{is_key, key_cmp, IsEntry, with_entry}
+use Rattle.uca_table.specs.Builder.{insert_fault, known_fault, reported_fault}
 use Rattle.uca_table.specs.Stored.{AreStored, pair_in, table_of}
-use Rattle.uca_table.proofs.EntryLemmas.{found_in, is_key_stored, table_put, AreStored-put}
-use Rattle.uca_table.proofs.BuilderLemmas.{fault_within, faultless, on_ok, either_way}
+use Rattle.uca_table.proofs.EntryLemmas.{is_key_stored, table_put, AreStored-put}
+use Rattle.uca_table.proofs.BuilderLemmas.{fault_within, on_ok, either_way}
 use Rattle.uca_table.proofs.builder.TableBuilder.insert.Goals as goal
-
-pub returns-then-contains_key-clause-fault : goal.returns-then-contains_key-clause-fault
-returns-then-contains_key-clause-fault c =
-    let key = c.args.key.now in let es = map pair_in c.self.inside.entries.entries in
-    let known : is_key c.args.self.now key ≡ true = sym (c.if-contains_key.ensures ∙ found_in c.self.inside.entries.entries key ∙ sym (is_key_stored es c.self.inside.ranges key c.self.invariant.sorted) ∙ ap (λ t. is_key t key) c.self.view_is) in
-    fault_within c.args.self.now key c.args.elements.now true (search rules) (search rules) (search rules) (search rules) known
 
 pub invariant_of-self : goal.invariant_of-self
 invariant_of-self c =
@@ -30,5 +25,6 @@ returns-clause-ok c =
 pub returns-clause-fault : goal.returns-clause-fault
 returns-clause-fault c =
     let key = c.args.key.now in let es = map pair_in c.self.inside.entries.entries in
-    let known : is_key c.args.self.now key ≡ false = sym (c.if-contains_key.ensures ∙ found_in c.self.inside.entries.entries key ∙ sym (is_key_stored es c.self.inside.ranges key c.self.invariant.sorted) ∙ ap (λ t. is_key t key) c.self.view_is) in
-    faultless c.store.result (insert_fault c.args.self.now key c.args.elements.now) (fault_within c.args.self.now key c.args.elements.now false (search rules) (search rules) (search rules) (search rules) known) c.store.ensures.memory
+    let known : is_key c.args.self.now key ≡ is_some (find key_cmp key es) = sym (ap (λ t. is_key t key) c.self.view_is) ∙ is_key_stored es c.self.inside.ranges key c.self.invariant.sorted in
+    let fault : insert_fault c.args.self.now key c.args.elements.now ≡ known_fault es key = fault_within c.args.self.now key c.args.elements.now (is_some (find key_cmp key es)) (search rules) (search rules) (search rules) (search rules) known in
+    subst (λ o. MatchResult c.store.result (λ _. o ≡ None) (λ f. o ≡ reported_fault f)) (sym fault) c.store.ensures.fault
