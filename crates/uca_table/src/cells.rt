@@ -356,6 +356,21 @@ impl Cells {
         Some(self.elements_of(cell))
     }
 
+    /// The elements of a character, where they stand alone before every text.
+    pub(crate) fn always_alone(&self, t: &Stored, c: char) -> Option<&[Element]>
+        requires cells { HoldsCells t.now self.now }
+        ensures { IfSome result (λ es. (after : List ℕ) → es.now ++ elements t.now (nfd after) ≡ elements t.now (nfd (c ∷ after))) }
+    {
+        let cell = self.cell(c);
+        if cell.count == 0 {
+            return None;
+        }
+        if cell.bearing < 2 {
+            return None;
+        }
+        Some(self.elements_of(cell))
+    }
+
     // How many characters of a text stand before the next that joins nothing.
     fn run_len(&self, t: &Stored, text: &[char]) -> usize
         requires some { 0 < length text.now }

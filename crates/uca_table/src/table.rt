@@ -1,4 +1,4 @@
-ghost use Rattle.std.specs.Prelude.{◌≡◌, ◌≤◌, ◌<◌, ◌^◌, ◌++◌, ◌∷◌, [], false, length, chars, All, option_copied, IfSome, IfOk, OnOk, OnErr, MatchResult, None};
+ghost use Rattle.std.specs.Prelude.{◌≡◌, ℕ, List, ◌≤◌, ◌<◌, ◌^◌, ◌++◌, ◌∷◌, [], false, length, chars, All, option_copied, IfSome, IfOk, OnOk, OnErr, MatchResult, None};
 ghost use Rattle.unicode_normalization.specs.Forms.{nfd};
 ghost use Rattle.uca_model.specs.CollationElements.{elements};
 
@@ -233,6 +233,14 @@ impl Table {
         ensures { IfSome result (λ es. es.now ++ elements self.now (nfd (chars after.now)) ≡ elements self.now (nfd (c ∷ chars after.now))) }
     {
         self.cells.alone_before(&self.stored, c, after)
+    }
+
+    /// The collation elements of a character, where no text after it changes them (UTS #10, section 7.2). It takes no
+    /// memory. `None`: some text may change them.
+    pub fn always_alone(&self, c: char) -> Option<&[Element]>
+        ensures { IfSome result (λ es. (after : List ℕ) → es.now ++ elements self.now (nfd after) ≡ elements self.now (nfd (c ∷ after))) }
+    {
+        self.cells.always_alone(&self.stored, c)
     }
 
     /// Appends the collation elements of a text (UTS #10, sections 7.1 and 7.2, steps S1 and S2).
