@@ -4,3 +4,4 @@ pub mod CommonLemmas
 pub mod LevelsFromCut
 pub mod WithoutFront
 pub mod TextLemmas
+pub mod FirstWeight
