@@ -19,10 +19,11 @@ fn first_weight(t: &Table, v: Variable, c: char) -> Option<u16>
     if points.is_empty() {
         return None;
     }
-    if !t.safe_starter(points[0]) {
+    let starter = points[0];
+    if !t.safe_starter(starter) {
         return None;
     }
-    let elements = t.always_alone(points[0])?;
+    let elements = t.always_alone(starter)?;
     let Some((first, _others)) = elements.split_first() else {
         return None;
     };
