@@ -21,6 +21,7 @@ use Rattle.uca_match.specs.Yields.{Yields}
 use Rattle.uca_match.specs.RemainingElements.{ElementsState, is_asking, yielded_held, after_held, first_of, elements_held, window_held}
 use Rattle.uca_match.specs.WindowMatch.{key_held}
 use Rattle.uca_levels.specs.RemainingWeights.{WeightsState, new_weights, remaining_with_zeros, window_of_weights, weight_given, weigher_given, read_weights, WeighsHeld}
+use Rattle.uca_levels.specs.FirstWeight.{PartAt, going_on}
 use Rattle.uca_levels.specs.Reads.{InStep, ReadsUp}
 use Rattle.uca_levels.specs.InCommon.{PassUnderWay, InCommon, Parted, ReadsOnce, work_left}
 use Rattle.uca_levels.proofs.ReadsLemmas.{InStep-start, InStep-more, given_some}
@@ -135,6 +136,20 @@ module _ (t : ElementTable) (was wus : SourceState) (xs ys : List ℕ) (left rig
       differs (Some c) None u v o = second_ends (unread a) (unread b) v.0
       differs (Some c) (Some d) u v (inl none) = cc
       differs (Some c) (Some d) u v (inr n) = heads_differ c d (unread a) (unread b) (unread now_a) (unread now_b) u.0 v.0 (λ e. n (ap Some e))
+
+  -- and there the texts part
+  pub common-differ : (x y : Option ℕ) (now_left now_right : WeightsState) (now_a now_b : SourceState) → ReadsBoth left right a b x y now_left now_right now_a now_b → PartAt was wus x y
+  common-differ x y now_left now_right now_a now_b r = record {
+    front = h.front;
+    later_a = unread now_a;
+    later_b = unread now_b;
+    first = h.first ∙ ap (λ l. h.front ++ l) (goes_on x (unread a) (unread now_a) (now_a.place ≡ a.place) (now_a.place ≡ a.place + 1) r.gives_a.value);
+    second = h.second ∙ ap (λ l. h.front ++ l) (goes_on y (unread b) (unread now_b) (now_b.place ≡ b.place) (now_b.place ≡ b.place + 1) r.gives_b.value);
+  }
+    where
+      goes_on : (o : Option ℕ) (l k : List ℕ) (P Q : Type 0) → MatchOption o ((l ≡ []) × P) (λ c. (l ≡ c ∷ k) × Q) → l ≡ going_on o k
+      goes_on None l k P Q g = g.0
+      goes_on (Some c) l k P Q g = g.0
 
 -- ---- one more weight
 
@@ -283,3 +298,7 @@ InCommon-start t v was wus left right at_a at_b safe_a safe_b l r =
 
 pub ReadsOnce-up : (was a after : SourceState) (w : WindowState) → PassUnderWay was w a → ReadsUp w a after → ReadsOnce was after
 ReadsOnce-up was a after w h r = record { text = r.text ∙ h.text; reads = omega (arith, h.reads, r.reads); rewinds = r.rewinds ∙ h.rewinds }
+
+-- no more was read than up to the first difference
+pub ReadsOnce-now : (was a : SourceState) (w : WindowState) → PassUnderWay was w a → ReadsOnce was a
+ReadsOnce-now was a w h = record { text = h.text; reads = omega (arith, h.reads); rewinds = h.rewinds }

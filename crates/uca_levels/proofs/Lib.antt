@@ -5,3 +5,4 @@ pub mod LevelsFromCut
 pub mod WithoutFront
 pub mod TextLemmas
 pub mod CommonFront
+pub mod FirstWeight

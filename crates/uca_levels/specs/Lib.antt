@@ -4,3 +4,4 @@ pub mod InCommon
 pub mod FromCut
 pub mod WithoutFront
 pub mod TextWeights
+pub mod FirstWeight

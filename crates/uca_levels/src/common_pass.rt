@@ -3,6 +3,7 @@ ghost use Rattle.uca_model.specs.Source.{SourceState, unread};
 ghost use Rattle.uca_model.specs.Table.{IsTable};
 ghost use Rattle.uca_model.specs.Window.{Fits};
 ghost use Rattle.uca_match.specs.RemainingElements.{is_asking};
+ghost use Rattle.uca_levels.specs.FirstWeight.{PartAt};
 ghost use Rattle.uca_levels.specs.InCommon.{AreMarked, InCommon, Parted, ReadsOnce, work_left};
 ghost use Rattle.uca_model.specs.LevelWeights.{level_list};
 ghost use Rattle.uca_model.specs.DecidingLevel.{OrdersLevel};
@@ -10,6 +11,7 @@ ghost use Rattle.uca_model.specs.SafeCut.{cut_of};
 ghost use Rattle.uca_model.specs.SafeText.{IsSafe};
 
 use crate::cut::may_cut;
+use crate::first_weight::order_by_first;
 use crate::level_order::order_of_remaining;
 use crate::weights::Weights;
 use std::cmp::Ordering;
@@ -18,12 +20,14 @@ use uca_weights::Variable;
 use uca_window::Source;
 
 // Goes one step on in two texts that agree so far: reads a character of each, or, where none has to be read, gives a
-// weight of each. It marks the sources at each character before which they may be cut. Returns whether they still agree.
+// weight of each. It marks the sources at each character before which they may be cut. Returns whether they still agree;
+// where they do not, `read` is what was read of each last.
 fn goes_on<'t, S: Source, T: Source>(
     t: &Table,
     left: &mut Weights<'t>,
     right: &mut Weights<'t>,
     marked: &mut bool,
+    read: &mut (Option<char>, Option<char>),
     a: &mut S,
     b: &mut T,
 ) -> bool
@@ -35,6 +39,8 @@ fn goes_on<'t, S: Source, T: Source>(
         → InCommon t.now was wus xs ys left.new right.new marked.new (S.state a.new) (T.state b.new) × (work_left left.new (S.state a.new) < work_left left.old (S.state a.old)) }
     ensures parts { (was wus : SourceState) (xs ys : List ℕ) → InCommon t.now was wus xs ys left.old right.old marked.old (S.state a.old) (T.state b.old) → result ≡ false
         → Parted t.now was wus xs ys left.new right.new marked.new (S.state a.new) (T.state b.new) }
+    ensures differ { (was wus : SourceState) (xs ys : List ℕ) → InCommon t.now was wus xs ys left.old right.old marked.old (S.state a.old) (T.state b.old) → result ≡ false
+        → PartAt was wus read.new.0 read.new.1 }
 {
     if !left.wants() {
         let _weight = left.next_of_all(a);
@@ -43,6 +49,7 @@ fn goes_on<'t, S: Source, T: Source>(
     }
     let x = left.read(a);
     let y = right.read(b);
+    *read = (x, y);
     if x != y {
         return false;
     }
@@ -82,7 +89,12 @@ pub(crate) fn first_order<S: Source, T: Source>(
     let mut left = Weights::new(t, v, 1);
     let mut right = Weights::new(t, v, 1);
     let mut marked = false;
-    while goes_on(t, &mut left, &mut right, &mut marked, a, b) {}
+    let mut read = (None, None);
+    while goes_on(t, &mut left, &mut right, &mut marked, &mut read, a, b) {}
+    let (x, y) = read;
+    if let Some(order) = order_by_first(t, v, x, y) {
+        return (order, marked);
+    }
     let order = order_of_remaining(&mut left, &mut right, a, b);
     (order, marked)
 }

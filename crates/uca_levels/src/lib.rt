@@ -9,6 +9,7 @@
 mod common_pass;
 pub mod comparison;
 mod cut;
+mod first_weight;
 mod level_order;
 pub mod points;
 mod text_elements;

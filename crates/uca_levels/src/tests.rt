@@ -299,3 +299,38 @@ fn a_text_is_not_cut_before_the_end_of_a_contraction(rt: HostRuntime) {
     let order = compare(&t, s, &passage(&rt, "chx"), &passage(&rt, "chy"));
     assert_eq!(rt; order, Ordering::Less);
 }
+
+#[test]
+fn a_text_is_read_up_to_the_difference_that_decides(rt: HostRuntime) {
+    let t = table(&rt, rt.alloc());
+    let s = settings(Strength::Tertiary, Variable::NonIgnorable);
+    let cases = [
+        ("zzAzzz", "zzezzz", Ordering::Less),
+        ("zzzzz", "zz\u{E9}zz", Ordering::Greater),
+        ("zz", "zzezz", Ordering::Less),
+    ];
+    for (a, b, wanted) in cases {
+        let (p, q) = (passage(&rt, a), passage(&rt, b));
+        let (mut left, mut right) = (source_of(&p), source_of(&q));
+        let order = compare_sources(&t, s, &mut left, &mut right);
+        assert_eq!(rt; order, wanted, "{a:?} {b:?}");
+        assert_eq!(rt; (left.reads, right.reads), (3, 3), "{a:?} {b:?}");
+    }
+}
+
+#[test]
+fn a_variable_character_decides_no_first_level_that_leaves_it_out(rt: HostRuntime) {
+    let t = table(&rt, rt.alloc());
+    let (p, q) = (passage(&rt, "z-e"), passage(&rt, "zA"));
+    let cases = [
+        (Variable::NonIgnorable, Ordering::Less),
+        (Variable::Blanked, Ordering::Greater),
+        (Variable::Shifted, Ordering::Greater),
+    ];
+    for (v, wanted) in cases {
+        let (mut left, mut right) = (source_of(&p), source_of(&q));
+        let s = settings(Strength::Primary, v);
+        let order = compare_sources(&t, s, &mut left, &mut right);
+        assert_eq!(rt; order, wanted, "{v:?}");
+    }
+}

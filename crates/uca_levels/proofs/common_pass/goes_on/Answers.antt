@@ -4,7 +4,7 @@ use Rattle.uca_model.specs.SafeCut.{is_cut}
 use Rattle.uca_match.specs.RemainingElements.{is_asking}
 use Rattle.uca_levels.specs.RemainingWeights.{WeightsState}
 use Rattle.uca_levels.specs.InCommon.{InCommon, work_left}
-use Rattle.uca_levels.proofs.CommonLemmas.{ReadsBoth, ReadsBoth-char, work-fewer, common-char, common-cut, common-parts, common-weight}
+use Rattle.uca_levels.proofs.CommonLemmas.{ReadsBoth, ReadsBoth-char, work-fewer, common-char, common-cut, common-parts, common-differ, common-weight}
 use Rattle.uca_levels.proofs.common_pass.goes_on.Goals as goal
 
 pub returns-then-not-wants-clause-on : goal.returns-then-not-wants-clause-on
@@ -51,3 +51,15 @@ returns-else-may_cut-clause-on g c = λ was wus xs ys h _.
           (ReadsBoth-char _ _ (g.S.Source.state c.args.a.now) (g.T.Source.state c.args.b.now) c.read-x.result c.read-y.result c.in-Some.c _ _ (g.S.Source.state c.read-x.new.source) (g.T.Source.state c.read-y.new.source) r c.in-Some.is same) plain,
       work-fewer c.args.left.now c.read-x.new.self (g.S.Source.state c.args.a.now) (g.S.Source.state c.read-x.new.source) c.read-x.ensures.fewer c.read-x.ensures.remaining,
     )
+
+pub returns-then-ne-clause-differ : goal.returns-then-ne-clause-differ
+returns-then-ne-clause-differ g c = λ was wus xs ys h _.
+    let r : ReadsBoth c.args.left.now c.args.right.now (g.S.Source.state c.args.a.now) (g.T.Source.state c.args.b.now) c.read-x.result c.read-y.result c.read-x.new.self c.read-y.new.self (g.S.Source.state c.read-x.new.source) (g.T.Source.state c.read-y.new.source) =
+    record { gives_a = c.read-x.ensures.given; gives_b = c.read-y.ensures.given; next_a = c.read-x.ensures.next; next_b = c.read-y.ensures.next; reads_a = c.read-x.ensures.reads; reads_b = c.read-y.ensures.reads; come_a = c.read-x.ensures.remaining; come_b = c.read-y.ensures.remaining; fewer = c.read-x.ensures.fewer } in
+    common-differ c.args.t.now was wus xs ys c.args.left.now c.args.right.now c.args.marked.now (g.S.Source.state c.args.a.now) (g.T.Source.state c.args.b.now) h c.read-x.result c.read-y.result _ _ _ _ r
+
+pub returns-in-None-clause-differ : goal.returns-in-None-clause-differ
+returns-in-None-clause-differ g c = λ was wus xs ys h _.
+    let r : ReadsBoth c.args.left.now c.args.right.now (g.S.Source.state c.args.a.now) (g.T.Source.state c.args.b.now) c.read-x.result c.read-y.result c.read-x.new.self c.read-y.new.self (g.S.Source.state c.read-x.new.source) (g.T.Source.state c.read-y.new.source) =
+    record { gives_a = c.read-x.ensures.given; gives_b = c.read-y.ensures.given; next_a = c.read-x.ensures.next; next_b = c.read-y.ensures.next; reads_a = c.read-x.ensures.reads; reads_b = c.read-y.ensures.reads; come_a = c.read-x.ensures.remaining; come_b = c.read-y.ensures.remaining; fewer = c.read-x.ensures.fewer } in
+    common-differ c.args.t.now was wus xs ys c.args.left.now c.args.right.now c.args.marked.now (g.S.Source.state c.args.a.now) (g.T.Source.state c.args.b.now) h c.read-x.result c.read-y.result _ _ _ _ r
