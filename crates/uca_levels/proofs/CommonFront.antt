@@ -40,9 +40,10 @@ in-block xs ys mask long_x long_y is =
     let mask_is : mask ≡ mask_l (map (λ m. m) ms) =
     is ∙ ap (λ l. mask_l l % 2 ^ 64) (tops_compared w8 differ xs ys) ∙ mask_l-mod ms 64 (omega (arith, long)) ∙ ap mask_l (sym (map-itself ms)) in
     let counted : cond (eqb mask 0) 16 (count_trailing_zeros 64 mask) ≡ prefix_len (λ m. not m) ms =
-    ap (λ n. cond (eqb n 0) 16 (count_trailing_zeros 64 n)) mask_is ∙ first_set_mask_l (λ m. m) ms 16 long (omega arith) in
-    (omega (arith, counted, within-front ms, long),
-    subst (λ k. take k xs ≡ take k ys) (sym counted) (same-front xs ys (long_x ∙ sym long_y)))
+    ap (λ n. cond (eqb n 0) 16 (count_trailing_zeros 64 n)) mask_is ∙ first_set_mask_l (λ m. m) ms 16 long (omega arith) in (
+      omega (arith, counted, within-front ms, long),
+      subst (λ k. take k xs ≡ take k ys) (sym counted) (same-front xs ys (long_x ∙ sym long_y)),
+    )
 
 -- more bytes in common from a place on
 pub common-more : (a b : List ℕ) (at k : ℕ) → take at a ≡ take at b → k ≤ 16 → take k (chunk at 16 a) ≡ take k (chunk at 16 b) → take (at + k) a ≡ take (at + k) b
