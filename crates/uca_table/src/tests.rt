@@ -322,23 +322,13 @@ fn safe_starters_go_beyond_the_first_plane(rt: HostRuntime) {
 }
 
 #[test]
-fn safe_starters_are_those_of_the_changed_table(rt: HostRuntime) {
+fn safe_starters_are_those_of_the_changed_table(rt: HostRuntime) -> Result<(), Fail> {
     let mut table = small_table(&rt, rt.alloc());
     let alloc = rt.alloc();
-    if !put(&mut table, alloc, &['z', 'z'], &[ELEMENT]) {
-        return;
-    }
-    if !put(
-        &mut table,
-        alloc,
-        &['\u{1F602}'],
-        &[element(false, [0, 0x20, 2])],
-    ) {
-        return;
-    }
-    if !put(&mut table, alloc, &['\u{1}'], &[ELEMENT]) {
-        return;
-    }
+    let without_primary = [element(false, [0, 0x20, 2])];
+    assert!(rt; put(&mut table, alloc, &['z', 'z'], &[ELEMENT]));
+    assert!(rt; put(&mut table, alloc, &['\u{1F602}'], &without_primary));
+    assert!(rt; put(&mut table, alloc, &['\u{1}'], &[ELEMENT]));
     let cuts = [
         ('z', false),
         ('c', true),
@@ -354,12 +344,11 @@ fn safe_starters_are_those_of_the_changed_table(rt: HostRuntime) {
     for (c, wanted) in cuts {
         assert_eq!(rt; table.safe_starter(c), wanted, "{c:?}");
     }
-    let Ok(copy) = table.try_clone(alloc) else {
-        return;
-    };
+    let copy = table.try_clone(alloc)?;
     for (c, wanted) in cuts {
         assert_eq!(rt; copy.safe_starter(c), wanted, "{c:?}");
     }
+    Ok(())
 }
 
 mod ideographs;

@@ -1,7 +1,8 @@
 use super::{element, small_table};
 use crate::{Element, Ideographs, RangeFault, Table};
-use std::alloc::Global;
+use std::alloc::{AllocError, Global};
 use std::process::Abort;
+use std::test::Fail;
 
 /// Adds a range of ideographs, once more where memory was refused.
 fn add(table: &mut Table, first: char, last: char) -> Result<(), RangeFault> {
@@ -70,44 +71,39 @@ fn added_ideographs_have_their_implicit_weights_at_once(rt: HostRuntime) {
     }
 }
 
-// The elements of a code point in the first plane, which has no key. `None`: memory was refused.
-fn elements_of(table: &Table, alloc: Global, c: char) -> Option<Vec<Element>> {
+// The elements of a code point in the first plane, which has no key.
+fn elements_of(table: &Table, alloc: Global, c: char) -> Result<Vec<Element>, AllocError> {
     let mut elements = Vec::new(alloc);
-    if table.push_elements(alloc, &mut elements, &[c]).is_err() {
-        return None;
-    }
-    Some(elements)
+    table.push_elements(alloc, &mut elements, &[c])?;
+    Ok(elements)
 }
 
 #[test]
-fn elements_of_texts_follow_added_ideographs(rt: HostRuntime) {
+fn elements_of_texts_follow_added_ideographs(rt: HostRuntime) -> Result<(), Fail> {
     let alloc = rt.alloc();
     let mut table = small_table(&rt, alloc);
-    if let Some(elements) = elements_of(&table, alloc, '\u{E000}') {
-        assert_eq!(rt; elements.as_slice(), pair(0xFBC1, 0xE000).as_slice());
-    }
+    let elements = elements_of(&table, alloc, '\u{E000}')?;
+    assert_eq!(rt; elements.as_slice(), pair(0xFBC1, 0xE000).as_slice());
     assert_eq!(rt; add(&mut table, '\u{E000}', '\u{E000}'), Ok(()));
-    if let Some(elements) = elements_of(&table, alloc, '\u{E000}') {
-        assert_eq!(rt; elements.as_slice(), pair(0xFB81, 0xE000).as_slice());
-    }
+    let elements = elements_of(&table, alloc, '\u{E000}')?;
+    assert_eq!(rt; elements.as_slice(), pair(0xFB81, 0xE000).as_slice());
     // Made ready, the table answers the same; so it does where memory is refused.
     let _ready = table.prepare(alloc);
-    if let Some(elements) = elements_of(&table, alloc, '\u{E000}') {
-        assert_eq!(rt; elements.as_slice(), pair(0xFB81, 0xE000).as_slice());
-    }
+    let elements = elements_of(&table, alloc, '\u{E000}')?;
+    assert_eq!(rt; elements.as_slice(), pair(0xFB81, 0xE000).as_slice());
+    Ok(())
 }
 
 #[test]
-fn copies_keep_added_ideographs(rt: HostRuntime) {
+fn copies_keep_added_ideographs(rt: HostRuntime) -> Result<(), Fail> {
     let alloc = rt.alloc();
     let table = widened(&rt, alloc);
-    if let Ok(copy) = table.try_clone(alloc) {
-        assert_eq!(rt; copy.ideographs(), ADDED.as_slice());
-        assert_eq!(rt; copy.implicit('\u{323B0}'), pair(0xFB86, 0xA3B0));
-    }
+    let copy = table.try_clone(alloc)?;
+    assert_eq!(rt; copy.ideographs(), ADDED.as_slice());
+    assert_eq!(rt; copy.implicit('\u{323B0}'), pair(0xFB86, 0xA3B0));
     let mut other = small_table(&rt, alloc);
-    if other.take_ideographs(alloc, &table).is_ok() {
-        assert_eq!(rt; other.ideographs(), ADDED.as_slice());
-        assert_eq!(rt; other.implicit('\u{323B0}'), pair(0xFB86, 0xA3B0));
-    }
+    other.take_ideographs(alloc, &table)?;
+    assert_eq!(rt; other.ideographs(), ADDED.as_slice());
+    assert_eq!(rt; other.implicit('\u{323B0}'), pair(0xFB86, 0xA3B0));
+    Ok(())
 }
