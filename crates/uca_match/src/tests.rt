@@ -5,6 +5,7 @@ mod one_by_one;
 use crate::elements_of;
 use std::alloc::Global;
 use std::process::Abort;
+use std::test::Fail;
 use uca_table::{InsertFault, RangeFault, Table, TableBuilder};
 use uca_testing::{Entry, SMALL_TABLE, TWO_RANGES, element, generated, plain};
 use uca_weights::{Element, MAX_KEY};
@@ -190,34 +191,27 @@ fn assert_same(rt: &impl Abort, alloc: Global, t: &Table, other: &Table, text: &
 }
 
 #[test]
-fn a_table_without_cells_gives_the_same_elements(rt: HostRuntime) {
+fn a_table_without_cells_gives_the_same_elements(rt: HostRuntime) -> Result<(), Fail> {
     let t = table(&rt, rt.alloc(), &KEYS_WITH_GAPS);
-    let Ok(copy) = t.try_clone(rt.alloc()) else {
-        return;
-    };
+    let copy = t.try_clone(rt.alloc())?;
     for text in JOINED {
         assert_same(&rt, rt.alloc(), &t, &copy, text);
     }
     for number in 0..600 {
-        let Ok(text) = generated(rt.alloc(), &CHARACTERS, number) else {
-            return;
-        };
+        let text = generated(rt.alloc(), &CHARACTERS, number)?;
         assert_same(&rt, rt.alloc(), &t, &copy, &text);
     }
+    Ok(())
 }
 
 #[test]
-fn a_changed_table_gives_its_new_elements(rt: HostRuntime) {
+fn a_changed_table_gives_its_new_elements(rt: HostRuntime) -> Result<(), Fail> {
     let mut t = table(&rt, rt.alloc(), &[]);
     let changed = plain(0x1020, 0x20);
-    if t.put(rt.alloc(), &['c', 'z'], &[changed]).is_err() {
-        return;
-    }
+    t.put(rt.alloc(), &['c', 'z'], &[changed])?;
     let elements = elements_again(&rt, rt.alloc(), &t, "cz");
     assert_eq!(rt; elements.as_slice(), [changed].as_slice());
-    if t.prepare(rt.alloc()).is_err() {
-        return;
-    }
+    t.prepare(rt.alloc())?;
     let elements = elements_again(&rt, rt.alloc(), &t, "czc");
     assert_eq!(rt;
         elements.as_slice(),
@@ -230,4 +224,5 @@ fn a_changed_table_gives_its_new_elements(rt: HostRuntime) {
         elements.as_slice(),
         [plain(0x1021, 0x20), plain(0x1005, 0x20)].as_slice()
     );
+    Ok(())
 }
