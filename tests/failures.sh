@@ -5,7 +5,8 @@
 #
 # tests/failures.c makes these runs out of one, as copies of the process at each step. The rows are the commands of the program with
 # their options, their refusals, and tests of crates. Of a row with more than 800 steps the first 400, the last 400 and every
-# 211th between fail; of a test with more than 240, 120, 120 and every 997th; over the published table 60, 60 and every 4001st.
+# 211th between fail; over the published table 60, 60 and every 4001st. Of a test with more than 240 growths 120, 120 and every
+# 997th fail; with more than 20,000, or where its name says that an input has its limit or no end, 20, 20 and every 9973rd.
 source "$(dirname "${BASH_SOURCE[0]}")/checks.bash"
 
 command -v cc >/dev/null || { echo "$script: left out, since there is no C compiler"; sum_up; exit; }
@@ -56,15 +57,16 @@ rightly() {
 
 # fails_in_turn FOLDER KIND: each step of this kind fails; KIND.result says how that went
 fails_in_turn() {
-    local folder=$1 kind=$2 notes growths reads whole each every
+    local folder=$1 kind=$2 notes growths reads whole each every many few rarely
     mapfile -t notes <"$folder/notes"
     read -r growths reads <"$folder/count.report"
-    read -r each every <"$folder/rule"
+    read -r each every many few rarely <"$folder/rule"
     case $kind in
     growths) whole=$growths ;;
     *-reads | reads) whole=$reads ;;
     *) whole=$(stat -c %s "$folder/out") ;;
     esac
+    if [ -n "$many" ] && [ "$whole" -gt "$many" ]; then each=$few every=$rarely; fi
     [ "$whole" -gt $((2 * each)) ] || whole=0
     preloaded "$folder" "$kind" FAILURES_WHOLE="$whole" FAILURES_EACH="$each" FAILURES_EVERY="$every" "${notes[@]}"
     for file in out err status; do
@@ -270,7 +272,7 @@ done
 
 # The tests of crates that take memory: they ask once more where a growth was refused, or end by that failure. uca_lines and
 # uca_commands have no tests of their own: the commands of the program, above, are what calls them.
-for crate in uca_io uca_weights uca_table uca_match uca_key uca_tailor uca_handle; do
+for crate in uca_io uca_weights uca_table uca_allkeys uca_match uca_key uca_tailor uca_job uca_handle; do
     folder=crates/$crate
     tests=$folder/out/${crate}_tests
     if [ ! -x "$tests" ] || [ -n "$(find crates/*/src crates.txt -newer "$tests" -print -quit)" ]; then
@@ -280,7 +282,10 @@ for crate in uca_io uca_weights uca_table uca_match uca_key uca_tailor uca_handl
     for name in $("$tests" --list | sed -n 's/: test$//p'); do
         number=$((number + 1))
         row "$crate-$number" "$work/none" "$PWD/$tests" "$name"
-        echo 120 997 >"$folder/rule"
+        case $name in
+        *limit* | *without_end*) echo 20 9973 >"$folder/rule" ;;
+        *) echo 120 997 20000 20 9973 >"$folder/rule" ;;
+        esac
         printf 'error: AllocError\nthe test failed: its result gives status 1\n' >"$folder/refused"
         echo 101 >"$folder/refused-status"
         tries growths

@@ -1,44 +1,63 @@
 -- Lines beside their keys: what a sort by the keys does to the lines.
-use Rattle.std.proofs.Common.{◌≡◌, ℕ, suc, ◌+◌, ◌≤◌, ◌==◌, Bool, true, false, cond, not, ◌&&◌, List, [], ◌∷◌, ◌++◌, length, get_or, drop, map, flat_map, sum, filter, All, IsPermutation, IsSortedByKey, is_lt, refl, sym, ap, subst, ◌∙◌, arith, length-append}
+use Rattle.std.proofs.Common.{◌≡◌, ℕ, zero, suc, ◌+◌, ◌-◌, ◌<◌, ◌≤◌, ◌==◌, Bool, true, false, cond, not, ◌&&◌, List, [], ◌∷◌, ◌++◌, length, get_or, take, drop, map, flat_map, filter, All, IsPermutation, IsSortedByKey, is_lt, refl, sym, ap, subst, ◌∙◌, arith, append_assoc, length-append}
 use Rattle.std.proofs.Math.Seq.{drop-append_seam, take-append_seam}
 use Rattle.std.specs.Prelude.{if◌then◌else◌}
 use Rattle.std.specs.List.Sorted.{IsStableByKey}
-use Rattle.std.proofs.lemmas.List.{get_or-map, length-map}
+use Rattle.std.proofs.lemmas.List.{drop_more, get_or-map, length-map}
 use Rattle.std.proofs.lemmas.List.Elements.{All-nil, All-cons, All-head, All-tail}
 use Rattle.std.proofs.lemmas.List.Sorted.{All-permutation, IsPermutation-map}
-use Rattle.std.proofs.lemmas.List.Sums.{sum_by-cons}
 use Rattle.uca_weights.specs.declared.settings.Settings.{Settings}
 use Rattle.uca_model.specs.Lines.{line_feed, lines_of, onto, split_lines, without_return}
 use Rattle.uca_model.specs.OrderOutput.{line_key, IsInOrder}
 use Rattle.uca_model.specs.SortKey.{key_order}
 use Rattle.uca_model.specs.Table.{ElementTable}
-use Rattle.uca_commands.specs.Ordering.{cut_up, AreKeys}
+use Rattle.uca_commands.specs.KeyPieces.{ends_from, key_at, piece, pieces}
+use Rattle.uca_commands.specs.Ordering.{AreKeys}
 
 -- ---- the keys in one place
 
-module _ (f : List ℕ → List ℕ) where
-  -- pieces that stand one after the other come back
-  cut_up-flat_map : (ls : List (List ℕ)) → cut_up (map (λ l. length (f l)) ls) (flat_map f ls) ≡ map f ls
-  cut_up-flat_map [] = refl
-  cut_up-flat_map (l ∷ ls) =
-      ap (λ front. front ∷ cut_up (map (λ m. length (f m)) ls) (drop (length (f l)) (f l ++ flat_map f ls))) (take-append_seam (f l) (flat_map f ls))
-      ∙ ap (λ rest. f l ∷ cut_up (map (λ m. length (f m)) ls) rest) (drop-append_seam (f l) (flat_map f ls))
-      ∙ ap (λ pieces. f l ∷ pieces) (cut_up-flat_map ls)
+-- pieces that stand one after the other come back
+pieces-ends_from : (f : List ℕ → List ℕ) (ls : List (List ℕ)) (front : List ℕ) → pieces (ends_from (length front) (map f ls)) (front ++ flat_map f ls) (length front) ≡ map f ls
+pieces-ends_from f [] front = refl
+pieces-ends_from f (l ∷ ls) front =
+    let rest : List ℕ = flat_map f ls in
+    let end : ℕ = length front + length (f l) in
+    let size : end - length front ≡ length (f l) = omega arith in
+    let first : piece (front ++ (f l ++ rest)) (length front) end ≡ f l =
+    ap (λ n. take n (drop (length front) (front ++ (f l ++ rest)))) size ∙ ap (take (length (f l))) (drop-append_seam front (f l ++ rest)) ∙ take-append_seam (f l) rest in
+    let moved : pieces (ends_from end (map f ls)) (front ++ (f l ++ rest)) end ≡ map f ls =
+    ap (λ bytes. pieces (ends_from end (map f ls)) bytes end) (sym (append_assoc front (f l) rest))
+    ∙ ap (λ n. pieces (ends_from n (map f ls)) ((front ++ f l) ++ rest) n) (sym (length-append front (f l)))
+    ∙ pieces-ends_from f ls (front ++ f l) in
+    ap (λ k. k ∷ pieces (ends_from end (map f ls)) (front ++ (f l ++ rest)) end) first ∙ ap (λ ks. f l ∷ ks) moved
 
-  -- the pieces are as long together as what they make up
-  sum-lengths : (ls : List (List ℕ)) → sum (map (λ l. length (f l)) ls) ≡ length (flat_map f ls)
-  sum-lengths [] = refl
-  sum-lengths (l ∷ ls) =
-      let first : sum (map (λ m. length (f m)) (l ∷ ls)) ≡ length (f l) + sum (map (λ m. length (f m)) ls) = sum_by-cons (λ n. n) (length (f l)) (map (λ m. length (f m)) ls) in
-      let both : length (f l ++ flat_map f ls) ≡ length (f l) + length (flat_map f ls) = length-append (f l) (flat_map f ls) in
-      omega (arith, first, both, sum-lengths ls)
+pub AreKeys-pieces : (t : ElementTable) (s : Settings) (lines : List (List ℕ)) (bytes ends : List ℕ) → AreKeys t s lines bytes ends → pieces ends bytes 0 ≡ map (line_key t s) lines
+AreKeys-pieces t s lines bytes ends are =
+    ap (λ es. pieces es bytes 0) are.each ∙ ap (λ all. pieces (ends_from 0 (map (line_key t s) lines)) all 0) are.all ∙ pieces-ends_from (line_key t s) lines []
 
-pub AreKeys-cut_up : (t : ElementTable) (s : Settings) (lines : List (List ℕ)) (bytes lengths : List ℕ) → AreKeys t s lines bytes lengths → cut_up lengths bytes ≡ map (line_key t s) lines
-AreKeys-cut_up t s lines bytes lengths are =
-    ap (λ ns. cut_up ns bytes) are.long ∙ ap (cut_up (map (λ line. length (line_key t s line)) lines)) are.all ∙ cut_up-flat_map (line_key t s) lines
+length-ends_from : (from : ℕ) (ks : List (List ℕ)) → length (ends_from from ks) ≡ length ks
+length-ends_from from [] = refl
+length-ends_from from (k ∷ ks) = ap suc (length-ends_from (from + length k) ks)
 
-pub AreKeys-within : (t : ElementTable) (s : Settings) (lines : List (List ℕ)) (bytes lengths : List ℕ) → AreKeys t s lines bytes lengths → sum lengths ≤ length bytes
-AreKeys-within t s lines bytes lengths are = omega (arith, ap sum are.long, ap length are.all, sum-lengths (line_key t s) lines)
+-- there is an end for each line
+pub AreKeys-each : (t : ElementTable) (s : Settings) (lines : List (List ℕ)) (bytes ends : List ℕ) → AreKeys t s lines bytes ends → length ends ≡ length lines
+AreKeys-each t s lines bytes ends are = ap length are.each ∙ length-ends_from 0 (map (line_key t s) lines) ∙ length-map lines (line_key t s)
+
+pub length-pieces : (ends bytes : List ℕ) (from : ℕ) → length (pieces ends bytes from) ≡ length ends
+length-pieces [] bytes from = refl
+length-pieces (e ∷ es) bytes from = ap suc (length-pieces es bytes e)
+
+-- each piece goes from the end before it to its own
+pieces-at : (ends bytes : List ℕ) (from n : ℕ) → n < length ends → piece bytes (get_or (from ∷ ends) n 0) (get_or ends n 0) ≡ get_or (pieces ends bytes from) n []
+pieces-at [] bytes from n within = absurd (omega arith)
+pieces-at (e ∷ es) bytes from zero within = refl
+pieces-at (e ∷ es) bytes from (suc n) within = pieces-at es bytes e n (omega arith)
+
+-- the key of the next number, and those after it
+pub key_at-next : (ends bytes : List ℕ) (n : ℕ) → n < length ends → drop n (pieces ends bytes 0) ≡ key_at ends bytes n ∷ drop (n + 1) (pieces ends bytes 0)
+key_at-next ends bytes n within =
+    let few : n < length (pieces ends bytes 0) = omega (arith, length-pieces ends bytes 0) in
+    drop_more (pieces ends bytes 0) n [] few ∙ ap (λ k. k ∷ drop (n + 1) (pieces ends bytes 0)) (sym (pieces-at ends bytes 0 n within))
 
 -- an input has no more lines than bytes
 length-split_lines : (bytes : List ℕ) → length (split_lines bytes) ≤ length bytes

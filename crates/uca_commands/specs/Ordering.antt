@@ -1,5 +1,5 @@
 -- The lines of an input in the order of their keys: what went out of them, and what stopped it.
-use Rattle.std.specs.Prelude.{◌≡◌, ℕ, ◌<◌, List, [], ◌∷◌, length, map, flat_map, take, drop}
+use Rattle.std.specs.Prelude.{◌≡◌, ℕ, ◌<◌, List, length, map, flat_map}
 use Rattle.uca_weights.specs.declared.settings.Settings.{Settings}
 use Rattle.uca_io.specs.declared.writer.WriteFault.{WriteFault}
 use Rattle.uca_io.specs.WriterState.{WriterState}
@@ -8,21 +8,17 @@ use Rattle.uca_model.specs.Lines.{lines_of}
 use Rattle.uca_model.specs.OrderOutput.{IsOrderOutput, line_key}
 use Rattle.uca_model.specs.Table.{ElementTable}
 use Rattle.uca_commands.specs.Commands.{Ends}
+use Rattle.uca_commands.specs.KeyPieces.{ends_from}
 use Rattle.uca_lines.specs.Input.{ReadsLines, RefusesInput}
 use Rattle.uca_commands.specs.declared.faults.CliFault.{CliFault}
 use Rattle.uca_commands.specs.declared.faults.CliFault.TheVariants as fault
 
 -- ---- of the keys of its lines
 
--- the keys of some lines, one after the other, and how long each is
-pub record AreKeys (t : ElementTable) (s : Settings) (lines : List (List ℕ)) (bytes lengths : List ℕ) : Type 0 where
+-- the keys of some lines, one after the other, and where each ends
+pub record AreKeys (t : ElementTable) (s : Settings) (lines : List (List ℕ)) (bytes ends : List ℕ) : Type 0 where
   pub all : bytes ≡ flat_map (line_key t s) lines
-  pub long : lengths ≡ map (λ line. length (line_key t s line)) lines
-
--- pieces of some bytes, one after the other, of these lengths
-abbrev pub cut_up : List ℕ → List ℕ → List (List ℕ)
-cut_up [] bytes = []
-cut_up (n ∷ ns) bytes = take n bytes ∷ cut_up ns (drop n bytes)
+  pub each : ends ≡ ends_from 0 (map (line_key t s) lines)
 
 -- ---- of an input that was read
 

@@ -1,20 +1,34 @@
-ghost use Rattle.std.specs.Prelude.{◌≡◌, ◌<◌, get_or};
+ghost use Rattle.std.specs.Prelude.{◌≡◌, ◌<◌, ◌∷◌, [], length, drop, get_or};
+ghost use Rattle.uca_model.specs.Lines.{lines_of};
 ghost use Rattle.uca_model.specs.SortKey.{key_order};
 ghost use Rattle.uca_commands.specs.KeyFronts.{IsFront};
+ghost use Rattle.uca_commands.specs.KeyPieces.{key_at, piece};
 
 use std::cmp::Ordering;
+use uca_lines::first_line;
 
 /// How many bytes the front of a key has.
 const FRONT: usize = 8;
+
+/// The lines of an input, with their sort keys: one key after the other, and where each ends.
+#[derive(Clone, Copy)]
+pub(crate) struct KeyedLines<'a> {
+    pub(crate) input: &'a [u8],
+    pub(crate) keys: &'a [u8],
+    pub(crate) ends: &'a [usize],
+}
 
 /// A line and its sort key.
 #[derive(Clone, Copy)]
 pub(crate) struct KeyedLine<'a> {
     // The first bytes of the key as a number, so that most comparisons of lines look at no key.
     front: u64,
-    pub(crate) key: &'a [u8],
-    pub(crate) line: &'a [u8],
-    ghost fronts: { IsFront key.now front },
+    of: &'a KeyedLines<'a>,
+    // The line's number, from 0, and where it begins. Numbers take half the room of what they name.
+    number: u32,
+    start: u32,
+    ghost begins: { start < length of.now.input.now },
+    ghost fronts: { IsFront (key_at of.now.ends.now of.now.keys.now number) front },
 }
 
 // The byte at a place of a key, zero after its end.
@@ -38,22 +52,86 @@ fn front_of(key: &[u8]) -> u64
     front
 }
 
-impl<'a> KeyedLine<'a> {
-    /// A line with its sort key.
-    pub(crate) fn new(key: &'a [u8], line: &'a [u8]) -> KeyedLine<'a>
-        ensures key { result.key.now ≡ key.now }
-        ensures line { result.line.now ≡ line.now }
+// Where a key ends. There is none of this number: 0.
+fn end_of(ends: &[usize], number: usize) -> usize
+    ensures { result ≡ get_or ends.now number 0 }
+{
+    match ends.get(number) {
+        Some(end) => *end,
+        None => 0,
+    }
+}
+
+// Where a key starts: at the end of the one before.
+fn start_of(ends: &[usize], number: usize) -> usize
+    ensures { result ≡ get_or (0 ∷ ends.now) number 0 }
+{
+    if number == 0 {
+        return 0;
+    }
+    end_of(ends, number - 1)
+}
+
+// The bytes from one place to another, as many of them as there are.
+fn bytes_between(bytes: &[u8], from: usize, to: usize) -> &[u8]
+    ensures { result.now ≡ piece bytes.now from to }
+{
+    let rest = &bytes[from.min(bytes.len())..];
+    &rest[..to.saturating_sub(from).min(rest.len())]
+}
+
+impl<'a> KeyedLines<'a> {
+    /// The sort key of a line.
+    fn key(&self, number: usize) -> &'a [u8]
+        ensures { result.now ≡ key_at self.now.ends.now self.now.keys.now number }
     {
-        let front = front_of(key);
-        KeyedLine { front, key, line }
+        bytes_between(
+            self.keys,
+            start_of(self.ends, number),
+            end_of(self.ends, number),
+        )
+    }
+}
+
+impl<'a> KeyedLine<'a> {
+    ghost use Rattle.uca_commands.specs.KeyedLines.{key_of, line_of};
+
+    /// The line of this number, which starts at this place.
+    pub(crate) fn new(of: &'a KeyedLines<'a>, number: u32, start: u32) -> KeyedLine<'a>
+        requires { start < length of.now.input.now }
+        ensures key { key_of result ≡ key_at of.now.ends.now of.now.keys.now number }
+        ensures line { line_of result ≡ get_or (lines_of (drop start of.now.input.now)) 0 [] }
+    {
+        let front = front_of(of.key(number as usize));
+        KeyedLine {
+            front,
+            of,
+            number,
+            start,
+        }
+    }
+
+    /// The line.
+    pub(crate) fn line(&self) -> &'a [u8]
+        ensures { result.now ≡ line_of self.now }
+    {
+        let (line, _) = first_line(&self.of.input[self.start as usize..]);
+        line
+    }
+
+    /// The sort key.
+    fn key(&self) -> &'a [u8]
+        ensures { result.now ≡ key_of self.now }
+    {
+        self.of.key(self.number as usize)
     }
 
     /// The order of the sort keys of two lines.
     pub(crate) fn compare_keys(&self, other: &KeyedLine<'_>) -> Ordering
-        ensures { result ≡ key_order self.now.key.now other.now.key.now }
+        ensures { result ≡ key_order (key_of self.now) (key_of other.now) }
     {
         match self.front.cmp(&other.front) {
-            Ordering::Equal => self.key.cmp(other.key),
+            Ordering::Equal => self.key().cmp(other.key()),
             order => order,
         }
     }

@@ -1,7 +1,7 @@
 -- The report of a file's lines, and why a file is refused.
-use Rattle.std.proofs.Common.{◌≡◌, ℕ, [], sym, subst}
+use Rattle.std.proofs.Common.{◌≡◌, ℕ, [], subst}
 use Rattle.uca_io.specs.LineFold.{with_text}
-use Rattle.uca_io.specs.LineReader.{FailsFirst, GivesText, IsFaulty, StopsBy}
+use Rattle.uca_io.specs.LineReader.{GivesText, IsFaulty, StopsBy}
 use Rattle.uca_io.specs.Reader.{ReaderState}
 use Rattle.uca_io.specs.declared.line_reader.LineCause.{LineCause}
 use Rattle.uca_io.specs.declared.line_reader.LineCause.TheVariants as lines

@@ -1,12 +1,12 @@
 -- What the words of a test line say, and the text that is made of them.
-use Rattle.std.proofs.Common.{◌≡◌, ℕ, ◌+◌, ◌≤◌, Bool, true, false, not, ◌&&◌, ◌==◌, List, [], ◌∷◌, ◌++◌, length, Option, Some, None, encode_utf8, encode_utf8_all, append-nil, length-append, refl, sym, ap, ap₂, ◌∙◌, arith, inl, inr, ne_eqb}
+use Rattle.std.proofs.Common.{◌≡◌, ℕ, ◌+◌, ◌≤◌, Bool, true, false, not, ◌&&◌, ◌==◌, List, [], ◌∷◌, ◌++◌, length, Option, Some, None, encode_utf8, encode_utf8_all, append-nil, length-append, refl, sym, subst, ap, ap₂, ◌∙◌, arith, inl, inr, ne_eqb}
 use Rattle.std.proofs.lemmas.Bool.{and_from, and_parts, cases_Bool, cond-true, cond-false, le-leb, leb-true}
 use Rattle.std.proofs.lemmas.List.Folds.{list_all-append}
 use Rattle.std.proofs.lemmas.List.Sums.{AllPass-from_list_all, list_all-from_AllPass}
 use Rattle.std.proofs.lemmas.Str.{chars_from_encodes, encodes-append}
 use Rattle.std.specs.List.{list_all}
 use Rattle.std.specs.Option.{ok_or, option_and_then}
-use Rattle.std.specs.Prelude.{MatchOption, Result, Ok, Err, nat_le}
+use Rattle.std.specs.Prelude.{Result, Ok, Err, nat_le}
 use Rattle.std.specs.Str.{chars}
 use Rattle.unicode_normalization.specs.Forms.{nfd}
 use Rattle.uca_weights.specs.declared.limits.TheConstants.{MAX_DECOMPOSITION, MAX_RUN}
@@ -17,9 +17,8 @@ use Rattle.uca_model.specs.Table.{ElementTable}
 use Rattle.uca_io.specs.LineFold.{map_ok}
 use Rattle.uca_model.specs.TableText.{◌>>=◌, skip_blanks, words}
 use Rattle.uca_model.specs.TestFile.{TestCause, TestLine, bad_line, is_test, points_after, points_of, some_points, test_point, tests_of_line}
-use Rattle.uca_conform.specs.Comparing.{Compared, can_compare, with_line, with_skipped, with_tests, with_text}
+use Rattle.uca_conform.specs.Comparing.{Compared, with_line, with_skipped, with_tests, with_text}
 use Rattle.uca_conform.specs.TestReading.{HasPoints, SaysPoints}
-use Rattle.uca_conform.specs.declared.test_text.TestText.{TestText}
 use lib.Utf8.{scalar, scalars}
 
 -- Safe texts
@@ -113,35 +112,29 @@ known bytes rest text is_some is_text has none some =
     says_points bytes rest text is_some is_text has none
     ∙ ap (λ (o : Option (List ℕ)). ok_or o bad_line) (cond-false _ _ _ (not-true (length has.points == 0) (sym has.some ∙ some)))
 
--- a line with a surrogate
-pub points-skipped : (bytes rest text : List ℕ) (is_some is_text : Bool) → HasPoints bytes rest text is_some is_text → words rest ≡ [] → is_some ≡ true → is_text ≡ false → SaysPoints (says bytes) None
-points-skipped bytes rest text is_some is_text has none some other = record {
+-- after the last word, a line with a surrogate, or whose text was looked at
+pub points-read : (bytes rest text : List ℕ) (is_some is_text is_compared : Bool) → HasPoints bytes rest text is_some is_text → words rest ≡ [] → is_some ≡ true
+    → (is_text ≡ false → is_compared ≡ false) → (is_text ≡ true → is_compared ≡ is_safe (chars text)) → SaysPoints (says bytes) is_compared text
+points-read bytes rest text is_some is_text is_compared has none some not_text is_read = record {
   points = has.points;
   known = known bytes rest text is_some is_text has none some;
-  compared = ap (λ (b : Bool). b && is_safe has.points) (sym has.scalars ∙ other);
-}
-
--- a line whose text is looked at
-pub points-checked : (bytes rest text : List ℕ) (is_some is_text : Bool) (found : Option TestText) → HasPoints bytes rest text is_some is_text → words rest ≡ [] → is_some ≡ true → is_text ≡ true
-    → MatchOption found (is_safe (chars text) ≡ false) (λ x. (is_safe (chars text) ≡ true) × (x.text.bytes ≡ text)) → SaysPoints (says bytes) found
-points-checked bytes rest text is_some is_text found has none some all safe = record {
-  points = has.points;
-  known = known bytes rest text is_some is_text has none some;
-  compared = by found safe;
+  compared = elim (cases_Bool is_text) [
+    | inl e ↦ ap₂ (λ (x y : Bool). x && y) (sym has.scalars ∙ e) (ap is_safe (sym (chars_are e)) ∙ sym (is_read e))
+    | inr e ↦ ap (λ (b : Bool). b && is_safe has.points) (sym has.scalars ∙ e) ∙ sym (not_text e)
+  ];
+  encoded = λ is. elim (cases_Bool is_text) [
+    | inl e ↦ chars_are e
+    | inr e ↦ (let other : true ≡ false = sym is ∙ not_text e in cc)
+  ];
 }
   where
-    scalars_are : list_all scalar has.points ≡ true
-    scalars_are = sym has.scalars ∙ all
+    chars_are : is_text ≡ true → chars text ≡ has.points
+    chars_are all = ap chars (has.encoded all) ∙ chars_of_points has.points (sym has.scalars ∙ all)
 
-    chars_are : chars text ≡ has.points
-    chars_are = ap chars (has.encoded all) ∙ chars_of_points has.points scalars_are
-
-    compares : (b : Bool) → is_safe (chars text) ≡ b → can_compare has.points ≡ b
-    compares b is = ap₂ (λ (x y : Bool). x && y) scalars_are (ap is_safe (sym chars_are) ∙ is)
-
-    by : (o : Option TestText) → MatchOption o (is_safe (chars text) ≡ false) (λ x. (is_safe (chars text) ≡ true) × (x.text.bytes ≡ text)) → MatchOption o (can_compare has.points ≡ false) (λ x. (can_compare has.points ≡ true) × (chars x.text.bytes ≡ has.points))
-    by None unsafe = compares false unsafe
-    by (Some x) safe = (compares true safe.0, ap chars safe.1 ∙ chars_are)
+-- the text of a line that is compared is safe
+pub compared-safe : (said : Result (List ℕ) TestCause) (is_compared : Bool) (text : List ℕ) → SaysPoints said is_compared text → is_compared ≡ true → IsSafe (chars text)
+compared-safe said is_compared text has is =
+    subst IsSafe (sym (has.encoded is)) (safe_from has.points (and_parts (list_all scalar has.points) (is_safe has.points) (has.compared ∙ is)).1)
 
 -- Lines
 
@@ -174,11 +167,11 @@ pub line-fault : (t : ElementTable) (s : Settings) (n : ℕ) (sum : Compared) (l
 line-fault t s n sum line text cause is test says = line-test t s n sum line text (Err cause) is test says
 
 -- a test line that is not compared
-pub line-skipped : (t : ElementTable) (s : Settings) (n : ℕ) (sum : Compared) (line text : List ℕ) → text ≡ without_return line → true ≡ is_test (skip_blanks text) → SaysPoints (points_of text) None → with_line t s n sum line ≡ Ok (with_skipped sum)
-line-skipped t s n sum line text is test has = line-test t s n sum line text (Ok has.points) is test has.known ∙ ap Ok (cond-false _ _ _ has.compared)
+pub line-skipped : (t : ElementTable) (s : Settings) (n : ℕ) (sum : Compared) (line text read : List ℕ) → text ≡ without_return line → true ≡ is_test (skip_blanks text) → SaysPoints (points_of text) false read → with_line t s n sum line ≡ Ok (with_skipped sum)
+line-skipped t s n sum line text read is test has = line-test t s n sum line text (Ok has.points) is test has.known ∙ ap Ok (cond-false _ _ _ has.compared)
 
 -- a test line that is compared
-pub line-compared : (t : ElementTable) (s : Settings) (n : ℕ) (sum : Compared) (line text : List ℕ) (x : TestText) → text ≡ without_return line → true ≡ is_test (skip_blanks text) → SaysPoints (points_of text) (Some x)
-    → with_line t s n sum line ≡ Ok (with_text t s n sum (chars x.text.bytes))
-line-compared t s n sum line text x is test has =
-    line-test t s n sum line text (Ok has.points) is test has.known ∙ ap Ok (cond-true _ _ _ has.compared.0) ∙ ap (λ (points : List ℕ). Ok (with_text t s n sum points)) (sym has.compared.1)
+pub line-compared : (t : ElementTable) (s : Settings) (n : ℕ) (sum : Compared) (line text read : List ℕ) → text ≡ without_return line → true ≡ is_test (skip_blanks text) → SaysPoints (points_of text) true read
+    → with_line t s n sum line ≡ Ok (with_text t s n sum (chars read))
+line-compared t s n sum line text read is test has =
+    line-test t s n sum line text (Ok has.points) is test has.known ∙ ap Ok (cond-true _ _ _ has.compared) ∙ ap (λ (points : List ℕ). Ok (with_text t s n sum points)) (sym (has.encoded refl))

@@ -1,7 +1,8 @@
 -- The lines of a test file, as they are read.
-use Rattle.std.specs.Prelude.{◌≡◌, ℕ, ◌+◌, ◌<◌, ◌≤◌, Bool, true, false, not, ◌==◌, List, [], length, chars, encode_utf8_all, Option, Some, option_map, Result, Ok, MatchOption}
+use Rattle.std.specs.Prelude.{◌≡◌, ℕ, ◌+◌, ◌<◌, ◌≤◌, Bool, true, not, ◌==◌, List, [], length, chars, encode_utf8_all, Option, Some, None, Result, Ok, if◌then◌else◌}
 use Rattle.std.specs.List.{list_all}
 use lib.Utf8.{scalar}
+use Rattle.uca_model.specs.SafeText.{IsSafe}
 use Rattle.uca_model.specs.TableText.{words}
 use Rattle.uca_model.specs.TestFile.{TestCause, bad_line, line_too_long, points_after, read, too_large}
 use Rattle.uca_conform.specs.Comparing.{Compared, can_compare}
@@ -9,7 +10,6 @@ use Rattle.uca_conform.specs.Conforming.{report_in}
 use Rattle.uca_conform.specs.declared.conforming.ConformCause.{ConformCause}
 use Rattle.uca_conform.specs.declared.conforming.ConformCause.TheVariants.{LineTooLong, BadLine, TooLarge, Read}
 use Rattle.uca_conform.specs.declared.comparison.Comparison.{Comparison}
-use Rattle.uca_conform.specs.declared.test_text.TestText.{TestText}
 
 -- Faults
 
@@ -30,11 +30,12 @@ fault_of cause = Some (test_cause cause)
 
 -- Lines
 
--- the code points of a test line are known, and their text where they are compared
-pub record SaysPoints (says : Result (List ℕ) TestCause) (text : Option TestText) : Type 0 where
+-- the code points of a test line are known, and whether they are compared, and their text where they are
+pub record SaysPoints (says : Result (List ℕ) TestCause) (is_compared : Bool) (text : List ℕ) : Type 0 where
   pub points : List ℕ
   pub known : says ≡ Ok points
-  pub compared : MatchOption text (can_compare points ≡ false) (λ x. (can_compare points ≡ true) × (chars x.text.bytes ≡ points))
+  pub compared : can_compare points ≡ is_compared
+  pub encoded : is_compared ≡ true → chars text ≡ points
 
 -- the words before others said some code points, of which the scalar values are a text
 pub record HasPoints (bytes rest text : List ℕ) (is_some is_text : Bool) : Type 0 where
@@ -47,11 +48,27 @@ pub record HasPoints (bytes rest text : List ℕ) (is_some is_text : Bool) : Typ
 
 -- The lines so far
 
+-- the texts in the room of the last line that was compared, and in the other
+abbrev pub last_of : Comparison → List ℕ
+last_of c = if c.is_one then c.one.bytes else c.other.bytes
+
+abbrev pub next_of : Comparison → List ℕ
+next_of c = if c.is_one then c.other.bytes else c.one.bytes
+
+-- the text that was compared last, if there is one
+abbrev pub last_text : Comparison → Option (List ℕ)
+last_text c = if c.is_some then Some (chars (last_of c)) else None
+
 -- what the test lines so far amount to
 abbrev pub state_of : Comparison → Compared
-state_of c = record { report = report_in c.report; last = option_map (λ x. chars x.text.bytes) c.last }
+state_of c = record { report = report_in c.report; last = last_text c }
+
+-- the text that was compared last is safe, if there is one
+abbrev pub IsLastSafe : Comparison → Type 0
+IsLastSafe c = c.is_some ≡ true → IsSafe (chars (last_of c))
 
 -- no more lines were counted than there are before this one
 pub record IsCounted (c : Comparison) (n : ℕ) : Type 0 where
   pub lines : c.report.lines < n
   pub skipped : c.report.skipped ≤ c.report.lines
+  pub last : IsLastSafe c

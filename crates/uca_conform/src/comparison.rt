@@ -1,23 +1,31 @@
-ghost use Rattle.std.specs.Prelude.{◌≡◌, ◌≤◌, ◌<◌, ◌+◌, ◌^◌, length, chars, IfErr};
+ghost use Rattle.std.specs.Prelude.{◌≡◌, ◌≤◌, ◌<◌, ◌+◌, ◌^◌, false, length, chars, Err, IfErr, IfOk};
 ghost use Rattle.uca_weights.specs.declared.limits.TheConstants.{MAX_LINE};
 ghost use Rattle.uca_io.specs.LineReader.{Leads};
+ghost use Rattle.uca_model.specs.SafeText.{IsSafe};
+ghost use Rattle.uca_model.specs.TestFile.{points_of};
 ghost use Rattle.uca_conform.specs.Comparing.{is_below, none_compared, with_line, with_skipped, with_text};
-ghost use Rattle.uca_conform.specs.TestReading.{fault_of, state_of, IsCounted, IsOfFile};
+ghost use Rattle.uca_conform.specs.TestReading.{fault_of, next_of, state_of, test_cause, IsCounted, IsLastSafe, IsOfFile, SaysPoints};
 
 use crate::conforming::{ConformCause, Conformance};
 use crate::test_line::{is_test, text_of_test};
-use crate::test_text::TestText;
+use arrayvec::ArrayString;
 use uca_io::lines::without_return;
 use uca_levels::compare;
 use uca_table::Table;
-use uca_weights::Settings;
+use uca_weights::{MAX_LINE, Settings};
+use uca_window::Passage;
 
-/// What the test lines so far amount to.
-#[derive(Clone, Copy)]
+/// What the test lines so far amount to. Their texts lie in two rooms by turns, since a copy of a room would take longer
+/// than most comparisons do.
+#[derive(Drop)]
 pub(crate) struct Comparison {
     pub(crate) report: Conformance,
-    // What was compared last.
-    pub(crate) last: Option<TestText>,
+    one: ArrayString<MAX_LINE>,
+    other: ArrayString<MAX_LINE>,
+    // Whether there is a last text yet.
+    is_some: bool,
+    // Whether it lies in the first room.
+    is_one: bool,
 }
 
 /// Before the first line.
@@ -25,6 +33,7 @@ pub(crate) fn nothing_compared() -> Comparison
     ensures state { state_of result ≡ none_compared }
     ensures lines { result.report.lines ≡ 0 }
     ensures skipped { result.report.skipped ≡ 0 }
+    ensures none { result.is_some ≡ false }
 {
     Comparison {
         report: Conformance {
@@ -32,37 +41,71 @@ pub(crate) fn nothing_compared() -> Comparison
             skipped: 0,
             first_failure: None,
         },
-        last: None,
+        one: ArrayString::new(),
+        other: ArrayString::new(),
+        is_some: false,
+        is_one: false,
     }
 }
 
-/// Whether a text is below the one that was compared before it.
-fn is_below(comparison: &Comparison, t: &Table, s: Settings, text: &TestText) -> bool
-    ensures { result ≡ is_below t.now s (state_of comparison.now).last (chars text.now.text.bytes) }
+/// Reads the text of a test line into the room that has not the last one, and returns whether it is compared.
+fn read_next(comparison: &mut Comparison, line: &[u8]) -> Result<bool, ConformCause>
+    requires { length line.now ≤ MAX_LINE }
+    ensures points { IfOk result (λ is_compared. SaysPoints (points_of line.now) is_compared (next_of comparison.new)) }
+    ensures fault { IfErr result (λ cause. points_of line.now ≡ Err (test_cause cause)) }
+    ensures of_file { IfErr result IsOfFile }
+    ensures state { state_of comparison.new ≡ state_of comparison.old }
+    ensures report { comparison.new.report ≡ comparison.old.report }
+    ensures safe { IsLastSafe comparison.old → IsLastSafe comparison.new }
 {
-    match &comparison.last {
-        Some(before) => compare(t, s, &before.passage(), &text.passage()).is_gt(),
-        None => false,
+    if comparison.is_one {
+        text_of_test(line, &mut comparison.other)
+    } else {
+        text_of_test(line, &mut comparison.one)
     }
 }
 
-/// Adds a test line that is compared.
-fn add_text(comparison: &mut Comparison, t: &Table, s: Settings, number: u64, text: TestText)
-    requires { comparison.old.report.lines + 1 < 2 ^ 64 }
-    ensures { state_of comparison.new ≡ with_text t.now s number (state_of comparison.old) (chars text.text.bytes) }
+/// Whether the text that was read is below the one that was compared before it.
+fn is_below(comparison: &Comparison, t: &Table, s: Settings) -> bool
+    requires last { IsLastSafe comparison.now }
+    requires next { IsSafe (chars (next_of comparison.now)) }
+    ensures { result ≡ is_below t.now s (state_of comparison.now).last (chars (next_of comparison.now)) }
 {
-    if comparison.report.first_failure.is_none() && is_below(comparison, t, s, &text) {
+    if !comparison.is_some {
+        return false;
+    }
+    let one = comparison.one.as_str();
+    let other = comparison.other.as_str();
+    let (last, next) = if comparison.is_one {
+        (one, other)
+    } else {
+        (other, one)
+    };
+    compare(t, s, &Passage::of_safe(last), &Passage::of_safe(next)).is_gt()
+}
+
+/// Adds the test line that was read, which is compared.
+fn add_text(comparison: &mut Comparison, t: &Table, s: Settings, number: u64)
+    requires lines { comparison.old.report.lines + 1 < 2 ^ 64 }
+    requires last { IsLastSafe comparison.old }
+    requires next { IsSafe (chars (next_of comparison.old)) }
+    ensures sum { state_of comparison.new ≡ with_text t.now s number (state_of comparison.old) (chars (next_of comparison.old)) }
+    ensures last { IsLastSafe comparison.new }
+{
+    if comparison.report.first_failure.is_none() && is_below(comparison, t, s) {
         comparison.report.first_failure = Some(number);
     }
     comparison.report.lines += 1;
-    comparison.last = Some(text);
+    comparison.is_some = true;
+    comparison.is_one = !comparison.is_one;
 }
 
 /// Adds a test line that isn't compared.
 fn add_skipped(comparison: &mut Comparison)
     requires lines { comparison.old.report.lines + 1 < 2 ^ 64 }
     requires skipped { comparison.old.report.skipped ≤ comparison.old.report.lines }
-    ensures { state_of comparison.new ≡ with_skipped (state_of comparison.old) }
+    ensures sum { state_of comparison.new ≡ with_skipped (state_of comparison.old) }
+    ensures last { IsLastSafe comparison.old → IsLastSafe comparison.new }
 {
     comparison.report.lines += 1;
     comparison.report.skipped += 1;
@@ -86,13 +129,13 @@ pub(crate) fn add_line(
     if !is_test(line) {
         return Ok(());
     }
-    match text_of_test(line) {
-        Ok(Some(text)) => {
-            add_text(comparison, t, s, number, text);
-            Ok(())
-        }
-        Ok(None) => {
-            add_skipped(comparison);
+    match read_next(comparison, line) {
+        Ok(is_compared) => {
+            if is_compared {
+                add_text(comparison, t, s, number);
+            } else {
+                add_skipped(comparison);
+            }
             Ok(())
         }
         Err(cause) => Err(cause),

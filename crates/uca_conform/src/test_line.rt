@@ -7,7 +7,7 @@ ghost use Rattle.uca_model.specs.TestFile.{bad_line, ends_points, is_test, point
 ghost use Rattle.uca_conform.specs.TestReading.{test_cause, IsOfFile, SaysPoints};
 
 use crate::conforming::ConformCause;
-use crate::test_text::{TestText, checked, push_point};
+use crate::test_text::{is_safe, push_point};
 use arrayvec::ArrayString;
 use uca_io::digits::number;
 use uca_io::words::{next_word, skip_blanks};
@@ -34,14 +34,14 @@ fn test_point(digits: &[u8]) -> Option<u32>
     }
 }
 
-/// The text that some words say, or `None` where it isn't compared.
-fn text_of_words(bytes: &[u8]) -> Result<Option<TestText>, ConformCause>
+/// Puts the text that some words say in place of another, and returns whether it is compared.
+fn text_of_words(bytes: &[u8], text: &mut ArrayString<MAX_LINE>) -> Result<bool, ConformCause>
     requires { length bytes.now ≤ MAX_LINE }
-    ensures points { IfOk result (SaysPoints (ok_or (option_and_then some_points (points_after [] (words bytes.now))) bad_line)) }
+    ensures points { IfOk result (λ is_compared. SaysPoints (ok_or (option_and_then some_points (points_after [] (words bytes.now))) bad_line) is_compared text.new.bytes) }
     ensures fault { IfErr result (λ cause. ok_or (option_and_then some_points (points_after [] (words bytes.now))) bad_line ≡ Err (test_cause cause)) }
     ensures of_file { IfErr result IsOfFile }
 {
-    let mut text: ArrayString<MAX_LINE> = ArrayString::new();
+    text.clear();
     let mut is_some = false;
     let mut is_text = true;
     let mut rest = bytes;
@@ -49,7 +49,7 @@ fn text_of_words(bytes: &[u8]) -> Result<Option<TestText>, ConformCause>
         let Some(point) = test_point(word) else {
             return Err(ConformCause::BadLine);
         };
-        let is_scalar = push_point(&mut text, point);
+        let is_scalar = push_point(text, point);
         is_text = is_text && is_scalar;
         is_some = true;
         rest = others;
@@ -57,7 +57,7 @@ fn text_of_words(bytes: &[u8]) -> Result<Option<TestText>, ConformCause>
     if !is_some {
         return Err(ConformCause::BadLine);
     }
-    if is_text { Ok(checked(text)) } else { Ok(None) }
+    Ok(is_text && is_safe(text.as_str()))
 }
 
 /// How many bytes stand before the first `;` or `#`.
@@ -77,15 +77,18 @@ fn points_len(line: &[u8]) -> usize
     len
 }
 
-/// The text of a test line, or `None` where it isn't compared.
+/// Puts the text of a test line in place of another, and returns whether it is compared.
 #[tactic(auto, unfolding(uca_model::specs::TestFile::points_of))]
-pub(crate) fn text_of_test(line: &[u8]) -> Result<Option<TestText>, ConformCause>
+pub(crate) fn text_of_test(
+    line: &[u8],
+    text: &mut ArrayString<MAX_LINE>,
+) -> Result<bool, ConformCause>
     requires { length line.now ≤ MAX_LINE }
-    ensures points { IfOk result (SaysPoints (points_of line.now)) }
+    ensures points { IfOk result (λ is_compared. SaysPoints (points_of line.now) is_compared text.new.bytes) }
     ensures fault { IfErr result (λ cause. points_of line.now ≡ Err (test_cause cause)) }
     ensures of_file { IfErr result IsOfFile }
 {
-    text_of_words(&line[..points_len(line)])
+    text_of_words(&line[..points_len(line)], text)
 }
 
 /// Whether a line is a test line: it has a byte but for blanks, and the first one isn't `#`.

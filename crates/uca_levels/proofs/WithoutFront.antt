@@ -1,5 +1,5 @@
 -- Two texts without a common front have the order of the whole texts.
-use Rattle.std.proofs.Common.{◌⊎◌, ◌≡◌, ℕ, zero, suc, ◌-◌, ◌≤◌, ◌==◌, List, [], ◌∷◌, ◌++◌, take, drop, chars, IsUtf8, refl, sym, ap, subst, ◌∙◌, arith, inl, inr, append-nil}
+use Rattle.std.proofs.Common.{◌⊎◌, ◌≡◌, ℕ, zero, suc, ◌-◌, ◌≤◌, ◌==◌, List, [], ◌∷◌, ◌++◌, Option, take, drop, chars, IsUtf8, refl, sym, ap, subst, ◌∙◌, arith, inl, inr, append-nil}
 use Rattle.std.proofs.lemmas.Bool.{cases_Bool, cond-true, cond-false}
 use Rattle.std.proofs.lemmas.List.{take-append-drop}
 use Rattle.std.proofs.lemmas.Str.{chars-append, IsUtf8-take}
@@ -22,6 +22,7 @@ use Rattle.uca_model.proofs.StandAloneLemmas.{elements_none}
 use Rattle.uca_model.proofs.SafeCutLemmas.{IsCut-from, level_list-cut, IsSafe-back}
 use Rattle.uca_window.specs.declared.passage.Passage.{Passage}
 use Rattle.uca_window.specs.Passage.{bytes_of, text_of}
+use Rattle.uca_levels.specs.FirstWeight.{GoesOnWith, OrderTexts, going_on}
 use Rattle.uca_levels.specs.WithoutFront.{MayFollow, AreWithoutFront}
 
 -- ---- level lists
@@ -93,20 +94,30 @@ left-none t s a b x y h none_x none_y =
 
 -- ---- their bytes
 
+-- the characters before a place and those after it
+parts-at : (text left : List ℕ) (at : ℕ) → IsUtf8 text → IsCharBoundary text at → left ≡ drop at text → chars text ≡ chars (take at text) ++ chars left
+parts-at text left at utf8 inside e =
+    ap chars (sym (take-append-drop at text)) ∙ chars-append (take at text) (drop at text) (IsUtf8-take text at utf8 inside) ∙ ap (λ l. chars (take at text) ++ chars l) (sym e)
+
 -- what is left from a place on, up to which the bytes are the same
 pub left-at : (t : ElementTable) (a b x y : List ℕ) (at : ℕ) → IsUtf8 a → IsUtf8 b → IsCharBoundary a at → IsCharBoundary b at → take at a ≡ take at b → x ≡ drop at a → y ≡ drop at b
     → MayFollow t (chars x) → MayFollow t (chars y) → AreWithoutFront t (chars a) (chars b) (chars x) (chars y)
-left-at t a b x y at utf8_a utf8_b inside_a inside_b same of_a of_b may_a may_b =
-    record {
-      front = chars (take at a);
-      first = parts a x utf8_a inside_a of_a;
-      second = parts b y utf8_b inside_b of_b ∙ ap (λ f. chars f ++ chars y) (sym same);
-      follow = inr (may_a, may_b);
-    }
-  where
-    parts : (text left : List ℕ) → IsUtf8 text → IsCharBoundary text at → left ≡ drop at text → chars text ≡ chars (take at text) ++ chars left
-    parts text left utf8 inside e =
-        ap chars (sym (take-append-drop at text)) ∙ chars-append (take at text) (drop at text) (IsUtf8-take text at utf8 inside) ∙ ap (λ l. chars (take at text) ++ chars l) (sym e)
+left-at t a b x y at utf8_a utf8_b inside_a inside_b same of_a of_b may_a may_b = record {
+  front = chars (take at a);
+  first = parts-at a x at utf8_a inside_a of_a;
+  second = parts-at b y at utf8_b inside_b of_b ∙ ap (λ f. chars f ++ chars y) (sym same);
+  follow = inr (may_a, may_b);
+}
+
+-- the texts have the order of what they go on with from there
+pub orders-after : (t : ElementTable) (v : Variable) (a b left right : List ℕ) (at : ℕ) (x y : Option ℕ) (o : Ordering) → IsUtf8 a → IsUtf8 b → IsCharBoundary a at → IsCharBoundary b at → take at a ≡ take at b → left ≡ drop at a → right ≡ drop at b
+    → GoesOnWith x (chars left) → GoesOnWith y (chars right) → OrderTexts t v x y o → OrdersLevel 1 (level_list t v (chars a) 1) (level_list t v (chars b) 1) o
+orders-after t v a b left right at x y o utf8_a utf8_b inside_a inside_b same of_a of_b on_a on_b orders =
+    let front = chars (take at a) in
+    let is_a : chars a ≡ front ++ going_on x on_a.later = parts-at a left at utf8_a inside_a of_a ∙ ap (λ l. front ++ l) on_a.same in
+    let is_b : chars b ≡ front ++ going_on y on_b.later = parts-at b right at utf8_b inside_b of_b ∙ ap (λ f. chars f ++ chars right) (sym same) ∙ ap (λ l. front ++ l) on_b.same in
+    subst (λ l. OrdersLevel 1 (level_list t v l 1) (level_list t v (chars b) 1) o) (sym is_a)
+    (subst (λ l. OrdersLevel 1 (level_list t v (front ++ going_on x on_a.later) 1) (level_list t v l 1) o) (sym is_b) (orders front on_a.later on_b.later))
 
 pub left-whole : (t : ElementTable) (a b : List ℕ) → AreWithoutFront t a b a b
 left-whole t a b = record { front = []; first = refl; second = refl; follow = inl refl }

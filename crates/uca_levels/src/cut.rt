@@ -1,4 +1,5 @@
 ghost use Rattle.std.specs.Prelude.{◌≡◌, IsTrue, chars, length, take, ◌+◌, ◌≤◌};
+ghost use Rattle.std.specs.Str.{IsCharBoundary};
 ghost use Rattle.std.specs.Simd.Lanes.{chunk};
 ghost use Rattle.uca_model.specs.SafeCut.{is_cut};
 ghost use Rattle.uca_levels.specs.WithoutFront.{AreWithoutFront, MayFollow};
@@ -68,14 +69,43 @@ fn common_len(a: &[u8], b: &[u8]) -> usize
     at
 }
 
-/// What is left of two texts from their last common place on at which both may be cut. What stands before it can't
-/// decide their order.
-pub(crate) fn without_front<'t>(t: &Table, a: &'t str, b: &'t str) -> (&'t str, &'t str)
-    ensures { AreWithoutFront t.now (chars a.now) (chars b.now) (chars result.0.now) (chars result.1.now) }
+// Whether no character of two texts lies on both sides of a place.
+fn are_whole(a: &str, b: &str, at: usize) -> bool
+    ensures { IsTrue result → IsCharBoundary a.now at × IsCharBoundary b.now at }
+{
+    a.is_char_boundary(at) && b.is_char_boundary(at)
+}
+
+/// How many bytes of characters two texts have in common from their start.
+pub(crate) fn common_front(a: &str, b: &str) -> usize
+    ensures in_a { IsCharBoundary a.now result }
+    ensures in_b { IsCharBoundary b.now result }
+    ensures same { take result a.now ≡ take result b.now }
 {
     let mut at = common_len(a.as_bytes(), b.as_bytes());
     'back: while at > 0 {
-        if a.is_char_boundary(at) && b.is_char_boundary(at) {
+        if are_whole(a, b, at) {
+            return at;
+        }
+        at -= 1;
+    }
+    0
+}
+
+/// What is left of two texts from the last place on at which both may be cut, of those in the bytes that they have in
+/// common. What stands before it can't decide their order.
+pub(crate) fn without_front<'t>(
+    t: &Table,
+    a: &'t str,
+    b: &'t str,
+    common: usize,
+) -> (&'t str, &'t str)
+    requires { take common a.now ≡ take common b.now }
+    ensures { AreWithoutFront t.now (chars a.now) (chars b.now) (chars result.0.now) (chars result.1.now) }
+{
+    let mut at = common;
+    'back: while at > 0 {
+        if are_whole(a, b, at) {
             let left_a = a.split_at(at).1;
             let left_b = b.split_at(at).1;
             if may_follow(t, left_a) && may_follow(t, left_b) {

@@ -4,7 +4,8 @@ ghost use Rattle.uca_model.specs.DecidingLevel.{OrdersLevel};
 ghost use Rattle.uca_model.specs.SortKey.{key_order, sort_key};
 ghost use Rattle.uca_window.specs.Passage.{text_of};
 
-use crate::cut::without_front;
+use crate::cut::{common_front, without_front};
+use crate::first_weight::order_after;
 use crate::level_order::order_of_level;
 use crate::text_elements::NotAlone;
 use crate::text_weights::TextWeights;
@@ -55,15 +56,23 @@ fn order_of_texts(t: &Table, v: Variable, level: u8, a: &Passage, b: &Passage) -
 
 /// The order of the sort keys of two texts (UTS #10, section 7.4, step S4), without their keys. It takes no memory.
 ///
-/// The bytes that both texts begin with are passed over, up to a place at which both may be cut.
+/// The characters that both texts begin with are passed over. Where the next ones have first weights that nothing around them
+/// changes, these decide, if they differ. Else the texts are compared from the last place on at which both may be cut.
 pub fn compare(t: &Table, s: Settings, a: &Passage, b: &Passage) -> Ordering
     ensures { result ≡ key_order (sort_key t.now s (text_of a.now)) (sort_key t.now s (text_of b.now)) }
 {
-    let (left_a, left_b) = without_front(t, a.as_str(), b.as_str());
+    let _longest = t.longest();
+    let (text_a, text_b) = (a.as_str(), b.as_str());
+    let common = common_front(text_a, text_b);
+    if let Some(order) = order_after(t, s.weighting, text_a, text_b, common) {
+        if order.is_ne() {
+            return order;
+        }
+    }
+    let (left_a, left_b) = without_front(t, text_a, text_b, common);
     if left_a.is_empty() && left_b.is_empty() {
         return Ordering::Equal;
     }
-    let _longest = t.longest();
     let first = Passage::of_safe(left_a);
     let second = Passage::of_safe(left_b);
     let last = s.levels();

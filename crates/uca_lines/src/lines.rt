@@ -1,4 +1,4 @@
-ghost use Rattle.std.specs.Prelude.{◌≡◌, ◌≢◌, ◌∷◌, ℕ, ◌+◌, ◌<◌, ◌≤◌, length, drop, slice_index, All, IfErr, IfOk, IsFalse, IsTrue, IsUtf8, MatchResult};
+ghost use Rattle.std.specs.Prelude.{◌≡◌, ◌≢◌, ◌∷◌, ℕ, ◌+◌, ◌-◌, ◌<◌, ◌≤◌, length, drop, slice_index, All, IfErr, IfOk, IsFalse, IsTrue, IsUtf8, MatchResult};
 ghost use Rattle.uca_weights.specs.declared.limits.TheConstants.{MAX_INPUT};
 ghost use Rattle.uca_model.specs.Lines.{line_feed, lines_of, IsTextLine};
 ghost use Rattle.uca_lines.specs.Input.{HasInputFault, HasFaultAt, IsOneLine, ReadsLines, ReadsOneLine, RefusesInput, RefusesOneLine};
@@ -42,6 +42,7 @@ fn split_line(bytes: &[u8]) -> (&[u8], &[u8])
     requires { 0 < length bytes.now }
     ensures parts { lines_of bytes.now ≡ result.0.now ∷ lines_of result.1.now }
     ensures shorter { length result.1.now < length bytes.now }
+    ensures after { result.1.now ≡ drop (length bytes.now - length result.1.now) bytes.now }
     ensures line { IsUtf8 bytes.now → IsUtf8 result.0.now }
     ensures rest { IsUtf8 bytes.now → IsUtf8 result.1.now }
 {
@@ -54,6 +55,7 @@ pub fn first_line(bytes: &[u8]) -> (&[u8], &[u8])
     requires { 0 < length bytes.now }
     ensures parts { lines_of bytes.now ≡ result.0.now ∷ lines_of result.1.now }
     ensures shorter { length result.1.now < length bytes.now }
+    ensures after { result.1.now ≡ drop (length bytes.now - length result.1.now) bytes.now }
 {
     split_line(bytes)
 }

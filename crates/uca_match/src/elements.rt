@@ -16,6 +16,7 @@ use crate::window_match::{WindowMatch, next_match};
 use std::alloc::{AllocError, Global};
 use std::marker::Model;
 use uca_table::Table;
+use uca_table::cells::push_few;
 use uca_table::collation::push_matches;
 use uca_weights::Element;
 use uca_window::{Passage, Source, Window};
@@ -35,8 +36,8 @@ pub fn elements_of(alloc: Global, t: &Table, p: &Passage) -> Result<Vec<Element>
     Ok(elements)
 }
 
-/// Makes `out` the collation elements of a text, and `text` its characters, whatever they were before. Where both have room from
-/// a text before, most texts take no memory.
+/// Makes `out` the collation elements of a text, whatever they were before. `text` is room for characters. Where both have room
+/// from a text before, most texts take no memory.
 pub fn read_elements(
     alloc: Global,
     t: &Table,
@@ -46,11 +47,33 @@ pub fn read_elements(
 ) -> Result<(), AllocError>
     ensures { OnOk result (out.new.items ≡ elements t.now (nfd (text_of p.now))) }
 {
-    text.clear();
-    push_chars(text, p.as_str())?;
     out.clear();
+    let rest = push_alone(out, t, p.as_str())?;
+    if rest.is_empty() {
+        return Ok(());
+    }
+    text.clear();
+    push_chars(text, rest)?;
     out.reserve(text.len())?;
     t.push_elements(alloc, out, text)
+}
+
+// Appends the elements of the first characters of a text, as far as each stands alone, and returns the text after them. Most
+// texts are read to their end here, without a copy of their characters.
+fn push_alone<'s>(out: &mut Vec<Element>, t: &Table, text: &'s str) -> Result<&'s str, AllocError>
+    ensures { IfOk result (λ rest. out.new.items ++ elements t.now (nfd (chars rest.now)) ≡ out.old.items ++ elements t.now (nfd (chars text.now))) }
+{
+    let mut left = text.chars();
+    'characters: loop {
+        let rest = left.as_str();
+        let Some(c) = left.next() else {
+            return Ok(rest);
+        };
+        let Some(alone) = t.alone_before(c, left.as_str()) else {
+            return Ok(rest);
+        };
+        push_few(out, alone)?;
+    }
 }
 
 // Appends the characters of a text.

@@ -1,12 +1,8 @@
 -- Tables that lie in a list of entries whose keys rise.
-use Rattle.std.proofs.Common.{◌≡◌, ℕ, ◌≤◌, max, Bool, true, false, cond, T, List, [], ◌∷◌, length, drop, fold, map, unwrap_or, Option, Some, None, is_some, IsSome, IfSome, option_copied, Bor, refl, sym, ap, subst, ◌∙◌, arith, lit≤}
-use Rattle.std.specs.declared.cmp.Ordering.{Ordering}
+use Rattle.std.proofs.Common.{◌≡◌, ℕ, ◌≤◌, max, true, false, cond, T, List, [], ◌∷◌, length, fold, map, Option, Some, None, is_some, IfSome, option_copied, Bor, refl, sym, ap, subst, ◌∙◌, arith, lit≤}
 use Rattle.std.specs.declared.cmp.Ordering.TheVariants.{Less, Equal, Greater}
-use Rattle.std.specs.declared.vec.Vec.{Vec}
 use Rattle.std.specs.List.{All, AllByRecursion}
-use Rattle.std.specs.Ordering.{nat_cmp, eq_by_cmp, is_eq, match_ordering}
-use Rattle.std.specs.BTreeMap.{insert_entry, is_at}
-use Rattle.std.specs.Map.{lookup, keys_of, set_value}
+use Rattle.std.specs.Ordering.{nat_cmp, eq_by_cmp}
 use Rattle.std.specs.Cmp.Lexicographic.{slice_cmp, nat_list_cmp_total}
 use Rattle.std.specs.FinMap.{find, put, is_sorted, empty, insert, entries, from_sorted, entries-from_sorted, entries-insert, get-from_sorted, same_entries_map, empty_of_len, len-entries}
 use Rattle.std.specs.FinMap.Entries.{is_sorted-put, by_order}
@@ -17,55 +13,7 @@ use Rattle.uca_weights.specs.declared.range.Ideographs.{Ideographs}
 use Rattle.uca_weights.specs.declared.range.Range.{Range}
 use Rattle.uca_model.specs.UnifiedIdeographs.{AreIdeographs}
 use Rattle.uca_model.specs.Table.{key_cmp, elements_at, is_key, longest, IsEntry, IsTable, with_entry, with_ideographs}
-use Rattle.uca_table.specs.declared.fault.InsertFault.TheVariants.{Repeated}
-use Rattle.uca_table.specs.Builder.{known_fault}
-use Rattle.uca_table.specs.Stored.{AreStored, pair_in, table_of, longest_of}
-
--- the order of a map's keys
-abbrev pub vec_cmp : {Y : Type 0} → Vec ℕ Y → Vec ℕ Y → Ordering
-vec_cmp x y = slice_cmp nat_cmp x.items y.items
-
--- what the map's `insert` does is `put`
-pub put_inserted : {Y Z : Type 0} (es : List (Vec ℕ Y × Vec Element Z)) (k : Vec ℕ Y) (v : Vec Element Z) → map pair_in (insert_entry vec_cmp es k v) ≡ put key_cmp k.items v.items (map pair_in es)
-put_inserted [] k v = refl
-put_inserted {Y} {Z} (e ∷ es) k v =
-    elim (slice_cmp nat_cmp k.items e.0.items) as (λ o. map pair_in (match_ordering o ((k, v) ∷ e ∷ es) ((e.0, v) ∷ es) (e ∷ insert_entry vec_cmp es k v)) ≡ by_order o ((k.items, v.items) ∷ pair_in e ∷ map pair_in es) ((e.0.items, v.items) ∷ map pair_in es) (pair_in e ∷ put key_cmp k.items v.items (map pair_in es))) [
-      | Less ↦ refl
-      | Equal ↦ refl
-      | Greater ↦ ap (λ xs. pair_in e ∷ xs) (put_inserted es k v)
-    ]
-
--- a key of the map is one that is found among its pairs
-pub found_in : {Y Z : Type 0} (es : List (Vec ℕ Y × Vec Element Z)) (q : List ℕ) → is_some (lookup (is_at (λ (k : Vec ℕ Y). slice_cmp nat_cmp q k.items)) es) ≡ is_some (find key_cmp q (map pair_in es))
-found_in [] q = refl
-found_in (e ∷ es) q =
-    elim (eq_by_cmp key_cmp q e.0.items) as (λ b. is_some (cond b (Some e.1) (lookup (is_at (λ k. slice_cmp nat_cmp q k.items)) es)) ≡ is_some (cond b (Some e.1.items) (find key_cmp q (map pair_in es)))) [
-      | true ↦ refl
-      | false ↦ found_in es q
-    ]
-
--- the value that an insertion replaced, written back, leaves the entries as they were
-pub put_back_same : {Y Z : Type 0} (es : List (Vec ℕ Y × Vec Element Z)) (k : Vec ℕ Y) (v w : Vec Element Z) → lookup (is_at (vec_cmp k)) es ≡ Some w → keys_of (insert_entry vec_cmp es k v) ≡ keys_of es → set_value (is_at (vec_cmp k)) (insert_entry vec_cmp es k v) w ≡ es
-put_back_same [] k v w found same = absurd (omega (arith, ap length same))
-put_back_same {Y} {Z} (e ∷ es) k v w found same =
-    let test : Vec ℕ Y → Bool = is_at (vec_cmp k) in
-    (elim (slice_cmp nat_cmp k.items e.0.items) as (λ o. test e.0 ≡ is_eq o → cond (is_eq o) (Some e.1) (lookup test es) ≡ Some w → keys_of (match_ordering o ((k, v) ∷ e ∷ es) ((e.0, v) ∷ es) (e ∷ insert_entry vec_cmp es k v)) ≡ keys_of (e ∷ es)
-    → set_value test (match_ordering o ((k, v) ∷ e ∷ es) ((e.0, v) ∷ es) (e ∷ insert_entry vec_cmp es k v)) w ≡ e ∷ es) [
-      | Less ↦ λ tested f s. absurd (omega (arith, ap length s))
-      | Equal ↦ λ tested f s. ap (λ b. cond b ((e.0, w) ∷ es) ((e.0, v) ∷ set_value test es w)) tested ∙ ap (λ x. (e.0, x) ∷ es) (sym (ap (λ o. unwrap_or o w) f))
-      | Greater ↦ λ tested f s. ap (λ b. cond b ((e.0, w) ∷ insert_entry vec_cmp es k v) (e ∷ set_value test (insert_entry vec_cmp es k v) w)) tested ∙ ap (λ xs. e ∷ xs) (put_back_same es k v w f (ap (drop 1) s))
-    ]) refl found same
-
--- so do those of a map into which a key was inserted and its value then written back
-pub restored : {Y Z : Type 0} (es ns last : List (Vec ℕ Y × Vec Element Z)) (q : List ℕ) (k : Vec ℕ Y) (v w : Vec Element Z) → k.items ≡ q → lookup (is_at (vec_cmp k)) es ≡ Some w → lookup (is_at (vec_cmp k)) ns ≡ Some v → ns ≡ insert_entry vec_cmp es k v → keys_of ns ≡ keys_of es
-    → (IsSome (lookup (is_at (λ (x : Vec ℕ Y). slice_cmp nat_cmp q x.items)) ns) → last ≡ set_value (is_at (λ (x : Vec ℕ Y). slice_cmp nat_cmp q x.items)) ns w) → last ≡ es
-restored {Y} es ns last q k v w same found now grown keys back =
-    let written : IsSome (lookup (is_at (vec_cmp k)) ns) → last ≡ set_value (is_at (vec_cmp k)) ns w = subst (λ p. IsSome (lookup (is_at (λ (x : Vec ℕ Y). slice_cmp nat_cmp p x.items)) ns) → last ≡ set_value (is_at (λ (x : Vec ℕ Y). slice_cmp nat_cmp p x.items)) ns w) (sym same) back in
-    written (ap is_some now) ∙ ap (λ xs. set_value (is_at (vec_cmp k)) xs w) grown ∙ put_back_same es k v w found (ap keys_of (sym grown) ∙ keys)
-
--- what a look-up found says whether the key is known
-pub known_by : {Y Z : Type 0} (es : List (Vec ℕ Y × Vec Element Z)) (q : List ℕ) (k : Vec ℕ Y) (o : Option (Vec Element Z)) → k.items ≡ q → lookup (is_at (vec_cmp k)) es ≡ o → known_fault (map pair_in es) q ≡ cond (is_some o) (Some Repeated) None
-known_by es q k o same found = subst (λ p. known_fault (map pair_in es) p ≡ cond (is_some o) (Some Repeated) None) same (ap (λ b. cond b (Some Repeated) None) (sym (found_in es k.items) ∙ ap is_some found))
+use Rattle.uca_table.specs.Stored.{AreStored, table_of, longest_of}
 
 -- to put an entry is to insert it
 pub table_put : (es : List (List ℕ × List Element)) (rs : List Range) (k : List ℕ) (v : List Element) → T (is_sorted key_cmp es) → table_of (put key_cmp k v es) rs ≡ with_entry (table_of es rs) k v
@@ -79,7 +27,7 @@ pub table_none : (rs : List Range) → table_of [] rs ≡ record { entries = emp
 table_none rs = ap (λ m. record { entries = m; ranges = rs; ideographs = [] }) (empty_of_len (from_sorted []) (len-entries (from_sorted []) ∙ ap length (entries-from_sorted key_cmp [] tt)))
 
 -- each entry is as in a table, the new one among them
-all-put : (es : List (List ℕ × List Element)) (k : List ℕ) (v : List Element) → IsEntry (k, v) → AllByRecursion IsEntry es → AllByRecursion IsEntry (put key_cmp k v es)
+pub all-put : (es : List (List ℕ × List Element)) (k : List ℕ) (v : List Element) → IsEntry (k, v) → AllByRecursion IsEntry es → AllByRecursion IsEntry (put key_cmp k v es)
 all-put [] k v new all = (new, tt)
 all-put (e ∷ es) k v new all =
     elim (slice_cmp nat_cmp k e.0) as (λ o. AllByRecursion IsEntry (by_order o ((k, v) ∷ e ∷ es) ((e.0, v) ∷ es) (e ∷ put key_cmp k v es))) [

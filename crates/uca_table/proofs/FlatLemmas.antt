@@ -10,7 +10,7 @@ use Rattle.uca_table.specs.Flat.{entry_at, IsSlot, IsGrown}
 use Rattle.uca_table.specs.Moved.{moved}
 
 -- a part of a list is one of each that begins with it
-part-grown : {A : Type 0} (xs ys : List A) (m n : ℕ) → m + n ≤ length xs → IsGrown xs ys → take n (drop m ys) ≡ take n (drop m xs)
+pub part-grown : {A : Type 0} (xs ys : List A) (m n : ℕ) → m + n ≤ length xs → IsGrown xs ys → take n (drop m ys) ≡ take n (drop m xs)
 part-grown xs ys m n within grown =
     ap (λ l. take n (drop m l)) grown ∙ ap (take n) (drop-append-le m xs (drop (length xs) ys) (omega arith))
     ∙ take-append-le n (drop m xs) (drop (length xs) ys) (omega (arith, length-drop m xs))

@@ -17,3 +17,5 @@ pub mod IdeographLemmas
 pub mod WalkLemmas
 pub mod FirstsLemmas
 pub mod FlatLemmas
+pub mod EntryMapLemmas
+pub mod AscendingLemmas

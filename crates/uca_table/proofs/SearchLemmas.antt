@@ -71,7 +71,7 @@ in_order (e ∷ es) zero (suc j) d f sorted before within = below_at e.0 es j f 
 in_order (e ∷ es) (suc i) (suc j) d f sorted before within = in_order es i j d f (right _ _ sorted) (omega arith) (omega arith)
 
 -- an entry at a place, whichever would stand in for it past the end
-same_at : (es : List (List ℕ × List Element)) (i j : ℕ) (d f : List ℕ × List Element) → i ≡ j → j < length es → get_or es i d ≡ get_or es j f
+pub same_at : (es : List (List ℕ × List Element)) (i j : ℕ) (d f : List ℕ × List Element) → i ≡ j → j < length es → get_or es i d ≡ get_or es j f
 same_at es i j d f e within = ap (λ k. get_or es k d) e ∙ get_or_default es j d f within
 
 -- what stands before a lower key is lower

@@ -23,6 +23,10 @@ coded_ranges = coded_list coded_range
 abbrev pub coded_ideographs : Coded Ideographs
 coded_ideographs = code_by (ℕ × ℕ) (coded× coded_ℕ coded_ℕ) (λ r. (r.first, r.last)) (λ p. record { first = p.0; last = p.1 }) (λ _. refl)
 
+-- a map from keys to elements as its entries
+abbrev pub coded_map : Coded (FinMap key_cmp (List Element))
+coded_map = code (coded_list coded_ℕ) (coded_list coded_element)
+
 -- a table as its entries and its ranges
 abbrev pub coded_table : Coded ElementTable
 coded_table =

@@ -13,3 +13,5 @@ pub mod Firsts
 pub mod Flat
 pub mod Span
 pub mod Moved
+pub mod EntryMap
+pub mod Ascending

@@ -4,15 +4,10 @@ use Rattle.arrayvec.specs.ArrayVec.{ArrayVec}
 use Rattle.std.specs.List.{AllByRecursion}
 use Rattle.std.specs.FinMap.{from_sorted, is_sorted}
 use Rattle.std.specs.Borrow.{Bor}
-use Rattle.std.specs.declared.vec.Vec.{Vec}
 use Rattle.uca_weights.specs.declared.element.Element.{Element}
 use Rattle.uca_weights.specs.declared.range.Range.{Range}
 use Rattle.uca_model.specs.Table.{ElementTable, key_cmp, IsEntry, AreRanges}
 use Rattle.uca_model.specs.Ranges.{AreByFirst}
-
--- an entry of a builder's map without where it lies in memory
-abbrev pub pair_in : {Y Z : Type 0} → Vec ℕ Y × Vec Element Z → List ℕ × List Element
-pair_in e = (e.0.items, e.1.items)
 
 -- a key and its elements, as an iterator gives them
 abbrev pub key_and_elements : ArrayVec ℕ × Bor (List Element) → List ℕ × List Element

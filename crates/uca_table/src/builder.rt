@@ -1,47 +1,40 @@
-ghost use Rattle.std.specs.Prelude.{◌≡◌, max, length, [], OnOk, OnErr, IfOk, MatchResult, All, map, None, IsSome};
-ghost use Rattle.std.specs.BTreeMap.{is_at};
-ghost use Rattle.std.specs.Cmp.Lexicographic.{slice_cmp};
-ghost use Rattle.std.specs.Map.{lookup, set_value};
-ghost use Rattle.std.specs.Ordering.{nat_cmp};
+ghost use Rattle.std.specs.Prelude.{◌≡◌, max, length, [], OnOk, OnErr, IfOk, MatchResult, All, None};
 ghost use Rattle.std.specs.Char.{IsScalar};
-ghost use Rattle.std.specs.FinMap.{empty, put};
-ghost use Rattle.std.specs.List.{AllByRecursion};
-ghost use Rattle.uca_model.specs.Table.{key_cmp, IsElement, IsEntry};
-ghost use Rattle.uca_table.specs.Builder.{known_fault, reported_fault};
-ghost use Rattle.uca_table.specs.Stored.{pair_in, longest_of};
+ghost use Rattle.std.specs.FinMap.{empty};
+ghost use Rattle.uca_model.specs.Table.{IsElement};
+ghost use Rattle.uca_table.specs.Stored.{longest_of};
 
+use crate::entry_map::EntryMap;
 use crate::fault::{FinishFault, InsertFault, RangeFault};
 use crate::firsts::Firsts;
 use crate::flat::{Flat, Span};
 use crate::range_map::RangeMap;
 use crate::stored::Stored;
 use crate::table::Table;
-use std::alloc::{AllocError, Global};
-use std::collections::BTreeMap;
+use std::alloc::Global;
 use std::marker::Model;
 use uca_weights::{Element, MAX_ELEMENTS, MAX_KEY, Range};
 
 /// Collects the entries of a table, one after the other.
 #[derive(Debug, Drop)]
 pub struct TableBuilder {
-    entries: BTreeMap<Vec<char>, Vec<Element>>,
+    entries: EntryMap,
     ranges: RangeMap,
     alloc: Global,
 }
 
 impl Model for TableBuilder {
-    ghost use Rattle.std.specs.Prelude.{map};
     ghost use Rattle.uca_model.specs.Table.{ElementTable};
-    ghost use Rattle.uca_table.specs.Stored.{AreStored, pair_in, table_of};
+    ghost use Rattle.uca_table.specs.Stored.{AreStored, table_of};
     ghost use Rattle.uca_table.specs.Coded.{coded_table};
 
     ghost Value = { ElementTable };
 
     ghost coded = { coded_table };
 
-    ghost view = { λ b. table_of (map pair_in b.entries.entries) b.ranges };
+    ghost view = { λ b. table_of b.entries b.ranges };
 
-    ghost invariant = { λ b. AreStored (map pair_in b.entries.entries) b.ranges };
+    ghost invariant = { λ b. AreStored b.entries b.ranges };
 }
 
 impl TableBuilder {
@@ -53,7 +46,7 @@ impl TableBuilder {
         ensures { result ≡ record { entries = empty; ranges = []; ideographs = [] } }
     {
         TableBuilder {
-            entries: BTreeMap::new(alloc),
+            entries: EntryMap::new(alloc),
             ranges: RangeMap::new(alloc),
             alloc,
         }
@@ -80,7 +73,7 @@ impl TableBuilder {
         }
         read_key(key);
         read_elements(elements);
-        store(self.alloc, &mut self.entries, key, elements)
+        self.entries.insert(self.alloc, key, elements)
     }
 
     /// Adds the range from `first` to `last`, both of which belong to it. An assigned code point in it that has no key
@@ -103,7 +96,7 @@ impl TableBuilder {
         ensures made { MatchResult result (λ t. t ≡ self) (λ f. f.builder ≡ self) }
         ensures unlisted { IfOk result (λ t. t.ideographs ≡ []) }
     {
-        let Ok(entries) = flat_entries(self.alloc, &self.entries) else {
+        let Ok(entries) = self.entries.flat(self.alloc) else {
             return Err(FinishFault { builder: self });
         };
         let Ok(range_room) = Vec::with_capacity(self.alloc, self.ranges.len()) else {
@@ -147,77 +140,6 @@ fn read_element(element: &Element)
     let _primary = element.l1;
     let _secondary = element.l2;
     let _tertiary = element.l3;
-}
-
-/// The fault of a key where an allocation failed.
-fn fault_of_allocation(entries: &BTreeMap<Vec<char>, Vec<Element>>, key: &[char]) -> InsertFault
-    ensures { known_fault (map pair_in entries.now.entries) key.now ≡ reported_fault result }
-{
-    if entries.contains_key(key) {
-        return InsertFault::Repeated;
-    }
-    InsertFault::OutOfMemory
-}
-
-/// Gives a key of a map other elements.
-fn put_back(entries: &mut BTreeMap<Vec<char>, Vec<Element>>, key: &[char], elements: Vec<Element>)
-    ensures { IsSome (lookup (is_at (λ k. slice_cmp nat_cmp key.now k.items)) entries.old.entries) → entries.new.entries ≡ set_value (is_at (λ k. slice_cmp nat_cmp key.now k.items)) entries.old.entries elements }
-{
-    if let Some(place) = entries.get_mut(key) {
-        *place = elements;
-    }
-}
-
-/// Puts copies of a key and its elements into a map. A map that has the key stays as it is; one search finds both the key
-/// and its place.
-fn store(
-    alloc: Global,
-    entries: &mut BTreeMap<Vec<char>, Vec<Element>>,
-    key: &[char],
-    elements: &[Element],
-) -> Result<(), InsertFault>
-    ensures ok { OnOk result (map pair_in entries.new.entries ≡ put key_cmp key.now elements.now (map pair_in entries.old.entries)) }
-    ensures err { OnErr result (entries.new.entries ≡ entries.old.entries) }
-    ensures fault { let fault = known_fault (map pair_in entries.old.entries) key.now in MatchResult result (λ _. fault ≡ None) (λ f. fault ≡ reported_fault f) }
-{
-    let Ok(copy) = key.to_vec(alloc) else {
-        return Err(fault_of_allocation(entries, key));
-    };
-    let Ok(elements) = elements.to_vec(alloc) else {
-        return Err(fault_of_allocation(entries, key));
-    };
-    match entries.insert(copy, elements) {
-        Ok(None) => Ok(()),
-        Ok(Some(before)) => {
-            put_back(entries, key, before);
-            Err(InsertFault::Repeated)
-        }
-        Err(_) => Err(InsertFault::OutOfMemory),
-    }
-}
-
-/// How many code points and elements the entries of a map have.
-fn sizes(from: &BTreeMap<Vec<char>, Vec<Element>>) -> (usize, usize) {
-    let mut points: usize = 0;
-    let mut elements: usize = 0;
-    for (key, of_key) in from.iter() {
-        points = points.saturating_add(key.len());
-        elements = elements.saturating_add(of_key.len());
-    }
-    (points, elements)
-}
-
-/// Copies of the entries of a map, side by side.
-fn flat_entries(alloc: Global, from: &BTreeMap<Vec<char>, Vec<Element>>) -> Result<Flat, AllocError>
-    requires { AllByRecursion IsEntry (map pair_in from.now.entries) }
-    ensures { IfOk result (λ f. f ≡ map pair_in from.now.entries) }
-{
-    let (points, elements) = sizes(from);
-    let mut copies = Flat::with_capacity(alloc, from.len(), points, elements)?;
-    for (key, elements) in from.iter() {
-        copies.push(key.as_slice(), elements.as_slice())?;
-    }
-    Ok(copies)
 }
 
 /// The greater of a number and the length of a key.

@@ -388,8 +388,8 @@ impl Cells {
     }
 }
 
-// Appends elements. Most characters have one, which is appended without a copy of a slice.
-fn push_few(out: &mut Vec<Element>, elements: &[Element]) -> Result<(), AllocError>
+/// Appends elements. Most characters have one, which is appended without a copy of a slice.
+pub fn push_few(out: &mut Vec<Element>, elements: &[Element]) -> Result<(), AllocError>
     ensures { OnOk result (out.new.items ≡ out.old.items ++ elements.now) }
 {
     if let [element] = elements {

@@ -24,6 +24,32 @@ pub enum InsertFault {
     OutOfMemory,
 }
 
+/// Why an entry wasn't appended to others in key order. The first cause that holds, in the order here, is reported.
+#[derive(Clone, Copy, Debug, PartialEq, Eq, Error)]
+pub enum AppendFault {
+    /// The key has no code point.
+    #[error("EmptyKey")]
+    EmptyKey,
+    /// The key has more than `MAX_KEY` code points.
+    #[error("KeyTooLong")]
+    KeyTooLong,
+    /// There is no collation element.
+    #[error("NoElement")]
+    NoElement,
+    /// There are more than `MAX_ELEMENTS` collation elements.
+    #[error("TooManyElements")]
+    TooManyElements,
+    /// A greater key was appended before.
+    #[error("OutOfOrder")]
+    OutOfOrder,
+    /// The key is the last that was appended.
+    #[error("Repeated")]
+    Repeated,
+    /// An allocation failed.
+    #[error("OutOfMemory")]
+    OutOfMemory,
+}
+
 /// Why a range of implicit weights, or of ideographs, wasn't added.
 #[derive(Clone, Copy, Debug, PartialEq, Eq, Error)]
 pub enum RangeFault {

@@ -3,13 +3,16 @@
 //! ideographs (section 10.1.3).
 //!
 //! A [`TableBuilder`] collects entries, and [`TableBuilder::finish`] makes a [`Table`] of them. Contracts see both as
-//! one value, a finite map with two lists of ranges. No look-up takes memory.
+//! one value, a finite map with two lists of ranges. [`AscendingEntries`] take entries that come in key order. No
+//! look-up takes memory.
 #![tactic(auto)]
 
+pub mod ascending;
 pub mod builder;
 pub mod cells;
 pub mod collation;
 pub mod entries;
+mod entry_map;
 mod extent;
 pub mod fault;
 mod firsts;
@@ -31,9 +34,10 @@ mod tests;
 pub mod walk;
 pub mod well_formed;
 
+pub use ascending::AscendingEntries;
 pub use builder::TableBuilder;
 pub use entries::Entries;
-pub use fault::{FinishFault, InsertFault, RangeFault};
+pub use fault::{AppendFault, FinishFault, InsertFault, RangeFault};
 pub use table::Table;
 pub use uca_weights::{Element, Ideographs, Range};
 pub use walk::Walk;

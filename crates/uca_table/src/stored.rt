@@ -46,13 +46,15 @@ impl Model for Stored {
 
 impl Stored {
     ghost use Rattle.uca_weights.specs.declared.limits.TheConstants.{MAX_KEY, MAX_ELEMENTS};
-    ghost use Rattle.uca_model.specs.Table.{ElementTable, IsElement, IsTable, elements_at, longest, with_entry, with_ideographs};
+    ghost use Rattle.uca_model.specs.Table.{ElementTable, IsElement, IsTable, elements_at, key_cmp, longest, with_entry, with_ideographs};
     ghost use Rattle.uca_model.specs.UnifiedIdeographs.{AreIdeographs};
+    ghost use Rattle.uca_table.specs.Ascending.{AreAscending};
+    ghost use Rattle.uca_table.specs.Stored.{longest_of};
     ghost use Rattle.uca_table.specs.Builder.{ideographs_fault, reported_range_fault, with_more_ideographs};
     ghost use Rattle.uca_model.specs.ImplicitWeights.{implicit};
     ghost use Rattle.uca_model.specs.Room.{has_no_room, table_with_room};
     ghost use Rattle.std.specs.List.{list_any};
-    ghost use Rattle.std.specs.FinMap.{entries, values};
+    ghost use Rattle.std.specs.FinMap.{entries, from_sorted, values};
     ghost use Rattle.uca_model.specs.Ranges.{AreByFirst};
     ghost use Rattle.uca_table.specs.Fronts.{entries_from};
     ghost use Rattle.uca_table.specs.Span.{entries_in};
@@ -139,6 +141,29 @@ impl Stored {
             ideographs,
             longest_key: self.longest_key,
             firsts: Firsts::none(alloc),
+        })
+    }
+
+    /// A table with the same ranges and other entries.
+    pub(crate) fn with_entries(
+        &self,
+        alloc: Global,
+        entries: Flat,
+        longest_key: usize,
+    ) -> Result<Stored, AllocError>
+        requires ascending { AreAscending entries }
+        requires longest { longest_key ≡ longest_of entries }
+        ensures { IfOk result (λ t. t ≡ record { entries = from_sorted {R = key_cmp} entries; ranges = self.now.ranges; ideographs = self.now.ideographs }) }
+    {
+        let ranges = self.ranges.try_clone(alloc)?;
+        let ideographs = self.ideographs.as_slice().to_vec(alloc)?;
+        let firsts = Firsts::of(alloc, &Span::all(&entries));
+        Ok(Stored {
+            entries,
+            ranges,
+            ideographs,
+            longest_key,
+            firsts,
         })
     }
 

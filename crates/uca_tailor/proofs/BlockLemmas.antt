@@ -1,5 +1,5 @@
 -- Blocks of rooms that were made in a row: what one more does to them, and how far they move a weight.
-use Rattle.std.proofs.Common.{◌≡◌, ℕ, zero, suc, ◌+◌, ◌-◌, ◌%◌, ◌≤◌, ◌<◌, ◌⊎◌, inl, inr, min, cond, nat_lt, List, [], ◌∷◌, ◌++◌, length, take, drop, insert, refl, sym, ap, ap₂, subst, ◌∙◌, arith, length-append}
+use Rattle.std.proofs.Common.{◌≡◌, ℕ, zero, suc, ◌+◌, ◌-◌, ◌%◌, ◌≤◌, ◌<◌, ◌⊎◌, inl, inr, min, List, [], ◌∷◌, ◌++◌, length, take, drop, insert, refl, sym, ap, subst, ◌∙◌, arith, length-append}
 use Rattle.std.proofs.lemmas.Bool.{cases_lt, lt-ltb, le-ltb}
 use Rattle.std.proofs.lemmas.List.{length-take, length-drop, take_all, drop_all, drop_at, drop-append-le, take-append-le, take-append-drop, drop-drop}
 use Rattle.uca_tailor.specs.Shifts.{moved, moved_at_once, bounds_with, Rise, AreBounds, AreBlocks}

@@ -27,7 +27,6 @@ use Rattle.uca_model.specs.Match as model
 use Rattle.uca_model.proofs.RewritingLemmas.{step_some, matches-step}
 use Rattle.uca_model.proofs.RoomLookups.{elements_at-with_room}
 use Rattle.uca_model.proofs.WeightLemmas.{Fits, Fits-IsTable}
-use Rattle.uca_table.proofs.EntryLemmas.{vec_cmp}
 use Rattle.uca_match.specs.Keys.{HasLongest, IsReached, key_set}
 use Rattle.uca_match.proofs.KeyLemmas.{contains-key_set, HasLongest-table}
 use Rattle.uca_match.specs.Matches.{match_of}
@@ -46,6 +45,10 @@ use Rattle.uca_tailor.proofs.LevelOrders.{AllHaveRoom}
 use Rattle.uca_tailor.proofs.Levels.{IsLevel, level_one, level_two, level_three}
 use Rattle.uca_tailor.proofs.ShiftLemmas.{moved-append}
 use Rattle.uca_tailor.proofs.TopLemmas.{IsBelow-more, raised_weight}
+
+-- the order of a map's keys
+abbrev pub vec_cmp : {Y : Type 0} → Vec ℕ Y → Vec ℕ Y → Ordering
+vec_cmp x y = slice_cmp nat_cmp x.items y.items
 
 -- ## Look-ups
 
@@ -240,7 +243,7 @@ items-inserted {Y} m (e ∷ items) k i =
       | Greater ↦ ap (λ xs. item_entry m e ∷ xs) (items-inserted m items k i)
     ]
 
-or_else-cond : {A : Type 0} (b : Bool) (x : A) (o p : Option A) → or_else (cond b (Some x) o) p ≡ cond b (Some x) (or_else o p)
+pub or_else-cond : {A : Type 0} (b : Bool) (x : A) (o p : Option A) → or_else (cond b (Some x) o) p ≡ cond b (Some x) (or_else o p)
 or_else-cond true x o p = refl
 or_else-cond false x o p = refl
 

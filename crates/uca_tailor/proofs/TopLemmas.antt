@@ -18,6 +18,7 @@ use Rattle.uca_model.specs.Room.{moves, weight_with_room, has_no_room, max_weigh
 use Rattle.uca_model.specs.Table.{ElementTable, key_cmp}
 use Rattle.uca_tailor.specs.declared.tops.Tops.{Tops}
 use Rattle.uca_tailor.specs.Renumbered.{IsBelow, HasTop, HaveTops}
+use Rattle.uca_tailor.specs.Tops.{HoldsElements, IsAtMost}
 use Rattle.uca_tailor.proofs.Levels.{IsLevel, level_one, level_two, level_three}
 
 -- a greater weight stands above what a lower one does
@@ -65,8 +66,29 @@ found_below level top q (x ∷ es) o all e = elim (cases_Bool (eq_by_cmp key_cmp
   | inr other ↦ found_below level top q es o all.1 (sym (ap (λ b. cond b (Some x.1) (find key_cmp q es)) other) ∙ e)
 ]
 
-pub HasTop-entries : (level top : ℕ) (t : ElementTable) → AllByRecursion (λ e. IsBelow level top e.1) (entries t.entries) → HasTop level top t
+HasTop-entries : (level top : ℕ) (t : ElementTable) → AllByRecursion (λ e. IsBelow level top e.1) (entries t.entries) → HasTop level top t
 HasTop-entries level top t all key es e = found_below level top key (entries t.entries) es all (sym (get-entries t.entries key) ∙ e)
+
+pub IsAtMost-same : (t : Tops) → IsAtMost t t
+IsAtMost-same t = record { first = omega arith; second = omega arith; third = omega arith }
+
+pub IsAtMost-chain : (t u v : Tops) → IsAtMost t u → IsAtMost u v → IsAtMost t v
+IsAtMost-chain t u v a b = record { first = omega (arith, a.first, b.first); second = omega (arith, a.second, b.second); third = omega (arith, a.third, b.third) }
+
+pub HoldsElements-more : (t u : Tops) (es : List Element) → IsAtMost t u → HoldsElements t es → HoldsElements u es
+HoldsElements-more t u es more holds = record { first = IsBelow-more 1 t.first u.first es more.first holds.first; second = IsBelow-more 2 t.second u.second es more.second holds.second; third = IsBelow-more 3 t.third u.third es more.third holds.third }
+
+-- what holds of all entries, one part of it
+each : (P Q : List Element → Type 0) (es : List (List ℕ × List Element)) → ((v : List Element) → P v → Q v) → AllByRecursion (λ e. P e.1) es → AllByRecursion (λ e. Q e.1) es
+each P Q [] f all = tt
+each P Q (e ∷ es) f all = (f e.1 all.0, each P Q es f all.1)
+
+pub HaveTops-entries : (tops : Tops) (t : ElementTable) → AllByRecursion (λ e. HoldsElements tops e.1) (entries t.entries) → HaveTops tops t
+HaveTops-entries tops t all = record {
+  first = HasTop-entries 1 tops.first t (each (HoldsElements tops) (IsBelow 1 tops.first) (entries t.entries) (λ v h. h.first) all);
+  second = HasTop-entries 2 tops.second t (each (HoldsElements tops) (IsBelow 2 tops.second) (entries t.entries) (λ v h. h.second) all);
+  third = HasTop-entries 3 tops.third t (each (HoldsElements tops) (IsBelow 3 tops.third) (entries t.entries) (λ v h. h.third) all);
+}
 
 -- ## With room
 

@@ -1,14 +1,27 @@
--- A builder to which the entries of a table are added one after the other.
+-- Entries of a tailored table that are written one after the other.
 use Rattle.std.specs.Prelude.{◌≡◌, List, ℕ, map}
-use Rattle.std.specs.FinMap.{find}
+use Rattle.std.specs.Borrow.{Bor}
+use Rattle.std.specs.FinMap.{FinMap, find, get}
+use Rattle.std.specs.declared.vec.Vec.{Vec}
 use Rattle.uca_weights.specs.declared.element.Element.{Element}
-use Rattle.uca_model.specs.Table.{ElementTable, key_cmp, elements_at}
+use Rattle.uca_model.specs.Table.{key_cmp}
+use Rattle.uca_tailor.specs.declared.items.Item.{Item}
+use Rattle.uca_tailor.specs.declared.moves.Moves.{Moves}
 use Rattle.uca_tailor.specs.Moves.{cut}
+use Rattle.uca_tailor.specs.Renumbered.{item_entry}
 
 -- an entry whose weights are cut to sixteen bits
 abbrev pub cut_entry : List ℕ × List Element → List ℕ × List Element
 cut_entry e = (e.0, map cut e.1)
 
+-- an item and its key, as they are borrowed
+abbrev pub entered_item : {Y : Type 0} → Bor (Vec ℕ Y) × Bor Item → Vec ℕ Y × Item
+entered_item i = (i.0.now, i.1.now)
+
+-- the entries of items, moved by the rooms that were made since
+abbrev pub item_entries : {Y : Type 0} → Moves → List (Vec ℕ Y × Item) → List (List ℕ × List Element)
+item_entries m items = map cut_entry (map (item_entry m) items)
+
 -- at each key stand the elements of the first entry that has it
-abbrev pub Holds : ElementTable → List (List ℕ × List Element) → Type 0
-Holds t es = (q : List ℕ) → elements_at t q ≡ find key_cmp q es
+abbrev pub Holds : FinMap key_cmp (List Element) → List (List ℕ × List Element) → Type 0
+Holds m es = (q : List ℕ) → get m q ≡ find key_cmp q es

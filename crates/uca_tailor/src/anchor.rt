@@ -61,12 +61,13 @@ fn is_full(
     alloc: Global,
     level: u8,
     w: u16,
-    t: &Renumbered<'_>,
+    t: &mut Renumbered<'_>,
     elements: &[Element],
 ) -> Result<bool, AllocError>
     requires first { 1 ≤ level }
     requires last { level ≤ 3 }
-    ensures { IfOk result (λ full. full ≡ is_full level w t.now elements.now) }
+    ensures full { IfOk result (λ full. full ≡ is_full level w t.old elements.now) }
+    ensures same { t.new ≡ t.old }
 {
     if w == max_weight(level) {
         return Ok(true);
@@ -82,12 +83,13 @@ pub(crate) fn check_place(
     alloc: Global,
     level: u8,
     w: u16,
-    t: &Renumbered<'_>,
+    t: &mut Renumbered<'_>,
     elements: &[Element],
 ) -> Result<(), TailorCause>
     requires first { 1 ≤ level }
     requires last { level ≤ 3 }
-    ensures { MatchResult result (λ _. fault_at level w t.now elements.now ≡ None) (Reports (fault_at level w t.now elements.now)) }
+    ensures fault { MatchResult result (λ _. fault_at level w t.old elements.now ≡ None) (Reports (fault_at level w t.old elements.now)) }
+    ensures same { t.new ≡ t.old }
 {
     if w < least(level) {
         return Err(TailorCause::SmallWeight);

@@ -1,25 +1,23 @@
 //! A table that is tailored relation after relation, and written anew only at the end.
-ghost use Rattle.std.specs.Prelude.{◌≡◌, ◌≤◌, ◌<◌, ◌++◌, [], false, length, map, IfOk, OnOk};
-ghost use Rattle.std.specs.FinMap.{values, entries};
+ghost use Rattle.std.specs.Prelude.{◌≡◌, ◌≤◌, ◌<◌, ◌++◌, false, length, IfOk, OnOk};
+ghost use Rattle.std.specs.FinMap.{values};
 ghost use Rattle.std.specs.List.{list_any, AllByRecursion};
 ghost use Rattle.uca_weights.specs.declared.limits.TheConstants.{MAX_KEY};
 ghost use Rattle.uca_model.specs.CollationElements.{elements, elements_or_implicit};
-ghost use Rattle.uca_model.specs.Ranges.{AreByFirst};
 ghost use Rattle.uca_model.specs.Room.{has_no_room, table_with_room};
-ghost use Rattle.uca_model.specs.Table.{with_entry, with_ideographs, is_key, IsElement};
+ghost use Rattle.uca_model.specs.Table.{with_entry, IsElement};
 ghost use Rattle.uca_match.specs.Keys.{key_set};
-ghost use Rattle.uca_tailor.specs.Copy.{Holds, cut_entry};
-ghost use Rattle.uca_tailor.specs.Renumbered.{item_entry, all_entries, IsItem};
 
 use crate::items::Item;
+use crate::merging::{in_order, merge};
 use crate::moves::{Moves, START};
-use crate::tops::Tops;
+use crate::tops::{Tops, any_lacks_room};
 use std::alloc::{AllocError, Global};
 use std::collections::BTreeMap;
 use std::marker::Model;
 use uca_match::{Keys, matches_of_points};
 use uca_table::room::max_weight;
-use uca_table::{Element, Range, Table, TableBuilder};
+use uca_table::{AscendingEntries, Element, Table};
 
 /// A table that borrows the entries of another one: rooms that were made move their weights together, and items that
 /// were entered hide them.
@@ -62,86 +60,6 @@ fn read_element(element: &Element)
     let _primary = element.l1;
     let _secondary = element.l2;
     let _tertiary = element.l3;
-}
-
-/// Adds ranges that stand in a table to a builder without any.
-fn add_ranges(builder: &mut TableBuilder, ranges: &[Range]) -> Result<(), AllocError>
-    requires none { builder.old.ranges ≡ [] }
-    requires by_first { AreByFirst ranges.now }
-    ensures { OnOk result (builder.new ≡ record { entries = builder.old.entries; ranges = ranges.now; ideographs = builder.old.ideographs }) }
-{
-    for range in ranges {
-        match builder.add_implicit(range.first, range.last, range.base) {
-            Ok(()) => {}
-            Err(_) => return Err(AllocError),
-        }
-    }
-    Ok(())
-}
-
-/// Adds an entry to a builder that has not its key.
-fn add(builder: &mut TableBuilder, key: &[char], elements: &[Element]) -> Result<(), AllocError>
-    ensures entry { OnOk result (builder.new ≡ with_entry builder.old key.now elements.now) }
-    ensures fresh { OnOk result (is_key builder.old key.now ≡ false) }
-{
-    match builder.insert(key, elements) {
-        Ok(()) => Ok(()),
-        Err(_) => Err(AllocError),
-    }
-}
-
-/// Adds items to a builder without entries, with the elements that they have now.
-fn add_items(
-    alloc: Global,
-    builder: &mut TableBuilder,
-    moves: &Moves,
-    items: &BTreeMap<Vec<char>, Item>,
-) -> Result<(), AllocError>
-    requires none { Holds builder.old [] }
-    requires entered { AllByRecursion (λ i. IsItem moves.now i.1) items.now.entries }
-    ensures entries { OnOk result (Holds builder.new (map cut_entry (map (item_entry moves.now) items.now.entries))) }
-    ensures ranges { OnOk result (builder.new.ranges ≡ builder.old.ranges) }
-{
-    for (key, item) in items.iter() {
-        let mut elements = Vec::new(alloc);
-        moves.push_moved(&mut elements, item.after, &item.elements)?;
-        add(builder, key, &elements)?;
-    }
-    Ok(())
-}
-
-/// Adds the entries of a table that no item hides, with their weights moved by all rooms together.
-fn add_entries(
-    alloc: Global,
-    builder: &mut TableBuilder,
-    moves: &Moves,
-    items: &BTreeMap<Vec<char>, Item>,
-    t: &Table,
-) -> Result<(), AllocError>
-    requires items { Holds builder.old (map cut_entry (map (item_entry moves.now) items.now.entries)) }
-    ensures entries { OnOk result (Holds builder.new (map cut_entry (all_entries moves.now items.now.entries (entries t.now.entries)))) }
-    ensures ranges { OnOk result (builder.new.ranges ≡ builder.old.ranges) }
-{
-    for (key, elements) in t.entries() {
-        if items.contains_key(key.as_slice()) {
-            continue;
-        }
-        let mut moved = Vec::new(alloc);
-        moves.push_moved(&mut moved, START, elements)?;
-        add(builder, key.as_slice(), &moved)?;
-    }
-    Ok(())
-}
-
-/// A table without ideographs besides the listed ones, with those of another.
-fn with_ideographs_of(alloc: Global, mut table: Table, other: &Table) -> Result<Table, AllocError>
-    requires { table.ideographs ≡ [] }
-    ensures { IfOk result (λ t. t ≡ with_ideographs table other.now.ideographs) }
-{
-    if !other.ideographs().is_empty() {
-        table.take_ideographs(alloc, other)?;
-    }
-    Ok(table)
 }
 
 impl<'t> Renumbered<'t> {
@@ -196,31 +114,35 @@ impl<'t> Renumbered<'t> {
     }
 
     /// Whether some weight of the entries at a level, 1 to 3, would move if room were made above `w`, and can't. The
-    /// entries are looked at only where the greatest of them may be too high.
-    pub(crate) fn lacks_room(&self, alloc: Global, level: u8, w: u16) -> Result<bool, AllocError>
+    /// entries are looked at only where the greatest weight of the level may stand at the limit, which is known again
+    /// then.
+    pub(crate) fn lacks_room(
+        &mut self,
+        alloc: Global,
+        level: u8,
+        w: u16,
+    ) -> Result<bool, AllocError>
         requires first { 1 ≤ level }
         requires last { level ≤ 3 }
-        ensures { IfOk result (λ lacks. lacks ≡ list_any (list_any (has_no_room level w)) (values self.now.entries)) }
+        ensures lacks { IfOk result (λ lacks. lacks ≡ list_any (list_any (has_no_room level w)) (values self.old.entries)) }
+        ensures same { self.new ≡ self.old }
     {
         if self.tops.at(level) < max_weight(level) {
             return Ok(false);
         }
         let whole = self.to_table(alloc)?;
-        Ok(whole.lacks_room(level, w))
+        self.tops = Tops::of(&whole);
+        Ok(any_lacks_room(level, w, &whole))
     }
 
     /// The table with entries of its own.
     pub(crate) fn to_table(&self, alloc: Global) -> Result<Table, AllocError>
         ensures { IfOk result (λ t. t ≡ self.now) }
     {
-        let mut builder = TableBuilder::new(alloc);
-        add_ranges(&mut builder, self.table.ranges())?;
-        add_items(alloc, &mut builder, &self.moves, &self.items)?;
-        add_entries(alloc, &mut builder, &self.moves, &self.items, self.table)?;
-        match builder.finish() {
-            Ok(table) => with_ideographs_of(alloc, table, self.table),
-            Err(_) => Err(AllocError),
-        }
+        let items = in_order(alloc, &self.items)?;
+        let mut entries = AscendingEntries::new(alloc);
+        merge(alloc, &mut entries, &self.moves, &items, self.table)?;
+        entries.finish(alloc, self.table)
     }
 
     /// Appends the elements of a match: those of a key, or the implicit ones of its first code point.

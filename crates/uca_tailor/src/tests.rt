@@ -493,7 +493,7 @@ fn a_level_without_room_is_full(rt: HostRuntime) {
     }
 }
 
-const ROOMY: [(&'static [Entry], &'static [PlainChain], [u16; 3], [u16; 3]); 4] = [
+const ROOMY: [(&'static [Entry], &'static [PlainChain], [u16; 3], [u16; 3]); 5] = [
     (
         &[
             (&['a'], false, [0x1000, 0x20, 2]),
@@ -529,6 +529,20 @@ const ROOMY: [(&'static [Entry], &'static [PlainChain], [u16; 3], [u16; 3]); 4] 
         &[(&['a'], &[(Op::First, &['c'], &[])])],
         [0x1001, 0x20, 2],
         [0x8000, 0x20, 2],
+    ),
+    // What stood at the limit is an item now.
+    (
+        &[
+            (&['a'], false, [0x1000, 0x20, 2]),
+            (&['b'], false, [0x7FFF, 0x20, 2]),
+        ],
+        &[
+            (&['a'], &[(Op::Same, &['b'], &[])]),
+            (&['a'], &[(Op::First, &['d'], &[])]),
+            (&['a'], &[(Op::First, &['c'], &[])]),
+        ],
+        [0x1001, 0x20, 2],
+        [0x1000, 0x20, 2],
     ),
 ];
 

@@ -1,10 +1,13 @@
 //! Weights above which no weight of a table stands, so that a relation need not look at the whole table for room.
 ghost use Rattle.std.specs.Prelude.{◌≡◌, ◌≤◌, min};
-ghost use Rattle.uca_model.specs.Room.{moves, weight_with_room};
-ghost use Rattle.uca_tailor.specs.Renumbered.{IsBelow, HasTop, HaveTops};
+ghost use Rattle.std.specs.FinMap.{values};
+ghost use Rattle.std.specs.List.{list_any};
+ghost use Rattle.uca_model.specs.Room.{has_no_room, moves, weight_with_room};
+ghost use Rattle.uca_tailor.specs.Renumbered.{IsBelow, HaveTops};
 ghost use Rattle.uca_tailor.specs.Tops.{raised, HoldsElements, IsAtMost};
 
 use crate::shifts::with_room;
+use uca_table::room::any_has_no_room;
 use uca_table::{Element, Table};
 
 /// For each level a weight above which no weight of a table stands, but implicit ones.
@@ -39,17 +42,18 @@ fn highest(level: u8, elements: &[Element], top: u16) -> u16
     highest
 }
 
-/// The greatest weight of a level, 1 to 3, in a table.
-fn highest_of(level: u8, t: &Table) -> u16
+/// Whether some weight of a table at a level, 1 to 3, would move if room were made above `w`, and can't.
+pub(crate) fn any_lacks_room(level: u8, w: u16, t: &Table) -> bool
     requires first { 1 ≤ level }
     requires last { level ≤ 3 }
-    ensures { HasTop level result t.now }
+    ensures { result ≡ list_any (list_any (has_no_room level w)) (values t.now.entries) }
 {
-    let mut top = 0;
     for (_, elements) in t.entries() {
-        top = highest(level, elements, top);
+        if any_has_no_room(level, w, elements) {
+            return true;
+        }
     }
-    top
+    false
 }
 
 impl Tops {
@@ -57,11 +61,15 @@ impl Tops {
     pub(crate) fn of(t: &Table) -> Tops
         ensures { HaveTops result t.now }
     {
-        Tops {
-            first: highest_of(1, t),
-            second: highest_of(2, t),
-            third: highest_of(3, t),
+        let mut tops = Tops {
+            first: 0,
+            second: 0,
+            third: 0,
+        };
+        for (_, elements) in t.entries() {
+            tops = tops.over(elements);
         }
+        tops
     }
 
     /// The same, and nothing above them in these elements.

@@ -2,6 +2,7 @@ use crate::tests::with_room;
 use crate::{ReadCause, ReadFault, read_table, write_table};
 use std::alloc::{AllocError, Global};
 use std::process::Abort;
+use std::test::Fail;
 use uca_table::Table;
 use uca_testing::SMALL_TEXT as CANONICAL_TEXT;
 use uca_weights::{MAX_INPUT, Range, Reader, Reading, Refused};
@@ -197,15 +198,15 @@ fn assert_answer(rt: &impl Abort, alloc: Global, text: &[u8], answer: Option<(u6
 }
 
 #[test]
-fn a_text_gives_its_table(rt: HostRuntime) {
+fn a_text_gives_its_table(rt: HostRuntime) -> Result<(), Fail> {
     let text = SMALL_TEXT.as_bytes();
     assert_small(&rt, read(rt.alloc(), text));
     assert_small(&rt, read_slowly(rt.alloc(), text, 1, false));
     assert_small(&rt, read_slowly(rt.alloc(), text, 100, false));
     assert_small(&rt, read(rt.alloc(), CANONICAL_TEXT));
-    if let Ok(lines) = with_returns(rt.alloc(), text) {
-        assert_small(&rt, read(rt.alloc(), &lines));
-    }
+    let lines = with_returns(rt.alloc(), text)?;
+    assert_small(&rt, read(rt.alloc(), &lines));
+    Ok(())
 }
 
 #[test]
@@ -215,6 +216,35 @@ fn a_cut_text_says_the_same_at_once_and_in_pieces(rt: HostRuntime) {
         let at_once = fault(read(rt.alloc(), &text[..end]));
         let slowly = fault(read_slowly(rt.alloc(), &text[..end], 1, false));
         assert_eq!(rt; at_once, slowly);
+    }
+}
+
+/// How many bytes the lines before this one have.
+fn front_of_lines(text: &[u8], lines: usize) -> usize {
+    let mut left = lines;
+    for (at, byte) in text.iter().enumerate() {
+        if left == 0 {
+            return at;
+        }
+        if *byte == b'\n' {
+            left -= 1;
+        }
+    }
+    0
+}
+
+#[test]
+fn a_text_is_cut_in_its_thirteenth_line(rt: HostRuntime) {
+    let text = SMALL_TEXT.as_bytes();
+    let front = text.len().min(front_of_lines(text, 12));
+    for (left, cause) in [
+        (b"0041  ; [.1000.".as_slice(), ReadCause::BadElement),
+        (b"0041  ; ", ReadCause::NoElement),
+        (b"0041", ReadCause::NoSemicolon),
+    ] {
+        assert!(rt; text[front..].starts_with(left));
+        let cut = text.len().min(front.saturating_add(left.len()));
+        assert_answer(&rt, rt.alloc(), &text[..cut], Some((13, cause)));
     }
 }
 
@@ -363,7 +393,7 @@ fn each_fault_of_a_directive_is_reported_at_its_line(rt: HostRuntime) {
 }
 
 #[test]
-fn a_range_may_not_meet_those_before_it(rt: HostRuntime) {
+fn a_range_may_not_meet_those_before_it(rt: HostRuntime) -> Result<(), Fail> {
     let bad = Some((2, ReadCause::BadRange));
     for (text, answer) in [
         (
@@ -396,14 +426,13 @@ fn a_range_may_not_meet_those_before_it(rt: HostRuntime) {
     let text = repeated(
         rt.alloc(),
         &[(SMALL_TEXT, 1), ("@implicitweights 17500..17600; FB01", 1)],
-    );
-    if let Ok(text) = text {
-        assert_answer(&rt, rt.alloc(), &text, Some((23, ReadCause::BadRange)));
-    }
+    )?;
+    assert_answer(&rt, rt.alloc(), &text, Some((23, ReadCause::BadRange)));
+    Ok(())
 }
 
 #[test]
-fn limits_hold_to_the_byte(rt: HostRuntime) {
+fn limits_hold_to_the_byte(rt: HostRuntime) -> Result<(), Fail> {
     let cases: [(&[(&str, usize)], Option<(u64, ReadCause)>); 11] = [
         (&[("#", 1), ("x", 4_095), ("\n", 1)], None),
         (
@@ -436,10 +465,10 @@ fn limits_hold_to_the_byte(rt: HostRuntime) {
         ),
     ];
     for (pieces, answer) in cases {
-        if let Ok(text) = repeated(rt.alloc(), pieces) {
-            assert_answer(&rt, rt.alloc(), &text, answer);
-        }
+        let text = repeated(rt.alloc(), pieces)?;
+        assert_answer(&rt, rt.alloc(), &text, answer);
     }
+    Ok(())
 }
 
 #[test]
@@ -466,7 +495,7 @@ fn a_line_without_end_is_refused(rt: HostRuntime) {
 
 #[test]
 fn lines_without_end_are_refused(rt: HostRuntime) {
-    for (width, line) in [(63, 1_048_577), (4_095, 16_385)] {
+    for (width, line) in [(0, 67_108_865), (63, 1_048_577), (4_095, 16_385)] {
         let found = fault(read_comments(rt.alloc(), width, usize::MAX));
         assert_eq!(rt; found, Some((line, ReadCause::TooLarge)));
     }

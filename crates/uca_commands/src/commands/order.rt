@@ -1,4 +1,4 @@
-ghost use Rattle.std.specs.Prelude.{◌≡◌, ◌+◌, ◌^◌, ◌<◌, ◌≤◌, ◌++◌, ◌∷◌, [], length, map, sum, All, IfOk, OnOk, MatchResult, IfErr};
+ghost use Rattle.std.specs.Prelude.{◌≡◌, ◌+◌, ◌^◌, ◌<◌, ◌≤◌, ◌++◌, ◌∷◌, [], length, map, All, IfOk, OnOk, MatchResult, IfErr};
 ghost use Rattle.std.specs.List.Sorted.{IsPermutation, IsSortedByKey, IsStableByKey};
 ghost use Rattle.uca_io.specs.OutputBuffer.{accepted, Accepts, FailsPartway};
 ghost use Rattle.uca_io.specs.Writer.{WritesAll, WritesFront};
@@ -6,11 +6,13 @@ ghost use Rattle.uca_weights.specs.declared.limits.TheConstants.{MAX_INPUT};
 ghost use Rattle.uca_model.specs.Lines.{line_feed, lines_of, IsTextLine};
 ghost use Rattle.uca_model.specs.OrderOutput.{text_of_lines};
 ghost use Rattle.uca_model.specs.SortKey.{key_order};
-ghost use Rattle.uca_commands.specs.Ordering.{cut_up, AreKeys, Orders, RefusesOrder, StopsInOrder, WritesInOrder};
+ghost use Rattle.uca_commands.specs.KeyPieces.{pieces};
+ghost use Rattle.uca_commands.specs.KeyedLines.{key_of, line_of};
+ghost use Rattle.uca_commands.specs.Ordering.{AreKeys, Orders, RefusesOrder, StopsInOrder, WritesInOrder};
 ghost use Rattle.uca_commands.specs.Commands.{Does, Fails, order_command};
 
 use crate::faults::CliFault;
-use crate::keyed_line::KeyedLine;
+use crate::keyed_line::{KeyedLine, KeyedLines};
 use crate::output::text_of_line;
 use std::alloc::{AllocError, Global};
 use uca_io::OutputBuffer;
@@ -20,53 +22,46 @@ use uca_lines::{first_line, read_lines};
 use uca_table::Table;
 use uca_weights::{Reader, Settings, WriteFault, Writer};
 
-/// The sort keys of all lines, one after the other, and how long each is.
+/// The sort keys of all lines, one after the other, and where each ends.
 #[derive(Drop)]
 struct Keys {
     bytes: Vec<u8>,
-    lengths: Vec<usize>,
+    ends: Vec<usize>,
 }
 
 /// The sort keys of the lines of an input, which was checked.
 fn keys_of(alloc: Global, t: &Table, s: Settings, bytes: &[u8]) -> Result<Keys, AllocError>
     requires { All IsTextLine (lines_of bytes.now) }
-    ensures { IfOk result (λ keys. AreKeys t.now s (lines_of bytes.now) keys.bytes.items keys.lengths.items) }
+    ensures { IfOk result (λ keys. AreKeys t.now s (lines_of bytes.now) keys.bytes.items keys.ends.items) }
 {
     let mut keys = Keys {
         bytes: Vec::new(alloc),
-        lengths: Vec::new(alloc),
+        ends: Vec::new(alloc),
     };
     let mut maker = KeyMaker::new(alloc);
     let mut left = bytes;
     while !left.is_empty() {
         let (line, rest) = first_line(left);
-        let start = keys.bytes.len();
         maker.push_key(alloc, t, s, &text_of_line(line), &mut keys.bytes)?;
-        keys.lengths.push(keys.bytes.len() - start)?;
+        keys.ends.push(keys.bytes.len())?;
         left = rest;
     }
     Ok(keys)
 }
 
 /// The lines of an input, each with its key, in the order that they have.
-fn keyed_lines<'a>(
-    alloc: Global,
-    keys: &'a Keys,
-    bytes: &'a [u8],
-) -> Result<Vec<KeyedLine<'a>>, AllocError>
-    requires within { sum keys.now.lengths.items ≤ length keys.now.bytes.items }
-    requires each { length keys.now.lengths.items ≡ length (lines_of bytes.now) }
-    ensures keys { IfOk result (λ v. map (λ l. l.key.now) v.items ≡ cut_up keys.now.lengths.items keys.now.bytes.items) }
-    ensures lines { IfOk result (λ v. map (λ l. l.line.now) v.items ≡ lines_of bytes.now) }
+fn keyed_lines<'a>(alloc: Global, of: &'a KeyedLines<'a>) -> Result<Vec<KeyedLine<'a>>, AllocError>
+    requires small { length of.now.input.now ≤ MAX_INPUT }
+    requires each { length of.now.ends.now ≡ length (lines_of of.now.input.now) }
+    ensures keys { IfOk result (λ v. map key_of v.items ≡ pieces of.now.ends.now of.now.keys.now 0) }
+    ensures lines { IfOk result (λ v. map line_of v.items ≡ lines_of of.now.input.now) }
 {
-    let mut lines = Vec::with_capacity(alloc, keys.lengths.len())?;
-    let mut keys_left = keys.bytes.as_slice();
-    let mut left = bytes;
-    for size in &keys.lengths {
-        let (key, other_keys) = keys_left.split_at(*size);
-        let (line, rest) = first_line(left);
-        lines.push(KeyedLine::new(key, line))?;
-        keys_left = other_keys;
+    let mut lines = Vec::with_capacity(alloc, of.ends.len())?;
+    let mut left = of.input;
+    for number in 0..of.ends.len() {
+        let start = of.input.len() - left.len();
+        let (_, rest) = first_line(left);
+        lines.push(KeyedLine::new(of, number as u32, start as u32))?;
         left = rest;
     }
     Ok(lines)
@@ -75,8 +70,8 @@ fn keyed_lines<'a>(
 /// Sorts lines by their keys. Lines of equal keys stay in the order that they had.
 fn sort_lines(lines: &mut Vec<KeyedLine<'_>>) -> Result<(), AllocError>
     ensures same { IsPermutation lines.old.items lines.new.items }
-    ensures sorted { OnOk result (IsSortedByKey (λ l. l.key.now) key_order lines.new.items) }
-    ensures stable { IsStableByKey (λ l. l.key.now) key_order lines.old.items lines.new.items }
+    ensures sorted { OnOk result (IsSortedByKey key_of key_order lines.new.items) }
+    ensures stable { IsStableByKey key_of key_order lines.old.items lines.new.items }
 {
     lines.sort_by(|a, b| a.compare_keys(b))
 }
@@ -115,12 +110,12 @@ fn send_line<W: Writer>(w: &mut W, out: &mut OutputBuffer, line: &[u8]) -> Resul
 fn write_keyed<W: Writer>(lines: &[KeyedLine<'_>], w: &mut W) -> Result<(), WriteFault>
     requires { length lines.now ≤ MAX_INPUT }
     ensures { MatchResult result
-        (λ _. WritesAll (W.state w.old) (W.state w.new) (text_of_lines (map (λ l. l.line.now) lines.now)))
-        (WritesFront (W.state w.old) (W.state w.new) (text_of_lines (map (λ l. l.line.now) lines.now))) }
+        (λ _. WritesAll (W.state w.old) (W.state w.new) (text_of_lines (map line_of lines.now)))
+        (WritesFront (W.state w.old) (W.state w.new) (text_of_lines (map line_of lines.now))) }
 {
     let mut out = OutputBuffer::new();
     for keyed in lines {
-        send_line(w, &mut out, keyed.line)?;
+        send_line(w, &mut out, keyed.line())?;
     }
     out.flush(w)
 }
@@ -146,7 +141,12 @@ pub fn write_in_order<W: Writer>(
     let Ok(keys) = keys_of(alloc, t, s, bytes) else {
         return Err(CliFault::OutOfMemory);
     };
-    let Ok(mut lines) = keyed_lines(alloc, &keys, bytes) else {
+    let of = KeyedLines {
+        input: bytes,
+        keys: &keys.bytes,
+        ends: &keys.ends,
+    };
+    let Ok(mut lines) = keyed_lines(alloc, &of) else {
         return Err(CliFault::OutOfMemory);
     };
     let Ok(()) = sort_lines(&mut lines) else {

@@ -1,5 +1,6 @@
 use super::{Job, JobFault, Task, job_of};
-use std::alloc::Global;
+use std::alloc::{AllocError, Global};
+use std::test::Fail;
 use uca_weights::{Strength, Variable};
 
 /// The commands by their names.
@@ -39,24 +40,18 @@ fn job_again(alloc: Global, words: &[&str]) -> Result<Job, JobFault> {
     }
 }
 
-// The words ask for the command with the table in the file of this name, and with no other option.
-fn is_job_with(alloc: Global, words: &[&str], command: Task, path: &str) -> bool {
-    let Ok(path) = String::from_str(alloc, path) else {
-        return true;
-    };
+// The job of a command with the table in the file of this name, and without another option.
+fn job_with(alloc: Global, command: Task, path: &str) -> Result<Job, AllocError> {
     let mut job = plain_job(command);
-    job.table = Some(path);
-    job_again(alloc, words) == Ok(job)
+    job.table = Some(String::from_str(alloc, path)?);
+    Ok(job)
 }
 
-// The words ask for the command with the rules in the file of this name, and with no other option.
-fn is_tailored_job(alloc: Global, words: &[&str], command: Task, path: &str) -> bool {
-    let Ok(path) = String::from_str(alloc, path) else {
-        return true;
-    };
+// The job of a command with the rules in the file of this name, and without another option.
+fn tailored_job(alloc: Global, command: Task, path: &str) -> Result<Job, AllocError> {
     let mut job = plain_job(command);
-    job.rules = Some(path);
-    job_again(alloc, words) == Ok(job)
+    job.rules = Some(String::from_str(alloc, path)?);
+    Ok(job)
 }
 
 // The words are refused with a text for the user, and not for an allocation failure.
@@ -130,41 +125,37 @@ fn each_command_takes_each_weighting(rt: HostRuntime) {
 }
 
 #[test]
-fn each_command_has_the_path_of_its_table(rt: HostRuntime) {
+fn each_command_has_the_path_of_its_table(rt: HostRuntime) -> Result<(), Fail> {
     let alloc = rt.alloc();
     for (name, command) in COMMANDS {
-        assert!(rt;
-            is_job_with(alloc, &[name, "--table", "a b.txt"], command, "a b.txt"),
-            "{name}"
-        );
-        assert!(rt;
-            is_job_with(alloc, &[name, "--table=F"], command, "F"),
-            "{name}"
-        );
-        assert!(rt;
-            is_job_with(alloc, &[name, "--table", "table"], command, "table"),
-            "{name}"
-        );
-        assert!(rt;
-            is_job_with(alloc, &[name, "--table="], command, ""),
-            "{name}"
-        );
+        let lists: [(&[&str], &str); 4] = [
+            (&[name, "--table", "a b.txt"], "a b.txt"),
+            (&[name, "--table=F"], "F"),
+            (&[name, "--table", "table"], "table"),
+            (&[name, "--table="], ""),
+        ];
+        for (words, path) in lists {
+            let job = job_with(alloc, command, path)?;
+            assert!(rt; job_again(alloc, words) == Ok(job), "{words:?}");
+        }
     }
+    Ok(())
 }
 
 #[test]
-fn each_command_has_the_path_of_its_rules(rt: HostRuntime) {
+fn each_command_has_the_path_of_its_rules(rt: HostRuntime) -> Result<(), Fail> {
     let alloc = rt.alloc();
     for (name, command) in COMMANDS {
-        assert!(rt;
-            is_tailored_job(alloc, &[name, "--rules", "a b.txt"], command, "a b.txt"),
-            "{name}"
-        );
-        assert!(rt;
-            is_tailored_job(alloc, &[name, "--rules=F"], command, "F"),
-            "{name}"
-        );
+        let lists: [(&[&str], &str); 2] = [
+            (&[name, "--rules", "a b.txt"], "a b.txt"),
+            (&[name, "--rules=F"], "F"),
+        ];
+        for (words, path) in lists {
+            let job = tailored_job(alloc, command, path)?;
+            assert!(rt; job_again(alloc, words) == Ok(job), "{words:?}");
+        }
     }
+    Ok(())
 }
 
 #[test]
@@ -190,7 +181,7 @@ fn each_command_takes_a_range_of_ideographs(rt: HostRuntime) {
 }
 
 #[test]
-fn a_value_that_spells_no_range_is_refused(rt: HostRuntime) {
+fn a_value_that_spells_no_range_is_refused(rt: HostRuntime) -> Result<(), Fail> {
     let alloc = rt.alloc();
     let values = [
         "",
@@ -217,10 +208,8 @@ fn a_value_that_spells_no_range_is_refused(rt: HostRuntime) {
         let fault = job_again(alloc, &["key", "--ideographs", value]);
         assert!(rt; fault == Err(JobFault::BadIdeographs), "{value:?}");
     }
-    let text = JobFault::BadIdeographs.to_string(alloc);
-    if let Ok(text) = text {
-        assert_eq!(rt; text.as_str(), "uca: --ideographs: BadIdeographs");
-    }
+    let text = JobFault::BadIdeographs.to_string(alloc)?;
+    assert_eq!(rt; text.as_str(), "uca: --ideographs: BadIdeographs");
     // Other mistakes come first, and the option is given at most once.
     assert!(rt; is_refused(alloc, &["key", "--ideographs", "x", "--strength", "third"]));
     let twice = [
@@ -232,6 +221,7 @@ fn a_value_that_spells_no_range_is_refused(rt: HostRuntime) {
     ];
     assert!(rt; is_refused(alloc, &twice));
     assert!(rt; is_refused(alloc, &["key", "--ideographs"]));
+    Ok(())
 }
 
 #[test]
@@ -249,14 +239,11 @@ fn options_come_in_any_order(rt: HostRuntime) {
 }
 
 #[test]
-fn a_job_has_all_options_at_once(rt: HostRuntime) {
+fn a_job_has_all_options_at_once(rt: HostRuntime) -> Result<(), Fail> {
     let alloc = rt.alloc();
-    let (Ok(table), Ok(rules)) = (String::from_str(alloc, "F"), String::from_str(alloc, "G")) else {
-        return;
-    };
     let mut job = job_at(Task::Elements, Strength::Primary, Variable::Blanked);
-    job.table = Some(table);
-    job.rules = Some(rules);
+    job.table = Some(String::from_str(alloc, "F")?);
+    job.rules = Some(String::from_str(alloc, "G")?);
     let words = [
         "elements",
         "--rules=G",
@@ -265,6 +252,7 @@ fn a_job_has_all_options_at_once(rt: HostRuntime) {
         "--strength=primary",
     ];
     assert!(rt; job_again(alloc, &words) == Ok(job));
+    Ok(())
 }
 
 #[test]
@@ -397,16 +385,16 @@ fn the_key_may_be_asked_for_as_its_bytes(rt: HostRuntime) {
 }
 
 #[test]
-fn a_value_may_be_spelled_like_a_flag(rt: HostRuntime) {
-    assert!(rt; is_job_with(rt.alloc(), &["key", "--table=--raw"], Task::Key, "--raw"));
+fn a_value_may_be_spelled_like_a_flag(rt: HostRuntime) -> Result<(), Fail> {
+    let job = job_with(rt.alloc(), Task::Key, "--raw")?;
+    assert!(rt; job_again(rt.alloc(), &["key", "--table=--raw"]) == Ok(job));
+    Ok(())
 }
 
-// Two calls with the same words return the same, but for allocation failures. This is a test where each growth is
-// refused in turn.
+// Two calls with the same words return the same. This is a test where each growth is refused in turn: the answer after a
+// refusal is the same too.
 fn is_one_answer(alloc: Global, words: &[&str]) -> bool {
-    let first = job_of(alloc, words);
-    let second = job_of(alloc, words);
-    first == Err(JobFault::OutOfMemory) || second == Err(JobFault::OutOfMemory) || first == second
+    job_again(alloc, words) == job_again(alloc, words)
 }
 
 #[test]
@@ -427,51 +415,42 @@ fn a_refused_growth_changes_no_answer(rt: HostRuntime) {
     assert!(rt; is_one_answer(alloc, &["--help"]));
 }
 
-// The refusal of the words shows this text, but for an allocation failure.
-fn shows(alloc: Global, words: &[&str], text: &str) -> bool {
+// What the refusal of the words shows.
+fn shown(alloc: Global, words: &[&str]) -> Result<String, Fail> {
     match job_again(alloc, words) {
-        Ok(_) => false,
-        Err(fault) => match fault.to_string(alloc) {
-            Ok(shown) => shown.as_str() == text,
-            Err(_) => true,
-        },
+        Ok(_) => Ok(String::new(alloc)),
+        Err(fault) => Ok(fault.to_string(alloc)?),
     }
 }
 
 #[test]
-fn a_refusal_shows_the_text_of_clap(rt: HostRuntime) {
-    let alloc = rt.alloc();
-    assert!(rt;
-        shows(
-            alloc,
-            &["key", "extra"],
-            "error: unexpected argument 'extra' found\n\nUsage: uca key [OPTIONS]\n\nFor more information, try '--help'."
-        )
+fn a_refusal_shows_the_text_of_clap(rt: HostRuntime) -> Result<(), Fail> {
+    let text = shown(rt.alloc(), &["key", "extra"])?;
+    assert_eq!(rt;
+        text.as_str(),
+        "error: unexpected argument 'extra' found\n\nUsage: uca key [OPTIONS]\n\nFor more information, try '--help'."
     );
+    Ok(())
 }
 
 #[test]
-fn a_refused_value_shows_the_allowed_names(rt: HostRuntime) {
-    let alloc = rt.alloc();
-    assert!(rt;
-        shows(
-            alloc,
-            &["key", "--strength", "0"],
-            "error: invalid value '0' for '--strength <S>'\n  [possible values: primary, secondary, tertiary, quaternary, identical]\n\nFor more information, try '--help'."
-        )
+fn a_refused_value_shows_the_allowed_names(rt: HostRuntime) -> Result<(), Fail> {
+    let text = shown(rt.alloc(), &["key", "--strength", "0"])?;
+    assert_eq!(rt;
+        text.as_str(),
+        "error: invalid value '0' for '--strength <S>'\n  [possible values: primary, secondary, tertiary, quaternary, identical]\n\nFor more information, try '--help'."
     );
-    assert!(rt;
-        shows(
-            alloc,
-            &["table", "--variable=0"],
-            "error: invalid value '0' for '--variable <V>'\n  [possible values: non-ignorable, blanked, shifted]\n\nFor more information, try '--help'."
-        )
+    let text = shown(rt.alloc(), &["table", "--variable=0"])?;
+    assert_eq!(rt;
+        text.as_str(),
+        "error: invalid value '0' for '--variable <V>'\n  [possible values: non-ignorable, blanked, shifted]\n\nFor more information, try '--help'."
     );
+    Ok(())
 }
 
 #[test]
-fn an_allocation_failure_shows_its_name(rt: HostRuntime) {
-    if let Ok(shown) = JobFault::OutOfMemory.to_string(rt.alloc()) {
-        assert_eq!(rt; shown.as_str(), "uca: OutOfMemory");
-    }
+fn an_allocation_failure_shows_its_name(rt: HostRuntime) -> Result<(), Fail> {
+    let shown = JobFault::OutOfMemory.to_string(rt.alloc())?;
+    assert_eq!(rt; shown.as_str(), "uca: OutOfMemory");
+    Ok(())
 }

@@ -3,6 +3,7 @@ use crate::key_of;
 use std::alloc::{AllocError, Global};
 use std::cmp::Ordering;
 use std::process::Abort;
+use std::test::Fail;
 use uca_levels::compare;
 use uca_table::{InsertFault, RangeFault, Table, TableBuilder};
 use uca_testing::{Entry, element};
@@ -234,20 +235,21 @@ fn count_equal(rt: &impl Abort, t: &Table, s: Settings, keyed: &[Keyed]) -> usiz
 
 /// At each strength every two texts after a front compare as their keys do, and some differ first at this strength's own
 /// level.
-fn check_all_pairs(rt: &impl Abort, alloc: Global, weighting: Variable, front: &str) {
+fn check_all_pairs(
+    rt: &impl Abort,
+    alloc: Global,
+    weighting: Variable,
+    front: &str,
+) -> Result<(), Fail> {
     let t = table(rt, alloc);
-    let Ok(texts) = texts_after(alloc, front) else {
-        return;
-    };
+    let texts = texts_after(alloc, front)?;
     let mut before = usize::MAX;
     for strength in STRENGTHS {
         let s = Settings {
             strength,
             weighting,
         };
-        let Ok(keyed) = keyed_texts(rt, alloc, &t, s, &texts) else {
-            return;
-        };
+        let keyed = keyed_texts(rt, alloc, &t, s, &texts)?;
         let equal = count_equal(rt, &t, s, &keyed);
         // The fourth level says nothing under options other than Shifted.
         let is_empty_level = strength == Strength::Quaternary && weighting != Variable::Shifted;
@@ -256,39 +258,48 @@ fn check_all_pairs(rt: &impl Abort, alloc: Global, weighting: Variable, front: &
         assert!(rt; keyed.len() < equal, "{s:?} {equal}");
         before = equal;
     }
+    Ok(())
 }
 
 #[test]
-fn all_pairs_are_in_the_order_of_their_keys(rt: HostRuntime) {
-    check_all_pairs(&rt, rt.alloc(), Variable::NonIgnorable, "");
+fn all_pairs_are_in_the_order_of_their_keys(rt: HostRuntime) -> Result<(), Fail> {
+    check_all_pairs(&rt, rt.alloc(), Variable::NonIgnorable, "")
 }
 
 #[test]
-fn all_pairs_are_in_the_order_of_their_keys_when_blanked(rt: HostRuntime) {
-    check_all_pairs(&rt, rt.alloc(), Variable::Blanked, "");
+fn all_pairs_are_in_the_order_of_their_keys_when_blanked(rt: HostRuntime) -> Result<(), Fail> {
+    check_all_pairs(&rt, rt.alloc(), Variable::Blanked, "")
 }
 
 #[test]
-fn all_pairs_are_in_the_order_of_their_keys_when_shifted(rt: HostRuntime) {
-    check_all_pairs(&rt, rt.alloc(), Variable::Shifted, "");
+fn all_pairs_are_in_the_order_of_their_keys_when_shifted(rt: HostRuntime) -> Result<(), Fail> {
+    check_all_pairs(&rt, rt.alloc(), Variable::Shifted, "")
 }
 
 #[test]
-fn all_pairs_after_an_open_front_are_in_the_order_of_their_keys(rt: HostRuntime) {
-    check_all_pairs(&rt, rt.alloc(), Variable::NonIgnorable, OPEN_FRONT);
+fn all_pairs_after_an_open_front_are_in_the_order_of_their_keys(
+    rt: HostRuntime,
+) -> Result<(), Fail> {
+    check_all_pairs(&rt, rt.alloc(), Variable::NonIgnorable, OPEN_FRONT)
 }
 
 #[test]
-fn all_pairs_after_an_open_front_are_in_the_order_of_their_keys_when_blanked(rt: HostRuntime) {
-    check_all_pairs(&rt, rt.alloc(), Variable::Blanked, OPEN_FRONT);
+fn all_pairs_after_an_open_front_are_in_the_order_of_their_keys_when_blanked(
+    rt: HostRuntime,
+) -> Result<(), Fail> {
+    check_all_pairs(&rt, rt.alloc(), Variable::Blanked, OPEN_FRONT)
 }
 
 #[test]
-fn all_pairs_after_an_open_front_are_in_the_order_of_their_keys_when_shifted(rt: HostRuntime) {
-    check_all_pairs(&rt, rt.alloc(), Variable::Shifted, OPEN_FRONT);
+fn all_pairs_after_an_open_front_are_in_the_order_of_their_keys_when_shifted(
+    rt: HostRuntime,
+) -> Result<(), Fail> {
+    check_all_pairs(&rt, rt.alloc(), Variable::Shifted, OPEN_FRONT)
 }
 
 #[test]
-fn all_pairs_after_a_marked_front_are_in_the_order_of_their_keys_when_shifted(rt: HostRuntime) {
-    check_all_pairs(&rt, rt.alloc(), Variable::Shifted, MARKED_FRONT);
+fn all_pairs_after_a_marked_front_are_in_the_order_of_their_keys_when_shifted(
+    rt: HostRuntime,
+) -> Result<(), Fail> {
+    check_all_pairs(&rt, rt.alloc(), Variable::Shifted, MARKED_FRONT)
 }

@@ -1,5 +1,6 @@
 use super::{OPTIONS, STRENGTHS, key_again, table};
 use crate::{KeyFault, write_key};
+use std::test::Fail;
 use uca_testing::{Expecting, generated};
 use uca_weights::{Settings, Strength, Variable, WriteCause};
 use uca_window::Passage;
@@ -14,10 +15,13 @@ fn a_fault_says_what_went_out(rt: HostRuntime) {
     };
     let key = [0x10, 0, 0, 0, 0, 0x20, 0, 0, 0, 2];
     for cause in [WriteCause::Failed, WriteCause::Zero] {
-        let mut writer = Expecting::new(&key, 3, cause);
-        let written = write_key(&mut writer, &t, settings, &p);
-        assert_eq!(rt; written, Err(KeyFault { written: 3, cause }));
-        assert_eq!(rt; writer.left(), Some(7));
+        for room in 0..10 {
+            let mut writer = Expecting::new(&key, room, cause);
+            let stopped = write_key(&mut writer, &t, settings, &p);
+            let written = room as u128;
+            assert_eq!(rt; stopped, Err(KeyFault { written, cause }));
+            assert_eq!(rt; writer.left(), Some(10 - room));
+        }
     }
     let mut writer = Expecting::new(&key, 100, WriteCause::Failed);
     assert_eq!(rt; write_key(&mut writer, &t, settings, &p), Ok(10));
@@ -31,12 +35,10 @@ const CHARACTERS: [char; 16] = [
 ];
 
 #[test]
-fn the_written_key_is_the_key(rt: HostRuntime) {
+fn the_written_key_is_the_key(rt: HostRuntime) -> Result<(), Fail> {
     let t = table(&rt, rt.alloc());
     for number in 0..100 {
-        let Ok(text) = generated(rt.alloc(), &CHARACTERS, number) else {
-            return;
-        };
+        let text = generated(rt.alloc(), &CHARACTERS, number)?;
         let p = Passage::check(&text).ok().expect(&rt, "a safe text");
         for strength in STRENGTHS {
             for weighting in OPTIONS {
@@ -52,4 +54,5 @@ fn the_written_key_is_the_key(rt: HostRuntime) {
             }
         }
     }
+    Ok(())
 }

@@ -1,6 +1,8 @@
-use Rattle.std.proofs.Common.{◌&&◌, Bool, true, ap, subst}
+use Rattle.std.proofs.Common.{◌≡◌, ◌&&◌, Bool, true, false, sym, ap, subst, ◌∙◌}
+use Rattle.std.specs.Str.{chars}
+use Rattle.uca_model.specs.SafeText.{is_safe}
 use Rattle.uca_conform.specs.TestReading.{HasPoints}
-use Rattle.uca_conform.proofs.TestLineLemmas.{points-push, points-checked}
+use Rattle.uca_conform.proofs.TestLineLemmas.{points-push, points-read}
 use Rattle.uca_conform.proofs.test_line.text_of_words.Goals as goal
 
 pub loop-word-preserved-then-is_text : goal.loop-word-preserved-then-is_text
@@ -12,4 +14,6 @@ loop-word-preserved-then-is_text c =
 
 pub returns-then-is_text-2-clause-points : goal.returns-then-is_text-2-clause-points
 returns-then-is_text-2-clause-points c =
-    points-checked c.args.bytes.now c.loop-word.rest.now c.loop-word.text.bytes c.loop-word.is_some c.loop-word.is_text c.checked.result c.loop-word.invariant c.in_default.ensures.words c.if-not-is_some.false c.if-is_text-2.true c.checked.ensures
+    points-read c.args.bytes.now c.loop-word.rest.now c.loop-word.text.bytes c.loop-word.is_some c.loop-word.is_text c.is_safe.result c.loop-word.invariant c.in_default.ensures.words c.if-not-is_some.false
+    (λ not_text. (let other : true ≡ false = sym c.if-is_text-2.true ∙ not_text in cc))
+    (λ _. c.is_safe.ensures ∙ ap (λ xs. is_safe (chars xs)) c.as_str.ensures.value)

@@ -1,12 +1,14 @@
-use Rattle.std.proofs.Common.{◌≡◌, ◌+◌, ◌*◌, ◌≤◌, ◌++◌, length, take, drop, vec_len, vec_capacity}
+use Rattle.std.proofs.Common.{◌≡◌, ◌++◌, length}
 use Rattle.uca_weights.specs.declared.settings.Variable.TheVariants.{NonIgnorable}
-use Rattle.uca_weights.specs.VariableWeighting.{weighted, weighted_after}
+use Rattle.uca_weights.specs.VariableWeighting.{weighted}
 use Rattle.uca_model.specs.SortKey.{level_bytes}
 use Rattle.uca_key.proofs.levels.push_unchanged_level.Given as goal
 
 -- what is written and the bytes of what is left are the bytes of all
-abbrev pub invariant-loop-element : goal.invariant-loop-element
-invariant-loop-element l = record {
-  same : l.key.items ++ level_bytes (weighted_after NonIgnorable (take l.element-index l.elements) (drop l.element-index l.elements)) l.level ≡ l.fn.key.items ++ level_bytes (weighted NonIgnorable l.elements) l.level;
-  room : vec_len l.key + 2 * length (drop l.element-index l.elements) ≤ vec_capacity l.key;
+abbrev pub invariant-loop-left : goal.invariant-loop-left
+invariant-loop-left l = record {
+  same : l.key.items ++ level_bytes (weighted NonIgnorable l.left) l.level ≡ l.fn.key.items ++ level_bytes (weighted NonIgnorable l.elements) l.level;
 }
+
+abbrev pub decreases-loop-left : goal.decreases-loop-left
+decreases-loop-left l = length l.left

@@ -1,4 +1,4 @@
-use Rattle.std.proofs.Common.{◌≡◌, ◌+◌, ◌*◌, ◌≤◌, ◌++◌, length, take, drop, vec_len, vec_capacity}
+use Rattle.std.proofs.Common.{◌≡◌, ◌++◌, take, drop}
 use Rattle.uca_weights.specs.VariableWeighting.{weighted, weighted_after}
 use Rattle.uca_weights.specs.Weigher.{HasSeen}
 use Rattle.uca_model.specs.SortKey.{level_bytes}
@@ -9,5 +9,4 @@ abbrev pub invariant-loop-element : goal.invariant-loop-element
 invariant-loop-element l = record {
   seen : HasSeen l.fn.v l.weigher (take l.element-index l.elements);
   same : l.key.items ++ level_bytes (weighted_after l.fn.v (take l.element-index l.elements) (drop l.element-index l.elements)) l.level ≡ l.fn.key.items ++ level_bytes (weighted l.fn.v l.elements) l.level;
-  room : vec_len l.key + 2 * length (drop l.element-index l.elements) ≤ vec_capacity l.key;
 }

@@ -1,56 +1,72 @@
-use Rattle.std.proofs.Common.{◌≡◌, ℕ, List, length, map, IsPermutation, IsSortedByKey, sym, ap, refl, ◌∙◌, arith, eqb-true}
+use Rattle.std.proofs.Common.{◌≡◌, ℕ, ◌-◌, List, [], ◌∷◌, length, map, IsPermutation, IsSortedByKey, subst, sym, ap, ap₂, refl, ◌∙◌, arith, eqb-true}
 use Rattle.std.specs.List.Sorted.{IsStableByKey}
-use Rattle.std.proofs.lemmas.List.{length-map, nil_from_length}
+use Rattle.std.proofs.lemmas.List.{length-map, nil_from_length, take_all}
 use Rattle.std.proofs.lemmas.List.Sorted.{length_permutation}
 use Rattle.uca_weights.specs.declared.settings.Settings.{Settings}
-use Rattle.uca_model.specs.Lines.{lines_of}
+use Rattle.uca_model.specs.Lines.{line_feed, lines_of}
 use Rattle.uca_model.specs.OrderOutput.{line_key, IsInOrder, IsOrderOutput, text_of_lines}
 use Rattle.uca_model.specs.SortKey.{key_order}
 use Rattle.uca_model.specs.Table.{ElementTable}
-use Rattle.uca_commands.specs.Ordering.{cut_up, AreKeys}
+use Rattle.uca_commands.specs.Ordering.{AreKeys}
 use Rattle.uca_commands.specs.declared.keyed_line.KeyedLine.{KeyedLine}
-use Rattle.uca_commands.specs.KeyFronts.{front}
+use Rattle.uca_commands.specs.KeyFronts.{front, IsFront}
+use Rattle.uca_commands.specs.KeyPieces.{pieces}
+use Rattle.uca_commands.specs.KeyedLines.{key_of, line_of}
 use Rattle.uca_commands.proofs.KeyFrontLemmas.{IsFront-line_key}
 use Rattle.uca_commands.proofs.NoLines.{WritesInOrder-none}
-use Rattle.uca_commands.proofs.OrderingLemmas.{AreKeys-cut_up, AreKeys-within, IsInOrder-from_keyed, length-lines_of}
+use Rattle.uca_commands.proofs.OrderingLemmas.{AreKeys-each, AreKeys-pieces, IsInOrder-from_keyed, length-lines_of}
 use Rattle.uca_commands.proofs.commands.order.write_in_order.Goals as goal
 
--- an element with the key of this line
+-- one line alone, and its key
 abbrev with_key : ElementTable → Settings → List ℕ → KeyedLine
-with_key t s line = record {
-  front = front 8 (line_key t s line);
-  key = record { ref_ptr = (0, 0); now = line_key t s line };
-  line = record { ref_ptr = (0, 0); now = line };
-  fronts = IsFront-line_key t s line;
-}
+with_key t s line =
+    let key : List ℕ = line_key t s line in
+    record {
+      front = front 8 key;
+      of = record {
+        ref_ptr = (0, 0);
+        now = record {
+          input = record { ref_ptr = (0, 0); now = line_feed ∷ [] };
+          keys = record { ref_ptr = (0, 0); now = key };
+          ends = record { ref_ptr = (0, 0); now = length key ∷ [] };
+        };
+      };
+      number = 0;
+      start = 0;
+      begins = omega arith;
+      fronts = subst (λ k. IsFront k (front 8 key)) (sym (take_all (length key - 0) key (omega arith))) (IsFront-line_key t s line);
+    }
+
+with_key-keyed : (t : ElementTable) (s : Settings) (line : List ℕ) → key_of (with_key t s line) ≡ line_key t s line
+with_key-keyed t s line = take_all (length (line_key t s line) - 0) (line_key t s line) (omega arith)
 
 pub returns-then-is_empty : goal.returns-then-is_empty
 returns-then-is_empty g c = WritesInOrder-none c.args.t.now c.args.s c.args.bytes.now _ (nil_from_length c.args.bytes.now (eqb-true (length c.args.bytes.now) 0 (sym c.is_empty.ensures ∙ c.if-is_empty.true)))
 
-pub keyed_lines-requires-clause-within : goal.keyed_lines-requires-clause-within
-keyed_lines-requires-clause-within g c = AreKeys-within c.args.t.now c.args.s (lines_of c.args.bytes.now) c.in-Ok.keys.bytes.items c.in-Ok.keys.lengths.items c.in-Ok.ensures
+pub keyed_lines-requires-clause-each : goal.keyed_lines-requires-clause-each
+keyed_lines-requires-clause-each g c = ap length c.deref-2.ensures.value ∙ AreKeys-each c.args.t.now c.args.s (lines_of c.args.bytes.now) c.in-Ok.keys.bytes.items c.in-Ok.keys.ends.items c.in-Ok.ensures
 
 -- there are as many as lines
-count : (bytes : List ℕ) (xs ys : List KeyedLine) → map (λ l. l.line.now) xs ≡ lines_of bytes → IsPermutation xs ys → length ys ≡ length (lines_of bytes)
-count bytes xs ys lines same = length_permutation xs ys same ∙ sym (length-map xs (λ l. l.line.now)) ∙ ap length lines
+count : (bytes : List ℕ) (xs ys : List KeyedLine) → map line_of xs ≡ lines_of bytes → IsPermutation xs ys → length ys ≡ length (lines_of bytes)
+count bytes xs ys lines same = length_permutation xs ys same ∙ sym (length-map xs line_of) ∙ ap length lines
 
 pub write_keyed-requires : goal.write_keyed-requires
 write_keyed-requires g c =
     let many : length c.sort_lines.new.lines.items ≡ length (lines_of c.args.bytes.now) = count c.args.bytes.now c.in-Ok-keyed_lines.lines.items c.sort_lines.new.lines.items c.in-Ok-keyed_lines.ensures.lines c.sort_lines.ensures.same in
-    omega (arith, many, ap length c.deref.ensures.value, length-lines_of c.args.bytes.now, c.requires.small)
+    omega (arith, many, ap length c.deref-3.ensures.value, length-lines_of c.args.bytes.now, c.requires.small)
 
 -- the lines that were sorted are in order
-in_order : (t : ElementTable) (s : Settings) (bytes kept lengths : List ℕ) (xs ys : List KeyedLine) → AreKeys t s (lines_of bytes) kept lengths → map (λ l. l.key.now) xs ≡ cut_up lengths kept → map (λ l. l.line.now) xs ≡ lines_of bytes
-    → IsPermutation xs ys → IsSortedByKey (λ l. l.key.now) key_order ys → IsStableByKey (λ l. l.key.now) key_order xs ys → IsInOrder t s (lines_of bytes) (map (λ l. l.line.now) ys)
-in_order t s bytes kept lengths xs ys are keys lines same sorted stable =
-    IsInOrder-from_keyed (λ l. l.key.now) (λ l. l.line.now) (with_key t s) t s (lines_of bytes) xs ys (λ a. refl) lines (keys ∙ AreKeys-cut_up t s (lines_of bytes) kept lengths are) same sorted stable
+in_order : (t : ElementTable) (s : Settings) (bytes kept ends : List ℕ) (xs ys : List KeyedLine) → AreKeys t s (lines_of bytes) kept ends → map key_of xs ≡ pieces ends kept 0 → map line_of xs ≡ lines_of bytes
+    → IsPermutation xs ys → IsSortedByKey key_of key_order ys → IsStableByKey key_of key_order xs ys → IsInOrder t s (lines_of bytes) (map line_of ys)
+in_order t s bytes kept ends xs ys are keys lines same sorted stable =
+    IsInOrder-from_keyed key_of line_of (with_key t s) t s (lines_of bytes) xs ys (with_key-keyed t s) lines (keys ∙ AreKeys-pieces t s (lines_of bytes) kept ends are) same sorted stable
 
 -- what goes out of them
-made : (t : ElementTable) (s : Settings) (bytes kept lengths : List ℕ) (xs ys : List KeyedLine) → AreKeys t s (lines_of bytes) kept lengths → map (λ l. l.key.now) xs ≡ cut_up lengths kept → map (λ l. l.line.now) xs ≡ lines_of bytes
-    → IsPermutation xs ys → IsSortedByKey (λ l. l.key.now) key_order ys → IsStableByKey (λ l. l.key.now) key_order xs ys → IsOrderOutput t s bytes (text_of_lines (map (λ l. l.line.now) ys))
-made t s bytes kept lengths xs ys are keys lines same sorted stable = record {
-  ordered = map (λ l. l.line.now) ys;
-  order = in_order t s bytes kept lengths xs ys are keys lines same sorted stable;
+made : (t : ElementTable) (s : Settings) (bytes kept ends : List ℕ) (xs ys : List KeyedLine) → AreKeys t s (lines_of bytes) kept ends → map key_of xs ≡ pieces ends kept 0 → map line_of xs ≡ lines_of bytes
+    → IsPermutation xs ys → IsSortedByKey key_of key_order ys → IsStableByKey key_of key_order xs ys → IsOrderOutput t s bytes (text_of_lines (map line_of ys))
+made t s bytes kept ends xs ys are keys lines same sorted stable = record {
+  ordered = map line_of ys;
+  order = in_order t s bytes kept ends xs ys are keys lines same sorted stable;
   text = refl;
 }
 
@@ -59,10 +75,10 @@ returns-in-Ok-write_keyed g c =
     let ys : List KeyedLine = c.sort_lines.new.lines.items in
     let many : length ys ≡ length (lines_of c.args.bytes.now) = count c.args.bytes.now c.in-Ok-keyed_lines.lines.items ys c.in-Ok-keyed_lines.ensures.lines c.sort_lines.ensures.same in
     record {
-      output = text_of_lines (map (λ l. l.line.now) ys);
-      made = made c.args.t.now c.args.s c.args.bytes.now c.in-Ok.keys.bytes.items c.in-Ok.keys.lengths.items c.in-Ok-keyed_lines.lines.items ys
-          c.in-Ok.ensures c.in-Ok-keyed_lines.ensures.keys c.in-Ok-keyed_lines.ensures.lines c.sort_lines.ensures.same c.in-Ok-sort_lines.ensures.sorted c.sort_lines.ensures.stable;
-      writes = rw (sym c.deref.ensures.value) c.in-Ok-write_keyed.ensures;
+      output = text_of_lines (map line_of ys);
+      made = made c.args.t.now c.args.s c.args.bytes.now c.in-Ok.keys.bytes.items c.in-Ok.keys.ends.items c.in-Ok-keyed_lines.lines.items ys
+          c.in-Ok.ensures (c.in-Ok-keyed_lines.ensures.keys ∙ ap₂ (λ es bs. pieces es bs 0) c.deref-2.ensures.value c.deref.ensures.value) c.in-Ok-keyed_lines.ensures.lines c.sort_lines.ensures.same c.in-Ok-sort_lines.ensures.sorted c.sort_lines.ensures.stable;
+      writes = rw (sym c.deref-3.ensures.value) c.in-Ok-write_keyed.ensures;
       counted = omega (arith, many, c.sort_lines.new.lines.ok.0, c.len.ensures);
     }
 
@@ -70,8 +86,8 @@ pub returns : goal.returns
 returns g c =
     let ys : List KeyedLine = c.sort_lines.new.lines.items in
     record {
-      output = text_of_lines (map (λ l. l.line.now) ys);
-      made = made c.args.t.now c.args.s c.args.bytes.now c.in-Ok.keys.bytes.items c.in-Ok.keys.lengths.items c.in-Ok-keyed_lines.lines.items ys
-          c.in-Ok.ensures c.in-Ok-keyed_lines.ensures.keys c.in-Ok-keyed_lines.ensures.lines c.sort_lines.ensures.same c.in-Ok-sort_lines.ensures.sorted c.sort_lines.ensures.stable;
-      writes = rw (sym c.deref.ensures.value) c.in-Err.ensures;
+      output = text_of_lines (map line_of ys);
+      made = made c.args.t.now c.args.s c.args.bytes.now c.in-Ok.keys.bytes.items c.in-Ok.keys.ends.items c.in-Ok-keyed_lines.lines.items ys
+          c.in-Ok.ensures (c.in-Ok-keyed_lines.ensures.keys ∙ ap₂ (λ es bs. pieces es bs 0) c.deref-2.ensures.value c.deref.ensures.value) c.in-Ok-keyed_lines.ensures.lines c.sort_lines.ensures.same c.in-Ok-sort_lines.ensures.sorted c.sort_lines.ensures.stable;
+      writes = rw (sym c.deref-3.ensures.value) c.in-Err.ensures;
     }

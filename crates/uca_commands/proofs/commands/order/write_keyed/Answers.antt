@@ -10,16 +10,17 @@ use Rattle.uca_io.proofs.BufferLemmas.{Accepts-more, Accepts-none, Accepts-all, 
 use Rattle.uca_io.proofs.SendLemmas.{sent_more, stopped_there, stopped_last}
 use Rattle.uca_model.specs.Lines.{line_feed}
 use Rattle.uca_model.specs.OrderOutput.{text_of_lines}
+use Rattle.uca_commands.specs.KeyedLines.{line_of}
 use Rattle.uca_commands.specs.declared.keyed_line.KeyedLine.{KeyedLine}
 use Rattle.uca_commands.proofs.commands.order.write_keyed.Goals as goal
 
 -- a line with LF
 abbrev ended : KeyedLine → List ℕ
-ended k = k.line.now ++ line_feed ∷ []
+ended k = line_of k ++ line_feed ∷ []
 
 -- the text of some lines
 abbrev text : List KeyedLine → List ℕ
-text ks = text_of_lines (map (λ k. k.line.now) ks)
+text ks = text_of_lines (map line_of ks)
 
 pub loop-keyed-init : goal.loop-keyed-init
 loop-keyed-init g c =
@@ -41,8 +42,8 @@ returns-in_err-send_line g c =
     let p = err_from_is_err_and c.from_residual.result c.from_residual.ensures.1 in
     let ks : List KeyedLine = c.args.lines.now in let i : ℕ = c.loop-keyed.keyed-index in
     let k : KeyedLine = c.keyed-item.result in
-    let piece : List ℕ = ended k in let rest : List ℕ = text (drop (i + 1) ks) in
-    let complete : c.loop-keyed.invariant.sent ++ (piece ++ rest) ≡ text ks = text_more ks i k c.loop-keyed.invariant.sent (text ks) c.loop-keyed-test.true (get_or_read ks i k c.loop-keyed-test.true c.keyed-item.is k) c.loop-keyed.invariant.complete in
+    let piece : List ℕ = c.line.result.now ++ line_feed ∷ [] in let rest : List ℕ = text (drop (i + 1) ks) in
+    let complete : c.loop-keyed.invariant.sent ++ (piece ++ rest) ≡ text ks = ap (λ line. c.loop-keyed.invariant.sent ++ ((line ++ line_feed ∷ []) ++ rest)) c.line.ensures ∙ text_more ks i k c.loop-keyed.invariant.sent (text ks) c.loop-keyed-test.true (get_or_read ks i k c.loop-keyed-test.true c.keyed-item.is k) c.loop-keyed.invariant.complete in
     rw (p.1, p.2) (FailsPartway-front _ _ c.new-out.result (text ks) _ c.new-out.ensures.waiting c.new-out.ensures.written
     (stopped_there _ _ _ c.new-out.result c.loop-keyed.out c.loop-keyed.invariant.sent piece rest (text ks) piece _ c.loop-keyed.invariant.sends complete refl c.in_err-send_line.ensures.sends))
 
@@ -50,8 +51,8 @@ pub loop-keyed-preserved : goal.loop-keyed-preserved
 loop-keyed-preserved g c =
     let ks : List KeyedLine = c.args.lines.now in let i : ℕ = c.loop-keyed.keyed-index in
     let k : KeyedLine = c.keyed-item.result in
-    let piece : List ℕ = ended k in let rest : List ℕ = text (drop (i + 1) ks) in
-    let complete : c.loop-keyed.invariant.sent ++ (piece ++ rest) ≡ text ks = text_more ks i k c.loop-keyed.invariant.sent (text ks) c.loop-keyed-test.true (get_or_read ks i k c.loop-keyed-test.true c.keyed-item.is k) c.loop-keyed.invariant.complete in
+    let piece : List ℕ = c.line.result.now ++ line_feed ∷ [] in let rest : List ℕ = text (drop (i + 1) ks) in
+    let complete : c.loop-keyed.invariant.sent ++ (piece ++ rest) ≡ text ks = ap (λ line. c.loop-keyed.invariant.sent ++ ((line ++ line_feed ∷ []) ++ rest)) c.line.ensures ∙ text_more ks i k c.loop-keyed.invariant.sent (text ks) c.loop-keyed-test.true (get_or_read ks i k c.loop-keyed-test.true c.keyed-item.is k) c.loop-keyed.invariant.complete in
     let more = sent_more _ _ _ c.new-out.result c.loop-keyed.out c.send_line.new.out c.loop-keyed.invariant.sent piece rest (text ks) piece c.loop-keyed.invariant.sends complete refl c.in_ok-send_line.ensures.sends in
     let left : length (drop i ks) ≡ length ks - i = length-drop i ks in
     let less : length (drop (i + 1) ks) ≡ length ks - (i + 1) = length-drop (i + 1) ks in

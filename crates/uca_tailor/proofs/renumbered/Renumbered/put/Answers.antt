@@ -1,12 +1,11 @@
 use Rattle.std.proofs.Common.{◌≡◌, max, length, subst, sym, ap, ap₂, ◌∙◌, rules, arith}
 use Rattle.std.specs.List.{AllByRecursion}
 use Rattle.uca_model.specs.Table.{with_entry, IsElement}
-use Rattle.uca_table.proofs.EntryLemmas.{vec_cmp}
 use Rattle.std.specs.BTreeMap.{insert_entry}
 use Rattle.uca_tailor.specs.declared.items.Item.{Item}
 use Rattle.uca_tailor.specs.Renumbered.{renumbered, IsRenumbered, IsItem}
 use Rattle.uca_tailor.specs.Tops.{HoldsElements}
-use Rattle.uca_tailor.proofs.RenumberedLemmas.{renumbered-put, IsRenumbered-put, now-past}
+use Rattle.uca_tailor.proofs.RenumberedLemmas.{renumbered-put, IsRenumbered-put, now-past, vec_cmp}
 use Rattle.uca_tailor.proofs.renumbered.Renumbered.put.Goals as goal
 
 pub invariant_of-self-2 : goal.invariant_of-self-2

@@ -1,17 +1,19 @@
-use Rattle.std.proofs.Common.{ap, ◌∙◌}
+use Rattle.std.proofs.Common.{map, subst, sym, ap, ◌∙◌}
 use Rattle.std.proofs.lemmas.Result.{IfOk-weaker}
-use Rattle.uca_model.specs.Table.{ElementTable, with_ideographs}
-use Rattle.uca_tailor.proofs.CopyLemmas.{Holds-none, copied}
+use Rattle.std.specs.FinMap.{entries}
+use Rattle.std.specs.List.{AllByRecursion}
+use Rattle.uca_tailor.specs.Copy.{cut_entry, entered_item, Holds}
+use Rattle.uca_tailor.specs.Renumbered.{all_entries, IsItem}
+use Rattle.uca_tailor.proofs.CopyLemmas.{copied}
 use Rattle.uca_tailor.proofs.renumbered.Renumbered.to_table.Goals as goal
 
-pub add_items-requires-clause-none : goal.add_items-requires-clause-none
-add_items-requires-clause-none c = Holds-none c.add_ranges.new.builder (ap (λ (t : ElementTable). t.entries) c.in_ok-add_ranges.ensures ∙ ap (λ (t : ElementTable). t.entries) c.new-builder.ensures)
+pub merge-requires-clause-entered : goal.merge-requires-clause-entered
+merge-requires-clause-entered c = subst (AllByRecursion (λ i. IsItem c.self.inside.moves i.1)) (sym (ap (map entered_item) c.deref.ensures.value ∙ c.in_ok-items.ensures)) c.self.invariant.entered
 
-pub returns-in-Ok : goal.returns-in-Ok
-returns-in-Ok c =
-    let m = c.self.inside.moves in let items = c.self.inside.items.entries in let t = c.self.inside.table.now in
-    IfOk-weaker c.with_ideographs_of.result _ _ (λ u made.
-    made ∙ ap (λ v. with_ideographs v t.ideographs) c.in-Ok.ensures.made
-    ∙ copied m items t c.add_entries.new.builder c.self.invariant.fits c.in_ok-add_entries.ensures.entries
-    (c.in_ok-add_entries.ensures.ranges ∙ c.in_ok-add_items.ensures.ranges ∙ ap (λ (u : ElementTable). u.ranges) c.in_ok-add_ranges.ensures ∙ c.ranges-2.ensures.value)
-    ∙ c.self.view_is) c.with_ideographs_of.ensures
+pub returns : goal.returns
+returns c =
+    let m = c.self.inside.moves in let t = c.self.inside.table.now in
+    IfOk-weaker c.finish.result _ _ (λ u made.
+    made
+    ∙ copied m c.self.inside.items.entries t c.merge.new.merged c.self.invariant.fits (subst (λ items. Holds c.merge.new.merged (map cut_entry (all_entries m items (entries t.entries)))) (ap (map entered_item) c.deref.ensures.value ∙ c.in_ok-items.ensures) c.in_ok-merge.ensures)
+    ∙ c.self.view_is) c.finish.ensures

@@ -1,5 +1,5 @@
-use Rattle.std.proofs.Common.{◌≡◌, ℕ, ◌+◌, ◌-◌, ◌%◌, ◌≤◌, ◌<◌, min, List, [], ◌∷◌, length, take, drop, get_or, refl, sym, ap, subst, ◌∙◌, arith, rules}
-use Rattle.std.proofs.lemmas.List.{drop_more, drop_all, length-take, length-drop, get_or_read}
+use Rattle.std.proofs.Common.{◌≡◌, ℕ, ◌+◌, ◌<◌, min, List, ◌∷◌, length, take, drop, get_or, sym, ap, subst, ◌∙◌, arith, rules}
+use Rattle.std.proofs.lemmas.List.{drop_more, length-take, length-drop, get_or_read}
 use Rattle.uca_model.specs.Room.{weight_with_room}
 use Rattle.uca_tailor.specs.Shifts.{moved, moved_at_once, AreBlocks}
 use Rattle.uca_tailor.proofs.ShiftLemmas.{moved-cut}

@@ -1,4 +1,4 @@
-use Rattle.std.proofs.Common.{◌≡◌, ◌-◌, ◌%◌, ◌≤◌, ◌++◌, ◌∷◌, [], List, ℕ, length, take, drop, ap, sym, subst, ◌∙◌, arith, rules}
+use Rattle.std.proofs.Common.{◌≡◌, ◌-◌, ◌%◌, ◌++◌, ◌∷◌, [], List, ℕ, length, take, drop, ap, sym, subst, ◌∙◌, arith, rules}
 use Rattle.uca_tailor.specs.Shifts.{bounds_with, Rise, AreBounds, AreBlocks}
 use Rattle.uca_tailor.proofs.ShiftLemmas.{AreBounds-with}
 use Rattle.uca_tailor.proofs.BlockLemmas.{last-rise, AreBlocks-with, parted-small, parted-large}

@@ -1,0 +1,14 @@
+use Rattle.std.proofs.Common.{[], ap, chars, sym, ◌∙◌}
+use Rattle.std.proofs.lemmas.List.{nil_from_length}
+use Rattle.std.proofs.lemmas.Str.{chars_past_char, chars-nil}
+use Rattle.std.specs.Str.Iter.{chars_rest}
+use Rattle.uca_levels.proofs.first_weight.first_char.Goals as goal
+
+pub returns-in-Some : goal.returns-in-Some
+returns-in-Some c = record {
+  later = chars (chars_rest c.next.new.self);
+  same = chars_past_char _ _ _ c.utf8.text (sym c.chars-left.ensures.rest ∙ c.in-Some.ensures.steps.0);
+}
+
+pub returns-in-None : goal.returns-in-None
+returns-in-None c = record { later = []; same = ap chars (sym c.chars-left.ensures.rest ∙ nil_from_length _ c.in-None.ensures.steps.0.0) ∙ chars-nil }

@@ -1,0 +1,106 @@
+//! Entries that come in the order of a table, so that each is stored as it comes.
+ghost use Rattle.std.specs.Prelude.{◌≡◌, IfOk, OnOk, OnErr, MatchResult, None, T};
+ghost use Rattle.std.specs.FinMap.{empty, insert, is_sorted};
+ghost use Rattle.uca_model.specs.Table.{key_cmp};
+ghost use Rattle.uca_table.specs.Ascending.{IsOrder, append_fault, reported_append_fault};
+
+use crate::builder::{read_elements, read_key};
+use crate::fault::AppendFault;
+use crate::flat::Flat;
+use crate::table::Table;
+use std::alloc::{AllocError, Global};
+use std::cmp::Ordering;
+use std::marker::Model;
+use uca_weights::{Element, MAX_ELEMENTS, MAX_KEY};
+
+/// Collects the entries of a table whose keys come in their order: by code points, a proper prefix first.
+#[derive(Debug, Drop)]
+pub struct AscendingEntries {
+    entries: Flat,
+    longest_key: usize,
+}
+
+impl Model for AscendingEntries {
+    ghost use Rattle.std.specs.Prelude.{◌≡◌, List};
+    ghost use Rattle.std.specs.FinMap.{FinMap, from_sorted};
+    ghost use Rattle.uca_weights.specs.declared.element.Element.{Element};
+    ghost use Rattle.uca_model.specs.Table.{key_cmp};
+    ghost use Rattle.uca_table.specs.Ascending.{AreAscending};
+    ghost use Rattle.uca_table.specs.Coded.{coded_map};
+    ghost use Rattle.uca_table.specs.Stored.{longest_of};
+
+    ghost Value = { FinMap key_cmp (List Element) };
+
+    ghost coded = { coded_map };
+
+    ghost view = { λ a. from_sorted {R = key_cmp} a.entries };
+
+    ghost invariant = { λ a. AreAscending a.entries × (a.longest_key ≡ longest_of a.entries) };
+}
+
+impl AscendingEntries {
+    /// No entries.
+    pub fn new(alloc: Global) -> AscendingEntries
+        ensures { result ≡ empty }
+    {
+        AscendingEntries {
+            entries: Flat::none(alloc),
+            longest_key: 1,
+        }
+    }
+
+    /// Appends a key of 1 to `MAX_KEY` code points, which comes after all others, with 1 to `MAX_ELEMENTS` collation
+    /// elements (UTS #10, section 3). On a fault the entries stay as they are.
+    pub fn push(&mut self, key: &[char], elements: &[Element]) -> Result<(), AppendFault>
+        ensures ok { OnOk result (self.new ≡ insert self.old key.now elements.now) }
+        ensures err { OnErr result (self.new ≡ self.old) }
+        ensures fault { MatchResult result (λ _. append_fault self.old key.now elements.now ≡ None) (λ f. append_fault self.old key.now elements.now ≡ reported_append_fault f) }
+    {
+        if key.is_empty() {
+            return Err(AppendFault::EmptyKey);
+        }
+        if key.len() > MAX_KEY {
+            return Err(AppendFault::KeyTooLong);
+        }
+        if elements.is_empty() {
+            return Err(AppendFault::NoElement);
+        }
+        if elements.len() > MAX_ELEMENTS {
+            return Err(AppendFault::TooManyElements);
+        }
+        read_key(key);
+        read_elements(elements);
+        match order_after(&self.entries, key) {
+            Ordering::Greater => match self.entries.push(key, elements) {
+                Ok(()) => {
+                    self.longest_key = self.longest_key.max(key.len());
+                    Ok(())
+                }
+                Err(_) => Err(AppendFault::OutOfMemory),
+            },
+            Ordering::Equal => Err(AppendFault::Repeated),
+            Ordering::Less => Err(AppendFault::OutOfOrder),
+        }
+    }
+
+    /// The table of these entries, with the ranges of implicit weights and of ideographs of another table.
+    pub fn finish(self, alloc: Global, other: &Table) -> Result<Table, AllocError>
+        ensures { IfOk result (λ t. t ≡ record { entries = self; ranges = other.now.ranges; ideographs = other.now.ideographs }) }
+    {
+        let stored = other
+            .stored()
+            .with_entries(alloc, self.entries, self.longest_key)?;
+        Ok(Table::of(alloc, stored))
+    }
+}
+
+/// How a key stands to the last of some entries in their order; after none of them, it is greater.
+fn order_after(entries: &Flat, key: &[char]) -> Ordering
+    requires { T (is_sorted key_cmp entries.now) }
+    ensures { IsOrder result key.now entries.now }
+{
+    if entries.len() == 0 {
+        return Ordering::Greater;
+    }
+    key.cmp(entries.key(entries.len() - 1))
+}
