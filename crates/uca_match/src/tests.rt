@@ -193,36 +193,19 @@ fn assert_same(rt: &impl Abort, alloc: Global, t: &Table, other: &Table, text: &
 #[test]
 fn a_table_without_cells_gives_the_same_elements(rt: HostRuntime) -> Result<(), Fail> {
     let t = table(&rt, rt.alloc(), &KEYS_WITH_GAPS);
-    let copy = t.try_clone(rt.alloc())?;
+    // An added range drops the cells; no text has its ideograph.
+    let mut other = table(&rt, rt.alloc(), &KEYS_WITH_GAPS);
+    let added = match other.add_ideographs('\u{33479}', '\u{33479}') {
+        Err(RangeFault::OutOfMemory) => other.add_ideographs('\u{33479}', '\u{33479}'),
+        answer => answer,
+    };
+    assert_eq!(rt; added, Ok(()));
     for text in JOINED {
-        assert_same(&rt, rt.alloc(), &t, &copy, text);
+        assert_same(&rt, rt.alloc(), &t, &other, text);
     }
     for number in 0..600 {
         let text = generated(rt.alloc(), &CHARACTERS, number)?;
-        assert_same(&rt, rt.alloc(), &t, &copy, &text);
+        assert_same(&rt, rt.alloc(), &t, &other, &text);
     }
-    Ok(())
-}
-
-#[test]
-fn a_changed_table_gives_its_new_elements(rt: HostRuntime) -> Result<(), Fail> {
-    let mut t = table(&rt, rt.alloc(), &[]);
-    let changed = plain(0x1020, 0x20);
-    t.put(rt.alloc(), &['c', 'z'], &[changed])?;
-    let elements = elements_again(&rt, rt.alloc(), &t, "cz");
-    assert_eq!(rt; elements.as_slice(), [changed].as_slice());
-    t.prepare(rt.alloc())?;
-    let elements = elements_again(&rt, rt.alloc(), &t, "czc");
-    assert_eq!(rt;
-        elements.as_slice(),
-        [changed, plain(0x1002, 0x20)].as_slice()
-    );
-    assert!(rt; !t.lacks_room(1, 0x1002));
-    t.make_room(1, 0x1002);
-    let elements = elements_again(&rt, rt.alloc(), &t, "cze");
-    assert_eq!(rt;
-        elements.as_slice(),
-        [plain(0x1021, 0x20), plain(0x1005, 0x20)].as_slice()
-    );
     Ok(())
 }

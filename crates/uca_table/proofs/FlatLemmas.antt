@@ -1,13 +1,10 @@
 -- Entries that lie side by side in one list of code points and one of elements.
-use Rattle.std.proofs.Common.{◌≡◌, ℕ, zero, suc, ◌+◌, ◌-◌, ◌≤◌, ◌<◌, ◌||◌, Bool, true, false, if◌then◌else◌, List, [], ◌∷◌, ◌++◌, length, max, fold, take, drop, map, All, get_or, slice_set, Result, Ok, Err, OnErr, refl, sym, ap, ap₂, ◌∙◌, arith, length-drop, length-append, length-take-le, take-take}
-use Rattle.std.proofs.lemmas.List.{take-append-le, drop-append-le, map-append, take-map, drop-map, map-set, drop-drop, drop-take, drop_all}
-use Rattle.std.proofs.lemmas.List.Elements.{All-push, All-append, All-take, All-drop, All-set}
-use Rattle.std.specs.List.{insert, list_any}
+use Rattle.std.proofs.Common.{◌≡◌, ℕ, zero, suc, ◌+◌, ◌-◌, ◌≤◌, ◌<◌, List, [], ◌∷◌, ◌++◌, length, max, fold, take, drop, map, All, get_or, Result, Ok, Err, OnErr, refl, sym, ap, ap₂, ◌∙◌, arith, length-drop, length-append, length-take-le, take-take}
+use Rattle.std.proofs.lemmas.List.{take-append-le, drop-append-le, map-append, drop-drop, drop-take, drop_all}
+use Rattle.std.proofs.lemmas.List.Elements.{All-push}
 use Rattle.uca_weights.specs.declared.element.Element.{Element}
-use Rattle.uca_model.specs.Room.{has_no_room, with_room, entry_with_room}
 use Rattle.uca_table.specs.declared.flat.Slot.{Slot}
 use Rattle.uca_table.specs.Flat.{entry_at, IsSlot, IsGrown}
-use Rattle.uca_table.specs.Moved.{moved}
 
 -- a part of a list is one of each that begins with it
 pub part-grown : {A : Type 0} (xs ys : List A) (m n : ℕ) → m + n ≤ length xs → IsGrown xs ys → take n (drop m ys) ≡ take n (drop m xs)
@@ -42,45 +39,13 @@ pub entries-push : (ps qs : List ℕ) (es fs : List Element) (ss : List Slot) (s
 entries-push ps qs es fs ss s e points elements all is =
     map-append (entry_at qs fs) ss (s ∷ []) ∙ ap₂ (λ xs x. xs ++ x ∷ []) (entries-grown ps qs es fs ss points elements all) is
 
-pub entries-insert : (ps qs : List ℕ) (es fs : List Element) (ss : List Slot) (i : ℕ) (s : Slot) (e : List ℕ × List Element) → IsGrown ps qs → IsGrown es fs → All (IsSlot ps es) ss → entry_at qs fs s ≡ e → map (entry_at qs fs) (insert ss i s) ≡ insert (map (entry_at ps es) ss) i e
-entries-insert ps qs es fs ss i s e points elements all is =
-    let same = entries-grown ps qs es fs ss points elements all in
-    map-append (entry_at qs fs) (take i ss) (s ∷ drop i ss)
-    ∙ ap₂ (λ xs ys. xs ++ entry_at qs fs s ∷ ys) (sym (take-map (entry_at qs fs) i ss) ∙ ap (take i) same) (sym (drop-map (entry_at qs fs) i ss) ∙ ap (drop i) same)
-    ∙ ap (λ x. take i (map (entry_at ps es) ss) ++ x ∷ drop i (map (entry_at ps es) ss)) is
-
-pub entries-set : (ps qs : List ℕ) (es fs : List Element) (ss : List Slot) (i : ℕ) (s : Slot) (e : List ℕ × List Element) → IsGrown ps qs → IsGrown es fs → All (IsSlot ps es) ss → entry_at qs fs s ≡ e → map (entry_at qs fs) (slice_set ss i s) ≡ slice_set (map (entry_at ps es) ss) i e
-entries-set ps qs es fs ss i s e points elements all is =
-    map-set (entry_at qs fs) ss i s ∙ ap₂ (λ xs x. slice_set xs i x) (entries-grown ps qs es fs ss points elements all) is
-
 pub slots-push : (ps qs : List ℕ) (es fs : List Element) (ss : List Slot) (s : Slot) → IsGrown ps qs → IsGrown es fs → All (IsSlot ps es) ss → IsSlot qs fs s → All (IsSlot qs fs) (ss ++ s ∷ [])
 slots-push ps qs es fs ss s points elements all is = All-push (IsSlot qs fs) ss s (slots-grown ps qs es fs ss points elements all) is
-
-pub slots-insert : (ps qs : List ℕ) (es fs : List Element) (ss : List Slot) (i : ℕ) (s : Slot) → IsGrown ps qs → IsGrown es fs → All (IsSlot ps es) ss → IsSlot qs fs s → All (IsSlot qs fs) (insert ss i s)
-slots-insert ps qs es fs ss i s points elements all is =
-    let more = slots-grown ps qs es fs ss points elements all in
-    let tail : All (IsSlot qs fs) (s ∷ drop i ss) = All-append (IsSlot qs fs) (s ∷ []) (drop i ss) (All-push (IsSlot qs fs) [] s (λ k d h. absurd (omega arith)) is) (All-drop (IsSlot qs fs) i ss more) in
-    All-append (IsSlot qs fs) (take i ss) (s ∷ drop i ss) (All-take (IsSlot qs fs) i ss more) tail
-
-pub slots-set : (ps qs : List ℕ) (es fs : List Element) (ss : List Slot) (i : ℕ) (s : Slot) → IsGrown ps qs → IsGrown es fs → All (IsSlot ps es) ss → IsSlot qs fs s → All (IsSlot qs fs) (slice_set ss i s)
-slots-set ps qs es fs ss i s points elements all is = All-set (IsSlot qs fs) ss i s is (slots-grown ps qs es fs ss points elements all)
 
 -- a fact of a failed call that holds anyway
 pub on_err : {A E : Type 0} (P : Type 0) (r : Result A E) → P → OnErr r P
 on_err P (Ok x) h = tt
 on_err P (Err e) h = h
-
--- an element of a part of a list of which one knows that it passes
-pub any_here : {A : Type 0} (p : A → Bool) (xs : List A) (i : ℕ) → i < length xs → ((d : A) → p (get_or xs i d) ≡ true) → list_any p (drop i xs) ≡ true
-any_here p [] i within h = absurd (omega arith)
-any_here p (x ∷ xs) zero within h = ap (λ b. b || list_any p xs) (h x)
-any_here p (x ∷ xs) (suc i) within h = any_here p xs i (omega arith) h
-
--- or fails
-pub any_next : {A : Type 0} (p : A → Bool) (xs : List A) (i : ℕ) → i < length xs → ((d : A) → p (get_or xs i d) ≡ false) → list_any p (drop i xs) ≡ list_any p (drop (i + 1) xs)
-any_next p [] i within h = absurd (omega arith)
-any_next p (x ∷ xs) zero within h = ap (λ b. b || list_any p xs) (h x)
-any_next p (x ∷ xs) (suc i) within h = let next : suc i + 1 ≡ suc (i + 1) = omega arith in any_next p xs i (omega arith) h ∙ ap (λ n. list_any p (drop n (x ∷ xs))) (sym next)
 
 -- a part of a part
 pub part_of_part : {A : Type 0} (xs : List A) (low high from to : ℕ) → low ≤ high → high ≤ length xs → from ≤ to → to ≤ length (take (high - low) (drop low xs)) → take ((low + to) - (low + from)) (drop (low + from) xs) ≡ take (to - from) (drop from (take (high - low) (drop low xs)))
@@ -94,27 +59,6 @@ part_of_part xs low high from to ordered within first last =
     ∙ sym (take-take (to - from) ((high - low) - from) (drop from (drop low xs)) (omega arith))
     ∙ ap (take (to - from)) (sym (drop-take from ((high - low) - from) (drop low xs)))
     ∙ ap (λ n. take (to - from) (drop from (take n (drop low xs)))) back
-
-both_false : (a b : Bool) → (a || b) ≡ false → (a ≡ false) × (b ≡ false)
-both_false true b e = (e, absurd (cc))
-both_false false b e = (refl, e)
-
--- where all have room, all that stand above move
-pub moved_free : (level w : ℕ) (es : List Element) → list_any (has_no_room level w) es ≡ false → map (moved level w) es ≡ map (with_room level w) es
-moved_free level w [] free = refl
-moved_free level w (e ∷ es) free =
-    let each = both_false (has_no_room level w e) (list_any (has_no_room level w) es) free in
-    ap₂ (λ x xs. x ∷ xs) (ap (λ b. if b then e else with_room level w e) each.0) (moved_free level w es each.1)
-
-pub entries-moved : (level w : ℕ) (ps : List ℕ) (es new : List Element) (ss : List Slot) → new ≡ map (moved level w) es → list_any (λ (e : List ℕ × List Element). list_any (has_no_room level w) e.1) (map (entry_at ps es) ss) ≡ false
-    → map (entry_at ps new) ss ≡ map (entry_with_room level w) (map (entry_at ps es) ss)
-entries-moved level w ps es new [] same free = refl
-entries-moved level w ps es new (s ∷ ss) same free =
-    let xs = take s.count (drop s.first_element es) in
-    let each = both_false (list_any (has_no_room level w) xs) (list_any (λ (e : List ℕ × List Element). list_any (has_no_room level w) e.1) (map (entry_at ps es) ss)) free in
-    let here : take s.count (drop s.first_element new) ≡ map (with_room level w) xs =
-    ap (λ l. take s.count (drop s.first_element l)) same ∙ ap (take s.count) (drop-map (moved level w) s.first_element es) ∙ take-map (moved level w) s.count (drop s.first_element es) ∙ moved_free level w xs each.0 in
-    ap₂ (λ v l. (take s.points (drop s.first_point ps), v) ∷ l) here (entries-moved level w ps es new ss same each.1)
 
 -- the first of some entries, and the others
 pub front_and_rest : {A : Type 0} (xs : List A) (d : A) → 0 < length xs → xs ≡ get_or xs 0 d ∷ drop 1 xs

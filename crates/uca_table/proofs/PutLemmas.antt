@@ -1,35 +1,20 @@
 -- What a new entry in its place does to entries whose keys rise, and to the longest key.
-use Rattle.std.proofs.Common.{◌≡◌, ℕ, suc, zero, ◌≤◌, ◌<◌, max, T, List, [], ◌∷◌, length, fold, get_or, slice_set, refl, sym, ap, ◌∙◌, arith}
+use Rattle.std.proofs.Common.{◌≡◌, ℕ, suc, zero, ◌≤◌, ◌<◌, max, List, [], ◌∷◌, length, fold, get_or, refl, ap, ◌∙◌, arith}
 use Rattle.std.specs.declared.cmp.Ordering.{Ordering}
 use Rattle.std.specs.declared.cmp.Ordering.TheVariants.{Less, Equal, Greater}
 use Rattle.std.specs.List.{insert}
 use Rattle.std.specs.Ordering.{ordering_reverse}
 use Rattle.std.specs.Cmp.Lexicographic.{nat_list_cmp_total}
-use Rattle.std.specs.FinMap.{put, is_sorted, nat_cmp-IsAntisymmetric, slice_cmp-IsAntisymmetric}
+use Rattle.std.specs.FinMap.{put, nat_cmp-IsAntisymmetric, slice_cmp-IsAntisymmetric}
 use Rattle.std.specs.FinMap.Entries.{by_order}
 use Rattle.uca_weights.specs.declared.element.Element.{Element}
 use Rattle.uca_model.specs.Table.{key_cmp}
 use Rattle.uca_table.specs.Place.{BelongsAt}
 use Rattle.uca_table.specs.Stored.{longest_of}
-use Rattle.uca_table.proofs.SearchLemmas.{below_at, left, right}
 
 -- the other way round
 turned : (x q : List ℕ) (o : Ordering) → key_cmp x q ≡ o → key_cmp q x ≡ ordering_reverse o
 turned x q o e = nat_list_cmp_total.antisymm q x ∙ ap ordering_reverse e
-
--- a key that an entry has already gets new elements there
-pub put_at : (es : List (List ℕ × List Element)) (i : ℕ) (q : List ℕ) (d new : List ℕ × List Element) → T (is_sorted key_cmp es) → i < length es → key_cmp (get_or es i d).0 q ≡ Equal → new.0 ≡ (get_or es i d).0
-    → slice_set es i new ≡ put key_cmp q new.1 es
-put_at [] i q d new sorted within here same = absurd (omega arith)
-put_at (e ∷ es) zero q d new sorted within here same =
-    ap (λ k. (k, new.1) ∷ es) same
-    ∙ sym (ap (λ o. by_order o ((q, new.1) ∷ e ∷ es) ((e.0, new.1) ∷ es) (e ∷ put key_cmp q new.1 es)) (turned e.0 q Equal here))
-put_at (e ∷ es) (suc i) q d new sorted within here same =
-    let x = (get_or es i d).0 in
-    let above : key_cmp x e.0 ≡ Greater = turned e.0 x Less (below_at e.0 es i d (left _ _ sorted) (omega arith)) in
-    let other : key_cmp q e.0 ≡ Greater = sym (nat_list_cmp_total.congr x q e.0 here) ∙ above in
-    ap (λ xs. e ∷ xs) (put_at es i q d new (right _ _ sorted) (omega arith) here same)
-    ∙ sym (ap (λ o. by_order o ((q, new.1) ∷ e ∷ es) ((e.0, new.1) ∷ es) (e ∷ put key_cmp q new.1 es)) other)
 
 -- a key that none has is inserted between those that are lower and those that are higher
 put_between : (es : List (List ℕ × List Element)) (i : ℕ) (q : List ℕ) (v : List Element) → i ≤ length es → ((k : ℕ) (d : List ℕ × List Element) → k < i → key_cmp (get_or es k d).0 q ≡ Less) → ((k : ℕ) (d : List ℕ × List Element) → i ≤ k → k < length es → key_cmp (get_or es k d).0 q ≡ Greater)

@@ -12,6 +12,5 @@ pub mod Walk
 pub mod Firsts
 pub mod Flat
 pub mod Span
-pub mod Moved
 pub mod EntryMap
 pub mod Ascending

@@ -108,13 +108,6 @@ impl Firsts {
         }
     }
 
-    /// Forgets them.
-    pub(crate) fn clear(&mut self)
-        ensures { (es : _) → HoldsFirsts es self.new }
-    {
-        self.starts.clear();
-    }
-
     /// The entries whose keys begin with a code point.
     pub(crate) fn beginning_with<'e>(&self, entries: &Span<'e>, c: char) -> Span<'e>
         requires firsts { HoldsFirsts (entries_in entries.now) self.now }

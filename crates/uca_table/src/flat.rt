@@ -1,11 +1,7 @@
-ghost use Rattle.std.specs.Prelude.{◌≡◌, ◌<◌, ◌≤◌, ◌++◌, ◌∷◌, [], All, false, length, map, get_or, slice_set, IfOk, OnOk, OnErr};
-ghost use Rattle.std.specs.List.{insert, list_any};
+ghost use Rattle.std.specs.Prelude.{◌≡◌, ◌<◌, ◌≤◌, ◌++◌, ◌∷◌, [], length, get_or, IfOk, OnOk, OnErr};
 ghost use Rattle.uca_weights.specs.declared.limits.TheConstants.{MAX_KEY, MAX_ELEMENTS};
-ghost use Rattle.uca_model.specs.Room.{has_no_room, entry_with_room};
-ghost use Rattle.uca_model.specs.Table.{IsEntry};
 ghost use Rattle.uca_table.specs.Flat.{entry_at, IsSlot, IsGrown};
 
-use crate::room::{any_has_no_room, move_above};
 use std::alloc::{AllocError, Global};
 use std::marker::Model;
 use uca_weights::Element;
@@ -145,82 +141,5 @@ impl Flat {
         let slot = store(&mut self.points, &mut self.elements, key, elements)?;
         self.slots.push(slot)?;
         Ok(())
-    }
-
-    /// Inserts an entry. Where memory is refused, the entries stay as they are.
-    pub(crate) fn insert(
-        &mut self,
-        at: usize,
-        key: &[char],
-        elements: &[Element],
-    ) -> Result<(), AllocError>
-        requires within { at ≤ length self.old }
-        requires few_points { length key.now ≤ MAX_KEY }
-        requires few_elements { length elements.now ≤ MAX_ELEMENTS }
-        ensures ok { OnOk result (self.new ≡ insert self.old at (key.now, elements.now)) }
-        ensures err { OnErr result (self.new ≡ self.old) }
-    {
-        let slot = store(&mut self.points, &mut self.elements, key, elements)?;
-        self.slots.insert(at, slot)?;
-        Ok(())
-    }
-
-    /// Gives an entry another key and other elements, and leaves those that it had unused.
-    pub(crate) fn replace(
-        &mut self,
-        at: usize,
-        key: &[char],
-        elements: &[Element],
-    ) -> Result<(), AllocError>
-        requires within { at < length self.old }
-        requires few_points { length key.now ≤ MAX_KEY }
-        requires few_elements { length elements.now ≤ MAX_ELEMENTS }
-        ensures ok { OnOk result (self.new ≡ slice_set self.old at (key.now, elements.now)) }
-        ensures err { OnErr result (self.new ≡ self.old) }
-    {
-        let slot = store(&mut self.points, &mut self.elements, key, elements)?;
-        self.slots[at] = slot;
-        Ok(())
-    }
-
-    /// The same entries once more, with nothing that is unused.
-    pub(crate) fn try_clone(&self, alloc: Global) -> Result<Flat, AllocError>
-        requires { All IsEntry self.now }
-        ensures { IfOk result (λ f. f ≡ self.now) }
-    {
-        let mut copy = Flat::with_capacity(
-            alloc,
-            self.len(),
-            self.points.len(),
-            self.elements.len(),
-        )?;
-        for at in 0..self.len() {
-            copy.push(self.key(at), self.elements(at))?;
-        }
-        Ok(copy)
-    }
-
-    /// Whether some element of some entry has a weight at a level that would move above `w`, and can't.
-    pub(crate) fn lacks_room(&self, level: u8, w: u16) -> bool
-        requires first { 1 ≤ level }
-        requires last { level ≤ 3 }
-        ensures { result ≡ list_any (λ e. list_any (has_no_room level w) e.1) self.now }
-    {
-        for at in 0..self.len() {
-            if any_has_no_room(level, w, self.elements(at)) {
-                return true;
-            }
-        }
-        false
-    }
-
-    /// Moves the weights of a level that stand above `w` up by one, in each entry.
-    pub(crate) fn make_room(&mut self, level: u8, w: u16)
-        requires first { 1 ≤ level }
-        requires last { level ≤ 3 }
-        requires room { list_any (λ e. list_any (has_no_room level w) e.1) self.old ≡ false }
-        ensures { self.new ≡ map (entry_with_room level w) self.old }
-    {
-        move_above(level, w, &mut self.elements);
     }
 }

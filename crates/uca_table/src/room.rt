@@ -2,7 +2,6 @@
 ghost use Rattle.std.specs.Prelude.{◌≡◌, ◌≤◌, ◌&&◌, ◌==◌, false, map};
 ghost use Rattle.std.specs.List.{list_any};
 ghost use Rattle.uca_model.specs.Room.{moves, weight_with_room, with_room, has_no_room, max_weight};
-ghost use Rattle.uca_table.specs.Moved.{moved};
 
 use uca_weights::Element;
 
@@ -67,31 +66,6 @@ fn with_room(level: u8, w: u16, element: Element) -> Element
     moved
 }
 
-// An element with room above `w`, or as it is where it has none.
-fn moved(level: u8, w: u16, element: Element) -> Element
-    requires first { 1 ≤ level }
-    requires last { level ≤ 3 }
-    ensures { result ≡ moved level w element }
-{
-    if has_no_room(level, w, element) {
-        element
-    } else {
-        with_room(level, w, element)
-    }
-}
-
-/// Moves the weights of a level, 1 to 3, that stand above `w` up by one, but for those that can't. At level 1 the implicit
-/// ones, from 8000 on, stay.
-pub(crate) fn move_above(level: u8, w: u16, elements: &mut [Element])
-    requires first { 1 ≤ level }
-    requires last { level ≤ 3 }
-    ensures { elements.new ≡ map (moved level w) elements.old }
-{
-    for element in elements.iter_mut() {
-        *element = moved(level, w, *element);
-    }
-}
-
 /// Moves the weights of a level, 1 to 3, that stand above `w` up by one. At level 1 the implicit ones, from 8000 on, stay.
 pub fn make_room(level: u8, w: u16, elements: &mut [Element])
     requires first { 1 ≤ level }
@@ -99,5 +73,7 @@ pub fn make_room(level: u8, w: u16, elements: &mut [Element])
     requires room { list_any (has_no_room level w) elements.old ≡ false }
     ensures { elements.new ≡ map (with_room level w) elements.old }
 {
-    move_above(level, w, elements);
+    for element in elements.iter_mut() {
+        *element = with_room(level, w, *element);
+    }
 }

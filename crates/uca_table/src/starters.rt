@@ -144,13 +144,6 @@ impl Starters {
         }
     }
 
-    /// Forgets the flags.
-    pub(crate) fn clear(&mut self)
-        ensures { (t : _) → HoldsStarters t self.new }
-    {
-        self.flags.clear();
-    }
-
     /// Those of a table, without flags where memory is refused.
     pub fn of(alloc: Global, t: &Stored) -> Starters
         ensures { HoldsStarters t.now result }

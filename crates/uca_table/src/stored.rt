@@ -1,12 +1,11 @@
-ghost use Rattle.std.specs.Prelude.{◌≡◌, ◌≤◌, ◌<◌, ◌^◌, ◌∷◌, [], false, length, All, option_copied, IfSome, IfOk, OnOk, OnErr, MatchResult, None};
+ghost use Rattle.std.specs.Prelude.{◌≡◌, ◌≤◌, ◌<◌, ◌^◌, ◌∷◌, [], length, All, option_copied, IfSome, IfOk, OnOk, OnErr, MatchResult, None};
 
-use crate::builder::{read_elements, read_key};
 use crate::entries::Entries;
 use crate::fault::RangeFault;
 use crate::firsts::Firsts;
 use crate::flat::{Flat, Span};
 use crate::ranges::Ranges;
-use crate::search::{elements_of, put};
+use crate::search::elements_of;
 use crate::walk::Walk;
 use crate::{ideographs, implicit_weights};
 use std::alloc::{AllocError, Global};
@@ -23,7 +22,7 @@ pub struct Stored {
     // By their first code points.
     pub(crate) ideographs: Vec<Ideographs>,
     pub(crate) longest_key: usize,
-    // Where the entries begin with a code point; none since the last change of the table.
+    // Where the entries begin with a code point; none where memory was refused.
     pub(crate) firsts: Firsts,
 }
 
@@ -46,15 +45,13 @@ impl Model for Stored {
 
 impl Stored {
     ghost use Rattle.uca_weights.specs.declared.limits.TheConstants.{MAX_KEY, MAX_ELEMENTS};
-    ghost use Rattle.uca_model.specs.Table.{ElementTable, IsElement, IsTable, elements_at, key_cmp, longest, with_entry, with_ideographs};
+    ghost use Rattle.uca_model.specs.Table.{ElementTable, IsElement, IsTable, elements_at, key_cmp, longest, with_ideographs};
     ghost use Rattle.uca_model.specs.UnifiedIdeographs.{AreIdeographs};
     ghost use Rattle.uca_table.specs.Ascending.{AreAscending};
     ghost use Rattle.uca_table.specs.Stored.{longest_of};
     ghost use Rattle.uca_table.specs.Builder.{ideographs_fault, reported_range_fault, with_more_ideographs};
     ghost use Rattle.uca_model.specs.ImplicitWeights.{implicit};
-    ghost use Rattle.uca_model.specs.Room.{has_no_room, table_with_room};
-    ghost use Rattle.std.specs.List.{list_any};
-    ghost use Rattle.std.specs.FinMap.{entries, from_sorted, values};
+    ghost use Rattle.std.specs.FinMap.{entries, from_sorted};
     ghost use Rattle.uca_model.specs.Ranges.{AreByFirst};
     ghost use Rattle.uca_table.specs.Fronts.{entries_from};
     ghost use Rattle.uca_table.specs.Span.{entries_in};
@@ -82,14 +79,6 @@ impl Stored {
         ensures { entries_in result ≡ entries_from self.now (c ∷ []) }
     {
         self.firsts.beginning_with(&Span::all(&self.entries), c)
-    }
-
-    /// Makes anew what a first step uses, which `put` and `make_room` drop and a copy has not.
-    pub(crate) fn prepare(&mut self, alloc: Global) -> Result<(), AllocError>
-        ensures { self.new ≡ self.old }
-    {
-        self.firsts = Firsts::new(alloc, &Span::all(&self.entries))?;
-        Ok(())
     }
 
     /// A walk along the keys that was not stepped yet.
@@ -128,22 +117,6 @@ impl Stored {
         }
     }
 
-    /// The same table once more.
-    pub fn try_clone(&self, alloc: Global) -> Result<Stored, AllocError>
-        ensures { IfOk result (λ t. t ≡ self.now) }
-    {
-        let entries = self.entries.try_clone(alloc)?;
-        let ranges = self.ranges.try_clone(alloc)?;
-        let ideographs = self.ideographs.as_slice().to_vec(alloc)?;
-        Ok(Stored {
-            entries,
-            ranges,
-            ideographs,
-            longest_key: self.longest_key,
-            firsts: Firsts::none(alloc),
-        })
-    }
-
     /// A table with the same ranges and other entries.
     pub(crate) fn with_entries(
         &self,
@@ -165,50 +138,6 @@ impl Stored {
             longest_key,
             firsts,
         })
-    }
-
-    /// Gives a key of 1 to `MAX_KEY` code points these elements, 1 to `MAX_ELEMENTS` of them, in place of those that it
-    /// may have (UTS #10, section 8, Customization and Tailoring). Where memory is refused, the table stays as it is.
-    pub fn put(
-        &mut self,
-        alloc: Global,
-        key: &[char],
-        elements: &[Element],
-    ) -> Result<(), AllocError>
-        requires some_points { 1 ≤ length key.now }
-        requires few_points { length key.now ≤ MAX_KEY }
-        requires some_elements { 1 ≤ length elements.now }
-        requires few_elements { length elements.now ≤ MAX_ELEMENTS }
-        ensures ok { OnOk result (self.new ≡ with_entry self.old key.now elements.now) }
-        ensures err { OnErr result (self.new ≡ self.old) }
-    {
-        self.firsts.clear();
-        read_key(key);
-        read_elements(elements);
-        put(&mut self.entries, key, elements)?;
-        self.longest_key = self.longest_key.max(key.len());
-        Ok(())
-    }
-
-    /// Whether some weight of the entries at a level, 1 to 3, would move if room were made above `w`, and can't.
-    pub fn lacks_room(&self, level: u8, w: u16) -> bool
-        requires first { 1 ≤ level }
-        requires last { level ≤ 3 }
-        ensures { result ≡ list_any (list_any (has_no_room level w)) (values self.now.entries) }
-    {
-        self.entries.lacks_room(level, w)
-    }
-
-    /// Makes room above `w` at a level, 1 to 3: all weights of the entries above it go up by one, but at level 1 not the
-    /// implicit ones, from 8000 on. It takes no memory.
-    pub fn make_room(&mut self, level: u8, w: u16)
-        requires first { 1 ≤ level }
-        requires last { level ≤ 3 }
-        requires room { list_any (list_any (has_no_room level w)) (values self.old.entries) ≡ false }
-        ensures { self.new ≡ table_with_room level w self.old }
-    {
-        self.firsts.clear();
-        self.entries.make_room(level, w);
     }
 
     /// The ranges of implicit weights by their first code points.

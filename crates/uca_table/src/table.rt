@@ -1,4 +1,4 @@
-ghost use Rattle.std.specs.Prelude.{◌≡◌, ℕ, List, ◌≤◌, ◌<◌, ◌^◌, ◌++◌, ◌∷◌, [], false, length, chars, All, option_copied, IfSome, IfOk, OnOk, OnErr, MatchResult, None};
+ghost use Rattle.std.specs.Prelude.{◌≡◌, ℕ, List, ◌≤◌, ◌<◌, ◌^◌, ◌++◌, ◌∷◌, [], length, chars, All, option_copied, IfSome, IfOk, OnOk, OnErr, MatchResult, None};
 ghost use Rattle.unicode_normalization.specs.Forms.{nfd};
 ghost use Rattle.uca_model.specs.CollationElements.{elements};
 
@@ -17,9 +17,9 @@ use uca_weights::{Element, Ideographs, Range};
 #[derive(Debug, Drop)]
 pub struct Table {
     stored: Stored,
-    // The elements of single characters; none since the last change of the table.
+    // The elements of single characters; none after ranges of ideographs were added.
     cells: Cells,
-    // Which code points are safe starters; made and dropped with the cells.
+    // Which code points are safe starters.
     starters: Starters,
 }
 
@@ -40,14 +40,12 @@ impl Model for Table {
 
 impl Table {
     ghost use Rattle.uca_weights.specs.declared.limits.TheConstants.{MAX_KEY, MAX_ELEMENTS};
-    ghost use Rattle.uca_model.specs.Table.{ElementTable, IsElement, IsTable, elements_at, longest, with_entry, with_ideographs};
+    ghost use Rattle.uca_model.specs.Table.{ElementTable, IsElement, IsTable, elements_at, longest, with_ideographs};
     ghost use Rattle.uca_model.specs.UnifiedIdeographs.{AreIdeographs};
     ghost use Rattle.uca_table.specs.Builder.{ideographs_fault, reported_range_fault, with_more_ideographs};
     ghost use Rattle.uca_model.specs.ImplicitWeights.{implicit};
     ghost use Rattle.uca_model.specs.SafeCut.{is_safe_starter};
-    ghost use Rattle.uca_model.specs.Room.{has_no_room, table_with_room};
-    ghost use Rattle.std.specs.List.{list_any};
-    ghost use Rattle.std.specs.FinMap.{entries, values};
+    ghost use Rattle.std.specs.FinMap.{entries};
     ghost use Rattle.uca_model.specs.Ranges.{AreByFirst};
     ghost use Rattle.uca_table.specs.Walk.{path_of, table_of_walk};
 
@@ -92,60 +90,6 @@ impl Table {
         ensures few { length (entries self.now.entries) < 2 ^ 64 }
     {
         self.stored.entries()
-    }
-
-    /// The same table once more.
-    pub fn try_clone(&self, alloc: Global) -> Result<Table, AllocError>
-        ensures { IfOk result (λ t. t ≡ self.now) }
-    {
-        let stored = self.stored.try_clone(alloc)?;
-        Ok(Table {
-            stored,
-            cells: Cells::none(alloc),
-            starters: Starters::none(alloc),
-        })
-    }
-
-    /// Gives a key of 1 to `MAX_KEY` code points these elements, 1 to `MAX_ELEMENTS` of them, in place of those that it
-    /// may have (UTS #10, section 8, Customization and Tailoring). Where memory is refused, the table stays as it is.
-    pub fn put(
-        &mut self,
-        alloc: Global,
-        key: &[char],
-        elements: &[Element],
-    ) -> Result<(), AllocError>
-        requires some_points { 1 ≤ length key.now }
-        requires few_points { length key.now ≤ MAX_KEY }
-        requires some_elements { 1 ≤ length elements.now }
-        requires few_elements { length elements.now ≤ MAX_ELEMENTS }
-        ensures ok { OnOk result (self.new ≡ with_entry self.old key.now elements.now) }
-        ensures err { OnErr result (self.new ≡ self.old) }
-    {
-        self.cells.clear();
-        self.starters.clear();
-        self.stored.put(alloc, key, elements)
-    }
-
-    /// Whether some weight of the entries at a level, 1 to 3, would move if room were made above `w`, and can't.
-    pub fn lacks_room(&self, level: u8, w: u16) -> bool
-        requires first { 1 ≤ level }
-        requires last { level ≤ 3 }
-        ensures { result ≡ list_any (list_any (has_no_room level w)) (values self.now.entries) }
-    {
-        self.stored.lacks_room(level, w)
-    }
-
-    /// Makes room above `w` at a level, 1 to 3: all weights of the entries above it go up by one, but at level 1 not the
-    /// implicit ones, from 8000 on. It takes no memory.
-    pub fn make_room(&mut self, level: u8, w: u16)
-        requires first { 1 ≤ level }
-        requires last { level ≤ 3 }
-        requires room { list_any (list_any (has_no_room level w)) (values self.old.entries) ≡ false }
-        ensures { self.new ≡ table_with_room level w self.old }
-    {
-        self.cells.clear();
-        self.starters.clear();
-        self.stored.make_room(level, w);
     }
 
     /// The ranges of implicit weights by their first code points.
@@ -196,14 +140,12 @@ impl Table {
         self.starters.is_safe(&self.stored, c)
     }
 
-    /// Makes anew what quick look-ups use, which `put`, `make_room` and `add_ideographs` drop and a copy has not. Call it after the last change
-    /// of a table. The table is the same before and after, and also where memory is refused.
+    /// Makes the cells anew, which quick look-ups use and `add_ideographs` drops. Call it after the last change of a
+    /// table. The table is the same before and after, and also where memory is refused.
     pub fn prepare(&mut self, alloc: Global) -> Result<(), AllocError>
         ensures { self.new ≡ self.old }
     {
-        self.stored.prepare(alloc)?;
         self.cells = Cells::new(alloc, &self.stored)?;
-        self.starters = Starters::new(alloc, &self.stored)?;
         Ok(())
     }
 

@@ -1,6 +1,3 @@
-ghost use Rattle.std.specs.Prelude.{◌≤◌, length};
-ghost use Rattle.uca_weights.specs.declared.limits.TheConstants.{MAX_KEY, MAX_ELEMENTS};
-
 use crate::{Element, InsertFault, Range, RangeFault, Table, TableBuilder};
 use arrayvec::ArrayVec;
 use std::alloc::Global;
@@ -266,16 +263,6 @@ fn a_walk_begins_beyond_the_first_plane(rt: HostRuntime) {
     assert_eq!(rt; walk.elements(), Some([ELEMENT].as_slice()));
 }
 
-/// Puts an entry, once more where memory was refused.
-fn put(table: &mut Table, alloc: Global, key: &[char], elements: &[Element]) -> bool
-    requires some_points { 1 ≤ length key.now }
-    requires few_points { length key.now ≤ MAX_KEY }
-    requires some_elements { 1 ≤ length elements.now }
-    requires few_elements { length elements.now ≤ MAX_ELEMENTS }
-{
-    table.put(alloc, key, elements).is_ok() || table.put(alloc, key, elements).is_ok()
-}
-
 /// A safe starter; the end of a contraction; a mark; an element that weighs nothing; one with implicit weights.
 const CUTS: [(char, bool); 6] = [
     ('z', true),
@@ -319,36 +306,6 @@ fn safe_starters_go_beyond_the_first_plane(rt: HostRuntime) {
     for (c, wanted) in cuts {
         assert_eq!(rt; table.safe_starter(c), wanted, "{c:?}");
     }
-}
-
-#[test]
-fn safe_starters_are_those_of_the_changed_table(rt: HostRuntime) -> Result<(), Fail> {
-    let mut table = small_table(&rt, rt.alloc());
-    let alloc = rt.alloc();
-    let without_primary = [element(false, [0, 0x20, 2])];
-    assert!(rt; put(&mut table, alloc, &['z', 'z'], &[ELEMENT]));
-    assert!(rt; put(&mut table, alloc, &['\u{1F602}'], &without_primary));
-    assert!(rt; put(&mut table, alloc, &['\u{1}'], &[ELEMENT]));
-    let cuts = [
-        ('z', false),
-        ('c', true),
-        ('h', false),
-        ('\u{1F602}', false),
-        ('\u{1}', true),
-    ];
-    for (c, wanted) in cuts {
-        assert_eq!(rt; table.safe_starter(c), wanted, "{c:?}");
-    }
-    // Made ready, the table answers the same; so it does where memory is refused.
-    let _ready = table.prepare(alloc);
-    for (c, wanted) in cuts {
-        assert_eq!(rt; table.safe_starter(c), wanted, "{c:?}");
-    }
-    let copy = table.try_clone(alloc)?;
-    for (c, wanted) in cuts {
-        assert_eq!(rt; copy.safe_starter(c), wanted, "{c:?}");
-    }
-    Ok(())
 }
 
 mod ideographs;

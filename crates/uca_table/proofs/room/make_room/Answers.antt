@@ -1,6 +1,7 @@
-use Rattle.std.proofs.Common.{◌∙◌}
-use Rattle.uca_table.proofs.FlatLemmas.{moved_free}
+use Rattle.std.proofs.Common.{arith}
+use Rattle.uca_model.specs.Room.{with_room}
+use Rattle.uca_table.proofs.ChangedLists.{step_more}
 use Rattle.uca_table.proofs.room.make_room.Goals as goal
 
-pub returns : goal.returns
-returns c = c.move_above.ensures ∙ moved_free c.args.level c.args.w c.args.elements.now c.requires.room
+pub loop-element-preserved : goal.loop-element-preserved
+loop-element-preserved c = step_more (with_room c.args.level c.args.w) c.loop-element.elements c.args.elements.now c.loop-element.element-index _ c.with_room.result (omega (arith, c.loop-element-test.true, c.loop-element.auto.elements)) c.loop-element.invariant c.with_room.ensures

@@ -1,11 +1,9 @@
-use Rattle.std.proofs.Common.{◌≡◌, ◌++◌, ◌∷◌, [], max, cond, length, Some, None, subst, sym, ap, ◌∙◌, rules}
+use Rattle.std.proofs.Common.{◌≡◌, max, length, subst, sym, ap, ◌∙◌, rules}
 use Rattle.std.specs.FinMap.{from_sorted, insert, put}
-use Rattle.std.specs.Ordering.{is_eq, is_lt}
 use Rattle.std.specs.declared.cmp.Ordering.TheVariants.{Less, Equal, Greater}
-use Rattle.uca_model.specs.Table.{ElementTable, key_cmp, IsEntry}
-use Rattle.uca_table.specs.Ascending.{AreAscending, append_fault, IsOrder}
+use Rattle.uca_model.specs.Table.{key_cmp, IsEntry}
+use Rattle.uca_table.specs.Ascending.{AreAscending, IsOrder}
 use Rattle.uca_table.specs.Stored.{longest_of}
-use Rattle.uca_table.specs.declared.fault.AppendFault.TheVariants.{OutOfOrder, Repeated}
 use Rattle.uca_table.proofs.AscendingLemmas.{append_fault_within, put_last, AreAscending-put, map_put}
 use Rattle.uca_table.proofs.PutLemmas.{longest-put}
 use Rattle.uca_table.proofs.ascending.AscendingEntries.push.Goals as goal

@@ -1,9 +1,0 @@
-use Rattle.std.proofs.Common.{T, sym, subst}
-use Rattle.std.specs.FinMap.{is_sorted}
-use Rattle.uca_model.specs.Table.{key_cmp}
-use Rattle.uca_table.specs.Span.{entries_in}
-use Rattle.uca_table.proofs.FirstsLemmas.{firsts_rise}
-use Rattle.uca_table.proofs.stored.Stored.prepare.Goals as goal
-
-pub new-requires : goal.new-requires
-new-requires c = firsts_rise (entries_in c.all.result) (subst (λ es. T (is_sorted key_cmp es)) (sym c.all.ensures) c.self.invariant.0.sorted)
