@@ -1,13 +1,12 @@
 # What the measurements share: a folder of their own, the built program, the table that Debian's perl ships, and the time and
-# memory of a program. Each sources it.
+# memory of a program. Each sources it. Where one has set `uca`, that program is measured, and none is built.
 set -u
 from=$PWD
 cd "$(dirname "${BASH_SOURCE[0]}")/.." || exit 2
 script=bench/$(basename "$0")
 work=$(mktemp -d) || exit 2
 trap 'rm -rf "$work"' EXIT
-./uca table >/dev/null </dev/null || exit 1
-uca=crates/uca/out/uca
+[ -n "${uca:-}" ] || { ./uca table >/dev/null </dev/null && uca=crates/uca/out/uca; } || exit 1
 gcc -O2 -o "$work/measured" bench/measured.c || { echo "$script: no C compiler, so nothing can be measured"; exit 1; }
 perl -MUnicode::Collate -e1 || { echo "$script: perl has no Unicode::Collate"; exit 1; }
 
