@@ -1,9 +1,9 @@
 ghost use Rattle.std.specs.Prelude.{◌≤◌, None};
 
 use crate::{ConformCause, ConformFault, Conformance, conform};
-use std::alloc::{AllocError, Global};
+use std::alloc::Global;
 use std::process::Abort;
-use uca_table::{Table, TableBuilder};
+use uca_table::{InsertFault, Table, TableBuilder};
 use uca_weights::{Element, MAX_INPUT, Reader, Refused, Settings, Strength, Variable};
 
 /// Gives its bytes so many times, in pieces of at most `step`, and fails at the end if it is asked to.
@@ -109,31 +109,31 @@ const ENTRIES: [(&[char], u16, u16, u16); 12] = [
     (&['\u{323}'], 0, 0x24, 2),
 ];
 
-fn small(alloc: Global) -> Result<Table, AllocError> {
+/// Makes the table, once more where memory was refused, for a run refuses one growth at most.
+fn finish(rt: &impl Abort, builder: TableBuilder) -> Table {
+    match builder.finish() {
+        Ok(table) => table,
+        Err(fault) => fault.builder.finish().ok().expect(rt, "a table"),
+    }
+}
+
+/// The small table.
+fn table(rt: &impl Abort, alloc: Global) -> Table {
     let mut builder = TableBuilder::new(alloc);
     for (key, l1, l2, l3) in ENTRIES {
-        let element = Element {
+        let elements = [Element {
             starred: false,
             l1,
             l2,
             l3,
+        }];
+        let inserted = match builder.insert(key, &elements) {
+            Err(InsertFault::OutOfMemory) => builder.insert(key, &elements),
+            answer => answer,
         };
-        if builder.insert(key, &[element]).is_err() {
-            return Err(AllocError);
-        }
+        assert_eq!(rt; inserted, Ok(()));
     }
-    match builder.finish() {
-        Ok(table) => Ok(table),
-        Err(_) => Err(AllocError),
-    }
-}
-
-/// The small table. It is asked for again where memory was refused, for a run refuses one growth at most.
-fn table(alloc: Global) -> Result<Table, AllocError> {
-    match small(alloc) {
-        Ok(table) => Ok(table),
-        Err(_) => small(alloc),
-    }
+    finish(rt, builder)
 }
 
 /// `0061`, a line of so many bytes, which ends in LF or in CR and LF, and `0062`; and the same up to that end.
@@ -170,9 +170,7 @@ const MARKS_FIRST: &[u8] = b"\
 
 #[test]
 fn lines_are_compared_with_the_one_before(rt: HostRuntime) {
-    let Ok(t) = table(rt.alloc()) else {
-        return;
-    };
+    let t = table(&rt, rt.alloc());
     let cases: [(&[u8], Result<Conformance, ConformFault>); 22] = [
         (b"", report(0, 0, None)),
         (b"0062\nD800\n0061;x\n", report(3, 1, Some(3))),
@@ -211,9 +209,7 @@ fn lines_are_compared_with_the_one_before(rt: HostRuntime) {
 
 #[test]
 fn a_text_that_is_not_safe_is_skipped(rt: HostRuntime) {
-    let Ok(t) = table(rt.alloc()) else {
-        return;
-    };
+    let t = table(&rt, rt.alloc());
     let mut text = [b' '; 5 + 61 * 5 + 5];
     text[..5].copy_from_slice(b"0062\n");
     for place in 1..62 {
@@ -228,9 +224,7 @@ fn a_text_that_is_not_safe_is_skipped(rt: HostRuntime) {
 
 #[test]
 fn a_faulty_line_is_reported(rt: HostRuntime) {
-    let Ok(t) = table(rt.alloc()) else {
-        return;
-    };
+    let t = table(&rt, rt.alloc());
     let cases: [(&[u8], u64); 19] = [
         (b";x", 1),
         (b"00G1", 1),
@@ -259,9 +253,7 @@ fn a_faulty_line_is_reported(rt: HostRuntime) {
 
 #[test]
 fn a_line_has_a_limit(rt: HostRuntime) {
-    let Ok(t) = table(rt.alloc()) else {
-        return;
-    };
+    let t = table(&rt, rt.alloc());
     with_long_line(&rt, &t, 4096, report(2, 0, None), report(1, 0, None));
     let long = fault(2, ConformCause::LineTooLong);
     with_long_line(&rt, &t, 4097, long, long);
@@ -277,9 +269,7 @@ fn a_line_has_a_limit(rt: HostRuntime) {
 
 #[test]
 fn a_file_has_a_limit(rt: HostRuntime) {
-    let Ok(t) = table(rt.alloc()) else {
-        return;
-    };
+    let t = finish(&rt, TableBuilder::new(rt.alloc()));
     let text = b"# a line of sixty-four bytes, which is a comment and says naught\n";
     let lines = (MAX_INPUT / 65) as u64;
     let mut whole = repeated(text, MAX_INPUT, 4096, true);
@@ -300,10 +290,16 @@ fn a_file_has_a_limit(rt: HostRuntime) {
 }
 
 #[test]
+fn empty_lines_without_end_are_too_large(rt: HostRuntime) {
+    let t = finish(&rt, TableBuilder::new(rt.alloc()));
+    let mut lines = repeated(b"\n", usize::MAX, 4096, false);
+    let large = fault(67_108_865, ConformCause::TooLarge);
+    assert_eq!(rt; conform(&t, PLAIN, &mut lines), large);
+}
+
+#[test]
 fn a_failed_read_is_reported(rt: HostRuntime) {
-    let Ok(t) = table(rt.alloc()) else {
-        return;
-    };
+    let t = table(&rt, rt.alloc());
     for (text, line, cause) in [
         (b"".as_slice(), 1, ConformCause::Read),
         (b"0061", 1, ConformCause::Read),
