@@ -6,6 +6,7 @@ use crate::{Points, Weights, compare, compare_sources};
 use std::alloc::{AllocError, Global};
 use std::cmp::Ordering;
 use std::process::Abort;
+use std::test::Fail;
 use uca_match::Elements;
 use uca_table::{InsertFault, Table, TableBuilder};
 use uca_testing::{SMALL_TABLE, element};
@@ -333,4 +334,26 @@ fn a_variable_character_decides_no_first_level_that_leaves_it_out(rt: HostRuntim
         let order = compare_sources(&t, s, &mut left, &mut right);
         assert_eq!(rt; order, wanted, "{v:?}");
     }
+}
+
+#[test]
+fn marks_alone_decide_at_the_second_level(rt: HostRuntime) -> Result<(), Fail> {
+    let t = table(&rt, rt.alloc());
+    let mut text = String::new(rt.alloc());
+    for _ in 0..60 {
+        text.push('\u{301}')?;
+    }
+    let (p, q) = (passage(&rt, &text), passage(&rt, ""));
+    let cases = [
+        (Strength::Primary, Ordering::Equal),
+        (Strength::Secondary, Ordering::Greater),
+    ];
+    for (strength, wanted) in cases {
+        let s = settings(strength, Variable::NonIgnorable);
+        assert_eq!(rt; compare(&t, s, &p, &q), wanted, "{strength:?}");
+    }
+    text.push('\u{301}')?;
+    let run = Passage::check(&text).err().expect(&rt, "a long run");
+    assert_eq!(rt; run.at, 120);
+    Ok(())
 }
