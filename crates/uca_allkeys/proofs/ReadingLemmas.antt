@@ -4,7 +4,6 @@ use Rattle.std.specs.Prelude.{MatchOption}
 use Rattle.uca_io.specs.LineFold.{with_text}
 use Rattle.uca_io.specs.LineReader.{FailsFirst, GivesSome, GivesText, IsFaulty, StopsBy}
 use Rattle.uca_io.specs.Reader.{ReaderState}
-use Rattle.uca_io.specs.declared.line_reader.LineCause.{LineCause}
 use Rattle.uca_io.specs.declared.line_reader.LineCause.TheVariants as lines
 use Rattle.uca_io.proofs.MapLemmas.{FailsFirst-part, GivesText-part, IsFaulty-part}
 use Rattle.uca_model.specs.Table.{ElementTable}

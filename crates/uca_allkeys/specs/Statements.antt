@@ -7,6 +7,9 @@ use Rattle.uca_weights.specs.declared.element.Element.{Element}
 use Rattle.uca_model.specs.TableText.{Cause, elements_after}
 use Rattle.uca_allkeys.specs.Faults.{cause_of}
 use Rattle.uca_allkeys.specs.declared.faults.LineFault.{LineFault}
+use Rattle.uca_allkeys.specs.declared.directive.Directive.{Directive}
+use Rattle.uca_allkeys.specs.declared.directive.Directive.TheVariants as directives
+use Rattle.uca_allkeys.specs.declared.statement.Entry.{Entry}
 use Rattle.uca_allkeys.specs.declared.statement.Statement.{Statement}
 use Rattle.uca_allkeys.specs.declared.statement.Statement.TheVariants as said
 
@@ -18,17 +21,29 @@ Parses value says result = MatchResult result (λ a. says ≡ Ok (value a)) (λ 
 abbrev pub with_rest : {A : Type 0} → A × Bor (List ℕ) → A × List ℕ
 with_rest p = (p.0, p.1.now)
 
--- what a statement says
-abbrev pub statement_of : Statement → text.Statement
-statement_of said.Nothing = text.nothing
-statement_of said.Version = text.version
-statement_of (said.Range r) = text.range r
-statement_of (said.Entry e) = text.entry e.key.items e.elements.items
+-- what a directive says
+abbrev pub directive_of : Directive → text.Statement
+directive_of directives.Version = text.version
+directive_of (directives.Range r) = text.range r
+
+-- what the text of an entry says
+abbrev pub entry_in : Entry → text.Statement
+entry_in e = text.entry e.key.items e.elements.items
+
+-- what a statement says, with the entry that was read
+abbrev pub statement_in : Entry → Statement → text.Statement
+statement_in e said.Nothing = text.nothing
+statement_in e (said.Directive d) = directive_of d
+statement_in e said.Entry = entry_in e
 
 -- an entry has a code point and an element
-abbrev pub IsSomeEntry : Statement → Type 0
-IsSomeEntry (said.Entry e) = (0 < length e.key.items) × (0 < length e.elements.items)
-IsSomeEntry _ = Unit {0}
+abbrev pub IsSomeEntry : Entry → Type 0
+IsSomeEntry e = (0 < length e.key.items) × (0 < length e.elements.items)
+
+-- where a statement is an entry, one was read
+abbrev pub IsReady : Entry → Statement → Type 0
+IsReady e said.Entry = IsSomeEntry e
+IsReady e _ = Unit {0}
 
 -- the element of one more part was added, or is at fault, whatever parts stand after it
 abbrev pub AddsPart : {A : Type 0} → List Element → List ℕ → List Element → Result A LineFault → Type 0

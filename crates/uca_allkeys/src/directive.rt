@@ -1,15 +1,21 @@
 ghost use Rattle.std.specs.Prelude.{◌≡◌, ◌≤◌, length, IfOk, Ok};
 ghost use Rattle.std.specs.List.{position_or_len};
 ghost use Rattle.uca_model.specs.TableText.{ends_point, range_end, range_base, two_stops, range_of_text, directive, some_text, skip_blanks, version};
-ghost use Rattle.uca_allkeys.specs.Statements.{Parses, with_rest, statement_of, IsSomeEntry};
+ghost use Rattle.uca_allkeys.specs.Statements.{Parses, with_rest, directive_of};
 
 use crate::bytes::{after_byte, four_digits};
 use crate::faults::LineFault;
-use crate::statement::Statement;
 use uca_io::digits::code_point;
 use uca_io::lines::from_place;
 use uca_io::words::{is_blank, skip_blanks, word_len};
 use uca_weights::Range;
+
+/// What a line that begins with `@` says.
+#[derive(Clone, Copy)]
+pub(crate) enum Directive {
+    Version,
+    Range(Range),
+}
 
 /// Whether a byte ends a code point of a directive.
 fn ends_point(byte: u8) -> bool
@@ -77,21 +83,19 @@ fn range_base(text: &[u8]) -> Result<u16, LineFault>
 
 /// What `@implicitweights` says: the ends of a range, and its base.
 #[tactic(auto, unfolding(uca_model::specs::TableText::range_of_text))]
-fn range_of_text(text: &[u8]) -> Result<Statement, LineFault>
-    ensures value { Parses statement_of (range_of_text text.now) result }
-    ensures some { IfOk result IsSomeEntry }
+fn range_of_text(text: &[u8]) -> Result<Directive, LineFault>
+    ensures { Parses directive_of (range_of_text text.now) result }
 {
     let (first, rest) = range_end(skip_blanks(text))?;
     let rest = two_stops(rest)?;
     let (last, rest) = range_end(skip_blanks(rest))?;
     let base = range_base(rest)?;
-    Ok(Statement::Range(Range { first, last, base }))
+    Ok(Directive::Range(Range { first, last, base }))
 }
 
 /// The same, after the word of the directive.
-fn range_directive(rest: &[u8]) -> Result<Statement, LineFault>
-    ensures value { Parses statement_of (some_text rest.now (range_of_text rest.now)) result }
-    ensures some { IfOk result IsSomeEntry }
+fn range_directive(rest: &[u8]) -> Result<Directive, LineFault>
+    ensures { Parses directive_of (some_text rest.now (range_of_text rest.now)) result }
 {
     if rest.is_empty() {
         Err(LineFault::BadDirective)
@@ -101,22 +105,20 @@ fn range_directive(rest: &[u8]) -> Result<Statement, LineFault>
 }
 
 /// A version, whose text isn't kept, after the word of the directive.
-fn version_directive(rest: &[u8]) -> Result<Statement, LineFault>
-    ensures value { Parses statement_of (some_text (skip_blanks rest.now) (Ok version)) result }
-    ensures some { IfOk result IsSomeEntry }
+fn version_directive(rest: &[u8]) -> Result<Directive, LineFault>
+    ensures { Parses directive_of (some_text (skip_blanks rest.now) (Ok version)) result }
 {
     if skip_blanks(rest).is_empty() {
         Err(LineFault::BadDirective)
     } else {
-        Ok(Statement::Version)
+        Ok(Directive::Version)
     }
 }
 
 /// A directive, which begins with `@`.
 #[tactic(auto, unfolding(uca_model::specs::TableText::directive))]
-pub(crate) fn directive(text: &[u8]) -> Result<Statement, LineFault>
-    ensures value { Parses statement_of (directive text.now) result }
-    ensures some { IfOk result IsSomeEntry }
+pub(crate) fn read_directive(text: &[u8]) -> Result<Directive, LineFault>
+    ensures { Parses directive_of (directive text.now) result }
 {
     let end = word_len(text);
     let word = &text[..end];

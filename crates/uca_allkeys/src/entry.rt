@@ -1,22 +1,22 @@
-ghost use Rattle.std.specs.Prelude.{◌≡◌, ◌∷◌, [], ◌<◌, length, MatchOption, IfOk};
+ghost use Rattle.std.specs.Prelude.{◌≡◌, ◌∷◌, [], ◌<◌, length, MatchOption, OnOk};
 ghost use Rattle.std.specs.List.{slice_split, after_first};
 ghost use Rattle.uca_model.specs.TableText.{words, key_after, entry_key, is_semicolon, is_right_bracket, mark, weight_first, next_weight, element_ends, element, elements_after, is_old_weight, entry_of_text};
-ghost use Rattle.uca_allkeys.specs.Statements.{Parses, with_rest, statement_of, IsSomeEntry, AddsPart};
+ghost use Rattle.uca_allkeys.specs.Statements.{Parses, with_rest, entry_in, IsSomeEntry, AddsPart};
 
 use crate::bytes::{after_byte, four_digits};
 use crate::faults::LineFault;
-use crate::statement::{Entry, Statement};
+use crate::statement::Entry;
 use arrayvec::ArrayVec;
 use uca_io::digits::{code_point, number};
 use uca_io::lines::{from_place, place_of};
 use uca_io::words::{next_word, skip_blanks};
 use uca_weights::{Element, MAX_ELEMENTS, MAX_KEY};
 
-/// The code points that the words of a text say.
-fn key_of(text: &[u8]) -> Result<ArrayVec<char, MAX_KEY>, LineFault>
-    ensures { Parses (λ key. key.items) (key_after [] (words text.now)) result }
+/// Makes `key` the code points that the words of a text say.
+fn read_points(key: &mut ArrayVec<char, MAX_KEY>, text: &[u8]) -> Result<(), LineFault>
+    ensures { Parses (λ _. key.new.items) (key_after [] (words text.now)) result }
 {
-    let mut key: ArrayVec<char, MAX_KEY> = ArrayVec::new();
+    key.clear();
     let mut rest = text;
     while let Some((word, others)) = next_word(rest) {
         let Some(point) = code_point(word) else {
@@ -27,24 +27,24 @@ fn key_of(text: &[u8]) -> Result<ArrayVec<char, MAX_KEY>, LineFault>
         }
         rest = others;
     }
-    Ok(key)
+    Ok(())
 }
 
-/// The key of an entry, before the `;` that has to follow it.
+/// Makes `key` the key of an entry, before the `;` that has to follow it.
 #[tactic(auto, unfolding(uca_model::specs::TableText::entry_key))]
-fn entry_key(text: &[u8]) -> Result<ArrayVec<char, MAX_KEY>, LineFault>
-    ensures value { Parses (λ key. key.items) (entry_key text.now) result }
-    ensures some { IfOk result (λ key. 0 < length key.items) }
+fn read_key(key: &mut ArrayVec<char, MAX_KEY>, text: &[u8]) -> Result<(), LineFault>
+    ensures value { Parses (λ _. key.new.items) (entry_key text.now) result }
+    ensures some { OnOk result (0 < length key.new.items) }
 {
     let end = place_of(b';', text);
-    let key = key_of(&text[..end])?;
+    read_points(key, &text[..end])?;
     if end == text.len() {
         return Err(LineFault::NoSemicolon);
     }
     if key.is_empty() {
         return Err(LineFault::BadCodePoint);
     }
-    Ok(key)
+    Ok(())
 }
 
 /// Whether the mark of an element is `*`, and what stands after it.
@@ -159,15 +159,18 @@ fn add_element(elements: &mut ArrayVec<Element, MAX_ELEMENTS>, part: &[u8]) -> R
     }
 }
 
-/// The elements after a `;`.
-fn elements_of(text: &[u8]) -> Result<ArrayVec<Element, MAX_ELEMENTS>, LineFault>
-    ensures value { Parses (λ es. es.items) (elements_after [] (slice_split is_right_bracket text.now)) result }
-    ensures some { IfOk result (λ es. 0 < length es.items) }
+/// Makes `elements` those after a `;`.
+fn read_elements(
+    elements: &mut ArrayVec<Element, MAX_ELEMENTS>,
+    text: &[u8],
+) -> Result<(), LineFault>
+    ensures value { Parses (λ _. elements.new.items) (elements_after [] (slice_split is_right_bracket text.now)) result }
+    ensures some { OnOk result (0 < length elements.new.items) }
 {
-    let mut elements: ArrayVec<Element, MAX_ELEMENTS> = ArrayVec::new();
+    elements.clear();
     let mut rest = text;
     while let Some((part, others)) = next_part(rest) {
-        match add_element(&mut elements, part) {
+        match add_element(elements, part) {
             Ok(()) => rest = others,
             Err(fault) => return Err(fault),
         }
@@ -178,7 +181,7 @@ fn elements_of(text: &[u8]) -> Result<ArrayVec<Element, MAX_ELEMENTS>, LineFault
     if elements.is_empty() {
         return Err(LineFault::NoElement);
     }
-    Ok(elements)
+    Ok(())
 }
 
 /// What stands after the first `;`.
@@ -193,13 +196,12 @@ fn after_key(text: &[u8]) -> &[u8]
     }
 }
 
-/// An entry: a key, `;`, and elements.
+/// Makes `entry` what a text says: a key, `;`, and elements. After an `Err` it holds what was read before the fault.
 #[tactic(auto, unfolding(uca_model::specs::TableText::entry_of_text))]
-pub(crate) fn entry_of_text(text: &[u8]) -> Result<Statement, LineFault>
-    ensures value { Parses statement_of (entry_of_text text.now) result }
-    ensures some { IfOk result IsSomeEntry }
+pub(crate) fn read_entry(entry: &mut Entry, text: &[u8]) -> Result<(), LineFault>
+    ensures value { Parses (λ _. entry_in entry.new) (entry_of_text text.now) result }
+    ensures some { OnOk result (IsSomeEntry entry.new) }
 {
-    let key = entry_key(text)?;
-    let elements = elements_of(after_key(text))?;
-    Ok(Statement::Entry(Entry { key, elements }))
+    read_key(&mut entry.key, text)?;
+    read_elements(&mut entry.elements, after_key(text))
 }

@@ -4,20 +4,23 @@ ghost use Rattle.uca_weights.specs.declared.limits.TheConstants.{MAX_KEY, MAX_EL
 ghost use Rattle.uca_model.specs.TableText.{Cause, TextState, add_statement, add_line, no_lines, table_fold, version, entry, range as range_said};
 ghost use Rattle.uca_allkeys.specs.Faults.{read_cause, IsOfText};
 ghost use Rattle.uca_allkeys.specs.Reading.{state_of};
-ghost use Rattle.uca_allkeys.specs.Statements.{statement_of, IsSomeEntry};
+ghost use Rattle.uca_allkeys.specs.Statements.{entry_in, directive_of, statement_in, IsReady, IsSomeEntry};
 
+use crate::directive::Directive;
 use crate::faults::ReadCause;
-use crate::statement::{Statement, read_statement};
+use crate::statement::{Entry, Statement, no_entry, read_statement};
 use std::alloc::Global;
 use uca_io::LineSink;
 use uca_table::{InsertFault, RangeFault, TableBuilder};
-use uca_weights::{Element, Range};
+use uca_weights::Range;
 
 /// What the lines so far have said.
 #[derive(Drop)]
 pub(crate) struct Lines {
     pub(crate) builder: TableBuilder,
     pub(crate) has_version: bool,
+    // Room for the entry of a line.
+    entry: Entry,
 }
 
 /// Before the first line.
@@ -27,6 +30,7 @@ pub(crate) fn no_lines(alloc: Global) -> Lines
     Lines {
         builder: TableBuilder::new(alloc),
         has_version: false,
+        entry: no_entry(),
     }
 }
 
@@ -57,15 +61,13 @@ fn add_range(lines: &mut Lines, range: Range) -> Result<(), ReadCause>
     }
 }
 
-/// Adds a key with its elements.
-fn add_entry(lines: &mut Lines, key: &[char], elements: &[Element]) -> Result<(), ReadCause>
-    requires some_points { 0 < length key.now }
-    requires few_points { length key.now ≤ MAX_KEY }
-    requires some_elements { 0 < length elements.now }
-    requires few_elements { length elements.now ≤ MAX_ELEMENTS }
-    ensures adds { Leads read_cause (add_statement (state_of lines.old) (entry key.now elements.now)) (state_of lines.new) result }
+/// Adds the entry that was read.
+fn add_entry(lines: &mut Lines) -> Result<(), ReadCause>
+    requires { IsSomeEntry lines.old.entry }
+    ensures adds { Leads read_cause (add_statement (state_of lines.old) (entry_in lines.old.entry)) (state_of lines.new) result }
     ensures of_text { IfErr result IsOfText }
 {
+    let (key, elements) = (lines.entry.key.as_slice(), lines.entry.elements.as_slice());
     match lines.builder.insert(key, elements) {
         Ok(()) => Ok(()),
         Err(InsertFault::OutOfMemory) => Err(ReadCause::OutOfMemory),
@@ -73,19 +75,27 @@ fn add_entry(lines: &mut Lines, key: &[char], elements: &[Element]) -> Result<()
     }
 }
 
+/// Adds what a directive says.
+fn add_directive(lines: &mut Lines, said: Directive) -> Result<(), ReadCause>
+    ensures adds { Leads read_cause (add_statement (state_of lines.old) (directive_of said)) (state_of lines.new) result }
+    ensures of_text { IfErr result IsOfText }
+{
+    match said {
+        Directive::Version => add_version(lines),
+        Directive::Range(range) => add_range(lines, range),
+    }
+}
+
 /// Adds what a line says.
 fn add_statement(lines: &mut Lines, said: Statement) -> Result<(), ReadCause>
-    requires { IsSomeEntry said }
-    ensures adds { Leads read_cause (add_statement (state_of lines.old) (statement_of said)) (state_of lines.new) result }
+    requires { IsReady lines.old.entry said }
+    ensures adds { Leads read_cause (add_statement (state_of lines.old) (statement_in lines.old.entry said)) (state_of lines.new) result }
     ensures of_text { IfErr result IsOfText }
 {
     match said {
         Statement::Nothing => Ok(()),
-        Statement::Version => add_version(lines),
-        Statement::Range(range) => add_range(lines, range),
-        Statement::Entry(entry) => {
-            add_entry(lines, entry.key.as_slice(), entry.elements.as_slice())
-        }
+        Statement::Directive(directive) => add_directive(lines, directive),
+        Statement::Entry => add_entry(lines),
     }
 }
 
@@ -94,7 +104,7 @@ fn add_line(lines: &mut Lines, line: &[u8]) -> Result<(), ReadCause>
     ensures adds { Leads read_cause (add_line (state_of lines.old) line.now) (state_of lines.new) result }
     ensures of_text { IfErr result IsOfText }
 {
-    match read_statement(line) {
+    match read_statement(&mut lines.entry, line) {
         Ok(said) => add_statement(lines, said),
         Err(fault) => Err(fault.cause()),
     }

@@ -4,7 +4,7 @@ use Rattle.uca_io.specs.declared.line_reader.LineCause.{LineCause}
 use Rattle.uca_model.specs.TableText.{no_lines, table_fold}
 use Rattle.uca_allkeys.specs.declared.faults.ReadCause.{ReadCause}
 use Rattle.uca_allkeys.specs.Faults.{read_cause, IsOfText}
-use Rattle.uca_allkeys.proofs.ReadingLemmas.{line_refused, not_read, over_limit, too_long}
+use Rattle.uca_allkeys.proofs.ReadingLemmas.{too_long}
 use Rattle.uca_allkeys.proofs.read.fault_of_lines.Goals as goal
 
 pub returns-in-LineTooLong : goal.returns-in-LineTooLong

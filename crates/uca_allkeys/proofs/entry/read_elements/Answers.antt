@@ -3,7 +3,7 @@ use Rattle.std.specs.List.{slice_split}
 use Rattle.uca_weights.specs.declared.element.Element.{Element}
 use Rattle.uca_model.specs.TableText.{is_right_bracket, elements_after}
 use Rattle.uca_io.proofs.LineLemmas.{some_parts}
-use Rattle.uca_allkeys.proofs.entry.elements_of.Goals as goal
+use Rattle.uca_allkeys.proofs.entry.read_elements.Goals as goal
 
 pub loop-part-preserved : goal.loop-part-preserved
 loop-part-preserved c =

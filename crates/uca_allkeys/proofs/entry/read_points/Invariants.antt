@@ -1,6 +1,6 @@
 use Rattle.std.proofs.Common.{◌≡◌, [], length}
 use Rattle.uca_model.specs.TableText.{words, key_after}
-use Rattle.uca_allkeys.proofs.entry.key_of.Given as goal
+use Rattle.uca_allkeys.proofs.entry.read_points.Given as goal
 
 abbrev pub invariant-loop-word : goal.invariant-loop-word
 invariant-loop-word l = key_after l.key.items (words l.rest) ≡ key_after [] (words l.text)
