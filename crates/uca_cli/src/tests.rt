@@ -1,33 +1,28 @@
 mod agreement;
 mod checking;
 mod findings;
+mod given;
+mod in_turn;
 mod ordering;
 mod raw;
 mod rules;
 mod tables;
 
 use crate::{CliFault, InputCause, InputFault, Job, Task, perform, status_of};
+use given::{Given, failing, output_refused, whole};
 use std::alloc::{AllocError, Global};
+use std::test::Fail;
 use uca_allkeys::ReadCause;
 use uca_lines::read_input;
 use uca_tailor::{RuleCause, TailorCause};
 use uca_testing::{Expecting, Pieces, Repeating, repeated};
-use uca_weights::{
-    Reader, Reading, Settings, Strength, Variable, WriteCause, WriteFault, Writer, Writing,
-};
+use uca_weights::{Reader, Reading, Settings, Strength, Variable, WriteCause, Writer};
 
 /// The lines `a` and `ab`, and their keys.
 const TWO_LINES: &[u8] = b"a\nab\n";
 
 const TWO_KEYS: &[u8] =
     b"10 00 00 00 00 20 00 00 00 02\n10 00 10 01 00 00 00 20 00 20 00 00 00 02 00 02\n";
-
-/// What came of a job.
-#[derive(Drop)]
-struct Outcome {
-    answer: Result<u8, CliFault>,
-    output: Vec<u8>,
-}
 
 /// The settings of a job without options.
 const PLAIN: Settings = Settings {
@@ -83,77 +78,20 @@ fn wants_memory(answer: &Result<u8, CliFault>) -> bool {
     }
 }
 
-fn run_once(alloc: Global, command: Task, settings: Settings, input: &[u8]) -> Outcome {
-    let mut reader = Reading::new(input);
-    let mut writer = Writing::new(Vec::new(alloc));
-    let answer = perform_as(alloc, command, settings, &mut reader, &mut writer);
-    let output = writer.into_inner();
-    Outcome { answer, output }
-}
-
-/// Does a job over bytes in memory, once more where memory was refused.
-fn run_as(alloc: Global, command: Task, settings: Settings, input: &[u8]) -> Outcome {
-    let first = run_once(alloc, command, settings, input);
-    match first.answer {
-        // A vector that cannot grow fails as a writer.
-        Err(CliFault::Output(_)) => run_once(alloc, command, settings, input),
-        _ if wants_memory(&first.answer) => run_once(alloc, command, settings, input),
-        _ => first,
-    }
-}
-
-/// Does the job `key` over bytes in memory.
-fn run(alloc: Global, input: &[u8]) -> Outcome {
-    run_as(alloc, Task::Key, PLAIN, input)
-}
-
-/// The fault of a job that writes nothing, asked for once more where memory was refused.
-fn fault_of<I: Reader + Copy>(alloc: Global, reader: I) -> Option<CliFault> {
+/// The answer of the job `key` where it writes nothing, asked for once more where memory was refused.
+fn key_answer<I: Reader + Copy>(alloc: Global, reader: I) -> Result<u8, CliFault> {
+    let mut input = reader;
     let mut writer = Expecting::new(b"", 0, WriteCause::Failed);
-    let mut input = reader;
-    let first = perform_key(alloc, &mut input, &mut writer);
-    if !wants_memory(&first) {
-        return first.err();
+    let answer = perform_key(alloc, &mut input, &mut writer);
+    if !wants_memory(&answer) {
+        return answer;
     }
-    let mut input = reader;
-    perform_key(alloc, &mut input, &mut writer).err()
+    input = reader;
+    perform_key(alloc, &mut input, &mut writer)
 }
 
 fn input_refused(line: u64, at: usize, cause: InputCause) -> CliFault {
     CliFault::Input(InputFault { line, at, cause })
-}
-
-/// Whether a job over bytes in memory succeeds and writes exactly this.
-fn writes(alloc: Global, command: Task, settings: Settings, input: &[u8], want: &[u8]) -> bool {
-    let done = run_as(alloc, command, settings, input);
-    done.answer == Ok(0) && done.output.as_slice() == want
-}
-
-/// Whether the job `key` is refused for its input and writes nothing.
-fn is_refused(alloc: Global, input: &[u8], line: u64, at: usize, cause: InputCause) -> bool {
-    let done = run(alloc, input);
-    done.answer == Err(input_refused(line, at, cause)) && done.output.is_empty()
-}
-
-/// Whether this is what comes of a job whose output is stopped, and its writer has the front; or memory is refused.
-fn stops_at(
-    answer: Result<u8, CliFault>,
-    writer: &Expecting,
-    output: &[u8],
-    room: usize,
-    cause: WriteCause,
-) -> bool {
-    if wants_memory(&answer) {
-        // What went out is a front of the output.
-        return writer.left().is_some();
-    }
-    let written = room.min(output.len());
-    let want = if room < output.len() {
-        Err(output_refused(written as u128, cause))
-    } else {
-        Ok(0)
-    };
-    answer == want && writer.left() == Some(output.len() - written)
 }
 
 #[test]
@@ -179,7 +117,12 @@ fn each_line_gets_its_key(rt: HostRuntime) {
         (b"\r\r", b"FB C0 80 0D 00 00 00 20 00 00 00 02\n"),
     ];
     for (input, want) in cases {
-        assert!(rt; writes(rt.alloc(), Task::Key, PLAIN, input, want));
+        // From a reader of std, and in one piece.
+        let mut writer = Expecting::new(want, want.len(), WriteCause::Failed);
+        let answer = perform_key(rt.alloc(), &mut Reading::new(input), &mut writer);
+        assert!(rt; wants_memory(&answer) || (answer == Ok(0) && writer.left() == Some(0)));
+        let given = Given::new(Task::Key, whole(input));
+        assert!(rt; given.writes(&rt, rt.alloc(), want), "{input:?}");
     }
 }
 
@@ -196,7 +139,9 @@ fn the_first_faulty_line_is_reported_and_nothing_is_written(rt: HostRuntime) {
         (b"\xEF\xBB\xBF\xC0\x80", 1, 3, InputCause::NotUtf8),
     ];
     for (input, line, at, cause) in cases {
-        assert!(rt; is_refused(rt.alloc(), input, line, at, cause), "{input:?}");
+        let given = Given::new(Task::Key, whole(input));
+        let fault = input_refused(line, at, cause);
+        assert!(rt; given.is_refused(&rt, rt.alloc(), fault), "{input:?}");
     }
 }
 
@@ -210,7 +155,7 @@ fn after(alloc: Global, front: &[u8], text: &[u8], count: usize) -> Result<Vec<u
 }
 
 #[test]
-fn a_long_run_is_reported_by_its_place_in_the_line(rt: HostRuntime) {
+fn a_long_run_is_reported_by_its_place_in_the_line(rt: HostRuntime) -> Result<(), Fail> {
     let acutes = "\u{301}".as_bytes();
     let alloc = rt.alloc();
     let cases: [(&[u8], usize, u64, usize); 3] = [
@@ -219,120 +164,112 @@ fn a_long_run_is_reported_by_its_place_in_the_line(rt: HostRuntime) {
         (b"a\n", 62, 2, 120),
     ];
     for (front, count, line, at) in cases {
-        let Ok(input) = after(alloc, front, acutes, count) else {
-            return;
-        };
-        assert!(rt; is_refused(alloc, &input, line, at, InputCause::LongRun));
+        let input = after(alloc, front, acutes, count)?;
+        let given = Given::new(Task::Key, whole(&input));
+        let fault = input_refused(line, at, InputCause::LongRun);
+        assert!(rt; given.is_refused(&rt, alloc, fault));
     }
+    Ok(())
 }
 
 #[test]
-fn a_line_that_is_no_text_has_no_run(rt: HostRuntime) {
+fn a_line_that_is_no_text_has_no_run(rt: HostRuntime) -> Result<(), Fail> {
     let alloc = rt.alloc();
-    let Ok(mut input) = repeated(alloc, "\u{301}".as_bytes(), 61) else {
-        return;
-    };
-    if input.push(0xFF).is_err() {
-        return;
-    }
-    assert!(rt; is_refused(alloc, &input, 1, 122, InputCause::NotUtf8));
+    let mut input = repeated(alloc, "\u{301}".as_bytes(), 61)?;
+    input.push(0xFF)?;
+    let given = Given::new(Task::Key, whole(&input));
+    let fault = input_refused(1, 122, InputCause::NotUtf8);
+    assert!(rt; given.is_refused(&rt, alloc, fault));
+    Ok(())
 }
 
 #[test]
 fn an_input_past_the_limit_is_refused(rt: HostRuntime) {
     let alloc = rt.alloc();
-    let fault = fault_of(alloc, Repeating::new(0, 67_108_865, false));
-    assert_eq!(rt; fault, Some(input_refused(0, 0, InputCause::TooLarge)));
-    // The byte too many comes before the failure, or the failure before it.
-    let fault = fault_of(alloc, Repeating::new(0, 67_108_865, true));
-    assert_eq!(rt; fault, Some(input_refused(0, 0, InputCause::TooLarge)));
-    let fault = fault_of(alloc, Repeating::new(0, 67_108_864, true));
-    assert_eq!(rt; fault, Some(input_refused(0, 0, InputCause::Read)));
+    let large = Err(input_refused(0, 0, InputCause::TooLarge));
+    let read = Err(input_refused(0, 0, InputCause::Read));
+    let cases = [
+        (67_108_865, false, large),
+        // The byte too many comes before the failure, or the failure before it.
+        (67_108_865, true, large),
+        (67_108_864, true, read),
+    ];
+    for (count, fails, want) in cases {
+        let answer = key_answer(alloc, Repeating::new(0, count, fails));
+        assert!(rt; answer == want, "{count} bytes");
+    }
 }
 
 #[test]
 fn an_input_at_the_limit_is_read(rt: HostRuntime) {
-    let mut input = Repeating::new(0, 67_108_864, false);
-    let count = match read_input(rt.alloc(), &mut input) {
-        Ok(bytes) => bytes.len(),
-        Err(InputFault { cause, .. }) => {
-            assert_eq!(rt; cause, InputCause::OutOfMemory);
-            return;
-        }
-    };
-    assert_eq!(rt; count, 67_108_864);
+    let reader = Repeating::new(0, 67_108_864, false);
+    let mut input = reader;
+    let mut answer = read_input(rt.alloc(), &mut input);
+    if let Err(InputFault { cause, .. }) = &answer {
+        assert_eq!(rt; *cause, InputCause::OutOfMemory);
+        input = reader;
+        answer = read_input(rt.alloc(), &mut input);
+    }
+    let bytes = answer.ok().expect(&rt, "an input");
+    assert_eq!(rt; bytes.len(), 67_108_864);
 }
 
 #[test]
 fn a_failed_read_is_reported(rt: HostRuntime) {
     for (most, calls) in [(5, 0), (5, 1), (1, 3), (1, 5)] {
-        let reader = Pieces::new(TWO_LINES, most, calls);
-        let want = Some(input_refused(0, 0, InputCause::Read));
-        assert!(rt; fault_of(rt.alloc(), reader) == want);
+        let given = Given::new(Task::Key, Pieces::new(TWO_LINES, most, calls));
+        let fault = input_refused(0, 0, InputCause::Read);
+        assert!(rt; given.is_refused(&rt, rt.alloc(), fault));
     }
 }
 
 #[test]
 fn pieces_of_the_input_change_nothing(rt: HostRuntime) {
-    let alloc = rt.alloc();
     for most in [1, 2, 3, 5] {
-        let mut reader = Pieces::new(TWO_LINES, most, 100);
-        let mut writer = Expecting::new(TWO_KEYS, 100, WriteCause::Failed);
-        let mut answer = perform_key(alloc, &mut reader, &mut writer);
-        if wants_memory(&answer) {
-            reader = Pieces::new(TWO_LINES, most, 100);
-            answer = perform_key(alloc, &mut reader, &mut writer);
-        }
-        assert!(rt; answer == Ok(0) && writer.left() == Some(0));
+        let given = Given::new(Task::Key, Pieces::new(TWO_LINES, most, 100));
+        assert!(rt; given.writes(&rt, rt.alloc(), TWO_KEYS), "{most} at once");
     }
-}
-
-/// Whether a writer with so much room gets exactly the front of the output, and the fault says so.
-fn stops(alloc: Global, input: &[u8], output: &[u8], room: usize, cause: WriteCause) -> bool {
-    let mut reader = Reading::new(input);
-    let mut writer = Expecting::new(output, room, cause);
-    let answer = perform_key(alloc, &mut reader, &mut writer);
-    stops_at(answer, &writer, output, room, cause)
 }
 
 #[test]
 fn a_writer_that_stops_gets_the_front(rt: HostRuntime) {
+    let given = Given::new(Task::Key, whole(TWO_LINES));
     for cause in [WriteCause::Failed, WriteCause::Zero] {
-        for room in 0..TWO_KEYS.len() + 2 {
-            let holds = stops(rt.alloc(), TWO_LINES, TWO_KEYS, room, cause);
-            assert!(rt; holds);
+        for room in 0..TWO_KEYS.len() {
+            assert!(rt;
+                given.stops_at(&rt, rt.alloc(), TWO_KEYS, room, cause),
+                "{room} bytes"
+            );
         }
     }
 }
 
 #[test]
-fn a_writer_may_stop_a_long_output(rt: HostRuntime) {
+fn a_writer_may_stop_a_long_output(rt: HostRuntime) -> Result<(), Fail> {
     let alloc = rt.alloc();
-    let Ok(input) = repeated(alloc, TWO_LINES, 400) else {
-        return;
-    };
-    let Ok(output) = repeated(alloc, TWO_KEYS, 400) else {
-        return;
-    };
+    let input = repeated(alloc, TWO_LINES, 400)?;
+    let output = repeated(alloc, TWO_KEYS, 400)?;
+    let given = Given::new(Task::Key, whole(&input));
     for cause in [WriteCause::Failed, WriteCause::Zero] {
-        for room in [0, 1, 8191, 8192, 8193, 16_384, 31_199, 31_200] {
-            let holds = stops(alloc, &input, &output, room, cause);
-            assert!(rt; holds);
+        for room in [0, 1, 8191, 8192, 8193, 16_384, 31_199] {
+            assert!(rt;
+                given.stops_at(&rt, alloc, &output, room, cause),
+                "{room} bytes"
+            );
         }
     }
+    assert!(rt; given.writes(&rt, alloc, &output));
+    Ok(())
 }
 
 #[test]
-fn lines_may_lie_across_the_pieces_read(rt: HostRuntime) {
+fn lines_may_lie_across_the_pieces_read(rt: HostRuntime) -> Result<(), Fail> {
     let alloc = rt.alloc();
-    let Ok(input) = repeated(alloc, TWO_LINES, 30_000) else {
-        return;
-    };
-    let Ok(output) = repeated(alloc, TWO_KEYS, 30_000) else {
-        return;
-    };
-    let room = output.len() + 1;
-    assert!(rt; stops(alloc, &input, &output, room, WriteCause::Failed));
+    let input = repeated(alloc, TWO_LINES, 30_000)?;
+    let output = repeated(alloc, TWO_KEYS, 30_000)?;
+    let given = Given::new(Task::Key, whole(&input));
+    assert!(rt; given.writes(&rt, alloc, &output));
+    Ok(())
 }
 
 #[test]
@@ -356,10 +293,8 @@ fn each_line_gets_its_elements(rt: HostRuntime) {
         ),
     ];
     for (input, want) in cases {
-        assert!(rt;
-            writes(rt.alloc(), Task::Elements, PLAIN, input, want),
-            "{input:?}"
-        );
+        let given = Given::new(Task::Elements, whole(input)).at(PLAIN);
+        assert!(rt; given.writes(&rt, rt.alloc(), want), "{input:?}");
     }
 }
 
@@ -378,10 +313,8 @@ fn each_two_neighbours_are_compared(rt: HostRuntime) {
         (PLAIN, b"\n\n", b"equal\n"),
     ];
     for (settings, input, want) in cases {
-        assert!(rt;
-            writes(rt.alloc(), Task::Compare, settings, input, want),
-            "{input:?}"
-        );
+        let given = Given::new(Task::Compare, whole(input)).at(settings);
+        assert!(rt; given.writes(&rt, rt.alloc(), want), "{input:?}");
     }
 }
 
@@ -403,15 +336,8 @@ fn lines_go_out_in_the_order_of_their_keys(rt: HostRuntime) {
         (PLAIN, b"\n\n", b"\n\n"),
     ];
     for (settings, input, want) in cases {
-        let mut reader = Reading::new(input);
-        let mut writer = Expecting::new(want, want.len() + 1, WriteCause::Failed);
-        let answer = perform_as(rt.alloc(), Task::Order, settings, &mut reader, &mut writer);
-        if wants_memory(&answer) {
-            // All memory is taken before the first byte is written.
-            assert!(rt; writer.left() == Some(want.len()));
-            continue;
-        }
-        assert!(rt; answer == Ok(0) && writer.left() == Some(0), "{input:?}");
+        let given = Given::new(Task::Order, whole(input)).at(settings);
+        assert!(rt; given.writes(&rt, rt.alloc(), want), "{input:?}");
     }
 }
 
@@ -444,57 +370,31 @@ fn settings_are_those_of_the_job(rt: HostRuntime) {
         (blanked, b"a-b", b"10 00 10 01\n"),
     ];
     for (settings, input, want) in cases {
-        assert!(rt;
-            writes(rt.alloc(), Task::Key, settings, input, want),
-            "{input:?}"
-        );
+        let given = Given::new(Task::Key, whole(input)).at(settings);
+        assert!(rt; given.writes(&rt, rt.alloc(), want), "{input:?}");
     }
-}
-
-/// Does the job `key` without options but a range of ideographs, once more where memory was refused.
-fn run_with(alloc: Global, ends: (char, char), input: &[u8]) -> Outcome {
-    let first = run_with_once(alloc, ends, input);
-    match first.answer {
-        Err(CliFault::Output(_)) => run_with_once(alloc, ends, input),
-        _ if wants_memory(&first.answer) => run_with_once(alloc, ends, input),
-        _ => first,
-    }
-}
-
-fn run_with_once(alloc: Global, ends: (char, char), input: &[u8]) -> Outcome {
-    let mut job = plain_job(Task::Key, PLAIN);
-    job.ideographs = Some(ends);
-    let mut reader = Reading::new(input);
-    let mut writer = Writing::new(Vec::new(alloc));
-    let table: Option<&mut Repeating> = None;
-    let rules: Option<&mut Repeating> = None;
-    let answer = perform(alloc, &job, table, rules, &mut reader, &mut writer);
-    let output = writer.into_inner();
-    Outcome { answer, output }
 }
 
 #[test]
 fn a_range_of_ideographs_is_that_of_the_job(rt: HostRuntime) {
     let alloc = rt.alloc();
-    let input = "\u{323B0}\n".as_bytes();
-    let done = run_with(alloc, ('\u{323B0}', '\u{33479}'), input);
-    assert!(rt; done.answer == Ok(0));
-    assert!(rt; done.output.as_slice() == b"FB 86 A3 B0 00 00 00 20 00 00 00 02\n".as_slice());
-    let without = run(alloc, input);
-    assert!(rt; without.answer == Ok(0));
-    assert!(rt; without.output.as_slice() == b"FB C6 A3 B0 00 00 00 20 00 00 00 02\n".as_slice());
+    let without = Given::new(Task::Key, whole("\u{323B0}\n".as_bytes()));
+    let given = Given {
+        ideographs: Some(('\u{323B0}', '\u{33479}')),
+        ..without
+    };
+    assert!(rt; given.writes(&rt, alloc, b"FB 86 A3 B0 00 00 00 20 00 00 00 02\n"));
+    assert!(rt; without.writes(&rt, alloc, b"FB C6 A3 B0 00 00 00 20 00 00 00 02\n"));
     // The range is refused before the input is read.
-    let refused = run_with(alloc, ('\u{4E00}', '\u{4E01}'), b"\xFF");
-    assert!(rt; refused.answer == Err(CliFault::Ideographs));
-    assert!(rt; refused.output.is_empty());
-}
-
-fn output_refused(written: u128, cause: WriteCause) -> CliFault {
-    CliFault::Output(WriteFault { written, cause })
+    let refused = Given {
+        ideographs: Some(('\u{4E00}', '\u{4E01}')),
+        ..Given::new(Task::Key, failing())
+    };
+    assert!(rt; refused.is_refused(&rt, alloc, CliFault::Ideographs));
 }
 
 #[test]
-fn faults_have_their_texts_and_status_three(rt: HostRuntime) {
+fn faults_have_their_texts_and_status_three(rt: HostRuntime) -> Result<(), Fail> {
     let cases = [
         (
             input_refused(2, 1, InputCause::NotUtf8),
@@ -530,8 +430,7 @@ fn faults_have_their_texts_and_status_three(rt: HostRuntime) {
     ];
     for (fault, want) in cases {
         assert_eq!(rt; status_of(&fault), 3, "{fault:?}");
-        if let Ok(text) = fault.to_string(rt.alloc()) {
-            assert_eq!(rt; text.as_str(), want);
-        }
+        assert_eq!(rt; fault.to_string(rt.alloc())?.as_str(), want);
     }
+    Ok(())
 }

@@ -1,10 +1,11 @@
 //! The built-in table, and comparison beside keys.
 
-use super::{run_as, writes};
+use super::given::{Given, whole};
 use crate::{Task, built_in};
 use std::alloc::{AllocError, Global};
 use std::cmp::Ordering;
 use std::process::Abort;
+use std::test::Fail;
 use uca_table::Table;
 use uca_testing::{SMALL_TABLE, element};
 use uca_weights::{Settings, Strength, Variable};
@@ -63,7 +64,7 @@ const NEIGHBOURS: &str =
 \u{4E00}\n\u{18D00}\n\u{10FFFF}\na-b\na b\nab\nAB\naB\na\u{323}\u{301}\na\u{301}\u{323}\n\u{1EA1}\u{301}\n";
 
 #[test]
-fn neighbours_are_in_the_order_of_their_keys(rt: HostRuntime) {
+fn neighbours_are_in_the_order_of_their_keys(rt: HostRuntime) -> Result<(), Fail> {
     let alloc = rt.alloc();
     let strengths = [
         Strength::Secondary,
@@ -77,11 +78,12 @@ fn neighbours_are_in_the_order_of_their_keys(rt: HostRuntime) {
                 strength,
                 weighting,
             };
-            let keys = run_as(alloc, Task::Key, settings, NEIGHBOURS.as_bytes());
-            let Ok(want) = orders_by_keys(alloc, &keys.output) else {
-                return;
-            };
-            assert!(rt; writes(alloc, Task::Compare, settings, NEIGHBOURS.as_bytes(), &want));
+            let input = whole(NEIGHBOURS.as_bytes());
+            let keys = Given::new(Task::Key, input).at(settings).output(&rt, alloc);
+            let want = orders_by_keys(alloc, &keys)?;
+            let compared = Given::new(Task::Compare, input).at(settings);
+            assert!(rt; compared.writes(&rt, alloc, &want), "{settings:?}");
         }
     }
+    Ok(())
 }

@@ -1,10 +1,8 @@
 //! The job `lint`.
-use super::{PLAIN, plain_job, stops_at, wants_memory};
-use crate::{CliFault, Task, perform};
-use std::alloc::Global;
+use super::given::{Given, failing, whole};
+use crate::{CliFault, Task};
 use uca_allkeys::{ReadCause, ReadFault};
-use uca_testing::{Expecting, Pieces};
-use uca_weights::{Reader, Reading, WriteCause, Writer};
+use uca_weights::WriteCause;
 
 /// A table that breaks each condition.
 const BROKEN: &[u8] = b"\
@@ -17,37 +15,19 @@ const BROKEN: &[u8] = b"\
 /// What is found in it.
 const FINDINGS: &[u8] = b"WF1\nWF2\nWF3\nWF4\nWF5\n";
 
-/// Does the job `lint`. The reader of the input fails at each call, so that a job that reads it is not done.
-fn perform_lint<T: Reader, W: Writer>(
-    alloc: Global,
-    table: Option<&mut T>,
-    output: &mut W,
-) -> Result<u8, CliFault> {
-    let job = plain_job(Task::Lint, PLAIN);
-    let rules: Option<&mut Pieces> = None;
-    let mut input = Pieces::new(b"a\n", 1, 0);
-    perform(alloc, &job, table, rules, &mut input, output)
+/// The job `lint` with the built-in table. The reader of the input fails at each call, so that a job that reads it is not done.
+fn lint() -> Given<'static> {
+    Given::new(Task::Lint, failing())
 }
 
-/// Whether the job answers this and writes exactly this with the table of a text, or is out of memory and writes nothing.
-fn comes_to(alloc: Global, text: &[u8], want: Result<u8, CliFault>, output: &[u8]) -> bool {
-    let mut table = Reading::new(text);
-    let mut writer = Expecting::new(output, output.len() + 1, WriteCause::Failed);
-    let answer = perform_lint(alloc, Some(&mut table), &mut writer);
-    if wants_memory(&answer) {
-        return writer.left() == Some(output.len());
-    }
-    answer == want && writer.left() == Some(0)
+/// The job `lint` with the table of a text.
+fn lint_of(text: &[u8]) -> Given<'_> {
+    Given::new(Task::Lint, failing()).over(whole(text))
 }
 
 #[test]
 fn the_built_in_table_is_well_formed(rt: HostRuntime) {
-    let mut writer = Expecting::new(b"", 0, WriteCause::Failed);
-    let table: Option<&mut Pieces> = None;
-    let answer = perform_lint(rt.alloc(), table, &mut writer);
-    if !wants_memory(&answer) {
-        assert!(rt; answer == Ok(0) && writer.left() == Some(0));
-    }
+    assert!(rt; lint().writes(&rt, rt.alloc(), b""));
 }
 
 #[test]
@@ -77,28 +57,29 @@ fn each_broken_condition_is_a_line_and_the_status_is_one(rt: HostRuntime) {
         ),
     ];
     for (text, status, want) in cases {
-        assert!(rt; comes_to(rt.alloc(), text, Ok(status), want), "{text:?}");
+        let given = lint_of(text);
+        assert!(rt;
+            given.comes_to(&rt, rt.alloc(), Ok(status), want),
+            "{text:?}"
+        );
     }
 }
 
 #[test]
 fn a_faulty_text_has_no_findings(rt: HostRuntime) {
-    let want = Err(CliFault::Table(ReadFault {
+    let fault = CliFault::Table(ReadFault {
         line: 1,
         cause: ReadCause::NoSemicolon,
-    }));
-    assert!(rt; comes_to(rt.alloc(), b"0061", want, b""));
+    });
+    assert!(rt; lint_of(b"0061").is_refused(&rt, rt.alloc(), fault));
 }
 
 #[test]
 fn a_writer_that_stops_gets_the_front_of_the_findings(rt: HostRuntime) {
     for cause in [WriteCause::Failed, WriteCause::Zero] {
         for room in 0..FINDINGS.len() {
-            let mut table = Reading::new(BROKEN);
-            let mut writer = Expecting::new(FINDINGS, room, cause);
-            let answer = perform_lint(rt.alloc(), Some(&mut table), &mut writer);
             assert!(rt;
-                stops_at(answer, &writer, FINDINGS, room, cause),
+                lint_of(BROKEN).stops_at(&rt, rt.alloc(), FINDINGS, room, cause),
                 "{room} bytes"
             );
         }

@@ -1,9 +1,12 @@
 //! The lines of an input in the order of their keys.
-use super::{PLAIN, input_refused, output_refused};
+use super::given::{output_refused, whole};
+use super::{PLAIN, input_refused};
 use crate::{CliFault, InputCause, built_in, order};
 use std::alloc::{AllocError, Global};
-use uca_testing::{Expecting, Pieces, repeated};
-use uca_weights::{Reader, Reading, Settings, Strength, Variable, WriteCause, Writer};
+use std::process::Abort;
+use std::test::Fail;
+use uca_testing::{Expecting, Pieces, Repeating, repeated};
+use uca_weights::{Reader, Settings, Strength, Variable, WriteCause, Writer};
 
 /// Lines out of order, and the last one without LF.
 const LINES: &[u8] = b"b\nA\na\nch\r\ncz";
@@ -38,20 +41,36 @@ fn wants_memory(answer: Result<u64, CliFault>) -> bool {
     }
 }
 
-/// Whether this comes of an input, and exactly these bytes are written; or memory is refused, and nothing is written.
-fn comes_to(
+/// Puts lines in order, once more where memory was refused. Then nothing went out yet.
+fn ordered<I: Reader + Copy>(
+    rt: &impl Abort,
     alloc: Global,
     settings: Settings,
-    input: &[u8],
+    lines: I,
+    writer: &mut Expecting,
+) -> Result<u64, CliFault> {
+    let begun = writer.left();
+    let mut input = lines;
+    let answer = order_by_own(alloc, settings, &mut input, writer);
+    if !wants_memory(answer) {
+        return answer;
+    }
+    assert!(rt; writer.left() == begun);
+    input = lines;
+    order_by_own(alloc, settings, &mut input, writer)
+}
+
+/// Whether this comes of an input, and exactly these bytes are written.
+fn comes_to<I: Reader + Copy>(
+    rt: &impl Abort,
+    alloc: Global,
+    settings: Settings,
+    lines: I,
     want: Result<u64, CliFault>,
     output: &[u8],
 ) -> bool {
-    let mut reader = Reading::new(input);
-    let mut writer = Expecting::new(output, output.len() + 1, WriteCause::Failed);
-    let answer = order_by_own(alloc, settings, &mut reader, &mut writer);
-    if wants_memory(answer) {
-        return writer.left() == Some(output.len());
-    }
+    let mut writer = Expecting::new(output, usize::MAX, WriteCause::Failed);
+    let answer = ordered(rt, alloc, settings, lines, &mut writer);
     answer == want && writer.left() == Some(0)
 }
 
@@ -90,7 +109,7 @@ fn lines_come_in_the_order_of_their_keys(rt: HostRuntime) {
     ];
     for (settings, input, count, output) in cases {
         assert!(rt;
-            comes_to(rt.alloc(), settings, input, Ok(count), output),
+            comes_to(&rt, rt.alloc(), settings, whole(input), Ok(count), output),
             "{input:?}"
         );
     }
@@ -98,24 +117,33 @@ fn lines_come_in_the_order_of_their_keys(rt: HostRuntime) {
 
 #[test]
 fn a_fault_of_the_input_leaves_the_writer_empty(rt: HostRuntime) {
+    let alloc = rt.alloc();
+    let faulty = whole(b"a\nb\xFF\n");
     let want = Err(input_refused(2, 1, InputCause::NotUtf8));
-    assert!(rt; comes_to(rt.alloc(), PLAIN, b"a\nb\xFF\n", want, b""));
-    let mut reader = Pieces::new(LINES, 5, 1);
-    let mut writer = Expecting::new(ORDERED, 100, WriteCause::Failed);
-    let answer = order_by_own(rt.alloc(), PLAIN, &mut reader, &mut writer);
+    assert!(rt; comes_to(&rt, alloc, PLAIN, faulty, want, b""));
+    let failing = Pieces::new(LINES, 5, 1);
     let read = Err(input_refused(0, 0, InputCause::Read));
-    assert!(rt; answer == read || wants_memory(answer));
-    assert!(rt; writer.left() == Some(ORDERED.len()));
+    assert!(rt; comes_to(&rt, alloc, PLAIN, failing, read, b""));
+}
+
+#[test]
+fn empty_lines_without_end_are_too_large(rt: HostRuntime) {
+    let lines = Repeating::new(b'\n', usize::MAX, false);
+    let want = Err(input_refused(0, 0, InputCause::TooLarge));
+    assert!(rt; comes_to(&rt, rt.alloc(), PLAIN, lines, want, b""));
 }
 
 /// Whether a writer with so much room gets exactly the front of the output, and the fault says so.
-fn stops(alloc: Global, input: &[u8], output: &[u8], room: usize, cause: WriteCause) -> bool {
-    let mut reader = Reading::new(input);
+fn stops(
+    rt: &impl Abort,
+    alloc: Global,
+    input: &[u8],
+    output: &[u8],
+    room: usize,
+    cause: WriteCause,
+) -> bool {
     let mut writer = Expecting::new(output, room, cause);
-    let answer = order_by_own(alloc, PLAIN, &mut reader, &mut writer);
-    if wants_memory(answer) {
-        return writer.left() == Some(output.len());
-    }
+    let answer = ordered(rt, alloc, PLAIN, whole(input), &mut writer);
     let written = room.min(output.len());
     if written < output.len() && answer != Err(output_refused(written as u128, cause)) {
         return false;
@@ -127,7 +155,7 @@ fn stops(alloc: Global, input: &[u8], output: &[u8], room: usize, cause: WriteCa
 fn a_writer_that_stops_gets_the_front(rt: HostRuntime) {
     for cause in [WriteCause::Failed, WriteCause::Zero] {
         for room in 0..ORDERED.len() + 2 {
-            let holds = stops(rt.alloc(), LINES, ORDERED, room, cause);
+            let holds = stops(&rt, rt.alloc(), LINES, ORDERED, room, cause);
             assert!(rt; holds, "{room} bytes, {cause:?}");
         }
     }
@@ -144,46 +172,31 @@ fn long_lines(alloc: Global, count: usize) -> Result<(Vec<u8>, Vec<u8>), AllocEr
 }
 
 #[test]
-fn long_lines_go_out_whole(rt: HostRuntime) {
+fn long_lines_go_out_whole(rt: HostRuntime) -> Result<(), Fail> {
     let alloc = rt.alloc();
     for count in [8_191, 8_192, 8_193, 16_384, 16_385, 30_000] {
-        let Ok((input, output)) = long_lines(alloc, count) else {
-            return;
-        };
-        let holds = stops(alloc, &input, &output, output.len(), WriteCause::Failed);
+        let (input, output) = long_lines(alloc, count)?;
+        let holds = stops(
+            &rt,
+            alloc,
+            &input,
+            &output,
+            output.len(),
+            WriteCause::Failed,
+        );
         assert!(rt; holds, "{count} characters");
-        let holds = stops(alloc, &input, &output, count, WriteCause::Zero);
+        let holds = stops(&rt, alloc, &input, &output, count, WriteCause::Zero);
         assert!(rt; holds, "a front of {count} characters");
     }
+    Ok(())
 }
 
 #[test]
-fn many_lines_are_put_in_order(rt: HostRuntime) {
+fn many_lines_are_put_in_order(rt: HostRuntime) -> Result<(), Fail> {
     let alloc = rt.alloc();
-    let Ok(input) = repeated(alloc, b"b\na\n", 5_000) else {
-        return;
-    };
-    let Ok(mut output) = repeated(alloc, b"a\n", 5_000) else {
-        return;
-    };
-    let Ok(last) = repeated(alloc, b"b\n", 5_000) else {
-        return;
-    };
-    if output.extend_from_slice(&last).is_err() {
-        return;
-    }
-    assert!(rt; comes_to(alloc, PLAIN, &input, Ok(10_000), &output));
-}
-
-#[test]
-fn with_ample_memory_lines_are_put_in_order(rt: HostRuntime) {
-    let alloc = rt.alloc();
-    let mut reader = Reading::new(LINES);
-    let mut writer = Expecting::new(ORDERED, 100, WriteCause::Failed);
-    let mut answer = order_by_own(alloc, PLAIN, &mut reader, &mut writer);
-    if wants_memory(answer) {
-        reader = Reading::new(LINES);
-        answer = order_by_own(alloc, PLAIN, &mut reader, &mut writer);
-    }
-    assert!(rt; answer == Ok(5) && writer.left() == Some(0));
+    let input = repeated(alloc, b"b\na\n", 5_000)?;
+    let mut output = repeated(alloc, b"a\n", 5_000)?;
+    output.extend_from_slice(&repeated(alloc, b"b\n", 5_000)?)?;
+    assert!(rt; comes_to(&rt, alloc, PLAIN, whole(&input), Ok(10_000), &output));
+    Ok(())
 }

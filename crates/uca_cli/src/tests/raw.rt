@@ -1,9 +1,10 @@
 //! The job `key --raw`.
-use super::{PLAIN, input_refused, plain_job, stops_at, wants_memory};
-use crate::{CliFault, InputCause, Job, Task, perform};
-use std::alloc::Global;
+use super::given::{Given, whole};
+use super::{PLAIN, input_refused, plain_job, wants_memory};
+use crate::{InputCause, Job, Task, perform};
+use std::test::Fail;
 use uca_testing::{Expecting, Pieces, Repeating, repeated};
-use uca_weights::{Reader, Reading, Settings, Strength, Variable, WriteCause, Writer, Writing};
+use uca_weights::{Settings, Strength, Variable, WriteCause};
 
 /// The key of `a`.
 const KEY: &[u8] = &[0x10, 0, 0, 0, 0, 0x20, 0, 0, 0, 2];
@@ -18,38 +19,17 @@ const IDENTICAL: Settings = Settings {
     weighting: Variable::NonIgnorable,
 };
 
-/// Does a job with the flag, and with the built-in table.
-fn perform_raw<I: Reader, W: Writer>(
-    alloc: Global,
-    command: Task,
-    settings: Settings,
-    input: &mut I,
-    output: &mut W,
-) -> Result<u8, CliFault> {
-    let job = Job {
+/// A job with the flag, and with the built-in table.
+fn raw(command: Task, input: Pieces<'_>) -> Given<'_> {
+    Given {
         raw: true,
-        ..plain_job(command, settings)
-    };
-    let table: Option<&mut Repeating> = None;
-    let rules: Option<&mut Repeating> = None;
-    perform(alloc, &job, table, rules, input, output)
+        ..Given::new(command, input)
+    }
 }
 
-/// Whether the job `key --raw` answers this and writes exactly this, or is out of memory and writes nothing.
-fn comes_to(
-    alloc: Global,
-    settings: Settings,
-    input: &[u8],
-    want: Result<u8, CliFault>,
-    output: &[u8],
-) -> bool {
-    let mut reader = Reading::new(input);
-    let mut writer = Expecting::new(output, output.len() + 1, WriteCause::Failed);
-    let answer = perform_raw(alloc, Task::Key, settings, &mut reader, &mut writer);
-    if wants_memory(&answer) {
-        return writer.left() == Some(output.len());
-    }
-    answer == want && writer.left() == Some(0)
+/// The job `key --raw`.
+fn raw_key(input: &[u8]) -> Given<'_> {
+    raw(Task::Key, whole(input))
 }
 
 #[test]
@@ -75,10 +55,8 @@ fn the_key_of_the_one_line_is_written_as_its_bytes(rt: HostRuntime) {
         ),
     ];
     for (input, settings, want) in cases {
-        assert!(rt;
-            comes_to(rt.alloc(), settings, input, Ok(0), want),
-            "{input:?}"
-        );
+        let given = raw_key(input).at(settings);
+        assert!(rt; given.writes(&rt, rt.alloc(), want), "{input:?}");
     }
 }
 
@@ -92,62 +70,71 @@ fn a_raw_key_is_that_of_the_settings(rt: HostRuntime) {
         0x10, 0, 0x10, 1, 0, 0, 0, 0x20, 0, 0x20, 0, 0, 0, 2, 0, 2, 0, 0, 0xFF, 0xFF, 2, 2, 0xFF,
         0xFF,
     ];
-    assert!(rt; comes_to(rt.alloc(), shifted, b"a-b\n", Ok(0), want));
+    let given = raw_key(b"a-b\n").at(shifted);
+    assert!(rt; given.writes(&rt, rt.alloc(), want));
 }
 
 #[test]
 fn an_input_that_is_not_one_line_is_refused(rt: HostRuntime) {
     let cases: [&[u8]; 6] = [b"", b"a\nab\n", b"a\nab", b"\n\n", b"\n\r", b"a\n\n"];
     for input in cases {
-        let want = Err(input_refused(0, 0, InputCause::NotOneLine));
-        assert!(rt; comes_to(rt.alloc(), PLAIN, input, want, b""), "{input:?}");
+        let fault = input_refused(0, 0, InputCause::NotOneLine);
+        assert!(rt;
+            raw_key(input).is_refused(&rt, rt.alloc(), fault),
+            "{input:?}"
+        );
     }
 }
 
 #[test]
-fn other_faults_of_the_input_come_before_the_number_of_lines(rt: HostRuntime) {
+fn other_faults_of_the_input_come_before_the_number_of_lines(rt: HostRuntime) -> Result<(), Fail> {
     let alloc = rt.alloc();
-    let want = Err(input_refused(2, 1, InputCause::NotUtf8));
-    assert!(rt; comes_to(alloc, PLAIN, b"a\nb\xFF\n", want, b""));
-    let Ok(mut input) = repeated(alloc, "\u{301}".as_bytes(), 61) else {
-        return;
-    };
-    if input.extend_from_slice(b"\n\n").is_err() {
-        return;
-    }
-    let want = Err(input_refused(1, 120, InputCause::LongRun));
-    assert!(rt; comes_to(alloc, PLAIN, &input, want, b""));
-    let mut reader = Pieces::new(b"a\nb\n", 2, 1);
-    let mut writer = Expecting::new(b"", 0, WriteCause::Failed);
-    let answer = perform_raw(alloc, Task::Key, PLAIN, &mut reader, &mut writer);
-    let want = Err(input_refused(0, 0, InputCause::Read));
-    assert!(rt; answer == want || wants_memory(&answer));
+    let fault = input_refused(2, 1, InputCause::NotUtf8);
+    assert!(rt; raw_key(b"a\nb\xFF\n").is_refused(&rt, alloc, fault));
+    let mut input = repeated(alloc, "\u{301}".as_bytes(), 61)?;
+    input.extend_from_slice(b"\n\n")?;
+    let fault = input_refused(1, 120, InputCause::LongRun);
+    assert!(rt; raw_key(&input).is_refused(&rt, alloc, fault));
+    let given = raw(Task::Key, Pieces::new(b"a\nb\n", 2, 1));
+    let fault = input_refused(0, 0, InputCause::Read);
+    assert!(rt; given.is_refused(&rt, alloc, fault));
+    Ok(())
 }
 
 #[test]
 fn an_input_past_the_limit_is_too_large_and_not_many_lines(rt: HostRuntime) {
-    let mut reader = Repeating::new(0, 67_108_865, false);
+    let alloc = rt.alloc();
+    let job = Job {
+        raw: true,
+        ..plain_job(Task::Key, PLAIN)
+    };
+    let reader = Repeating::new(0, 67_108_865, false);
     let mut writer = Expecting::new(b"", 0, WriteCause::Failed);
-    let answer = perform_raw(rt.alloc(), Task::Key, PLAIN, &mut reader, &mut writer);
-    let want = Err(input_refused(0, 0, InputCause::TooLarge));
-    assert!(rt; answer == want || wants_memory(&answer));
+    let mut input = reader;
+    let (table, rules): (Option<&mut Pieces>, Option<&mut Pieces>) = (None, None);
+    let mut answer = perform(alloc, &job, table, rules, &mut input, &mut writer);
+    if wants_memory(&answer) {
+        let (table, rules): (Option<&mut Pieces>, Option<&mut Pieces>) = (None, None);
+        input = reader;
+        answer = perform(alloc, &job, table, rules, &mut input, &mut writer);
+    }
+    assert!(rt; answer == Err(input_refused(0, 0, InputCause::TooLarge)));
 }
 
 #[test]
 fn a_writer_that_stops_gets_the_front_of_a_raw_key(rt: HostRuntime) {
     for cause in [WriteCause::Failed, WriteCause::Zero] {
         for room in 0..KEY.len() {
-            let mut reader = Reading::new(b"a\n".as_slice());
-            let mut writer = Expecting::new(KEY, room, cause);
-            let answer = perform_raw(rt.alloc(), Task::Key, PLAIN, &mut reader, &mut writer);
-            assert!(rt; stops_at(answer, &writer, KEY, room, cause), "{room} bytes");
+            assert!(rt;
+                raw_key(b"a\n").stops_at(&rt, rt.alloc(), KEY, room, cause),
+                "{room} bytes"
+            );
         }
     }
 }
 
 #[test]
 fn the_flag_is_one_of_keys_alone(rt: HostRuntime) {
-    let alloc = rt.alloc();
     let cases: [(Task, &[u8]); 2] = [
         (
             Task::Elements,
@@ -156,13 +143,7 @@ fn the_flag_is_one_of_keys_alone(rt: HostRuntime) {
         (Task::Compare, b"less\n".as_slice()),
     ];
     for (command, want) in cases {
-        let mut reader = Reading::new(b"a\nb\n".as_slice());
-        let mut writer = Writing::new(Vec::new(alloc));
-        let answer = perform_raw(alloc, command, PLAIN, &mut reader, &mut writer);
-        if answer.is_err() {
-            // A vector that cannot grow fails as a writer.
-            continue;
-        }
-        assert!(rt; writer.into_inner().as_slice() == want, "{command:?}");
+        let given = raw(command, whole(b"a\nb\n"));
+        assert!(rt; given.writes(&rt, rt.alloc(), want), "{command:?}");
     }
 }

@@ -1,58 +1,43 @@
 //! The rules of a job: what comes of their reader, and the table that they tailor.
-use super::{PLAIN, input_refused, output_refused, plain_job, wants_memory};
+use super::given::{Given, failing, output_refused, whole};
+use super::{PLAIN, input_refused, plain_job, wants_memory};
 use crate::{CliFault, InputCause, RulesTextCause, Task, perform, status_of};
 use std::alloc::Global;
+use std::test::Fail;
 use uca_allkeys::{ReadCause, ReadFault};
 use uca_tailor::{RuleCause, RuleFault, TailorCause, TailorFault};
 use uca_testing::{Expecting, Pieces, Repeating};
-use uca_weights::{Reader, Reading, WriteCause, Writer};
+use uca_weights::{Reader, WriteCause};
 
-/// Does a job with these readers of its table and its rules, and with the input in memory.
-fn perform_tailored<T: Reader, U: Reader, W: Writer>(
-    alloc: Global,
-    command: Task,
-    table: Option<&mut T>,
-    rules: &mut U,
-    input: &[u8],
-    output: &mut W,
-) -> Result<u8, CliFault> {
-    let job = plain_job(command, PLAIN);
-    let mut input = Reading::new(input);
-    perform(alloc, &job, table, Some(rules), &mut input, output)
+/// A command with the built-in table and these rules. The reader of the input fails at its first call, so that a job that reads it
+/// before the rules are taken is not done.
+fn ruled(command: Task, rules: &[u8]) -> Given<'_> {
+    Given::new(command, failing()).by(whole(rules))
 }
 
-/// Whether a command with the built-in table and these rules answers this and writes exactly this for an input. It is
-/// asked once more where memory was refused.
-fn comes_to(
-    alloc: Global,
-    command: Task,
-    rules: &str,
-    input: &[u8],
-    want: Result<u8, CliFault>,
-    output: &[u8],
-) -> bool {
-    let table: Option<&mut Repeating> = None;
-    let mut reader = Reading::new(rules.as_bytes());
-    let mut writer = Expecting::new(output, output.len() + 1, WriteCause::Failed);
-    let mut answer = perform_tailored(alloc, command, table, &mut reader, input, &mut writer);
+/// What comes of the bytes of rules in a reader, asked for once more where memory was refused. The reader of the input and the
+/// writer fail at their first calls.
+fn answer_of<U: Reader + Copy>(alloc: Global, rules: U) -> Result<u8, CliFault> {
+    let answer = answer_once(alloc, rules);
     if wants_memory(&answer) {
-        let table: Option<&mut Repeating> = None;
-        reader = Reading::new(rules.as_bytes());
-        writer = Expecting::new(output, output.len() + 1, WriteCause::Failed);
-        answer = perform_tailored(alloc, command, table, &mut reader, input, &mut writer);
+        return answer_once(alloc, rules);
     }
-    answer == want && writer.left() == Some(0)
+    answer
 }
 
-/// Whether these bytes of rules are refused so, or memory is, before the input is read.
-fn is_refused<U: Reader>(alloc: Global, rules: &mut U, want: CliFault) -> bool {
+fn answer_once<U: Reader + Copy>(alloc: Global, mut rules: U) -> Result<u8, CliFault> {
     let job = plain_job(Task::Key, PLAIN);
     let table: Option<&mut Repeating> = None;
-    // It fails at its first call, and so does the writer.
-    let mut input = Pieces::new(b"a", 1, 0);
+    let mut input = failing();
     let mut writer = Expecting::new(b"", 0, WriteCause::Failed);
-    let answer = perform(alloc, &job, table, Some(rules), &mut input, &mut writer);
-    answer == Err(want) || wants_memory(&answer)
+    perform(
+        alloc,
+        &job,
+        table,
+        Some(&mut rules),
+        &mut input,
+        &mut writer,
+    )
 }
 
 fn no_text(at: usize, cause: RulesTextCause) -> CliFault {
@@ -99,39 +84,27 @@ fn rules_tailor_the_table_of_each_command(rt: HostRuntime) {
         (Task::Compare, "", "z\na\nb", b"greater\nless\n"),
     ];
     for (command, rules, input, want) in cases {
-        assert!(rt;
-            comes_to(alloc, command, rules, input.as_bytes(), Ok(0), want),
-            "{command:?} {rules}"
-        );
+        let given = Given::new(command, whole(input.as_bytes())).by(whole(rules.as_bytes()));
+        assert!(rt; given.writes(&rt, alloc, want), "{command:?} {rules}");
     }
 }
 
 #[test]
 fn findings_are_those_of_the_tailored_table(rt: HostRuntime) {
     let alloc = rt.alloc();
-    // What `lint` leaves unread is no text.
-    assert!(rt; comes_to(alloc, Task::Lint, "&a<c", b"\xFF", Ok(0), b""));
-    let rules = "&a<z\u{301}\u{308}";
-    assert!(rt; comes_to(alloc, Task::Lint, rules, b"\xFF", Ok(1), b"WF5\n"));
+    // What `lint` leaves unread cannot be read.
+    assert!(rt; ruled(Task::Lint, b"&a<c").writes(&rt, alloc, b""));
+    let given = ruled(Task::Lint, "&a<z\u{301}\u{308}".as_bytes());
+    assert!(rt; given.comes_to(&rt, alloc, Ok(1), b"WF5\n"));
 }
 
 #[test]
 fn rules_tailor_the_table_in_a_reader(rt: HostRuntime) {
-    let alloc = rt.alloc();
-    let text = b"0061 ; [.1000.0020.0002]\n";
     let want = b"0061 ; [.1000.0020.0002]\n0078 ; [.1000.0020.0003]\n";
-    let mut table = Reading::new(text.as_slice());
-    let mut rules = Pieces::new(b"&a<<<x", 1, 100);
-    let mut writer = Expecting::new(want, want.len() + 1, WriteCause::Failed);
-    let answer = perform_tailored(
-        alloc,
-        Task::Table,
-        Some(&mut table),
-        &mut rules,
-        b"",
-        &mut writer,
-    );
-    assert!(rt; wants_memory(&answer) || (answer == Ok(0) && writer.left() == Some(0)));
+    let given = Given::new(Task::Table, failing())
+        .over(whole(b"0061 ; [.1000.0020.0002]\n"))
+        .by(Pieces::new(b"&a<<<x", 1, 100));
+    assert!(rt; given.writes(&rt, rt.alloc(), want));
 }
 
 #[test]
@@ -145,24 +118,29 @@ fn bytes_of_rules_that_are_no_text_are_refused(rt: HostRuntime) {
         ("&c<\u{E7}\u{E7}".as_bytes().split_at(6).0, 5),
     ];
     for (bytes, at) in cases {
-        let want = no_text(at, RulesTextCause::NotUtf8);
-        assert!(rt;
-            is_refused(alloc, &mut Reading::new(bytes), want),
-            "{bytes:?}"
-        );
+        let fault = no_text(at, RulesTextCause::NotUtf8);
+        let given = ruled(Task::Key, bytes);
+        assert!(rt; given.is_refused(&rt, alloc, fault), "{bytes:?}");
     }
 }
 
 #[test]
 fn rules_past_the_limit_are_refused(rt: HostRuntime) {
     let alloc = rt.alloc();
-    let large = no_text(1_048_576, RulesTextCause::TooLarge);
-    assert!(rt; is_refused(alloc, &mut Repeating::new(b' ', 1_048_577, false), large));
-    // The byte too many comes before the failure, or the failure before it.
-    assert!(rt; is_refused(alloc, &mut Repeating::new(b' ', 1_048_577, true), large));
-    let failed = no_text(0, RulesTextCause::Read);
-    assert!(rt; is_refused(alloc, &mut Repeating::new(b' ', 1_048_576, true), failed));
-    assert!(rt; is_refused(alloc, &mut Pieces::new(b"&a<b", 1, 3), failed));
+    let large = Err(no_text(1_048_576, RulesTextCause::TooLarge));
+    let failed = Err(no_text(0, RulesTextCause::Read));
+    let cases = [
+        (usize::MAX, false, large),
+        (1_048_577, false, large),
+        // The byte too many comes before the failure, or the failure before it.
+        (1_048_577, true, large),
+        (1_048_576, true, failed),
+    ];
+    for (count, fails, want) in cases {
+        let answer = answer_of(alloc, Repeating::new(b' ', count, fails));
+        assert!(rt; answer == want, "{count} blanks");
+    }
+    assert!(rt; answer_of(alloc, Pieces::new(b"&a<b", 1, 3)) == failed);
 }
 
 #[test]
@@ -174,11 +152,9 @@ fn the_first_fault_of_the_rules_is_reported_before_the_input_is_read(rt: HostRun
         ("<a", RuleCause::Syntax, 0),
     ];
     for (rules, cause, at) in cases {
-        let want = CliFault::Rules(RuleFault { at, cause });
-        assert!(rt;
-            is_refused(alloc, &mut Reading::new(rules.as_bytes()), want),
-            "{rules}"
-        );
+        let given = ruled(Task::Key, rules.as_bytes());
+        let fault = CliFault::Rules(RuleFault { at, cause });
+        assert!(rt; given.is_refused(&rt, alloc, fault), "{rules}");
     }
     let cases: [(&str, TailorCause, u64); 3] = [
         ("&\\u0001<x", TailorCause::SmallWeight, 1),
@@ -186,50 +162,38 @@ fn the_first_fault_of_the_rules_is_reported_before_the_input_is_read(rt: HostRun
         ("&a<b &\u{4E00}<x", TailorCause::HighReset, 2),
     ];
     for (rules, cause, relation) in cases {
-        let want = CliFault::Tailor(TailorFault { relation, cause });
-        assert!(rt;
-            is_refused(alloc, &mut Reading::new(rules.as_bytes()), want),
-            "{rules}"
-        );
+        let given = ruled(Task::Key, rules.as_bytes());
+        let fault = CliFault::Tailor(TailorFault { relation, cause });
+        assert!(rt; given.is_refused(&rt, alloc, fault), "{rules}");
     }
 }
 
 #[test]
 fn a_fault_of_the_table_comes_before_those_of_the_rules(rt: HostRuntime) {
-    let alloc = rt.alloc();
-    let mut table = Reading::new(b"0061".as_slice());
-    // It fails at its first call.
-    let mut rules = Pieces::new(b"&a<b", 1, 0);
-    let mut writer = Expecting::new(b"", 0, WriteCause::Failed);
-    let answer = perform_tailored(
-        alloc,
-        Task::Key,
-        Some(&mut table),
-        &mut rules,
-        b"\xFF",
-        &mut writer,
-    );
-    let want = Err(CliFault::Table(ReadFault {
+    let given = Given::new(Task::Key, failing())
+        .over(whole(b"0061"))
+        .by(failing());
+    let fault = CliFault::Table(ReadFault {
         line: 1,
         cause: ReadCause::NoSemicolon,
-    }));
-    assert!(rt; answer == want || wants_memory(&answer));
+    });
+    assert!(rt; given.is_refused(&rt, rt.alloc(), fault));
 }
 
 #[test]
 fn faults_after_the_rules_are_reported(rt: HostRuntime) {
     let alloc = rt.alloc();
-    let want = Err(input_refused(2, 1, InputCause::NotUtf8));
-    assert!(rt; comes_to(alloc, Task::Key, "", b"a\nb\xFF\n", want, b""));
-    let table: Option<&mut Repeating> = None;
-    let mut rules = Reading::new(b"".as_slice());
+    let fault = input_refused(2, 1, InputCause::NotUtf8);
+    let faulty = Given::new(Task::Key, whole(b"a\nb\xFF\n")).by(whole(b""));
+    assert!(rt; faulty.is_refused(&rt, alloc, fault));
+    let stopped = Given::new(Task::Key, whole(b"a")).by(whole(b""));
     let mut writer = Expecting::new(b"10 ", 3, WriteCause::Failed);
-    let answer = perform_tailored(alloc, Task::Key, table, &mut rules, b"a", &mut writer);
-    assert!(rt; answer == Err(output_refused(3, WriteCause::Failed)) || wants_memory(&answer));
+    let answer = stopped.answer(&rt, alloc, &mut writer);
+    assert!(rt; answer == Err(output_refused(3, WriteCause::Failed)));
 }
 
 #[test]
-fn faults_of_the_rules_have_their_texts(rt: HostRuntime) {
+fn faults_of_the_rules_have_their_texts(rt: HostRuntime) -> Result<(), Fail> {
     let cases = [
         (
             no_text(2, RulesTextCause::NotUtf8),
@@ -278,8 +242,7 @@ fn faults_of_the_rules_have_their_texts(rt: HostRuntime) {
     ];
     for (fault, want) in cases {
         assert_eq!(rt; status_of(&fault), 3, "{fault:?}");
-        if let Ok(text) = fault.to_string(rt.alloc()) {
-            assert_eq!(rt; text.as_str(), want);
-        }
+        assert_eq!(rt; fault.to_string(rt.alloc())?.as_str(), want);
     }
+    Ok(())
 }

@@ -1,67 +1,37 @@
 //! The job `table`, and what comes of the reader of a table.
-use super::{PLAIN, plain_job, stops_at, wants_memory};
-use crate::{CliFault, Task, perform};
-use std::alloc::Global;
+use super::given::{Given, failing, whole};
+use crate::{CliFault, Task};
+use std::test::Fail;
 use uca_allkeys::{ReadCause, ReadFault};
-use uca_testing::{Expecting, Pieces, SMALL_TEXT, WRITTEN_BY_HAND};
-use uca_weights::{Reader, Reading, WriteCause, Writer, Writing};
+use uca_testing::{Pieces, SMALL_TEXT, WRITTEN_BY_HAND};
+use uca_weights::WriteCause;
 
-/// Does the job `table`. The reader of the input fails at each call, so that a job that reads it is not done.
-fn perform_table<T: Reader, W: Writer>(
-    alloc: Global,
-    table: Option<&mut T>,
-    output: &mut W,
-) -> Result<u8, CliFault> {
-    let job = plain_job(Task::Table, PLAIN);
-    let rules: Option<&mut Pieces> = None;
-    let mut input = Pieces::new(b"a\n", 1, 0);
-    perform(alloc, &job, table, rules, &mut input, output)
+/// The job `table` with the table in a reader. The reader of the input fails at each call, so that a job that reads it is not
+/// done.
+fn table_in(text: Pieces<'_>) -> Given<'_> {
+    Given::new(Task::Table, failing()).over(text)
 }
 
-/// Whether the job answers this and writes exactly this with the table in a reader, or is out of memory and writes nothing.
-fn comes_to<T: Reader>(
-    alloc: Global,
-    table: &mut T,
-    want: Result<u8, CliFault>,
-    output: &[u8],
-) -> bool {
-    let mut writer = Expecting::new(output, output.len() + 1, WriteCause::Failed);
-    let answer = perform_table(alloc, Some(table), &mut writer);
-    if wants_memory(&answer) {
-        return writer.left() == Some(output.len());
-    }
-    answer == want && writer.left() == Some(0)
-}
-
-fn table_refused(line: u64, cause: ReadCause) -> Result<u8, CliFault> {
-    Err(CliFault::Table(ReadFault { line, cause }))
+fn table_refused(line: u64, cause: ReadCause) -> CliFault {
+    CliFault::Table(ReadFault { line, cause })
 }
 
 #[test]
 fn a_table_is_written_in_its_canonical_text(rt: HostRuntime) {
     for text in [WRITTEN_BY_HAND, SMALL_TEXT] {
-        let mut table = Reading::new(text);
-        assert!(rt; comes_to(rt.alloc(), &mut table, Ok(0), SMALL_TEXT));
+        assert!(rt; table_in(whole(text)).writes(&rt, rt.alloc(), SMALL_TEXT));
     }
     for most in [1, 7, 4096] {
-        let mut table = Pieces::new(WRITTEN_BY_HAND, most, 10_000);
-        assert!(rt;
-            comes_to(rt.alloc(), &mut table, Ok(0), SMALL_TEXT),
-            "{most} at once"
-        );
+        let given = table_in(Pieces::new(WRITTEN_BY_HAND, most, 10_000));
+        assert!(rt; given.writes(&rt, rt.alloc(), SMALL_TEXT), "{most} at once");
     }
-    let mut table = Reading::new(b"".as_slice());
-    assert!(rt; comes_to(rt.alloc(), &mut table, Ok(0), b""));
+    assert!(rt; table_in(whole(b"")).writes(&rt, rt.alloc(), b""));
 }
 
 #[test]
 fn the_built_in_table_is_this_one(rt: HostRuntime) {
-    let mut writer = Expecting::new(SMALL_TEXT, SMALL_TEXT.len(), WriteCause::Failed);
-    let table: Option<&mut Pieces> = None;
-    let answer = perform_table(rt.alloc(), table, &mut writer);
-    if !wants_memory(&answer) {
-        assert!(rt; answer == Ok(0) && writer.left() == Some(0));
-    }
+    let given = Given::new(Task::Table, failing());
+    assert!(rt; given.writes(&rt, rt.alloc(), SMALL_TEXT));
 }
 
 #[test]
@@ -82,9 +52,9 @@ fn a_faulty_text_is_reported_and_nothing_is_written(rt: HostRuntime) {
         ),
     ];
     for (text, line, cause) in cases {
-        let mut table = Reading::new(text);
-        let want = table_refused(line, cause);
-        assert!(rt; comes_to(rt.alloc(), &mut table, want, b""), "{cause:?}");
+        let fault = table_refused(line, cause);
+        let given = table_in(whole(text));
+        assert!(rt; given.is_refused(&rt, rt.alloc(), fault), "{cause:?}");
     }
 }
 
@@ -92,10 +62,10 @@ fn a_faulty_text_is_reported_and_nothing_is_written(rt: HostRuntime) {
 fn a_failed_read_of_the_table_is_reported(rt: HostRuntime) {
     // The line in which the reader fails, a byte at a time.
     for (calls, line) in [(0, 1), (15, 1), (16, 2), (81, 2), (82, 3)] {
-        let mut table = Pieces::new(WRITTEN_BY_HAND, 1, calls);
-        let want = table_refused(line, ReadCause::Read);
+        let given = table_in(Pieces::new(WRITTEN_BY_HAND, 1, calls));
+        let fault = table_refused(line, ReadCause::Read);
         assert!(rt;
-            comes_to(rt.alloc(), &mut table, want, b""),
+            given.is_refused(&rt, rt.alloc(), fault),
             "after {calls} calls"
         );
     }
@@ -103,13 +73,11 @@ fn a_failed_read_of_the_table_is_reported(rt: HostRuntime) {
 
 #[test]
 fn a_writer_that_stops_gets_the_front_of_the_table(rt: HostRuntime) {
+    let given = table_in(whole(WRITTEN_BY_HAND));
     for cause in [WriteCause::Failed, WriteCause::Zero] {
         for room in 0..SMALL_TEXT.len() {
-            let mut table = Reading::new(WRITTEN_BY_HAND);
-            let mut writer = Expecting::new(SMALL_TEXT, room, cause);
-            let answer = perform_table(rt.alloc(), Some(&mut table), &mut writer);
             assert!(rt;
-                stops_at(answer, &writer, SMALL_TEXT, room, cause),
+                given.stops_at(&rt, rt.alloc(), SMALL_TEXT, room, cause),
                 "{room} bytes"
             );
         }
@@ -118,19 +86,12 @@ fn a_writer_that_stops_gets_the_front_of_the_table(rt: HostRuntime) {
 
 #[test]
 fn a_written_table_is_read_again(rt: HostRuntime) {
-    let alloc = rt.alloc();
-    let mut table = Reading::new(WRITTEN_BY_HAND);
-    let mut writer = Writing::new(Vec::new(alloc));
-    if perform_table(alloc, Some(&mut table), &mut writer).is_err() {
-        return;
-    }
-    let written = writer.into_inner();
-    let mut table = Reading::new(written.as_slice());
-    assert!(rt; comes_to(alloc, &mut table, Ok(0), SMALL_TEXT));
+    let written = table_in(whole(WRITTEN_BY_HAND)).output(&rt, rt.alloc());
+    assert!(rt; table_in(whole(&written)).writes(&rt, rt.alloc(), SMALL_TEXT));
 }
 
 #[test]
-fn faults_of_the_table_have_their_texts(rt: HostRuntime) {
+fn faults_of_the_table_have_their_texts(rt: HostRuntime) -> Result<(), Fail> {
     let cases = [
         (
             ReadFault {
@@ -162,8 +123,8 @@ fn faults_of_the_table_have_their_texts(rt: HostRuntime) {
         ),
     ];
     for (fault, want) in cases {
-        if let Ok(text) = CliFault::Table(fault).to_string(rt.alloc()) {
-            assert_eq!(rt; text.as_str(), want);
-        }
+        let text = CliFault::Table(fault).to_string(rt.alloc())?;
+        assert_eq!(rt; text.as_str(), want);
     }
+    Ok(())
 }
