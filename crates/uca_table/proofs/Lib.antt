@@ -17,5 +17,6 @@ pub mod IdeographLemmas
 pub mod WalkLemmas
 pub mod FirstsLemmas
 pub mod FlatLemmas
+pub mod TrieLemmas
 pub mod EntryMapLemmas
 pub mod AscendingLemmas

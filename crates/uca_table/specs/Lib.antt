@@ -12,5 +12,6 @@ pub mod Walk
 pub mod Firsts
 pub mod Flat
 pub mod Span
+pub mod Trie
 pub mod EntryMap
 pub mod Ascending

@@ -11,6 +11,7 @@ use crate::flat::{Flat, Span};
 use crate::range_map::RangeMap;
 use crate::stored::Stored;
 use crate::table::Table;
+use crate::trie::Trie;
 use std::alloc::Global;
 use std::marker::Model;
 use uca_weights::{Element, MAX_ELEMENTS, MAX_KEY, Range};
@@ -103,13 +104,16 @@ impl TableBuilder {
             return Err(FinishFault { builder: self });
         };
         let longest_key = longest_key(&entries);
-        let firsts = Firsts::of(self.alloc, &Span::all(&entries));
+        let all = Span::all(&entries);
+        let firsts = Firsts::of(self.alloc, &all);
+        let trie = Trie::of(self.alloc, &all, &firsts);
         let stored = Stored {
             entries,
             ranges: self.ranges.finish(range_room),
             ideographs: Vec::new(self.alloc),
             longest_key,
             firsts,
+            trie,
         };
         Ok(Table::of(self.alloc, stored))
     }

@@ -112,7 +112,8 @@ impl Firsts {
     pub(crate) fn beginning_with<'e>(&self, entries: &Span<'e>, c: char) -> Span<'e>
         requires firsts { HoldsFirsts (entries_in entries.now) self.now }
         requires rising { IsNonDecreasingBy (λ e. code_at 0 e.0) (entries_in entries.now) }
-        ensures { entries_in result ≡ where_key key_cmp (λ k. code_at 0 k == c + 1) (entries_in entries.now) }
+        ensures entries { entries_in result ≡ where_key key_cmp (λ k. code_at 0 k == c + 1) (entries_in entries.now) }
+        ensures flat { result.flat.now ≡ entries.now.flat.now }
     {
         let Some(from) = self.starts.get(c as usize) else {
             return entries.having(0, c);

@@ -31,6 +31,7 @@ pub mod stored;
 pub mod table;
 #[cfg(test)]
 mod tests;
+mod trie;
 pub mod walk;
 pub mod well_formed;
 

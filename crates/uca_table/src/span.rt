@@ -22,7 +22,8 @@ impl<'t> Span<'t> {
     /// All entries.
     #[tactic(auto, unfolding(crate::specs::Span::entries_in))]
     pub(crate) fn all(flat: &'t Flat) -> Span<'t>
-        ensures { entries_in result ≡ flat.now }
+        ensures entries { entries_in result ≡ flat.now }
+        ensures flat { result.flat.now ≡ flat.now }
     {
         Span {
             flat,
@@ -69,7 +70,8 @@ impl<'t> Span<'t> {
     pub(crate) fn part(&self, from: usize, to: usize) -> Span<'t>
         requires ordered { from ≤ to }
         requires within { to ≤ length (entries_in self.now) }
-        ensures { entries_in result ≡ take (to - from) (drop from (entries_in self.now)) }
+        ensures entries { entries_in result ≡ take (to - from) (drop from (entries_in self.now)) }
+        ensures flat { result.flat.now ≡ self.now.flat.now }
     {
         Span {
             flat: self.flat,
@@ -103,7 +105,8 @@ impl<'t> Span<'t> {
     /// The entries with a code point at a place of their keys: one binary search, and a short one for their end.
     pub(crate) fn having(&self, place: usize, c: char) -> Span<'t>
         requires { IsNonDecreasingBy (λ e. code_at place e.0) (entries_in self.now) }
-        ensures { entries_in result ≡ where_key key_cmp (λ k. code_at place k == c + 1) (entries_in self.now) }
+        ensures entries { entries_in result ≡ where_key key_cmp (λ k. code_at place k == c + 1) (entries_in self.now) }
+        ensures flat { result.flat.now ≡ self.now.flat.now }
     {
         let code = c as u32 + 1;
         let from = self.count_below(place, code, usize::MAX);

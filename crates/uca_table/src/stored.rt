@@ -1,4 +1,4 @@
-ghost use Rattle.std.specs.Prelude.{◌≡◌, ◌≤◌, ◌<◌, ◌^◌, ◌∷◌, [], length, All, option_copied, IfSome, IfOk, OnOk, OnErr, MatchResult, None};
+ghost use Rattle.std.specs.Prelude.{◌≡◌, ◌+◌, ◌==◌, ◌≤◌, ◌<◌, ◌^◌, ◌∷◌, [], length, All, option_copied, IfSome, IfOk, OnOk, OnErr, MatchResult, None};
 
 use crate::entries::Entries;
 use crate::fault::RangeFault;
@@ -6,6 +6,7 @@ use crate::firsts::Firsts;
 use crate::flat::{Flat, Span};
 use crate::ranges::Ranges;
 use crate::search::elements_of;
+use crate::trie::{NodeNumber, Reached, Trie};
 use crate::walk::Walk;
 use crate::{ideographs, implicit_weights};
 use std::alloc::{AllocError, Global};
@@ -24,6 +25,8 @@ pub struct Stored {
     pub(crate) longest_key: usize,
     // Where the entries begin with a code point; none where memory was refused.
     pub(crate) firsts: Firsts,
+    // Where longer keys that begin alike go on; none where memory was refused.
+    pub(crate) trie: Trie,
 }
 
 impl Model for Stored {
@@ -33,6 +36,7 @@ impl Model for Stored {
     ghost use Rattle.uca_table.specs.Stored.{AreStored, table_of, longest_of};
     ghost use Rattle.uca_table.specs.Coded.{coded_table};
     ghost use Rattle.uca_table.specs.Firsts.{HoldsFirsts};
+    ghost use Rattle.uca_table.specs.Trie.{HoldsTrie};
 
     ghost Value = { ElementTable };
 
@@ -40,7 +44,7 @@ impl Model for Stored {
 
     ghost view = { λ t. with_ideographs (table_of t.entries t.ranges) t.ideographs.items };
 
-    ghost invariant = { λ t. AreStored t.entries t.ranges × (t.longest_key ≡ longest_of t.entries) × HoldsFirsts t.entries t.firsts × AreIdeographs t.ideographs.items };
+    ghost invariant = { λ t. AreStored t.entries t.ranges × (t.longest_key ≡ longest_of t.entries) × HoldsFirsts t.entries t.firsts × AreIdeographs t.ideographs.items × HoldsTrie t.entries t.trie };
 }
 
 impl Stored {
@@ -53,7 +57,9 @@ impl Stored {
     ghost use Rattle.uca_model.specs.ImplicitWeights.{implicit};
     ghost use Rattle.std.specs.FinMap.{entries, from_sorted};
     ghost use Rattle.uca_model.specs.Ranges.{AreByFirst};
-    ghost use Rattle.uca_table.specs.Fronts.{entries_from};
+    ghost use Rattle.std.specs.FinMap.Entries.{where_key};
+    ghost use Rattle.std.specs.List.Sorted.{IsNonDecreasingBy};
+    ghost use Rattle.uca_table.specs.Fronts.{code_at, entries_from};
     ghost use Rattle.uca_table.specs.Span.{entries_in};
     ghost use Rattle.uca_table.specs.Walk.{path_of, table_of_walk};
 
@@ -69,16 +75,36 @@ impl Stored {
 
     /// The entries by key order, where they lie.
     fn in_order(&self) -> Span<'_>
-        ensures { entries_in result ≡ entries self.now.entries }
+        ensures entries { entries_in result ≡ entries self.now.entries }
+        ensures flat { result.flat.now ≡ entries self.now.entries }
     {
         Span::all(&self.entries)
     }
 
     /// The entries whose keys begin with a code point.
-    pub(crate) fn beginning_with(&self, c: char) -> Span<'_>
-        ensures { entries_in result ≡ entries_from self.now (c ∷ []) }
+    pub(crate) fn beginning_with(&self, c: char) -> Reached<'_>
+        ensures entries { entries_in result.span ≡ entries_from self.now (c ∷ []) }
+        ensures flat { result.span.flat.now ≡ entries self.now.entries }
     {
-        self.firsts.beginning_with(&Span::all(&self.entries), c)
+        let span = self.firsts.beginning_with(&Span::all(&self.entries), c);
+        let node = self.trie.lead(&span, c);
+        Reached { span, node }
+    }
+
+    /// Those of some entries whose keys have a code point at a place.
+    pub(crate) fn beyond<'e>(
+        &self,
+        reached: &Span<'e>,
+        node: NodeNumber,
+        depth: usize,
+        c: char,
+    ) -> Reached<'e>
+        requires flat { reached.now.flat.now ≡ entries self.now.entries }
+        requires rising { IsNonDecreasingBy (λ e. code_at depth e.0) (entries_in reached.now) }
+        ensures entries { entries_in result.span ≡ where_key key_cmp (λ k. code_at depth k == c + 1) (entries_in reached.now) }
+        ensures flat { result.span.flat.now ≡ entries self.now.entries }
+    {
+        self.trie.beyond(reached, node, depth, c)
     }
 
     /// A walk along the keys that was not stepped yet.
@@ -130,13 +156,16 @@ impl Stored {
     {
         let ranges = self.ranges.try_clone(alloc)?;
         let ideographs = self.ideographs.as_slice().to_vec(alloc)?;
-        let firsts = Firsts::of(alloc, &Span::all(&entries));
+        let all = Span::all(&entries);
+        let firsts = Firsts::of(alloc, &all);
+        let trie = Trie::of(alloc, &all, &firsts);
         Ok(Stored {
             entries,
             ranges,
             ideographs,
             longest_key,
             firsts,
+            trie,
         })
     }
 

@@ -1,5 +1,6 @@
 ghost use Rattle.std.specs.Prelude.{◌≡◌, ◌++◌, ◌∷◌, [], ◌<◌, ◌≤◌, cond, length, All, option_copied, IfSome};
 ghost use Rattle.std.specs.Coded.{Coded-set};
+ghost use Rattle.std.specs.FinMap.{entries};
 ghost use Rattle.uca_model.specs.Table.{IsTable};
 ghost use Rattle.uca_table.specs.Coded.{coded_entries};
 ghost use Rattle.uca_table.specs.Fronts.{begins_key, entries_from, first_path};
@@ -7,6 +8,7 @@ ghost use Rattle.uca_table.specs.Span.{entries_in};
 
 use crate::flat::Span;
 use crate::stored::Stored;
+use crate::trie::{NO_NODE, NodeNumber, Reached};
 use uca_weights::Element;
 
 /// A walk along the keys of a table, code point after code point. It has a path, empty at first, which is the front of
@@ -18,6 +20,8 @@ pub struct Walk<'t> {
     reached: Span<'t>,
     // The length of the path.
     depth: usize,
+    node: NodeNumber,
+    ghost flat: { reached.flat.now ≡ entries table.now.entries } by { Coded-set coded_entries _ _ },
     ghost long: { length (first_path (entries_in reached) depth) ≡ depth },
     ghost all: { entries_in reached ≡ entries_from table.now (first_path (entries_in reached) depth) } by { Coded-set coded_entries _ _ },
 }
@@ -35,26 +39,29 @@ impl<'t> Walk<'t> {
     ghost use Rattle.uca_table.specs.Walk.{path_of, table_of_walk};
 
     /// A walk that was not stepped yet.
-    pub(crate) fn new(table: &'t Stored, entries: &Span<'t>) -> Walk<'t>
-        requires { entries_in entries.now ≡ entries_from table.now [] }
+    pub(crate) fn new(table: &'t Stored, all: &Span<'t>) -> Walk<'t>
+        requires path { entries_in all.now ≡ entries_from table.now [] }
+        requires flat { all.now.flat.now ≡ entries table.now.entries }
         ensures table { table_of_walk result ≡ table.now }
         ensures path { path_of result ≡ [] }
     {
         Walk {
             table,
-            reached: *entries,
+            reached: *all,
             depth: 0,
+            node: NO_NODE,
         }
     }
 
     /// The entries whose keys begin with the path and one more code point.
-    fn entries_beyond(&self, c: char) -> Span<'t>
-        ensures { entries_in result ≡ entries_from (table_of_walk self.now) (path_of self.now ++ c ∷ []) }
+    fn entries_beyond(&self, c: char) -> Reached<'t>
+        ensures path { entries_in result.span ≡ entries_from (table_of_walk self.now) (path_of self.now ++ c ∷ []) }
+        ensures flat { result.span.flat.now ≡ entries (table_of_walk self.now).entries }
     {
         if self.depth == 0 {
             return self.table.beginning_with(c);
         }
-        self.reached.having(self.depth, c)
+        self.table.beyond(&self.reached, self.node, self.depth, c)
     }
 
     /// Whether some key begins with the path and one more code point, or is they. If so they are the new path, and else
@@ -64,15 +71,16 @@ impl<'t> Walk<'t> {
         ensures path { path_of self.new ≡ cond result (path_of self.old ++ c ∷ []) (path_of self.old) }
         ensures table { table_of_walk self.new ≡ table_of_walk self.old }
     {
-        let reached = self.entries_beyond(c);
-        if reached.is_empty() {
+        let next = self.entries_beyond(c);
+        if next.span.is_empty() {
             return false;
         }
         read_table(self.table);
         *self = Walk {
             table: self.table,
-            reached,
+            reached: next.span,
             depth: self.depth + 1,
+            node: next.node,
         };
         true
     }

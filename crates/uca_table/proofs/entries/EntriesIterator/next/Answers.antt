@@ -18,6 +18,6 @@ pub returns-clause-steps : goal.returns-clause-steps
 returns-clause-steps c =
     let es = entries_in c.self.inside.rest in
     let some : 0 < length es = some_of es (sym c.is_empty.ensures ∙ c.if-is_empty.false) in
-    let others : entries_in c.part-self-inside.result ≡ drop 1 es = c.part-self-inside.ensures ∙ ap (λ n. take (n - 1) (drop 1 es)) c.len.ensures ∙ take_rest es 1 in
+    let others : entries_in c.part-self-inside.result ≡ drop 1 es = c.part-self-inside.ensures.entries ∙ ap (λ n. take (n - 1) (drop 1 es)) c.len.ensures ∙ take_rest es 1 in
     let first : get_or es 0 ([], []) ≡ (c.key_in_place-key.result.items, c.elements-elements.result.now) = ap₂ (λ k v. (k, v)) (sym (c.key_in_place-key.ensures ∙ c.key.ensures ([], []))) (sym (c.elements-elements.ensures ([], []))) in
     sym c.self.view_is ∙ front_and_rest es ([], []) some ∙ ap₂ (λ x xs. x ∷ xs) first (sym others)

@@ -1,0 +1,11 @@
+use Rattle.std.proofs.Common.{◌-◌, ◌≤◌, length}
+use Rattle.uca_table.proofs.trie.Trie.lead.Given as goal
+
+abbrev pub invariant-loop-low : goal.invariant-loop-low
+invariant-loop-low l = record {
+  within : l.high ≤ length l.self.leads.items;
+  ordered : l.low ≤ l.high;
+}
+
+abbrev pub decreases-loop-low : goal.decreases-loop-low
+decreases-loop-low l = l.high - l.low
