@@ -19,11 +19,11 @@ use uca_weights::MAX_KEY;
 /// The number of a node. Whether it is the node of some entries is seen from the node, which says where they lie.
 #[derive(Clone, Copy, Debug)]
 pub(crate) struct NodeNumber {
-    number: usize,
+    number: u32,
 }
 
 /// The number of no node.
-pub(crate) const NO_NODE: NodeNumber = NodeNumber { number: usize::MAX };
+pub(crate) const NO_NODE: NodeNumber = NodeNumber { number: u32::MAX };
 
 /// Where the entries lie whose keys go on with a code point.
 #[derive(Clone, Copy, Debug)]
@@ -44,18 +44,11 @@ pub(crate) struct Node {
     pub(crate) children: Vec<Child>,
 }
 
-/// The node of the keys that begin with a code point.
-#[derive(Clone, Copy, Debug)]
-struct Lead {
-    point: char,
-    node: NodeNumber,
-}
-
 /// The nodes of entries in their order. Entries that have no node are searched.
 #[derive(Debug, Drop)]
 pub(crate) struct Trie {
-    // In the order of their code points.
-    leads: Vec<Lead>,
+    // By code point, the node of the keys that begin with it.
+    leads: Vec<NodeNumber>,
     pub(crate) nodes: Vec<Node>,
 }
 
@@ -80,7 +73,7 @@ fn point_at(key: &[char], place: usize) -> Option<char>
 fn push_node(nodes: &mut Vec<Node>, node: Node) -> Result<NodeNumber, AllocError>
     ensures { (es : _) → All (IsNode es) nodes.old.items → IsNode es node → All (IsNode es) nodes.new.items }
 {
-    let number = nodes.len();
+    let number = nodes.len().min(NO_NODE.number as usize) as u32;
     nodes.push(node)?;
     Ok(NodeNumber { number })
 }
@@ -247,7 +240,7 @@ impl Trie {
         requires firsts { HoldsFirsts (entries_in entries.now) firsts.now }
         ensures { IfOk result (HoldsTrie entries.now.flat.now) }
     {
-        let mut leads: Vec<Lead> = Vec::new(alloc);
+        let mut leads: Vec<NodeNumber> = Vec::new(alloc);
         let mut nodes = Vec::new(alloc);
         let mut above = 0;
         for at in 0..entries.len() {
@@ -260,7 +253,8 @@ impl Trie {
             above = point as u32 + 1;
             let span = firsts.beginning_with(entries, point);
             let node = add_node(alloc, &mut nodes, &span, 1)?;
-            leads.push(Lead { point, node })?;
+            leads.resize(point as usize, NO_NODE)?;
+            leads.push(node)?;
         }
         Ok(Trie { leads, nodes })
     }
@@ -282,18 +276,8 @@ impl Trie {
         if reached.len() < 2 {
             return NO_NODE;
         }
-        let mut low = 0;
-        let mut high = self.leads.len();
-        while low < high {
-            let middle = low + (high - low) / 2;
-            if self.leads[middle].point < point {
-                low = middle + 1;
-            } else {
-                high = middle;
-            }
-        }
-        match self.leads.get(low) {
-            Some(lead) => lead.node,
+        match self.leads.get(point as usize) {
+            Some(node) => *node,
             None => NO_NODE,
         }
     }
@@ -303,7 +287,7 @@ impl Trie {
         requires { HoldsTrie reached.now.flat.now self.now }
         ensures { IfSome result (λ n. IsNodeOf reached.now.flat.now (entries_in reached.now) depth n.now) }
     {
-        let Some(found) = self.nodes.get(node.number) else {
+        let Some(found) = self.nodes.get(node.number as usize) else {
             return None;
         };
         if found.is_of(reached, depth) {
