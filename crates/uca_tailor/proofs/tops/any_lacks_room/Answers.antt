@@ -3,7 +3,7 @@ use Rattle.std.specs.FinMap.{entries}
 use Rattle.std.specs.List.{list_any}
 use Rattle.uca_weights.specs.declared.element.Element.{Element}
 use Rattle.uca_model.specs.Room.{has_no_room}
-use Rattle.uca_table.proofs.RoomInTables.{any-map}
+use Rattle.uca_tailor.proofs.TopLemmas.{any-map}
 use Rattle.uca_tailor.proofs.tops.any_lacks_room.Goals as goal
 
 pub returns-then-any_has_no_room : goal.returns-then-any_has_no_room
