@@ -10,7 +10,7 @@ use uca_io::lines::{place_of, without_return};
 use uca_io::words::{skip_blanks, trim_end};
 use uca_weights::{Element, MAX_ELEMENTS, MAX_KEY};
 
-/// A key with its elements. One takes them of each line of a table in turn, since a fresh one is 600 bytes to fill and to move.
+/// A key with its elements. One value is filled for each line in turn, since a fresh one has 600 bytes to fill and to move.
 #[derive(Drop)]
 pub(crate) struct Entry {
     pub(crate) key: ArrayVec<char, MAX_KEY>,
