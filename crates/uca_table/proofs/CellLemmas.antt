@@ -1,17 +1,26 @@
 -- Cells of characters, and texts that go character by character where the elements stand alone.
-use Rattle.std.proofs.Common.{◌≡◌, ℕ, zero, suc, ◌+◌, ◌-◌, ◌≤◌, ◌<◌, Bool, true, false, ◌||◌, cond, List, [], ◌∷◌, ◌++◌, length, take, drop, get_or, refl, sym, ap, ◌∙◌, arith, inl, inr, append_assoc, append-nil, length-append}
+use Rattle.std.proofs.Common.{◌≡◌, ℕ, zero, suc, ◌+◌, ◌-◌, ◌*◌, ◌/◌, ◌%◌, ◌≤◌, ◌<◌, Bool, true, false, not, ◌||◌, ◌&&◌, cond, List, [], ◌∷◌, ◌++◌, length, take, drop, get_or, refl, sym, ap, ap₂, subst, ◌∙◌, arith, inl, inr, append_assoc, append-nil, length-append}
 use Rattle.std.proofs.lemmas.Bool.{le-leb, cases_lt}
-use Rattle.std.proofs.lemmas.List.{take-append-le, drop-append-le, length-drop, take-append-drop, drop_more, drop-drop, drop_all, drop_at}
+use Rattle.std.proofs.lemmas.Nat.{div-add-mod'}
+use Rattle.std.specs.List.{list_any, list_all}
+use Rattle.std.specs.FinMap.{entries}
+use Rattle.std.proofs.lemmas.List.{get_or_append_left, get_or-append-add, take-append-le, drop-append-le, length-drop, take-append-drop, drop_more, drop-drop, drop_all, drop_at}
 use Rattle.std.specs.Prelude.{Result, Ok, Err}
 use Rattle.std.specs.Result.{OnOk, is_ok}
+use Rattle.unicode_normalization.specs.Decompose.{decompose_canonical}
 use Rattle.unicode_normalization.specs.Forms.{nfd}
+use Rattle.unicode_normalization.specs.Order.{is_starter}
 use Rattle.uca_weights.specs.declared.element.Element.{Element}
 use Rattle.uca_model.specs.Table.{ElementTable}
 use Rattle.uca_model.specs.CollationElements.{elements}
-use Rattle.uca_model.specs.StandAlone.{joining, bearing}
-use Rattle.uca_model.proofs.StandAloneLemmas.{apart-alone, apart-before, apart-end, elements_none}
+use Rattle.uca_model.specs.ImplicitWeights.{implicit}
+use Rattle.uca_model.specs.StandAlone.{is_first, is_longer_from, begins, leads, ends_in_starter, bearing_of, stands_alone, joining, bearing}
+use Rattle.uca_model.proofs.StandAloneLemmas.{apart-alone, apart-before, apart-end, elements_none, elements-unknown, nfd-single, joining-most}
+use Rattle.uca_table.specs.declared.cells.Block.{Block}
+use Rattle.uca_table.specs.declared.cells.Block.TheVariants.{Own, WithoutKey, Unknown}
 use Rattle.uca_table.specs.declared.cells.Cell.{Cell}
-use Rattle.uca_table.specs.Cells.{IsCell, AreCells, Grows}
+use Rattle.uca_table.specs.declared.cells.Cells.{Cells}
+use Rattle.uca_table.specs.Cells.{IsCell, IsOwn, IsBlock, AreCells, AreCellsFrom, AreBlocks, HoldsCells, Grows}
 
 -- ---- cells
 
@@ -32,6 +41,7 @@ IsCell-grown t es more c cell grows h =
     record {
       joining = h.joining;
       bearing = h.bearing;
+      begins = h.begins;
       within = omega (arith, h.within);
       elements = λ some.
           ap (λ l. take cell.count (drop cell.start l)) grows
@@ -41,7 +51,7 @@ IsCell-grown t es more c cell grows h =
       few : cell.start + cell.count ≤ length es → cell.count ≤ length (drop cell.start es)
       few within = let n : length (drop cell.start es) ≡ length es - cell.start = length-drop cell.start es in omega arith
 
-push_at : (cells : List Cell) (cell : Cell) (P : ℕ → Cell → Type 0) → ((c : ℕ) (d : Cell) → c < length cells → P c (get_or cells c d)) → P (length cells) cell → (c : ℕ) (d : Cell) → c < length (cells ++ cell ∷ []) → P c (get_or (cells ++ cell ∷ []) c d)
+push_at : {A : Type 0} (cells : List A) (cell : A) (P : ℕ → A → Type 0) → ((c : ℕ) (d : A) → c < length cells → P c (get_or cells c d)) → P (length cells) cell → (c : ℕ) (d : A) → c < length (cells ++ cell ∷ []) → P c (get_or (cells ++ cell ∷ []) c d)
 push_at [] cell P each here zero d within = here
 push_at [] cell P each here (suc c) d within = absurd (omega arith)
 push_at (x ∷ cells) cell P each here zero d within = each 0 d (omega arith)
@@ -51,6 +61,103 @@ pub AreCells-push : (t : ElementTable) (es more : List Element) (cells : List Ce
 AreCells-push t es more cells cell old grows here =
     let P : ℕ → Cell → Type 0 = λ c x. IsCell t more c x in
     record { each = push_at cells cell P (λ c d within. IsCell-grown t es more c (get_or cells c d) grows (old.each c d within)) here }
+
+-- the same of the cells of a block
+pub AreCellsFrom-push : (t : ElementTable) (es more : List Element) (first : ℕ) (cells : List Cell) (cell : Cell) → AreCellsFrom t es first cells → Grows es more → IsCell t more (first + length cells) cell → AreCellsFrom t more first (cells ++ cell ∷ [])
+AreCellsFrom-push t es more first cells cell old grows here =
+    let P : ℕ → Cell → Type 0 = λ i x. IsCell t more (first + i) x in
+    record { each = push_at cells cell P (λ i d within. IsCell-grown t es more (first + i) (get_or cells i d) grows (old.each i d within)) here }
+
+-- ---- blocks
+
+-- a block stays sound where more elements and more cells follow
+IsBlock-grown : (t : ElementTable) (es more : List Element) (others fresh : List Cell) (first : ℕ) (block : Block) → Grows es more → IsBlock t es others first block → IsBlock t more (others ++ fresh) first block
+IsBlock-grown t es more others fresh first (Own start) grows h = record {
+  within = let size : length (others ++ fresh) ≡ length others + length fresh = length-append others fresh in omega (arith, h.within);
+  each = λ i d few.
+      subst (IsCell t more (first + i)) (sym (get_or_append_left others fresh d (start + i) (omega (arith, h.within))))
+      (IsCell-grown t es more (first + i) (get_or others (start + i) d) grows (h.each i d few));
+}
+IsBlock-grown t es more others fresh first WithoutKey grows h = h
+IsBlock-grown t es more others fresh first Unknown grows h = h
+
+pub AreBlocks-grown : (t : ElementTable) (es more : List Element) (blocks : List Block) (others fresh : List Cell) → Grows es more → AreBlocks t es blocks others → AreBlocks t more blocks (others ++ fresh)
+AreBlocks-grown t es more blocks others fresh grows h = record { each = λ b d within. IsBlock-grown t es more others fresh (b * 128) (get_or blocks b d) grows (h.each b d within) }
+
+AreCells-grown : (t : ElementTable) (es more : List Element) (cells : List Cell) → Grows es more → AreCells t es cells → AreCells t more cells
+AreCells-grown t es more cells grows h = record { each = λ c d within. IsCell-grown t es more c (get_or cells c d) grows (h.each c d within) }
+
+-- the cells of a table where more elements, and more cells that lie in blocks, follow
+pub HoldsCells-grown : (t : ElementTable) (old new : Cells) (fresh : List Cell) → new.cells.items ≡ old.cells.items → new.blocks.items ≡ old.blocks.items → new.others.items ≡ old.others.items ++ fresh → Grows old.elements.items new.elements.items → HoldsCells t old → HoldsCells t new
+HoldsCells-grown t old new fresh cells blocks others grows h = (
+  subst (AreCells t new.elements.items) (sym cells) (AreCells-grown t old.elements.items new.elements.items old.cells.items grows h.0),
+  subst (λ bs. AreBlocks t new.elements.items bs new.others.items) (sym blocks)
+      (subst (AreBlocks t new.elements.items old.blocks.items) (sym others) (AreBlocks-grown t old.elements.items new.elements.items old.blocks.items old.others.items fresh grows h.1)),
+)
+
+-- and where only elements do
+pub HoldsCells-same : (t : ElementTable) (old new : Cells) → new.cells.items ≡ old.cells.items → new.blocks.items ≡ old.blocks.items → new.others.items ≡ old.others.items → Grows old.elements.items new.elements.items → HoldsCells t old → HoldsCells t new
+HoldsCells-same t old new cells blocks others grows h = HoldsCells-grown t old new [] cells blocks (others ∙ sym (append-nil old.others.items)) grows h
+
+-- one more cell below the blocks
+pub HoldsCells-push : (t : ElementTable) (old new : Cells) (cell : Cell) → new.cells.items ≡ old.cells.items ++ cell ∷ [] → new.blocks.items ≡ old.blocks.items → new.others.items ≡ old.others.items → Grows old.elements.items new.elements.items → IsCell t new.elements.items (length old.cells.items) cell → HoldsCells t old → HoldsCells t new
+HoldsCells-push t old new cell cells blocks others grows here h = (
+  subst (AreCells t new.elements.items) (sym cells) (AreCells-push t old.elements.items new.elements.items old.cells.items cell h.0 grows here),
+  subst (λ bs. AreBlocks t new.elements.items bs new.others.items) (sym blocks)
+      (subst (AreBlocks t new.elements.items old.blocks.items) (sym (others ∙ sym (append-nil old.others.items))) (AreBlocks-grown t old.elements.items new.elements.items old.blocks.items old.others.items [] grows h.1)),
+)
+
+-- one more block
+pub AreBlocks-push : (t : ElementTable) (es : List Element) (blocks : List Block) (others : List Cell) (block : Block) → AreBlocks t es blocks others → IsBlock t es others (length blocks * 128) block → AreBlocks t es (blocks ++ block ∷ []) others
+AreBlocks-push t es blocks others block old here =
+    let P : ℕ → Block → Type 0 = λ b x. IsBlock t es others (b * 128) x in
+    record { each = push_at blocks block P old.each here }
+
+-- the cells of a block lie after the others
+pub IsOwn-last : (t : ElementTable) (es : List Element) (others fresh : List Cell) (first : ℕ) → length fresh ≡ 128 → AreCellsFrom t es first fresh → IsOwn t es (others ++ fresh) first (length others)
+IsOwn-last t es others fresh first size are = record {
+  within = let all : length (others ++ fresh) ≡ length others + length fresh = length-append others fresh in omega arith;
+  each = λ i d few. subst (IsCell t es (first + i)) (sym (get_or-append-add others fresh i d)) (are.each i d (omega arith));
+}
+
+-- the cell of a character of a block
+pub own-cell : (t : ElementTable) (es : List Element) (others : List Cell) (c start : ℕ) (d : Cell) → IsOwn t es others (c / 128 * 128) start → IsCell t es c (get_or others (start + c % 128) d)
+own-cell t es others c start d own = subst (λ n. IsCell t es n (get_or others (start + c % 128) d)) (div-add-mod' c 128) (own.each (c % 128) d (omega arith))
+
+-- ---- a character without key
+
+or_parts : (a b : Bool) → (a || b) ≡ false → (a ≡ false) × (b ≡ false)
+or_parts true b h = absurd (cc)
+or_parts false b h = (refl, h)
+
+longer-none : (p : ℕ) (key : List ℕ) → is_first p key ≡ false → is_longer_from p key ≡ false
+longer-none p [] h = refl
+longer-none p (x ∷ []) h = refl
+longer-none p (x ∷ y ∷ key) h = h
+
+none-longer : (p : ℕ) (es : List (List ℕ × List Element)) → list_any (λ e. is_first p e.0) es ≡ false → list_any (λ e. is_longer_from p e.0) es ≡ false
+none-longer p [] h = refl
+none-longer p (e ∷ es) h =
+    let parts = or_parts (is_first p e.0) (list_any (λ e. is_first p e.0) es) h in
+    ap₂ (λ a b. a || b) (longer-none p e.0 parts.0) (none-longer p es parts.1)
+
+leads-none : (t : ElementTable) (p : ℕ) → begins t p ≡ false → leads t p ≡ false
+unfolding begins leads
+leads-none t p none = none-longer p (entries t.entries) none
+
+bears-all : (t : ElementTable) (p : ℕ) → leads t p ≡ false → is_starter p ≡ true → bearing_of t (p ∷ []) ≡ 2
+bears-all t p none starter = ap₂ (λ a b. cond (not a && true) (cond b 2 1) 0) none starter
+
+-- a starter without key that is its own NFD stands alone, with its implicit elements
+pub implicit-alone : (t : ElementTable) (c : ℕ) (after : List ℕ) (es : List Element) → begins t c ≡ false → decompose_canonical c ≡ c ∷ [] → is_starter c ≡ true → es ≡ implicit t c → es ++ elements t (nfd after) ≡ elements t (nfd (c ∷ after))
+implicit-alone t c after es none own starter is =
+    ap (λ l. l ++ elements t (nfd after)) (is ∙ sym (elements-unknown t c none) ∙ ap (elements t) (sym (nfd-single c c own))) ∙ sym (apart-alone t c after (alone after)) where
+      bears : bearing t c ≡ 2
+      bears = ap (bearing_of t) own ∙ bears-all t c (leads-none t c none) starter
+
+      alone : (x : List ℕ) → stands_alone t c x ≡ true
+      alone [] = refl
+      alone (n ∷ x) = let most : joining t n ≤ 2 = joining-most t (decompose_canonical n) in le-leb (joining t n) (bearing t c) (omega (arith, bears))
 
 -- ---- texts
 
@@ -92,6 +199,21 @@ pub text-further : (t : ElementTable) (text : List ℕ) (at n : ℕ) (out es who
     → (out ++ es) ++ elements t (nfd (drop (at + n) text)) ≡ whole
 text-further t text at n out es whole same step =
     ap (λ l. (out ++ es) ++ elements t (nfd l)) (sym (drop-drop n at text)) ∙ append_assoc out es (elements t (nfd (drop n (drop at text)))) ∙ ap (λ l. out ++ l) step ∙ same
+
+-- after the first character
+pub one-further : (t : ElementTable) (text : List ℕ) (c : ℕ) (out es new : List Element) → 0 < length text → c ≡ get_or text 0 0 → new ≡ out ++ es → ((after : List ℕ) → es ++ elements t (nfd after) ≡ elements t (nfd (c ∷ after))) → new ++ elements t (nfd (drop 1 text)) ≡ out ++ elements t (nfd text)
+one-further t [] c out es new some first is alone = absurd (omega arith)
+one-further t (x ∷ text) c out es new some first is alone =
+    ap (λ l. l ++ elements t (nfd text)) is ∙ append_assoc out es (elements t (nfd text)) ∙ ap (λ l. out ++ l) (alone text ∙ ap (λ n. elements t (nfd (n ∷ text))) first)
+
+-- after a run
+pub run-further : (t : ElementTable) (text : List ℕ) (n : ℕ) (out es new : List Element) → new ≡ out ++ es → es ++ elements t (nfd (drop n text)) ≡ elements t (nfd text) → new ++ elements t (nfd (drop n text)) ≡ out ++ elements t (nfd text)
+run-further t text n out es new is apart = ap (λ l. l ++ elements t (nfd (drop n text))) is ∙ append_assoc out es (elements t (nfd (drop n text))) ∙ ap (λ l. out ++ l) apart
+
+-- after some characters of what is left of a text
+pub others-further : (t : ElementTable) (text rest : List ℕ) (at n : ℕ) (out new whole : List Element) → rest ≡ drop at text → new ++ elements t (nfd (drop n rest)) ≡ out ++ elements t (nfd rest) → out ++ elements t (nfd (drop at text)) ≡ whole → new ++ elements t (nfd (drop (at + n) text)) ≡ whole
+others-further t text rest at n out new whole left step same =
+    ap (λ l. new ++ elements t (nfd l)) (sym (drop-drop n at text) ∙ ap (drop n) (sym left)) ∙ step ∙ ap (λ l. out ++ elements t (nfd l)) left ∙ same
 
 pub text-done : (t : ElementTable) (text : List ℕ) (at : ℕ) (out whole : List Element) → length text ≤ at → out ++ elements t (nfd (drop at text)) ≡ whole → out ≡ whole
 text-done t text at out whole past same =

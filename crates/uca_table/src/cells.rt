@@ -1,14 +1,15 @@
-ghost use Rattle.std.specs.Prelude.{◌≡◌, true, ◌+◌, ◌∷◌, ◌++◌, [], ◌<◌, ◌≤◌, ◌^◌, ℕ, List, false, not, length, take, drop, chars, slice_index, IfOk, IfSome, OnOk, OnErr, IsTrue, IsFalse};
+ghost use Rattle.std.specs.Prelude.{◌≡◌, true, ◌+◌, ◌*◌, ◌/◌, ◌∷◌, ◌++◌, [], ◌<◌, ◌≤◌, ◌^◌, ℕ, List, false, not, length, take, drop, get_or, chars, slice_index, IfOk, IfSome, OnOk, OnErr, IsTrue, IsFalse};
 ghost use Rattle.std.specs.List.{list_all};
 ghost use Rattle.unicode_normalization.specs.Decompose.{decompose_canonical};
 ghost use Rattle.unicode_normalization.specs.Forms.{nfd};
 ghost use Rattle.unicode_normalization.specs.Order.{is_starter};
 ghost use Rattle.uca_model.specs.CollationElements.{elements};
 ghost use Rattle.uca_model.specs.StandAlone.{begins, leads, continues, joining_of, bearing_of, joining, bearing, ends_in_starter, stands_alone};
-ghost use Rattle.uca_table.specs.Cells.{AreKeyFlags, IsCell, AreCells, HoldsCells, Grows};
+ghost use Rattle.uca_table.specs.Cells.{AreKeyFlags, AreHeldBlocks, IsCell, IsBlock, AreCells, AreCellsFrom, AreBlocks, HoldsCells, Grows};
 
-use crate::collation::{push_elements, push_matches};
-use crate::key_flags::{KeyFlags, key_flags_of, limit_for};
+use crate::collation::{push_elements, push_found, push_matches};
+use crate::firsts::small;
+use crate::key_flags::{BLOCK, BLOCKS, KeyFlags, key_flags_of, limit_for};
 use crate::stored::Stored;
 use std::alloc::{AllocError, Global};
 use uca_weights::Element;
@@ -27,6 +28,8 @@ pub(crate) struct Cell {
     joining: u8,
     // The greatest of these that it bears after it.
     bearing: u8,
+    // Whether a key may begin with it.
+    begins: bool,
 }
 
 /// The cell of a character of which nothing is known.
@@ -35,12 +38,43 @@ const UNKNOWN: Cell = Cell {
     count: 0,
     joining: 2,
     bearing: 0,
+    begins: true,
 };
 
-/// The elements of the characters below a limit, each by itself, and whether they stand alone in a text.
+/// The cell of a character of which only this is known: no key begins with it.
+const WITHOUT_KEY: Cell = Cell {
+    start: 0,
+    count: 0,
+    joining: 2,
+    bearing: 0,
+    begins: false,
+};
+
+/// The cells of a block of characters, from a multiple of `BLOCK` on. Only a block with a key takes memory.
+#[derive(Clone, Copy, Debug)]
+pub(crate) enum Block {
+    /// They lie by themselves from this place on.
+    Own(u32),
+    /// No key begins with one of the characters.
+    WithoutKey,
+    /// Nothing is known of the characters.
+    Unknown,
+}
+
+/// So many blocks of cells has any table with so many blocks of keys.
+const FEW_BLOCKS: usize = 64;
+
+/// And one more for so many entries.
+const ENTRIES_OF_A_BLOCK: usize = 8;
+
+/// The elements of characters, each by itself, and whether they stand alone in a text.
 #[derive(Debug, Drop)]
 pub struct Cells {
+    // Those of the characters below a limit.
     cells: Vec<Cell>,
+    // By block, where those of the other characters are.
+    blocks: Vec<Block>,
+    others: Vec<Cell>,
     elements: Vec<Element>,
 }
 
@@ -67,6 +101,16 @@ impl KeyFlags {
 }
 
 impl KeyFlags {
+    // Whether a key begins in a block of code points.
+    fn holds(&self, block: u32) -> bool
+        ensures { (t : _) → AreHeldBlocks t self.now.held.items → IsFalse result → (p : ℕ) → p / 128 ≡ block → begins t p ≡ false }
+    {
+        match self.held.get(block as usize) {
+            Some(flag) => *flag,
+            None => true,
+        }
+    }
+
     // Whether a key begins with a code point.
     fn begins(&self, p: char) -> bool
         ensures { (t : _) → AreKeyFlags t self.now.leads.items self.now.continues.items self.now.begins.items → IsFalse result → begins t p ≡ false }
@@ -82,6 +126,21 @@ fn is_starter(c: char) -> bool
     ensures { result ≡ is_starter c }
 {
     canonical_combining_class(c) == 0
+}
+
+// Whether a character is a starter and its own NFD.
+fn is_own_nfd(c: char) -> bool
+    ensures { IsTrue result → (decompose_canonical c ≡ c ∷ []) × (is_starter c ≡ true) }
+{
+    let mut room = ['\0'; 3];
+    let points = decomposition(c, Form::Nfd, &mut room);
+    if points.len() != 1 {
+        return false;
+    }
+    if points[0] != c {
+        return false;
+    }
+    is_starter(c)
 }
 
 // How code points may join the text before them, at most.
@@ -153,6 +212,10 @@ fn push_single(
     if !key_flags.begins(p) {
         return out.extend_from_slice(&t.implicit(p));
     }
+    let mut walk = t.walk();
+    if walk.step(p) {
+        return push_found(out, t, &[p], walk.elements());
+    }
     push_elements(out, t, &[p])
 }
 
@@ -171,6 +234,8 @@ impl Cells {
         requires points { points.now ≡ decompose_canonical c }
         ensures elements { OnOk result (self.new.elements.items ≡ self.old.elements.items ++ elements t.now (nfd (c ∷ []))) }
         ensures cells { OnOk result (self.new.cells.items ≡ self.old.cells.items) }
+        ensures blocks { OnOk result (self.new.blocks.items ≡ self.old.blocks.items) }
+        ensures others { OnOk result (self.new.others.items ≡ self.old.others.items) }
     {
         if points.len() == 1 {
             return push_single(&mut self.elements, t, key_flags, points[0]);
@@ -192,6 +257,8 @@ impl Cells {
         requires key_flags { AreKeyFlags t.now key_flags.now.leads.items key_flags.now.continues.items key_flags.now.begins.items }
         ensures cell { IfOk result (λ cell. IsCell t.now self.new.elements.items c cell) }
         ensures cells { OnOk result (self.new.cells.items ≡ self.old.cells.items) }
+        ensures blocks { OnOk result (self.new.blocks.items ≡ self.old.blocks.items) }
+        ensures others { OnOk result (self.new.others.items ≡ self.old.others.items) }
         ensures grows { OnOk result (Grows self.old.elements.items self.new.elements.items) }
     {
         let mut room = ['\0'; 3];
@@ -206,6 +273,7 @@ impl Cells {
             count,
             joining,
             bearing,
+            begins: true,
         })
     }
 
@@ -221,6 +289,8 @@ impl Cells {
         requires key_flags { AreKeyFlags t.now key_flags.now.leads.items key_flags.now.continues.items key_flags.now.begins.items }
         ensures cell { IfOk result (λ cell. IsCell t.now self.new.elements.items point cell) }
         ensures cells { OnOk result (self.new.cells.items ≡ self.old.cells.items) }
+        ensures blocks { OnOk result (self.new.blocks.items ≡ self.old.blocks.items) }
+        ensures others { OnOk result (self.new.others.items ≡ self.old.others.items) }
         ensures grows { OnOk result (Grows self.old.elements.items self.new.elements.items) }
     {
         match char::from_u32(point) {
@@ -242,9 +312,129 @@ impl Cells {
         requires key_flags { AreKeyFlags t.now key_flags.now.leads.items key_flags.now.continues.items key_flags.now.begins.items }
         ensures cells { OnOk result (HoldsCells t.now self.new) }
         ensures more { OnOk result (length self.new.cells.items ≡ point + 1) }
+        ensures blocks { OnOk result (self.new.blocks.items ≡ self.old.blocks.items) }
     {
         let cell = self.cell_at(alloc, t, key_flags, point)?;
         self.cells.push(cell)?;
+        Ok(())
+    }
+
+    // The cells of a block of characters, from a number on. Their elements are appended to the others.
+    fn block_from(
+        &mut self,
+        alloc: Global,
+        t: &Stored,
+        key_flags: &KeyFlags,
+        first: u32,
+    ) -> Result<Vec<Cell>, AllocError>
+        requires cells { HoldsCells t.now self.old }
+        requires within { first ≤ 1114112 }
+        requires key_flags { AreKeyFlags t.now key_flags.now.leads.items key_flags.now.continues.items key_flags.now.begins.items }
+        ensures fresh { IfOk result (λ fresh. AreCellsFrom t.now self.new.elements.items first fresh.items) }
+        ensures size { IfOk result (λ fresh. length fresh.items ≡ 128) }
+        ensures cells { OnOk result (HoldsCells t.now self.new) }
+        ensures blocks { OnOk result (self.new.blocks.items ≡ self.old.blocks.items) }
+        ensures others { OnOk result (self.new.others.items ≡ self.old.others.items) }
+    {
+        let mut fresh = Vec::with_capacity(alloc, BLOCK)?;
+        for point in first..first + BLOCK as u32 {
+            let cell = self.cell_at(alloc, t, key_flags, point)?;
+            fresh.push(cell)?;
+        }
+        Ok(fresh)
+    }
+
+    // Makes cells of a block of characters, from a number on.
+    fn own_block(
+        &mut self,
+        alloc: Global,
+        t: &Stored,
+        key_flags: &KeyFlags,
+        first: u32,
+    ) -> Result<Block, AllocError>
+        requires cells { HoldsCells t.now self.old }
+        requires within { first ≤ 1114112 }
+        requires key_flags { AreKeyFlags t.now key_flags.now.leads.items key_flags.now.continues.items key_flags.now.begins.items }
+        ensures cells { OnOk result (HoldsCells t.now self.new) }
+        ensures blocks { OnOk result (self.new.blocks.items ≡ self.old.blocks.items) }
+        ensures block { IfOk result (IsBlock t.now self.new.elements.items self.new.others.items first) }
+    {
+        let Some(start) = small(self.others.len()) else {
+            return Ok(Block::Unknown);
+        };
+        let fresh = self.block_from(alloc, t, key_flags, first)?;
+        self.others.extend_from_slice(&fresh)?;
+        Ok(Block::Own(start))
+    }
+
+    // Whether there is room for one more block: those of a table take no more memory than a few of its entries each.
+    fn has_room(&self, t: &Stored) -> bool {
+        self.others.len() / BLOCK < FEW_BLOCKS + t.entries.len() / ENTRIES_OF_A_BLOCK
+    }
+
+    // What there is of a block of characters, from a number on. One that has a key gets cells.
+    fn block_of(
+        &mut self,
+        alloc: Global,
+        t: &Stored,
+        key_flags: &KeyFlags,
+        block: u32,
+    ) -> Result<Block, AllocError>
+        requires cells { HoldsCells t.now self.old }
+        requires within { block ≤ 8704 }
+        requires key_flags { AreKeyFlags t.now key_flags.now.leads.items key_flags.now.continues.items key_flags.now.begins.items }
+        requires held { AreHeldBlocks t.now key_flags.now.held.items }
+        ensures cells { OnOk result (HoldsCells t.now self.new) }
+        ensures blocks { OnOk result (self.new.blocks.items ≡ self.old.blocks.items) }
+        ensures block { IfOk result (IsBlock t.now self.new.elements.items self.new.others.items (block * 128)) }
+    {
+        if !key_flags.holds(block) {
+            return Ok(Block::WithoutKey);
+        }
+        let first = block * BLOCK as u32;
+        if (first as usize) < self.cells.len() || !self.has_room(t) {
+            return Ok(Block::Unknown);
+        }
+        self.own_block(alloc, t, key_flags, first)
+    }
+
+    // One more block.
+    fn push_block(
+        &mut self,
+        alloc: Global,
+        t: &Stored,
+        key_flags: &KeyFlags,
+        block: u32,
+    ) -> Result<(), AllocError>
+        requires cells { HoldsCells t.now self.old }
+        requires within { block ≤ 8704 }
+        requires next { length self.old.blocks.items ≡ block }
+        requires key_flags { AreKeyFlags t.now key_flags.now.leads.items key_flags.now.continues.items key_flags.now.begins.items }
+        requires held { AreHeldBlocks t.now key_flags.now.held.items }
+        ensures cells { OnOk result (HoldsCells t.now self.new) }
+        ensures more { OnOk result (length self.new.blocks.items ≡ block + 1) }
+    {
+        let made = self.block_of(alloc, t, key_flags, block)?;
+        self.blocks.push(made)?;
+        Ok(())
+    }
+
+    // Adds the blocks of all characters to the cells of those below a limit.
+    fn push_blocks(
+        &mut self,
+        alloc: Global,
+        t: &Stored,
+        key_flags: &KeyFlags,
+    ) -> Result<(), AllocError>
+        requires cells { HoldsCells t.now self.old }
+        requires none { length self.old.blocks.items ≡ 0 }
+        requires key_flags { AreKeyFlags t.now key_flags.now.leads.items key_flags.now.continues.items key_flags.now.begins.items }
+        requires held { AreHeldBlocks t.now key_flags.now.held.items }
+        ensures { OnOk result (HoldsCells t.now self.new) }
+    {
+        for block in 0..BLOCKS {
+            self.push_block(alloc, t, key_flags, block)?;
+        }
         Ok(())
     }
 
@@ -257,6 +447,7 @@ impl Cells {
         for point in 0..limit_for(t.entries.len()) {
             made.push_point(alloc, t, &key_flags, point)?;
         }
+        made.push_blocks(alloc, t, &key_flags)?;
         Ok(made)
     }
 
@@ -264,9 +455,12 @@ impl Cells {
     pub(crate) fn none(alloc: Global) -> Cells
         ensures cells { (t : _) → HoldsCells t result }
         ensures none { length result.cells.items ≡ 0 }
+        ensures no_block { length result.blocks.items ≡ 0 }
     {
         Cells {
             cells: Vec::new(alloc),
+            blocks: Vec::new(alloc),
+            others: Vec::new(alloc),
             elements: Vec::new(alloc),
         }
     }
@@ -276,6 +470,7 @@ impl Cells {
         ensures { (t : _) → HoldsCells t self.new }
     {
         self.cells.clear();
+        self.blocks.clear();
     }
 
     /// The cells of a table, or none where memory is refused.
@@ -288,12 +483,43 @@ impl Cells {
         }
     }
 
+    // What there is of the block of a character.
+    fn block(&self, c: char) -> Block
+        ensures { (t : _) → HoldsCells t self.now → IsBlock t self.now.elements.items self.now.others.items (c / 128 * 128) result }
+    {
+        match self.blocks.get(c as usize / BLOCK) {
+            Some(block) => *block,
+            None => Block::Unknown,
+        }
+    }
+
+    // The cell at a place of those that lie in blocks.
+    fn other(&self, place: usize) -> Cell
+        ensures { (place < length self.now.others.items → (d : _) → result ≡ get_or self.now.others.items place d) }
+    {
+        match self.others.get(place) {
+            Some(cell) => *cell,
+            None => UNKNOWN,
+        }
+    }
+
+    // The cell of a character by its block.
+    fn cell_in_block(&self, c: char) -> Cell
+        ensures { (t : _) → HoldsCells t self.now → IsCell t self.now.elements.items c result }
+    {
+        match self.block(c) {
+            Block::Own(start) => self.other(start as usize + c as usize % BLOCK),
+            Block::WithoutKey => WITHOUT_KEY,
+            Block::Unknown => UNKNOWN,
+        }
+    }
+
     fn cell(&self, c: char) -> Cell
         ensures { (t : _) → HoldsCells t self.now → IsCell t self.now.elements.items c result }
     {
         match self.cells.get(c as usize) {
             Some(cell) => *cell,
-            None => UNKNOWN,
+            None => self.cell_in_block(c),
         }
     }
 
@@ -371,6 +597,20 @@ impl Cells {
         Some(self.elements_of(cell))
     }
 
+    // The implicit elements of a character with which no key begins and that is a starter and its own NFD.
+    fn implicit_of(&self, t: &Stored, c: char) -> Option<[Element; 2]>
+        requires cells { HoldsCells t.now self.now }
+        ensures { IfSome result (λ es. (after : List ℕ) → es ++ elements t.now (nfd after) ≡ elements t.now (nfd (c ∷ after))) }
+    {
+        if self.cell(c).begins {
+            return None;
+        }
+        if !is_own_nfd(c) {
+            return None;
+        }
+        Some(t.implicit(c))
+    }
+
     // How many characters of a text stand before the next that joins nothing.
     fn run_len(&self, t: &Stored, text: &[char]) -> usize
         requires some { 0 < length text.now }
@@ -413,6 +653,29 @@ fn push_run(
     push_matches(out, t, points)
 }
 
+// Appends the elements of the first characters of a text, one or more, whatever they are, and returns how many.
+fn push_others(
+    points: &mut Vec<char>,
+    out: &mut Vec<Element>,
+    t: &Stored,
+    cells: &Cells,
+    text: &[char],
+) -> Result<usize, AllocError>
+    requires some { 0 < length text.now }
+    requires cells { HoldsCells t.now cells.now }
+    ensures some { IfOk result (λ n. 0 < n) }
+    ensures within { IfOk result (λ n. n ≤ length text.now) }
+    ensures elements { IfOk result (λ n. out.new.items ++ elements t.now (nfd (drop n text.now)) ≡ out.old.items ++ elements t.now (nfd text.now)) }
+{
+    if let Some(elements) = cells.implicit_of(t, text[0]) {
+        out.extend_from_slice(&elements)?;
+        return Ok(1);
+    }
+    let n = cells.run_len(t, text);
+    push_run(points, out, t, &text[..n])?;
+    Ok(n)
+}
+
 /// Appends the elements of a text. A character whose elements stand alone takes those of its cell.
 pub fn push_text(
     alloc: Global,
@@ -433,8 +696,7 @@ pub fn push_text(
                 at += 1;
             }
             None => {
-                let n = cells.run_len(t, &text[at..]);
-                push_run(&mut points, out, t, &text[at..at + n])?;
+                let n = push_others(&mut points, out, t, cells, &text[at..])?;
                 at += n;
             }
         }

@@ -18,7 +18,7 @@ pub fn push_elements(out: &mut Vec<Element>, t: &Stored, matched: &[char]) -> Re
 }
 
 // The same with what the table has for the match.
-fn push_found(
+pub(crate) fn push_found(
     out: &mut Vec<Element>,
     t: &Stored,
     matched: &[char],

@@ -35,8 +35,8 @@ fn advanced(entries: &Span<'_>, from: usize, code: u32) -> usize
     entries.len()
 }
 
-// A number that fits thirty-two bits.
-fn small(n: usize) -> Option<u32>
+/// A number that fits thirty-two bits.
+pub(crate) fn small(n: usize) -> Option<u32>
     ensures { IfSome result (λ m. m ≡ n) }
 {
     match u32::try_from(n) {

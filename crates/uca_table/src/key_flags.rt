@@ -1,13 +1,22 @@
-ghost use Rattle.std.specs.Prelude.{◌≡◌, ◌==◌, ◌||◌, ◌<◌, ◌≤◌, ℕ, true, false, get_or, length, IfOk};
+ghost use Rattle.std.specs.Prelude.{◌≡◌, ◌/◌, ◌==◌, ◌||◌, ◌<◌, ◌≤◌, ℕ, true, false, get_or, length, IfOk};
 ghost use Rattle.std.specs.List.{list_any};
-ghost use Rattle.uca_model.specs.StandAlone.{is_first, is_longer_from, is_inside};
-ghost use Rattle.uca_table.specs.Cells.{AreKeyFlags};
+ghost use Rattle.uca_model.specs.StandAlone.{begins, is_first, is_longer_from, is_inside};
+ghost use Rattle.uca_table.specs.Cells.{AreKeyFlags, AreHeldBlocks};
 
 use crate::stored::Stored;
 use std::alloc::{AllocError, Global};
 
-/// Characters below this one have cells.
-pub(crate) const LIMIT: usize = 0x1_0000;
+/// Characters below this one have cells, whether they have a key or not.
+const LIMIT: usize = 0x1_0000;
+
+/// How many characters a block has.
+pub(crate) const BLOCK: usize = 128;
+
+/// How many blocks all code points make.
+pub(crate) const BLOCKS: u32 = 0x2200;
+
+/// Code points below this one have flags of their own: all planes of scripts and ideographs.
+const FLAGGED: usize = 0x3_4000;
 
 /// A table of fewer entries is small.
 const FEW: usize = 256;
@@ -25,12 +34,14 @@ pub(crate) fn limit_for(entries: usize) -> u32
 }
 
 /// Which code points begin a key of a table, which begin a key of two or more, and which stand in a key at the second
-/// place or later. Those from `LIMIT` on are taken to do all three.
+/// place or later. Those from `FLAGGED` on are taken to do all three.
 #[derive(Drop)]
 pub(crate) struct KeyFlags {
     pub(crate) leads: Vec<bool>,
     pub(crate) continues: Vec<bool>,
     pub(crate) begins: Vec<bool>,
+    /// In which blocks of code points a key begins.
+    pub(crate) held: Vec<bool>,
 }
 
 // Sets the flag of a code point, if it has one.
@@ -73,16 +84,37 @@ fn flag_first(begins: &mut [bool], key: &[char])
     }
 }
 
-// Sets the flags of the code points of all keys, where none was set before.
-fn flag_keys(leads: &mut [bool], continues: &mut [bool], begins: &mut [bool], t: &Stored)
+// Sets the flag of the block in which a key begins.
+fn flag_block(held: &mut [bool], key: &[char])
+    ensures { (p : ℕ) → get_or held.new (p / 128) true ≡ false → (get_or held.old (p / 128) true ≡ false) × (is_first p key.now ≡ false) }
+{
+    if key.is_empty() {
+        return;
+    }
+    let block = key[0] as usize / BLOCK;
+    if block < held.len() {
+        held[block] = true;
+    }
+}
+
+// Sets the flags of the code points of all keys and of their blocks, where none was set before.
+fn flag_keys(
+    leads: &mut [bool],
+    continues: &mut [bool],
+    begins: &mut [bool],
+    held: &mut [bool],
+    t: &Stored,
+)
     requires leads { (p : ℕ) → p < length leads.old → get_or leads.old p true ≡ false }
     requires continues { (p : ℕ) → p < length continues.old → get_or continues.old p true ≡ false }
     requires begins { (p : ℕ) → p < length begins.old → get_or begins.old p true ≡ false }
-    ensures { AreKeyFlags t.now leads.new continues.new begins.new }
+    ensures points { AreKeyFlags t.now leads.new continues.new begins.new }
+    ensures blocks { AreHeldBlocks t.now held.new }
 {
     for (key, _) in t.entries() {
         flag_key(leads, continues, key.as_slice());
         flag_first(begins, key.as_slice());
+        flag_block(held, key.as_slice());
     }
 }
 
@@ -95,15 +127,18 @@ fn flags(alloc: Global, n: usize) -> Result<Vec<bool>, AllocError>
 
 /// The flags of a table's keys.
 pub(crate) fn key_flags_of(alloc: Global, t: &Stored) -> Result<KeyFlags, AllocError>
-    ensures { IfOk result (λ m. AreKeyFlags t.now m.leads.items m.continues.items m.begins.items) }
+    ensures points { IfOk result (λ m. AreKeyFlags t.now m.leads.items m.continues.items m.begins.items) }
+    ensures blocks { IfOk result (λ m. AreHeldBlocks t.now m.held.items) }
 {
-    let mut leads = flags(alloc, LIMIT)?;
-    let mut continues = flags(alloc, LIMIT)?;
-    let mut begins = flags(alloc, LIMIT)?;
-    flag_keys(&mut leads, &mut continues, &mut begins, t);
+    let mut leads = flags(alloc, FLAGGED)?;
+    let mut continues = flags(alloc, FLAGGED)?;
+    let mut begins = flags(alloc, FLAGGED)?;
+    let mut held = flags(alloc, BLOCKS as usize)?;
+    flag_keys(&mut leads, &mut continues, &mut begins, &mut held, t);
     Ok(KeyFlags {
         leads,
         continues,
         begins,
+        held,
     })
 }

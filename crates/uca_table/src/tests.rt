@@ -308,4 +308,24 @@ fn safe_starters_go_beyond_the_first_plane(rt: HostRuntime) {
     }
 }
 
+/// Makes the cells of a table, once more where memory was refused.
+fn prepare(table: &mut Table, alloc: Global) -> bool {
+    table.prepare(alloc).is_ok() || table.prepare(alloc).is_ok()
+}
+
+#[test]
+fn characters_beyond_the_first_plane_have_cells(rt: HostRuntime) {
+    let mut builder = small_builder(&rt, rt.alloc());
+    let longer = ['\u{1F601}', '\u{1F602}'];
+    assert_eq!(rt; insert(&mut builder, &['\u{1F600}'], &[ELEMENT]), Ok(()));
+    assert_eq!(rt; insert(&mut builder, &longer, &[ELEMENT]), Ok(()));
+    let mut table = finish(builder).expect(&rt, "a table");
+    assert!(rt; prepare(&mut table, rt.alloc()));
+    let found = table.always_alone('\u{1F600}');
+    assert_eq!(rt; found, Some([ELEMENT].as_slice()));
+    for unknown in ['\u{1F601}', '\u{20000}', '\u{1D165}'] {
+        assert_eq!(rt; table.always_alone(unknown), None, "{unknown:?}");
+    }
+}
+
 mod ideographs;

@@ -22,6 +22,10 @@ pub(crate) struct NodeNumber {
     number: u32,
 }
 
+/// Fewer entries are searched, and have no node: else two long keys that differ in their last code point alone would have
+/// one for each code point, many times their own memory.
+const ENTRIES_OF_A_NODE: usize = 8;
+
 /// The number of no node.
 pub(crate) const NO_NODE: NodeNumber = NodeNumber { number: u32::MAX };
 
@@ -34,8 +38,8 @@ pub(crate) struct Child {
     pub(crate) node: NodeNumber,
 }
 
-/// Two or more entries whose keys begin with the same code points, so many of them, and the code points with which they go
-/// on, in their order.
+/// Entries whose keys begin with the same code points, so many of them, and the code points with which they go on, in
+/// their order.
 #[derive(Debug, Drop)]
 pub(crate) struct Node {
     pub(crate) low: usize,
@@ -79,7 +83,7 @@ fn push_node(nodes: &mut Vec<Node>, node: Node) -> Result<NodeNumber, AllocError
 }
 
 /// Adds the nodes of entries whose keys begin with the same code points, so many of them, and returns the number of the last
-/// one, which is theirs. A single entry has none.
+/// one, which is theirs. Few entries have none.
 fn add_node(
     alloc: Global,
     nodes: &mut Vec<Node>,
@@ -93,7 +97,7 @@ fn add_node(
     if depth >= MAX_KEY {
         return Ok(NO_NODE);
     }
-    if reached.len() < 2 {
+    if reached.len() < ENTRIES_OF_A_NODE {
         return Ok(NO_NODE);
     }
     let mut children = Vec::new(alloc);
@@ -271,9 +275,9 @@ impl Trie {
         }
     }
 
-    /// The number of the node of the entries whose keys begin with a code point. A single entry has none.
+    /// The number of the node of the entries whose keys begin with a code point. Few entries have none.
     pub(crate) fn lead(&self, reached: &Span<'_>, point: char) -> NodeNumber {
-        if reached.len() < 2 {
+        if reached.len() < ENTRIES_OF_A_NODE {
             return NO_NODE;
         }
         match self.leads.get(point as usize) {

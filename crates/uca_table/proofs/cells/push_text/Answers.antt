@@ -1,8 +1,8 @@
-use Rattle.std.proofs.Common.{◌≡◌, ℕ, List, ◌+◌, ◌++◌, drop, ap, ◌∙◌, subst, arith}
+use Rattle.std.proofs.Common.{◌≡◌, ℕ, List, ◌+◌, ◌-◌, ◌++◌, length, take, drop, ap, ◌∙◌, subst, arith, length-drop}
 use Rattle.std.proofs.lemmas.List.{take_rest}
 use Rattle.unicode_normalization.specs.Forms.{nfd}
 use Rattle.uca_model.specs.CollationElements.{elements}
-use Rattle.uca_table.proofs.CellLemmas.{text-further, text-done}
+use Rattle.uca_table.proofs.CellLemmas.{text-further, others-further, text-done}
 use Rattle.uca_table.proofs.cells.push_text.Goals as goal
 
 pub characters-preserved-in-Some : goal.characters-preserved-in-Some
@@ -15,6 +15,15 @@ characters-preserved-in-Some c =
     record {
       within = omega arith;
       same = ap (λ o. o ++ elements t (nfd (drop (at + 1) text))) c.in_ok-push_few-in-Some.ensures ∙ text-further t text at 1 c.characters.out.items c.in-Some.elements.now (c.args.out.now.items ++ elements t (nfd text)) c.characters.invariant.same step;
+    }
+
+pub characters-preserved : goal.characters-preserved
+characters-preserved c =
+    let text = c.args.text.now in let at : ℕ = c.characters.at in
+    let left : length (take (length text - at) (drop at text)) ≡ length text - at = ap length (take_rest text at) ∙ length-drop at text in
+    record {
+      within = omega (arith, c.in_ok-n-in-None.ensures.within, c.characters-test.true, left);
+      same = others-further c.args.t.now text _ at _ _ _ _ (take_rest text at) c.in_ok-n-in-None.ensures.elements c.characters.invariant.same;
     }
 
 pub returns : goal.returns

@@ -1,4 +1,4 @@
-use Rattle.std.proofs.Common.{◌≡◌, ◌||◌, ◌<◌, ℕ, true, get_or, length}
+use Rattle.std.proofs.Common.{◌≡◌, ◌||◌, ◌<◌, ◌/◌, ℕ, true, false, get_or, length}
 use Rattle.std.specs.List.{list_any}
 use Rattle.std.specs.FinMap.{entries}
 use Rattle.uca_model.specs.StandAlone.{is_first, is_longer_from, is_inside}
@@ -11,4 +11,5 @@ invariant-loop-key l = record {
   leads : (p : ℕ) → p < length l.leads → (get_or l.leads p true || list_any (λ e. is_longer_from p e.0) l.key-iterator) ≡ list_any (λ e. is_longer_from p e.0) (entries l.t.entries);
   begins : (p : ℕ) → p < length l.begins → (get_or l.begins p true || list_any (λ e. is_first p e.0) l.key-iterator) ≡ list_any (λ e. is_first p e.0) (entries l.t.entries);
   continues : (p : ℕ) → p < length l.continues → (get_or l.continues p true || list_any (λ e. is_inside p e.0) l.key-iterator) ≡ list_any (λ e. is_inside p e.0) (entries l.t.entries);
+  held : (p : ℕ) → get_or l.held (p / 128) true ≡ false → list_any (λ e. is_first p e.0) l.key-iterator ≡ list_any (λ e. is_first p e.0) (entries l.t.entries);
 }

@@ -6,4 +6,5 @@ abbrev pub invariant-loop-point : goal.invariant-loop-point
 invariant-loop-point l = record {
   size : length l.made.cells.items ≡ l.point;
   cells : HoldsCells l.t l.made;
+  none : length l.made.blocks.items ≡ 0;
 }
