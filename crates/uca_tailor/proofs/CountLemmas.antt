@@ -7,17 +7,17 @@ use Rattle.std.specs.List.{list_any}
 use Rattle.std.specs.Vec.{with_items}
 use Rattle.std.specs.declared.cmp.Ordering.{Ordering}
 use Rattle.std.specs.declared.cmp.Ordering.TheVariants.{Less, Equal, Greater}
-use Rattle.std.specs.Cmp.Lexicographic.{slice_cmp, nat_list_cmp_total}
-use Rattle.std.specs.Ordering.{eq_by_cmp, nat_cmp, is_eq, is_lt}
+use Rattle.std.specs.Cmp.Lexicographic.{nat_list_cmp_total}
+use Rattle.std.specs.Ordering.{is_eq, is_lt}
 use Rattle.std.specs.FinMap.{find, put, entries, values, from_entries, from_sorted, is_sorted, entries_sorted, get-entries, get-from_entries, get-from_sorted, entries-from_sorted, entries-insert, same_map, nat_cmp-IsAntisymmetric, slice_cmp-IsAntisymmetric}
 use Rattle.std.specs.FinMap.Entries.{below_all, by_order}
 use Rattle.uca_weights.specs.declared.element.Element.{Element}
 use Rattle.uca_weights.specs.Element.{weight}
 use Rattle.uca_model.specs.Room.{moves, weight_with_room, with_room, entry_with_room, table_with_room, has_no_room, max_weight}
-use Rattle.uca_model.specs.Table.{ElementTable, key_cmp, elements_at, with_entry}
+use Rattle.uca_model.specs.Table.{ElementTable, key_cmp, with_entry}
 use Rattle.uca_tailor.specs.Counts.{count_at, count_in, Reach, Opens, AreCounts, AreNone, HaveCounts, elements_or_none, reaches_limit}
 use Rattle.uca_tailor.specs.declared.counts.Counts.{Counts}
-use Rattle.uca_tailor.proofs.Levels.{IsLevel, level_one, level_two, level_three, weight-with_room}
+use Rattle.uca_tailor.proofs.Levels.{IsLevel, weight-with_room}
 
 -- one where two weights are the same
 abbrev pub one_at : ℕ → ℕ → ℕ

@@ -1,6 +1,5 @@
-use Rattle.std.proofs.Common.{◌≡◌, ◌-◌, List, ℕ, length, ap, sym, subst, ◌∙◌}
+use Rattle.std.proofs.Common.{◌≡◌, ◌-◌, ℕ, length, ap, sym, subst, ◌∙◌}
 use Rattle.std.specs.FinMap.{entries}
-use Rattle.std.specs.Vec.{with_items}
 use Rattle.uca_tailor.specs.Counts.{count_in, Reach}
 use Rattle.uca_tailor.proofs.CountLemmas.{Reach-entry, left-entry, whole-items}
 use Rattle.uca_tailor.proofs.counts.counts_of.Goals as goal

@@ -1,6 +1,5 @@
-use Rattle.std.proofs.Common.{◌≡◌, ◌++◌, [], List, map, sym, ap, ◌∙◌, rules}
+use Rattle.std.proofs.Common.{◌≡◌, ◌++◌, [], map, sym, ap, ◌∙◌, rules}
 use Rattle.uca_table.proofs.BuilderLemmas.{on_ok}
-use Rattle.uca_weights.specs.declared.element.Element.{Element}
 use Rattle.uca_tailor.specs.Counts.{elements_or_none}
 use Rattle.uca_tailor.specs.Moves.{moved_element, cut}
 use Rattle.uca_tailor.specs.Renumbered.{renumbered}
