@@ -29,6 +29,10 @@ relations() {
         my $more = int(31 / length $keys[1]);
         print "&$keys[0]=\x{E000}/", $keys[1] x $more, "&", "\x{E000}" x (64 / ($more + 1)), "=\x{E001}" if $kind eq "wide";
         for my $at (0 .. $count - ($kind eq "wide" ? 3 : 1)) {
+            if ($kind eq "limit") {
+                print $at % 2 ? "&$keys[0]=\x{E101}" : "&\x{E100}<\x{E101}";
+                next;
+            }
             my $reset = reset_at($at);
             print "&$reset" if $reset ne "";
             print $kind eq "third" ? "<<<" : $kind eq "mixed" ? $mixed[$at % 10] : "<<", item($at);
@@ -45,13 +49,18 @@ seconds() {
 
 cp "$published" "$work/published"
 for table in published million; do
+    { cat "$work/$table"; echo 'E100;[.7FFE.0020.0002]'; } >"$work/$table-limit"
+done
+for table in published million; do
     read_in=$(seconds "$work/$table") || exit 1
     echo "$table: read in $read_in s"
-    for kind in one many third mixed wide; do
+    for kind in one many third mixed wide limit; do
         line="$table, $kind:"
+        of=$table
+        [ "$kind" = limit ] && of=$table-limit
         for count in 1 1250 5000 20000; do
             relations "$kind" "$count" "$table" >"$work/rules"
-            took=$(seconds "$work/$table" "$work/rules") || exit 1
+            took=$(seconds "$work/$of" "$work/rules") || exit 1
             line+=$(awk -v a="$took" -v b="$read_in" -v n="$count" \
                 'BEGIN { printf "  %d relations %.3f s more, ratio %.2f;", n, a - b, a / b }')
         done

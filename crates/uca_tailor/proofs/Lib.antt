@@ -27,5 +27,6 @@ pub mod IncreasingShifts
 pub mod ShiftLemmas
 pub mod BlockLemmas
 pub mod TopLemmas
+pub mod CountLemmas
 pub mod RenumberedLemmas
 pub mod CopyLemmas

@@ -31,15 +31,18 @@ use Rattle.uca_match.specs.Keys.{HasLongest, IsReached, key_set}
 use Rattle.uca_match.proofs.KeyLemmas.{contains-key_set, HasLongest-table}
 use Rattle.uca_match.specs.Matches.{match_of}
 use Rattle.uca_match.specs.declared.matches.Match.{Match}
+use Rattle.uca_tailor.specs.declared.counts.Counts.{Counts}
 use Rattle.uca_tailor.specs.declared.items.Item.{Item}
 use Rattle.uca_tailor.specs.declared.moves.Moves.{Moves}
 use Rattle.uca_tailor.specs.declared.moves.Stamp.{Stamp}
 use Rattle.uca_tailor.specs.declared.tops.Tops.{Tops}
+use Rattle.uca_tailor.specs.Counts.{AreNone, HaveCounts, elements_or_none}
 use Rattle.uca_tailor.specs.Moves.{start, now_of, IsPast, with_move, moved_element, cut}
 use Rattle.uca_tailor.specs.Renumbered.{item_entry, moved_entry, all_entries, renumbered, IsItem, IsBelow, HasTop, HaveTops, IsRenumbered}
 use Rattle.uca_tailor.specs.Shifts.{moved}
 use Rattle.uca_tailor.specs.Tops.{raised, HoldsElements, IsAtMost}
 use Rattle.uca_tailor.proofs.ChangedTables.{elements_at-same, elements_at-other}
+use Rattle.uca_tailor.proofs.CountLemmas.{HaveCounts-none}
 use Rattle.uca_tailor.proofs.FittingWeights.{entry_room, shifted_entry_fits}
 use Rattle.uca_tailor.proofs.LevelOrders.{AllHaveRoom}
 use Rattle.uca_tailor.proofs.Levels.{IsLevel, level_one, level_two, level_three}
@@ -213,14 +216,15 @@ keys-with : (level w : ℕ) (t : ElementTable) → key_set (table_with_room leve
 keys-with level w t = same_set nat_list_cmp_total (slice_cmp-IsAntisymmetric nat_cmp-IsAntisymmetric) _ _ (λ q.
     contains-key_set (table_with_room level w t) q ∙ ap is_some (elements_at-with_room level w t q) ∙ is_some-map (map (with_room level w)) (elements_at t q) ∙ sym (contains-key_set t q))
 
-pub IsRenumbered-with : {Y : Type 0} (level w : ℕ) (m : Moves) (items : List (Vec ℕ Y × Item)) (t : ElementTable) (tops : Tops) (longest : ℕ) → IsLevel level → list_any (list_any (has_no_room level w)) (values (renumbered m items t).entries) ≡ false
-    → IsRenumbered m items t tops longest → IsRenumbered (with_move level w m) items t (raised level w tops) longest
-IsRenumbered-with level w m items t tops longest l room is =
+pub IsRenumbered-with : {Y : Type 0} (level w : ℕ) (m : Moves) (items : List (Vec ℕ Y × Item)) (t : ElementTable) (tops : Tops) (old new : Counts) (longest : ℕ) → IsLevel level → list_any (list_any (has_no_room level w)) (values (renumbered m items t).entries) ≡ false
+    → ((u : ElementTable) → HaveCounts old u → HaveCounts new (table_with_room level w u)) → IsRenumbered m items t tops old longest → IsRenumbered (with_move level w m) items t (raised level w tops) new longest
+IsRenumbered-with level w m items t tops old new longest l room opens is =
     let same = sym (renumbered-with level w m items t l is.entered) in
     record {
       entered = entered-with level w m items l is.entered;
       fits = subst Fits same (fits-with level w (renumbered m items t) l room is.fits);
       below = subst (HaveTops (raised level w tops)) same (tops-with level w (renumbered m items t) tops l is.fits room is.below);
+      counted = subst (HaveCounts new) same (opens (renumbered m items t) is.counted);
       keys = subst (λ u. HasLongest (key_set u) longest) same (subst (λ s. HasLongest s longest) (sym (keys-with level w (renumbered m items t))) is.keys);
     }
 
@@ -327,14 +331,15 @@ keys-put t k v longest some few has =
         | inr above ↦ let e : m ≡ both = omega arith in inr (record { key = old.key; has = contains-put t k v old.key ∙ or_true _ _ old.has; size = old.size ∙ e })
       ]
 
-pub IsRenumbered-put : {Y : Type 0} (m : Moves) (items : List (Vec ℕ Y × Item)) (t : ElementTable) (tops next : Tops) (longest : ℕ) (k : Vec ℕ Y) (i : Item) → i.after ≡ now_of m → IsItem m i → AllByRecursion IsElement i.elements.items → 1 ≤ length k.items → length k.items ≤ MAX_KEY
-    → HoldsElements next i.elements.items → IsAtMost tops next → IsRenumbered m items t tops longest → IsRenumbered m (insert_entry vec_cmp items k i) t next (max longest (length k.items))
-IsRenumbered-put m items t tops next longest k i now item fit some few holds more is =
+pub IsRenumbered-put : {Y : Type 0} (m : Moves) (items : List (Vec ℕ Y × Item)) (t : ElementTable) (tops next : Tops) (old new : Counts) (longest : ℕ) (k : Vec ℕ Y) (i : Item) → i.after ≡ now_of m → IsItem m i → AllByRecursion IsElement i.elements.items → 1 ≤ length k.items → length k.items ≤ MAX_KEY
+    → HoldsElements next i.elements.items → IsAtMost tops next → (HaveCounts old (renumbered m items t) → HaveCounts new (with_entry (renumbered m items t) k.items i.elements.items)) → IsRenumbered m items t tops old longest → IsRenumbered m (insert_entry vec_cmp items k i) t next new (max longest (length k.items))
+IsRenumbered-put m items t tops next old new longest k i now item fit some few holds more exchanges is =
     let same = sym (renumbered-put m items t k i now) in
     record {
       entered = entered-put m items k i item is.entered;
       fits = subst Fits same (record { ranges = is.fits.ranges; entries = found-put (AllByRecursion IsElement) (renumbered m items t) k.items i.elements.items fit is.fits.entries });
       below = subst (HaveTops next) same (tops-put (renumbered m items t) k.items i.elements.items tops next holds more is.below);
+      counted = subst (HaveCounts new) same (exchanges is.counted);
       keys = subst (λ u. HasLongest (key_set u) (max longest (length k.items))) same (keys-put (renumbered m items t) k.items i.elements.items longest some few is.keys);
     }
 
@@ -356,13 +361,14 @@ elements-cut (e ∷ es) all = ap₂ (λ x xs. x ∷ xs) (element-cut e all.0) (e
 pub given : {Y : Type 0} (m : Moves) (items : List (Vec ℕ Y × Item)) (t : ElementTable) → m ≡ no_moves → items ≡ [] → renumbered m items t ≡ t
 given m items t none empty = ap (λ x. renumbered x items t) none ∙ renumbered-none t items empty
 
-pub IsRenumbered-none : {Y : Type 0} (m : Moves) (items : List (Vec ℕ Y × Item)) (t : ElementTable) (tops : Tops) (n : ℕ) → m ≡ no_moves → items ≡ [] → IsTable t → HaveTops tops t → n ≡ longest t → IsRenumbered m items t tops n
-IsRenumbered-none m items t tops n none empty valid have is =
+pub IsRenumbered-none : {Y : Type 0} (m : Moves) (items : List (Vec ℕ Y × Item)) (t : ElementTable) (tops : Tops) (counts : Counts) (n : ℕ) → m ≡ no_moves → items ≡ [] → IsTable t → HaveTops tops t → AreNone counts → n ≡ longest t → IsRenumbered m items t tops counts n
+IsRenumbered-none m items t tops counts n none empty valid have uncounted is =
     let same : renumbered m items t ≡ t = given m items t none empty in
     record {
       entered = subst (AllByRecursion (λ i. IsItem m i.1)) (sym empty) tt;
       fits = subst Fits (sym same) (Fits-IsTable t valid);
       below = subst (HaveTops tops) (sym same) have;
+      counted = HaveCounts-none counts (renumbered m items t) uncounted;
       keys = subst (λ u. HasLongest (key_set u) n) (sym same) (subst (HasLongest (key_set t)) (sym is) (HasLongest-table t valid));
     }
 
@@ -400,6 +406,13 @@ at-none m items t q none absent = at-other m items t q none ∙ ap (option_map (
 -- what is found, cut to sixteen bits, is what a match gives
 pub found_elements : (u v : ElementTable) (q : List ℕ) (es : List Element) → u ≡ v → Fits u → elements_at u q ≡ Some es → map cut es ≡ elements_or_implicit v q
 found_elements u v q es same fits found = elements-cut es (fits.entries q es found) ∙ sym (ap (λ o. unwrap_or o (implicit u (slice_index q 0))) found) ∙ ap (λ x. elements_or_implicit x q) same
+
+-- .. and what it has as an entry
+pub found_entry : (u v : ElementTable) (q : List ℕ) (es : List Element) → u ≡ v → Fits u → elements_at u q ≡ Some es → map cut es ≡ elements_or_none v q
+found_entry u v q es same fits found = elements-cut es (fits.entries q es found) ∙ sym (ap (λ o. unwrap_or o []) found) ∙ ap (λ x. elements_or_none x q) same
+
+pub no_entry : (u v : ElementTable) (q : List ℕ) → u ≡ v → elements_at u q ≡ None → [] ≡ elements_or_none v q
+no_entry u v q same none = sym (ap (λ o. unwrap_or o []) none) ∙ ap (λ x. elements_or_none x q) same
 
 pub none_elements : (u v : ElementTable) (q : List ℕ) → u ≡ v → elements_at u q ≡ None → implicit u (slice_index q 0) ≡ elements_or_implicit v q
 none_elements u v q same none = sym (ap (λ o. unwrap_or o (implicit u (slice_index q 0))) none) ∙ ap (λ x. elements_or_implicit x q) same

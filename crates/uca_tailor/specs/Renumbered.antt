@@ -9,9 +9,11 @@ use Rattle.uca_model.specs.Table.{ElementTable, key_cmp, elements_at}
 use Rattle.uca_model.specs.Room.{moves}
 use Rattle.uca_model.proofs.WeightLemmas.{Fits}
 use Rattle.uca_match.specs.Keys.{HasLongest, key_set}
+use Rattle.uca_tailor.specs.declared.counts.Counts.{Counts}
 use Rattle.uca_tailor.specs.declared.items.Item.{Item}
 use Rattle.uca_tailor.specs.declared.moves.Moves.{Moves}
 use Rattle.uca_tailor.specs.declared.tops.Tops.{Tops}
+use Rattle.uca_tailor.specs.Counts.{HaveCounts}
 use Rattle.uca_tailor.specs.Moves.{IsPast, moved_element, start}
 
 -- the elements of an item, moved by the rooms that were made since
@@ -49,8 +51,9 @@ pub record HaveTops (tops : Tops) (t : ElementTable) : Type 0 where
   pub third : HasTop 3 tops.third t
 
 -- what holds all along
-pub record IsRenumbered {Y : Type 0} (m : Moves) (items : List (Vec ℕ Y × Item)) (t : ElementTable) (tops : Tops) (longest : ℕ) : Type 0 where
+pub record IsRenumbered {Y : Type 0} (m : Moves) (items : List (Vec ℕ Y × Item)) (t : ElementTable) (tops : Tops) (counts : Counts) (longest : ℕ) : Type 0 where
   pub entered : AllByRecursion (λ i. IsItem m i.1) items
   pub fits : Fits (renumbered m items t)
   pub below : HaveTops tops (renumbered m items t)
+  pub counted : HaveCounts counts (renumbered m items t)
   pub keys : HasLongest (key_set (renumbered m items t)) longest

@@ -7,7 +7,9 @@ ghost use Rattle.uca_model.specs.CollationElements.{elements, elements_or_implic
 ghost use Rattle.uca_model.specs.Room.{has_no_room, table_with_room};
 ghost use Rattle.uca_model.specs.Table.{with_entry, IsElement};
 ghost use Rattle.uca_match.specs.Keys.{key_set};
+ghost use Rattle.uca_tailor.specs.Counts.{elements_or_none};
 
+use crate::counts::Counts;
 use crate::items::Item;
 use crate::merging::{in_order, merge};
 use crate::moves::{Moves, START};
@@ -27,6 +29,7 @@ pub(crate) struct Renumbered<'t> {
     moves: Moves,
     items: BTreeMap<Vec<char>, Item>,
     tops: Tops,
+    counts: Counts,
     longest_key: usize,
 }
 
@@ -41,7 +44,7 @@ impl<'t> Model for Renumbered<'t> {
 
     ghost view = { λ r. renumbered r.moves r.items.entries r.table.now };
 
-    ghost invariant = { λ r. IsRenumbered r.moves r.items.entries r.table.now r.tops r.longest_key };
+    ghost invariant = { λ r. IsRenumbered r.moves r.items.entries r.table.now r.tops r.counts r.longest_key };
 }
 
 /// Shows that each weight of the elements has sixteen bits.
@@ -73,6 +76,7 @@ impl<'t> Renumbered<'t> {
             moves: Moves::new(alloc),
             items: BTreeMap::new(alloc),
             tops: Tops::of(t),
+            counts: Counts::new(alloc),
             longest_key,
         }
     }
@@ -86,6 +90,7 @@ impl<'t> Renumbered<'t> {
     {
         self.moves.make_room(level, w)?;
         self.tops = self.tops.raised(level, w);
+        self.counts.make_room(level, w);
         Ok(())
     }
 
@@ -102,6 +107,10 @@ impl<'t> Renumbered<'t> {
         ensures { OnOk result (self.new ≡ with_entry self.old key.now elements.now) }
     {
         read_elements(elements);
+        let mut before = Vec::new(alloc);
+        if !self.counts.are_none() {
+            self.push_entry(&mut before, key)?;
+        }
         let item = Item {
             elements: elements.to_vec(alloc)?,
             after: self.moves.now(),
@@ -109,13 +118,14 @@ impl<'t> Renumbered<'t> {
         let own_key = key.to_vec(alloc)?;
         self.items.insert(own_key, item)?;
         self.tops = self.tops.over(elements);
+        self.counts.exchange(&before, elements);
         self.longest_key = self.longest_key.max(key.len());
         Ok(())
     }
 
     /// Whether some weight of the entries at a level, 1 to 3, would move if room were made above `w`, and can't. The
-    /// entries are looked at only where the greatest weight of the level may stand at the limit, which is known again
-    /// then.
+    /// entries are looked at, and counted, only where the greatest weight of the level may stand at the limit for the
+    /// first time. From then on the counts say whether one stands there.
     pub(crate) fn lacks_room(
         &mut self,
         alloc: Global,
@@ -130,8 +140,14 @@ impl<'t> Renumbered<'t> {
         if self.tops.at(level) < max_weight(level) {
             return Ok(false);
         }
+        if w >= max_weight(level) {
+            return Ok(false);
+        }
+        if let Some(at_limit) = self.counts.reaches_limit(level) {
+            return Ok(at_limit);
+        }
         let whole = self.to_table(alloc)?;
-        self.tops = Tops::of(&whole);
+        self.counts.count(alloc, level, &whole)?;
         Ok(any_lacks_room(level, w, &whole))
     }
 
@@ -143,6 +159,19 @@ impl<'t> Renumbered<'t> {
         let mut entries = AscendingEntries::new(alloc);
         merge(alloc, &mut entries, &self.moves, &items, self.table)?;
         entries.finish(alloc, self.table)
+    }
+
+    /// Appends the elements of a key, if it has some.
+    fn push_entry(&self, out: &mut Vec<Element>, key: &[char]) -> Result<(), AllocError>
+        ensures { OnOk result (out.new.items ≡ out.old.items ++ elements_or_none self.now key.now) }
+    {
+        match self.items.get(key) {
+            Some(entered) => self.moves.push_moved(out, entered.after, &entered.elements),
+            None => match self.table.get(key) {
+                Some(elements) => self.moves.push_moved(out, START, elements),
+                None => Ok(()),
+            },
+        }
     }
 
     /// Appends the elements of a match: those of a key, or the implicit ones of its first code point.

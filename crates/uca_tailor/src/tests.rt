@@ -435,7 +435,7 @@ fn the_first_relation_at_fault_is_reported(rt: HostRuntime) {
     assert_stands(&rt, &t, &SMALL_TABLE, 1);
 }
 
-const FULL: [(&'static [Entry], &'static [PlainChain], u8, u64); 5] = [
+const FULL: [(&'static [Entry], &'static [PlainChain], u8, u64); 6] = [
     (
         &[
             (&['a'], false, [0x1000, 0x20, 2]),
@@ -481,6 +481,23 @@ const FULL: [(&'static [Entry], &'static [PlainChain], u8, u64); 5] = [
         3,
         2,
     ),
+    // An item stands at the limit by turns, until it stays there.
+    (
+        &[
+            (&['a'], false, [0x1000, 0x20, 2]),
+            (&['b'], false, [0x7FFE, 0x20, 2]),
+        ],
+        &[
+            (&['b'], &[(Op::First, &['c'], &[])]),
+            (&['a'], &[(Op::Same, &['c'], &[])]),
+            (&['b'], &[(Op::First, &['c'], &[])]),
+            (&['a'], &[(Op::Same, &['c'], &[])]),
+            (&['b'], &[(Op::First, &['d'], &[])]),
+            (&['b'], &[(Op::First, &['c'], &[])]),
+        ],
+        1,
+        6,
+    ),
 ];
 
 #[test]
@@ -493,7 +510,7 @@ fn a_level_without_room_is_full(rt: HostRuntime) {
     }
 }
 
-const ROOMY: [(&'static [Entry], &'static [PlainChain], [u16; 3], [u16; 3]); 5] = [
+const ROOMY: [(&'static [Entry], &'static [PlainChain], [u16; 3], [u16; 3]); 6] = [
     (
         &[
             (&['a'], false, [0x1000, 0x20, 2]),
@@ -543,6 +560,24 @@ const ROOMY: [(&'static [Entry], &'static [PlainChain], [u16; 3], [u16; 3]); 5] 
         ],
         [0x1001, 0x20, 2],
         [0x1000, 0x20, 2],
+    ),
+    // An item stands next to the limit by turns, and room is made below.
+    (
+        &[
+            (&['a'], false, [0x1000, 0x20, 2]),
+            (&['b'], false, [0x7FFD, 0x20, 2]),
+        ],
+        &[
+            (&['b'], &[(Op::First, &['d'], &[])]),
+            (&['a'], &[(Op::Same, &['d'], &[])]),
+            (&['b'], &[(Op::First, &['d'], &[])]),
+            (&['a'], &[(Op::Same, &['d'], &[])]),
+            (&['b'], &[(Op::First, &['d'], &[])]),
+            (&['a'], &[(Op::Same, &['d'], &[])]),
+            (&['a'], &[(Op::First, &['c'], &[])]),
+        ],
+        [0x1001, 0x20, 2],
+        [0x7FFE, 0x20, 2],
     ),
 ];
 

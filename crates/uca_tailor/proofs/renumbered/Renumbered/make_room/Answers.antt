@@ -12,9 +12,9 @@ pub invariant_of-self-2 : goal.invariant_of-self-2
 invariant_of-self-2 c =
     let level = c.args.level in let w = c.args.w in let m = c.self.inside.moves in let items = c.self.inside.items.entries in let t = c.self.inside.table.now in
     let room : list_any (list_any (has_no_room level w)) (values (renumbered m items t).entries) ≡ false = subst (λ u. list_any (list_any (has_no_room level w)) (values u.entries) ≡ false) (sym c.self.view_is) c.requires.room in
-    subst (λ x. IsRenumbered x items t c.raised-self-inside.result c.self.inside.longest_key) (sym c.in_ok-make_room.ensures.ok)
-    (subst (λ y. IsRenumbered (with_move level w m) items t y c.self.inside.longest_key) (sym c.raised-self-inside.ensures)
-    (IsRenumbered-with level w m items t c.self.inside.tops c.self.inside.longest_key (level_of level c.requires.first c.requires.last) room c.self.invariant))
+    subst (λ x. IsRenumbered x items t c.raised-self-inside.result c.make_room-2.new.self c.self.inside.longest_key) (sym c.in_ok-make_room.ensures.ok)
+    (subst (λ y. IsRenumbered (with_move level w m) items t y c.make_room-2.new.self c.self.inside.longest_key) (sym c.raised-self-inside.ensures)
+    (IsRenumbered-with level w m items t c.self.inside.tops c.self.inside.counts c.make_room-2.new.self c.self.inside.longest_key (level_of level c.requires.first c.requires.last) room c.make_room-2.ensures c.self.invariant))
 
 pub returns : goal.returns
 returns c =
