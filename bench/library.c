@@ -64,6 +64,13 @@ static size_t uca_key(const struct line *line) {
     return needed;
 }
 
+static size_t uca_written(const struct line *line) {
+    uca_fault fault;
+    size_t needed = 0;
+    if (uca_write_key(&collator, &settings, (uint8_t *)line->text, line->size, key, sizeof key, &needed, &fault)) exit(3);
+    return needed;
+}
+
 static size_t icu_key(const struct line *line) {
     static UChar wide[1 << 16];
     UErrorCode error = U_ZERO_ERROR;
@@ -146,12 +153,14 @@ int main(int words, char **word) {
     printf("open %.1f ms; two empty texts %.0f ns (ICU %.0f); a and a %.0f (%.0f)\n", opened / 1e6, same("", uca_order), same("", icu_order), same("a", uca_order), same("a", icu_order));
     printf("a comparison that finds no table %.1f ns; two checks of an empty text %.1f\n", same("", closed_order), same("", two_checks));
     double uca = pairs(uca_order), other = pairs(icu_order);
-    printf("neighbours: %.0f ns (ICU %.0f, %.1f times)\n", uca, other, uca / other);
+    printf("neighbours: %.0f ns (ICU %.0f, %.2f times)\n", uca, other, uca / other);
+    double written = keys(uca_written);
     uca = keys(uca_key), other = keys(icu_key);
-    printf("keys: %.0f ns (ICU %.0f, %.1f times)\n", uca, other, uca / other);
+    printf("keys: %.0f ns (ICU %.0f, %.2f times)\n", uca, other, uca / other);
+    printf("keys without memory: %.0f ns (%.2f times those in memory)\n", written, written / uca);
     qsort(lines, count, sizeof *lines, by_order);
     uca = pairs(uca_order), other = pairs(icu_order);
-    printf("sorted neighbours: %.0f ns (ICU %.0f, %.1f times)\n", uca, other, uca / other);
+    printf("sorted neighbours: %.0f ns (ICU %.0f, %.2f times)\n", uca, other, uca / other);
     uca_close(&collator);
     ucol_close(icu);
     return sum == 12345;

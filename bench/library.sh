@@ -1,26 +1,39 @@
 #!/usr/bin/env bash
-# The C library beside ICU's C API over generated lines, in one run: bench/library.sh [LINES]. Then SQLite's index and order by
-# uca_key beside those by ICU's keys, over 1,000,000 generated lines, where Debian's libsqlite3-dev is there.
-# It needs Debian's libicu-dev and the table of Debian's perl. It is no test.
-set -eu
-cd "$(dirname "${BASH_SOURCE[0]}")/.."
-work=$(mktemp -d)
-trap 'rm -rf "$work"' EXIT
-table=$(perl -e 'for (@INC) { print("$_/Unicode/Collate/allkeys.txt"), exit if -f "$_/Unicode/Collate/allkeys.txt" }')
-make -s -C bindings/c OUT="$work/c"
-cc -std=gnu11 -Wall -Wextra -O2 -Iinclude -o "$work/library" bench/library.c "$work/c/libuca.a" -licui18n -licuuc
-perl tests/texts.pl 100000 >"$work/mixed"
-perl -e 'my $n = 1; sub r { $n = ($n * 1103515245 + 12345) & 0x7FFFFFFF; ($n >> 8) % $_[0] } for (1 .. 100000) { print join(" ", map { join "", map { chr(97 + r(26)) } 1 .. 3 + r(7) } 1 .. 1 + r(3)), "\n" }' >"$work/latin"
-for lines in ${1:-"$work/mixed" "$work/latin"}; do
+# The C library beside ICU's C API, in one run, over lines of one to four words of Debian's lists, which it brings without installing
+# them: nanoseconds of a call, of all scripts and of Latin ones. Then SQLite's index and order by uca_key beside those by ICU's keys,
+# over 1,000,000 lines of all scripts, where Debian's libsqlite3-dev is there. It needs Debian's libicu-dev. It is no test.
+uca=none # the program is not measured here
+source "$(dirname "${BASH_SOURCE[0]}")/shared.bash"
+source tests/debian.bash
+source bench/lists.bash
+make -s -C bindings/c OUT="$work/c" >"$work/log" 2>&1 || { cat "$work/log"; refuses "the C library could not be built"; }
+cc -std=gnu11 -Wall -Wextra -O2 -Iinclude -o "$work/library" bench/library.c "$work/c/libuca.a" -licui18n -licuuc || refuses "ICU could not be had: it wants libicu-dev"
+fetched || exit 1
+
+# corpus NAME BYTES LINES: the first lines of a corpus, as $work/NAME
+corpus() {
+    case $1 in
+    latin) grep '^Latin' <<<"$lists" | grep -v 'hunspell-vi' ;;
+    *) echo "$lists" ;;
+    esac | perl bench/corpus.pl "$work/lists" "$2" 2>/dev/null | head -n "$3" >"$work/$1"
+    [ "$(wc -l <"$work/$1")" -eq "$3" ] || refuses "$1: not $3 lines"
+}
+
+corpus mixed 5000000 100000
+corpus latin 4000000 100000
+corpus rows 42000000 1000000
+echo "$(nproc) processors, load $(cut -d' ' -f1-3 /proc/loadavg)"
+for name in mixed latin; do
     for setting in "3 0" "4 2"; do
-        echo "$(basename "$lines"), strength and option $setting"
-        "$work/library" "$table" "$lines" $setting
+        echo "$name, strength and option $setting"
+        # shellcheck disable=SC2086
+        "$work/library" "$published" "$work/$name" $setting || refuses "library: status $?"
     done
 done
 
 echo '#include <sqlite3ext.h>' | cc -E - >/dev/null 2>&1 || exit 0
 cc -O2 -shared -fPIC -Iinclude -o "$work/uca_sqlite.so" bindings/sqlite/uca_sqlite.c "$work/c/libuca.a"
 cc -std=gnu11 -Wall -Wextra -O2 -o "$work/sqlite" bench/sqlite.c -lsqlite3 -licui18n -licuuc
-perl tests/texts.pl 1000000 >"$work/rows"
-echo "SQLite, 1,000,000 rows"
-"$work/sqlite" "$table" "$work/rows" "$work/uca_sqlite.so"
+echo "SQLite"
+"$work/sqlite" "$published" "$work/rows" "$work/uca_sqlite.so" 5
+echo "load $(cut -d' ' -f1-3 /proc/loadavg)"

@@ -1,5 +1,6 @@
-// SQLite over rows of a file: an index and an order by uca_key beside the same by ICU's keys: sqlite TABLE LINES EXTENSION
-// Each figure is the processor time of the faster of two rounds, which are interleaved.
+// SQLite over rows of a file: an index and an order by uca_key beside the same by ICU's keys: sqlite TABLE LINES EXTENSION [ROUNDS]
+// Each figure is the processor time of the fastest of some rounds, which are interleaved. What the keys themselves take is what
+// the same blobs do not take where a function of a row's number has them ready.
 #include <sqlite3.h>
 #include <stdio.h>
 #include <stdlib.h>
@@ -8,9 +9,20 @@
 #include <unicode/ucol.h>
 #include <unicode/ustring.h>
 
-#define ROUNDS 2
-
 static UCollator *icu;
+
+/* The keys of all rows, which were made before, by their numbers from 1 on. */
+struct blob {
+    void *bytes;
+    int size;
+};
+
+struct blobs {
+    struct blob *of;
+    size_t count;
+};
+
+static struct blobs ready_keys[2];
 
 static double now(void) {
     struct timespec time;
@@ -27,6 +39,14 @@ static void icu_key(sqlite3_context *context, int count, sqlite3_value **values)
     u_strFromUTF8(wide, 1 << 16, &points, (const char *)sqlite3_value_text(values[0]), sqlite3_value_bytes(values[0]), &error);
     int32_t size = ucol_getSortKey(icu, wide, points, key, sizeof key);
     sqlite3_result_blob(context, key, size, SQLITE_TRANSIENT);
+}
+
+static void ready_key(sqlite3_context *context, int count, sqlite3_value **values) {
+    struct blobs *keys = sqlite3_user_data(context);
+    sqlite3_int64 row = sqlite3_value_int64(values[0]);
+    (void)count;
+    if (row < 1 || (size_t)row > keys->count) exit(4);
+    sqlite3_result_blob(context, keys->of[row - 1].bytes, keys->of[row - 1].size, SQLITE_TRANSIENT);
 }
 
 static sqlite3 *database;
@@ -67,25 +87,54 @@ static void load_lines(const char *path) {
     fclose(file);
 }
 
+static void make_ready(struct blobs *keys, const char *form) {
+    sqlite3_stmt *select;
+    size_t room = 0;
+    if (sqlite3_prepare_v2(database, form, -1, &select, NULL)) exit(3);
+    while (sqlite3_step(select) == SQLITE_ROW) {
+        if (keys->count == room && !(keys->of = realloc(keys->of, (room = room ? 2 * room : 1024) * sizeof *keys->of))) exit(3);
+        struct blob blob = {NULL, sqlite3_column_bytes(select, 0)};
+        if (!(blob.bytes = malloc(blob.size + 1))) exit(3);
+        if (blob.size) memcpy(blob.bytes, sqlite3_column_blob(select, 0), blob.size);
+        keys->of[keys->count++] = blob;
+    }
+    sqlite3_finalize(select);
+}
+
+static double mean_size(const struct blobs *keys) {
+    double sum = 0;
+    for (size_t row = 0; row < keys->count; row++) sum += keys->of[row].size;
+    return sum / keys->count;
+}
+
+#define SORTED "SELECT count(*) FROM (SELECT t FROM w ORDER BY %s LIMIT -1 OFFSET 1)"
+
 int main(int count, char **words) {
-    static const char *const names[] = {"uca_key", "icu_key"};
-    static const char *const what[] = {"CREATE INDEX i ON w (%s(t))", "SELECT count(*) FROM (SELECT t FROM w ORDER BY %s(t) LIMIT -1 OFFSET 1)",
-        "DROP INDEX i", "SELECT count(*) FROM (SELECT t FROM w ORDER BY %s(t) LIMIT -1 OFFSET 1)"};
+    static const char *const names[] = {"uca_key(t)", "icu_key(t)", "ready_uca_key(n)", "ready_icu_key(n)"};
+    static const char *const what[] = {"CREATE INDEX i ON w (%s)", SORTED, "DROP INDEX i", SORTED};
     static const char *const titles[] = {"an index is built", "ORDER BY with it", NULL, "ORDER BY without it"};
-    double best[4][2];
+    int rounds = count > 4 ? atoi(words[4]) : 3;
+    double best[4][4];
     UErrorCode error = U_ZERO_ERROR;
-    if (count != 4) return 2;
+    if (count < 4) return 2;
     icu = ucol_open("", &error);
     ucol_setAttribute(icu, UCOL_NORMALIZATION_MODE, UCOL_ON, &error);
     if (U_FAILURE(error) || sqlite3_open("", &database)) return 3;
     sqlite3_enable_load_extension(database, 1);
     if (sqlite3_load_extension(database, words[3], "sqlite3_ucasqlite_init", NULL)) return 3;
     sqlite3_create_function(database, "icu_key", 1, SQLITE_UTF8 | SQLITE_DETERMINISTIC | SQLITE_INNOCUOUS, NULL, icu_key, NULL, NULL);
+    for (int by = 0; by < 2; by++) {
+        sqlite3_create_function(database, by ? "ready_icu_key" : "ready_uca_key", 1, SQLITE_UTF8 | SQLITE_DETERMINISTIC | SQLITE_INNOCUOUS,
+                                &ready_keys[by], ready_key, NULL, NULL);
+    }
     run("SELECT uca_load('uca', %Q)", words[1], "");
     load_lines(words[2]);
     run("PRAGMA cache_size = -1000000", "", "");
-    for (int round = 0; round < ROUNDS; round++) {
-        for (int by = 0; by < 2; by++) {
+    make_ready(&ready_keys[0], "SELECT uca_key(t) FROM w ORDER BY n");
+    make_ready(&ready_keys[1], "SELECT icu_key(t) FROM w ORDER BY n");
+    printf("%zu rows, keys of %.0f bytes (ICU %.0f)\n", ready_keys[0].count, mean_size(&ready_keys[0]), mean_size(&ready_keys[1]));
+    for (int round = 0; round < rounds; round++) {
+        for (int by = 0; by < 4; by++) {
             for (int step = 0; step < 4; step++) {
                 double took = seconds(what[step], names[by]);
                 if (round == 0 || took < best[step][by]) best[step][by] = took;
@@ -93,7 +142,8 @@ int main(int count, char **words) {
         }
     }
     for (int step = 0; step < 4; step++) {
-        if (titles[step]) printf("%s: %.2f s (ICU %.2f, %.2f times)\n", titles[step], best[step][0], best[step][1], best[step][0] / best[step][1]);
+        if (titles[step]) printf("%s: %.2f s (ICU %.2f, %.2f times), with keys that are ready %.2f (%.2f, %.2f times)\n", titles[step], best[step][0], best[step][1],
+                                 best[step][0] / best[step][1], best[step][2], best[step][3], best[step][2] / best[step][3]);
     }
     sqlite3_close(database);
     ucol_close(icu);

@@ -20,8 +20,8 @@
  * Every call returns a status, and most say in a uca_fault where a fault is. Where a call returns any status but UCA_OK,
  * it has changed nothing but the fault.
  *
- * Memory: uca_open, uca_clone, uca_sort_key, uca_prefix_bounds and uca_fingerprint call malloc, realloc and free. uca_compare, uca_check and
- * uca_version allocate nothing. No call keeps a pointer that it was given.
+ * Memory: uca_open, uca_clone, uca_sort_key, uca_prefix_bounds and uca_fingerprint call malloc, realloc and free. All other calls
+ * allocate nothing. No call keeps a pointer that it was given.
  *
  * Threads: one call at a time may use a collator. A collator may go from thread to thread. To use one table in several
  * threads at once, give each thread a collator of its own by uca_clone: they share the table. No call may be made from a
@@ -186,6 +186,15 @@ uint32_t uca_sort_key(uca_collator *collator, const uca_settings *settings, cons
                       size_t capacity, size_t *needed, uca_fault *fault);
 
 /*
+ * Writes the same bytes to `out` and the same number to `needed`, without allocating, and writes nothing else. It reads the text
+ * once for each level, so it takes longer than uca_sort_key, which makes a key in memory and copies it. If a key had more than
+ * SIZE_MAX bytes, `needed` would be SIZE_MAX.
+ * Returns UCA_OK, UCA_BAD_SETTINGS, UCA_NOT_OPEN, UCA_NOT_UTF8 or UCA_LONG_RUN.
+ */
+uint32_t uca_write_key(uca_collator *collator, const uca_settings *settings, const uint8_t *text, size_t size, uint8_t *out,
+                       size_t capacity, size_t *needed, uca_fault *fault);
+
+/*
  * The range in which an index has the keys of all texts that begin with a text: each such key, of whatever strength, is not
  * before `lower` and is before `upper`, and no key of a text with other primary weights at its beginning is. `lower` is the
  * key of the text at strength UCA_PRIMARY, and `upper` the first byte string after all that begin with it. Of each the first
@@ -240,6 +249,12 @@ static inline uint32_t uca_private_sort_key(uca_collator *collator, const uca_se
     return uca_sort_key(collator, settings, uca_private_bytes(text), size, out ? out : none, capacity, needed, fault);
 }
 
+static inline uint32_t uca_private_write_key(uca_collator *collator, const uca_settings *settings, const uint8_t *text,
+                                             size_t size, uint8_t *out, size_t capacity, size_t *needed, uca_fault *fault) {
+    uint8_t none[1];
+    return uca_write_key(collator, settings, uca_private_bytes(text), size, out ? out : none, capacity, needed, fault);
+}
+
 static inline uint32_t uca_private_prefix_bounds(uca_collator *collator, const uca_settings *settings, const uint8_t *text,
                                                  size_t size, uint8_t *lower, size_t lower_capacity, uint8_t *upper,
                                                  size_t upper_capacity, size_t *lower_needed, size_t *upper_needed,
@@ -253,6 +268,7 @@ static inline uint32_t uca_private_prefix_bounds(uca_collator *collator, const u
 #define uca_check uca_private_check
 #define uca_compare uca_private_compare
 #define uca_sort_key uca_private_sort_key
+#define uca_write_key uca_private_write_key
 #define uca_prefix_bounds uca_private_prefix_bounds
 
 #ifdef __cplusplus

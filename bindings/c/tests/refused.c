@@ -1,5 +1,6 @@
 /* Allocations of a call are refused one at a time. Link with --wrap=malloc,realloc,free. Each call has to return its answer or
- * UCA_NO_MEMORY, to leave its collators as they were, and to free what it took. Comparing has to take no memory at all. */
+ * UCA_NO_MEMORY, to leave its collators as they were, and to free what it took. Comparing has to take no memory at all, nor has
+ * uca_write_key. */
 #include "checks.h"
 
 static long calls, refused, live;
@@ -93,6 +94,8 @@ static long refuses_the_rest(void) {
     calls = 0;
     CHECK(uca_compare(&collator, &settings, TEXT(text), TEXT("cz"), &order, &fault) == UCA_OK && order == 1);
     CHECK(uca_check(TEXT(text), &fault) == UCA_OK && uca_version() == UCA_VERSION);
+    CHECK(uca_write_key(&collator, &settings, TEXT(text), key, sizeof key, &needed, &fault) == UCA_OK && needed == size && memcmp(key, whole, size) == 0);
+    CHECK(uca_write_key(&collator, &settings, TEXT(text), key, 3, &needed, &fault) == UCA_OK && needed == size);
     CHECK(calls == 0);
     uca_close(&collator);
     CHECK(live == 0);

@@ -71,6 +71,13 @@ static void *makes_a_key(void *none) {
     return none;
 }
 
+static void *writes_a_key(void *none) {
+    uca_fault fault;
+    size_t needed;
+    CHECK(uca_write_key(&collator, &settings, long_text.bytes, long_text.size, key, room, &needed, &fault) == UCA_OK);
+    return none;
+}
+
 static void *finds_bounds(void *none) {
     uca_fault fault;
     size_t lower_size, upper_size;
@@ -118,6 +125,7 @@ int main(int count, char **words) {
     printf("uca_check %zu\n", taken(checks, NULL) - own);
     printf("uca_compare %zu\n", taken(compares, NULL) - own);
     printf("uca_sort_key %zu\n", taken(makes_a_key, NULL) - own);
+    printf("uca_write_key %zu\n", taken(writes_a_key, NULL) - own);
     printf("uca_prefix_bounds %zu\n", taken(finds_bounds, NULL) - own);
     printf("uca_fingerprint %zu\n", taken(takes_a_fingerprint, NULL) - own);
     uca_close(&other);

@@ -92,13 +92,19 @@ static void settings(void) {
         memset(&fault, 0xEE, sizeof fault);
         CHECK(uca_sort_key(&collator, &refused[i], TEXT("a"), out, sizeof out, &needed, &fault) == UCA_BAD_SETTINGS && needed == 77);
         SAME_FAULT(0, 0, 0);
+        memset(&fault, 0xEE, sizeof fault);
+        CHECK(uca_write_key(&collator, &refused[i], TEXT("a"), out, sizeof out, &needed, &fault) == UCA_BAD_SETTINGS && needed == 77);
+        SAME_FAULT(0, 0, 0);
         CHECK(uca_fingerprint(&collator, &refused[i], &digest) == UCA_BAD_SETTINGS);
         CHECK(memcmp(&digest, &before, sizeof digest) == 0);
     }
     uca_close(&collator);
 }
 
-static void keys(void) {
+/* A call that makes a key: uca_sort_key or uca_write_key. */
+typedef uint32_t key_call(uca_collator *, const uca_settings *, const uint8_t *, size_t, uint8_t *, size_t, size_t *, uca_fault *);
+
+static void keys(key_call *makes_key) {
     static const uint8_t key[] = {0x10, 0, 0x10, 1, 0, 0, 0, 0x20, 0, 0x24, 0, 0x20, 0, 0, 0, 2, 0, 2, 0, 2};
     uca_settings settings = UCA_TERTIARY_SETTINGS;
     uca_collator collator = UCA_CLOSED;
@@ -108,19 +114,38 @@ static void keys(void) {
     for (size_t capacity = 0; capacity <= sizeof out; capacity++) {
         size_t needed = 0, fits = capacity < sizeof key ? capacity : sizeof key;
         memset(out, 0xEE, sizeof out);
-        CHECK(uca_sort_key(&collator, &settings, TEXT("\xC3\xA1" "b"), out, capacity, &needed, &fault) == UCA_OK);
+        CHECK(makes_key(&collator, &settings, TEXT("\xC3\xA1" "b"), out, capacity, &needed, &fault) == UCA_OK);
         CHECK(needed == sizeof key && memcmp(out, key, fits) == 0);
         for (size_t i = fits; i < sizeof out; i++) CHECK(out[i] == 0xEE);
     }
     size_t needed = 0;
-    CHECK(uca_sort_key(&collator, &settings, TEXT("a"), NULL, 0, &needed, &fault) == UCA_OK && needed == 10);
+    CHECK(makes_key(&collator, &settings, TEXT("a"), NULL, 0, &needed, &fault) == UCA_OK && needed == 10);
     memset(out, 0xEE, sizeof out);
-    CHECK(uca_sort_key(&collator, &settings, TEXT("a\xFF"), out, sizeof out, &needed, &fault) == UCA_NOT_UTF8 && needed == 10);
+    CHECK(makes_key(&collator, &settings, TEXT("a\xFF"), out, sizeof out, &needed, &fault) == UCA_NOT_UTF8 && needed == 10);
     SAME_FAULT(0, 1, 1);
     CHECK(out[0] == 0xEE);
     uca_close(&collator);
-    CHECK(uca_sort_key(&collator, &settings, TEXT("a"), out, sizeof out, &needed, &fault) == UCA_NOT_OPEN && needed == 10);
+    CHECK(makes_key(&collator, &settings, TEXT("a"), out, sizeof out, &needed, &fault) == UCA_NOT_OPEN && needed == 10);
     SAME_FAULT(0, 0, 0);
+}
+
+/* The two calls make the same key of a text, at each strength and under each option. */
+static void same_keys(void) {
+    static const char *const texts[] = {"", "a", "A b", "\xC3\xA1" "b", "ch", "Chch a\xCC\x81\xCC\xA3", "\xEF\xB7\xBA", "\xE4\xB8\x80 z", "\xCC\x81"};
+    uca_collator collator = UCA_CLOSED;
+    uca_fault fault;
+    open_small(&collator);
+    for (size_t i = 0; i < sizeof texts / sizeof texts[0]; i++) {
+        for (uint32_t number = 0; number < 15; number++) {
+            uca_settings settings = UCA_SETTINGS(1 + number / 3, number % 3);
+            uint8_t out[2][512];
+            size_t needed[2] = {0, 1};
+            CHECK(uca_sort_key(&collator, &settings, (uint8_t *)texts[i], strlen(texts[i]), out[0], sizeof out[0], &needed[0], &fault) == UCA_OK);
+            CHECK(uca_write_key(&collator, &settings, (uint8_t *)texts[i], strlen(texts[i]), out[1], sizeof out[1], &needed[1], &fault) == UCA_OK);
+            CHECK(needed[0] <= sizeof out[0] && needed[0] == needed[1] && memcmp(out[0], out[1], needed[0]) == 0);
+        }
+    }
+    uca_close(&collator);
 }
 
 static void bounds(void) {
@@ -266,7 +291,9 @@ int main(int count, char **words) {
     checking();
     comparing();
     settings();
-    keys();
+    keys(uca_sort_key);
+    keys(uca_write_key);
+    same_keys();
     bounds();
     fingerprints(count > 1 ? words[1] : NULL);
     opening();

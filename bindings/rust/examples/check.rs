@@ -15,6 +15,9 @@ fn main() {
     for pair in sorted.windows(2) {
         assert_eq!(collator.compare(pair[0].1, pair[1].1), Ok(pair[0].0.cmp(&pair[1].0)));
     }
+    let (lomo, mut front) = (collator.key("Lómo").unwrap(), [9; 6]);
+    assert_eq!(collator.write_key("Lómo", &mut front), Ok(lomo.as_bytes().len()));
+    assert_eq!(front, lomo.as_bytes()[..6]);
     let bounds = collator.prefix_bounds("lo").unwrap();
     let upper = bounds.upper.unwrap();
     let is_between = |key: Key| key.as_bytes() >= &bounds.lower[..] && key.as_bytes() < &upper[..];

@@ -32,6 +32,7 @@ mod ffi {
         pub fn uca_check(text: *const u8, size: usize, fault: *mut RawFault) -> u32;
         pub fn uca_compare(c: *mut RawCollator, s: *const RawSettings, a: *const u8, a_size: usize, b: *const u8, b_size: usize, order: *mut i32, fault: *mut RawFault) -> u32;
         pub fn uca_sort_key(c: *mut RawCollator, s: *const RawSettings, text: *const u8, size: usize, out: *mut u8, capacity: usize, needed: *mut usize, fault: *mut RawFault) -> u32;
+        pub fn uca_write_key(c: *mut RawCollator, s: *const RawSettings, text: *const u8, size: usize, out: *mut u8, capacity: usize, needed: *mut usize, fault: *mut RawFault) -> u32;
         pub fn uca_prefix_bounds(c: *mut RawCollator, s: *const RawSettings, text: *const u8, size: usize, lower: *mut u8, lower_capacity: usize, upper: *mut u8, upper_capacity: usize, lower_needed: *mut usize, upper_needed: *mut usize, fault: *mut RawFault) -> u32;
         pub fn uca_fingerprint(c: *mut RawCollator, s: *const RawSettings, out: *mut [u8; 32]) -> u32;
     }
@@ -179,6 +180,16 @@ impl Collator {
                 return Ok(Key(out));
             }
         }
+    }
+
+    /// Writes the first bytes of a text's sort key, as many as fit, and returns how many the whole key has. It allocates nothing, and
+    /// takes longer than `key`.
+    pub fn write_key(&mut self, text: &str, out: &mut [u8]) -> Result<usize, Error> {
+        let (mut needed, mut fault) = (0, RawFault::default());
+        let status = unsafe {
+            ffi::uca_write_key(&mut self.raw, &self.settings, text.as_ptr(), text.len(), out.as_mut_ptr(), out.len(), &mut needed, &mut fault)
+        };
+        answer(status, fault, needed)
     }
 
     /// The range of the keys of all texts that begin with a text. A text that what follows may change is refused: status 9.

@@ -4,7 +4,7 @@
 
 ghost use Rattle.std.specs.Prelude.{◌≡◌, ◌+◌, ◌*◌, None, MatchOption};
 ghost use Rattle.ucd_table.specs.declared.version.TheConstants.{UNICODE_VERSION};
-ghost use Rattle.uca_handle.specs.Calls.{Checks, Compares, Fingerprints, MakesKey, Opens, PutsBounds, Shares};
+ghost use Rattle.uca_handle.specs.Calls.{Checks, Compares, Fingerprints, MakesKey, Opens, PutsBounds, Shares, WritesKey};
 ghost use Rattle.uca_handle.specs.Collator.{held};
 ghost use Rattle.uca_c.specs.Reports.{IsRefused, Reports, ReportsStatus, bounds_report, check_report, compare_report, digest_after, fingerprint_status, key_report, lower_size_after, open_report, order_after, share_status, size_after, upper_size_after};
 ghost use Rattle.uca_c.specs.Settings.{settings_named};
@@ -16,8 +16,8 @@ mod settings;
 use numbers::BAD_SETTINGS;
 pub use reports::{Digest, Fault};
 use reports::{
-    NO_FAULT, of_bounds, of_check, of_comparison, of_fingerprint, of_key, of_opening, of_sharing,
-    order_number,
+    NO_FAULT, of_bounds, of_check, of_comparison, of_fingerprint, of_opening, of_sharing,
+    order_number, report_key,
 };
 pub use settings::RawSettings;
 use settings::settings_of;
@@ -137,13 +137,31 @@ pub extern "C" fn uca_sort_key(
         *fault = NO_FAULT;
         return BAD_SETTINGS;
     };
-    let outcome = collator.sort_key(alloc, s, text, out);
-    if let Ok(size) = outcome {
-        *needed = size;
-    }
-    let report = of_key(outcome);
-    *fault = report.fault;
-    report.status
+    report_key(collator.sort_key(alloc, s, text, out), needed, fault)
+}
+
+/// Writes the sort key of a text into the front of a buffer, or as many of its bytes as fit, and reports how many it has. It
+/// takes no memory.
+#[unsafe(no_mangle)]
+pub extern "C" fn uca_write_key(
+    alloc: Global,
+    collator: &mut Collator,
+    settings: &RawSettings,
+    text: &[u8],
+    out: &mut [u8],
+    needed: &mut usize,
+    fault: &mut Fault,
+) -> u32
+    ensures key { MatchOption (settings_named settings.now)
+        (IsRefused result fault.new × (out.new ≡ out.old) × (needed.new ≡ needed.old))
+        (λ s. Reports key_report result fault.new (λ outcome. WritesKey (held collator.old) s text.now out.old out.new outcome × (needed.new ≡ size_after needed.old outcome))) }
+    ensures same { held collator.new ≡ held collator.old }
+{
+    let Some(s) = settings_of(settings) else {
+        *fault = NO_FAULT;
+        return BAD_SETTINGS;
+    };
+    report_key(collator.write_key(alloc, s, text, out), needed, fault)
 }
 
 /// Puts the two ends of the keys of all texts that begin with a text into the fronts of two buffers, or as many of their

@@ -1,5 +1,5 @@
 ghost use Rattle.std.specs.Prelude.{◌≡◌};
-ghost use Rattle.uca_c.specs.Reports.{bounds_report, check_report, compare_report, fingerprint_status, key_report, open_report, order_number, placed, plain, rule_kind, share_status, table_kind, tailoring_kind, text_report};
+ghost use Rattle.uca_c.specs.Reports.{bounds_report, check_report, compare_report, fingerprint_status, key_report, open_report, order_number, placed, plain, rule_kind, share_status, size_after, table_kind, tailoring_kind, text_report};
 
 use crate::numbers::*;
 use std::cmp::Ordering;
@@ -193,8 +193,8 @@ pub(crate) fn of_comparison(outcome: Result<Ordering, CompareFault>) -> Report
     }
 }
 
-/// What `uca_sort_key` reports.
-pub(crate) fn of_key(outcome: Result<usize, KeyFault>) -> Report
+/// What `uca_sort_key` and `uca_write_key` report.
+fn of_key(outcome: Result<usize, KeyFault>) -> Report
     ensures { result ≡ key_report outcome }
 {
     match outcome {
@@ -203,6 +203,23 @@ pub(crate) fn of_key(outcome: Result<usize, KeyFault>) -> Report
         Err(KeyFault::Text(fault)) => Report::of_text(1, fault),
         Err(KeyFault::OutOfMemory) => Report::plain(NO_MEMORY),
     }
+}
+
+/// Reports the length of a key, or else the fault.
+pub(crate) fn report_key(
+    outcome: Result<usize, KeyFault>,
+    needed: &mut usize,
+    fault: &mut Fault,
+) -> u32
+    ensures needed { needed.new ≡ size_after needed.old outcome }
+    ensures report { key_report outcome ≡ record { status = result; fault = fault.new } }
+{
+    if let Ok(size) = outcome {
+        *needed = size;
+    }
+    let report = of_key(outcome);
+    *fault = report.fault;
+    report.status
 }
 
 /// What `uca_prefix_bounds` reports.

@@ -1,4 +1,5 @@
 mod BoundsLemmas
 mod HandleValues
 mod OpeningLemmas
+mod PlacingLemmas
 mod Values

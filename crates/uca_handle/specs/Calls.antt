@@ -1,5 +1,5 @@
 -- What the calls of a collator answer, by its table.
-use Rattle.std.specs.Prelude.{◌≡◌, ◌≢◌, ℕ, true, false, List, [], ◌++◌, length, take, drop, Option, Some, None, Result, Ok, Err, chars}
+use Rattle.std.specs.Prelude.{◌≡◌, ◌≢◌, ℕ, ◌-◌, ◌^◌, min, true, false, List, [], length, Option, Some, None, Result, Ok, Err, chars}
 use Rattle.std.specs.Option.{option_map, option_map_or}
 use Rattle.std.specs.declared.cmp.Ordering.{Ordering}
 use Rattle.sha2.specs.Sha256.{sha256}
@@ -11,6 +11,7 @@ use Rattle.uca_weights.specs.declared.settings.Settings.{Settings}
 use Rattle.uca_weights.specs.declared.settings.Variable.{Variable}
 use Rattle.uca_handle.specs.Fingerprint.{fingerprinted}
 use Rattle.uca_handle.specs.Opening.{SaysTable, RefusesTable}
+use Rattle.uca_handle.specs.Placing.{with_front}
 use Rattle.uca_handle.specs.Texts.{IsFault}
 use Rattle.uca_handle.specs.declared.bounds.BoundsSize.{BoundsSize}
 use Rattle.uca_handle.specs.declared.faults.BoundsFault.{BoundsFault}
@@ -69,10 +70,6 @@ abbrev pub Compares : Option ElementTable → Settings → List ℕ → List ℕ
 Compares None s a b result = result ≡ Err compare.Closed
 Compares (Some t) s a b result = ComparesBy t s a b result
 
--- the front of a buffer has some bytes, or as many of them as fit, and the rest of it is as it was
-abbrev pub with_front : List ℕ → List ℕ → List ℕ
-with_front bytes buffer = take (length buffer) bytes ++ drop (length bytes) buffer
-
 -- the key of a text under a table is in the front of a buffer, and this is its length
 pub record IsKeyIn (t : ElementTable) (s : Settings) (text before after : List ℕ) (size : ℕ) : Type 0 where
   pub safe : IsTextLine text
@@ -90,6 +87,24 @@ MakesKeyBy t s text before after (Err key.OutOfMemory) = IsTextLine text × (aft
 abbrev pub MakesKey : Option ElementTable → Settings → List ℕ → List ℕ → List ℕ → Result ℕ KeyFault → Type 0
 MakesKey None s text before after result = (result ≡ Err key.Closed) × (after ≡ before)
 MakesKey (Some t) s text before after result = MakesKeyBy t s text before after result
+
+-- the key of a text under a table is in the front of a buffer, and this is its length, which stops at 2^64 - 1
+pub record IsKeyWritten (t : ElementTable) (s : Settings) (text before after : List ℕ) (size : ℕ) : Type 0 where
+  pub safe : IsTextLine text
+  pub length_is : size ≡ min (length (sort_key t s (chars text))) (2 ^ 64 - 1)
+  pub written : after ≡ with_front (sort_key t s (chars text)) before
+
+-- the key is written without memory, or the buffer stays as it was
+abbrev pub WritesKeyBy : ElementTable → Settings → List ℕ → List ℕ → List ℕ → Result ℕ KeyFault → Type 0
+WritesKeyBy t s text before after (Ok size) = IsKeyWritten t s text before after size
+WritesKeyBy t s text before after (Err key.Closed) = ⊥
+WritesKeyBy t s text before after (Err (key.Text f)) = IsFault text f × (after ≡ before)
+WritesKeyBy t s text before after (Err key.OutOfMemory) = ⊥
+
+-- the same by a collator, which may have no table
+abbrev pub WritesKey : Option ElementTable → Settings → List ℕ → List ℕ → List ℕ → Result ℕ KeyFault → Type 0
+WritesKey None s text before after result = (result ≡ Err key.Closed) × (after ≡ before)
+WritesKey (Some t) s text before after result = WritesKeyBy t s text before after result
 
 -- the bytes of an end of a range of keys: none where there is no end
 abbrev pub end_bytes : Option (List ℕ) → List ℕ

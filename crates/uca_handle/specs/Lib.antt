@@ -3,4 +3,5 @@ pub mod Collator
 pub mod Fingerprint
 pub mod Held
 pub mod Opening
+pub mod Placing
 pub mod Texts

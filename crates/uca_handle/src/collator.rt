@@ -9,6 +9,7 @@ use crate::handle::Handle;
 use crate::keys::put_key;
 use crate::loose::Loose;
 use crate::opening::table_of;
+use crate::placing::write_key_of;
 use crate::texts::order_of;
 use std::alloc::{AllocError, Global};
 use std::cmp::Ordering;
@@ -36,7 +37,7 @@ impl Drop for Collator {
 }
 
 impl Collator {
-    ghost use Rattle.uca_handle.specs.Calls.{Compares, Fingerprints, MakesKey, Opens, PutsBounds, Shares};
+    ghost use Rattle.uca_handle.specs.Calls.{Compares, Fingerprints, MakesKey, Opens, PutsBounds, Shares, WritesKey};
     ghost use Rattle.uca_handle.specs.Collator.{held};
 
     /// A collator without a table.
@@ -152,6 +153,26 @@ impl Collator {
             return Err(KeyFault::Closed);
         };
         let answer = put_key(alloc, table_in(&table), s, text, out);
+        self.fill(table);
+        answer
+    }
+
+    /// Writes the sort key of a text into the front of a buffer, or as many of its bytes as fit, and returns how many bytes it
+    /// has. It takes no memory. The text is read once for each level, so a key takes longer than by [`Collator::sort_key`].
+    pub fn write_key(
+        &mut self,
+        alloc: Global,
+        s: Settings,
+        text: &[u8],
+        out: &mut [u8],
+    ) -> Result<usize, KeyFault>
+        ensures key { WritesKey (held self.old) s text.now out.old out.new result }
+        ensures same { held self.new ≡ held self.old }
+    {
+        let Some(table) = self.take(alloc) else {
+            return Err(KeyFault::Closed);
+        };
+        let answer = write_key_of(table_in(&table), s, text, out);
         self.fill(table);
         answer
     }

@@ -1,5 +1,6 @@
 ghost use Rattle.std.specs.Prelude.{◌≡◌};
-ghost use Rattle.uca_handle.specs.Calls.{MakesKeyBy, with_front};
+ghost use Rattle.uca_handle.specs.Calls.{MakesKeyBy};
+ghost use Rattle.uca_handle.specs.Placing.{with_front};
 
 use crate::faults::KeyFault;
 use crate::texts::passage_of;
