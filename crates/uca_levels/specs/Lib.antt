@@ -3,5 +3,6 @@ pub mod Reads
 pub mod InCommon
 pub mod FromCut
 pub mod WithoutFront
+pub mod TextElements
 pub mod TextWeights
 pub mod FirstWeight
