@@ -14,9 +14,8 @@ use crate::faults::CliFault;
 use std::alloc::{AllocError, Global};
 use std::str::from_utf8_unchecked;
 use uca_allkeys::element_text;
-use uca_io::OutputBuffer;
 use uca_key::KeyMaker;
-use uca_lines::{first_line, send_hex};
+use uca_lines::{OutputBlock, first_line, send_hex};
 use uca_match::elements_of;
 use uca_table::Table;
 use uca_weights::{Element, Settings, WriteFault, Writer};
@@ -69,10 +68,10 @@ pub fn text_of_line(line: &[u8]) -> Passage<'_>
     Passage::of_safe(unsafe { from_utf8_unchecked(line) })
 }
 
-/// Writes collation elements to a buffer, one after the other.
+/// Writes collation elements to a block of output, one after the other.
 fn send_each<W: Writer>(
     w: &mut W,
-    out: &mut OutputBuffer,
+    out: &mut OutputBlock,
     elements: &[Element],
 ) -> Result<(), WriteFault>
     requires { accepted out.old + 17 * length elements.now < 2 ^ 128 }
@@ -86,10 +85,10 @@ fn send_each<W: Writer>(
     Ok(())
 }
 
-/// Writes the line of some collation elements to a buffer.
+/// Writes the line of some collation elements to a block of output.
 fn send_elements<W: Writer>(
     w: &mut W,
-    out: &mut OutputBuffer,
+    out: &mut OutputBlock,
     elements: &[Element],
 ) -> Result<(), WriteFault>
     requires { accepted out.old < 2 ^ 127 }
@@ -104,8 +103,8 @@ fn send_elements<W: Writer>(
     }
 }
 
-/// Writes the line of a key to a buffer.
-fn send_key<W: Writer>(w: &mut W, out: &mut OutputBuffer, key: &[u8]) -> Result<(), WriteFault>
+/// Writes the line of a key to a block of output.
+fn send_key<W: Writer>(w: &mut W, out: &mut OutputBlock, key: &[u8]) -> Result<(), WriteFault>
     requires { accepted out.old < 2 ^ 127 }
     ensures sends { MatchResult result
         (λ _. Accepts (W.state w.old) out.old (W.state w.new) out.new (hex_line key.now))
@@ -118,7 +117,7 @@ fn send_key<W: Writer>(w: &mut W, out: &mut OutputBuffer, key: &[u8]) -> Result<
     }
 }
 
-/// Writes to a buffer what a command writes for a line.
+/// Writes to a block of output what a command writes for a line.
 fn send_line<W: Writer>(
     alloc: Global,
     form: LineForm,
@@ -127,7 +126,7 @@ fn send_line<W: Writer>(
     line: &[u8],
     keys: &mut KeyRoom,
     w: &mut W,
-    out: &mut OutputBuffer,
+    out: &mut OutputBlock,
 ) -> Result<(), CliFault>
     requires text { IsTextLine line.now }
     requires room { accepted out.old < 2 ^ 127 }
@@ -171,7 +170,7 @@ fn send_lines<W: Writer>(
         (λ _. WritesAll (W.state w.old) (W.state w.new) (lines_text form t.now s bytes.now))
         (StopsOutput (W.state w.old) (W.state w.new) (lines_text form t.now s bytes.now)) }
 {
-    let mut out = OutputBuffer::new();
+    let mut out = OutputBlock::new();
     let mut left = bytes;
     while !left.is_empty() {
         let (line, rest) = first_line(left);

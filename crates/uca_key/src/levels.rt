@@ -1,4 +1,4 @@
-ghost use Rattle.std.specs.Prelude.{◌≡◌, ◌==◌, ◌≤◌, ◌++◌, ◌∷◌, [], ℕ, List, not, filter, flat_map, take, OnOk};
+ghost use Rattle.std.specs.Prelude.{◌≡◌, ◌==◌, ◌+◌, ◌*◌, ◌≤◌, ◌++◌, ◌∷◌, [], ℕ, List, not, length, filter, flat_map, take, OnOk};
 ghost use Rattle.uca_weights.specs.declared.settings.Variable.TheVariants.{NonIgnorable};
 ghost use Rattle.uca_weights.specs.VariableWeighting.{unchanged, weighted};
 ghost use Rattle.uca_model.specs.SortKey.{weight_bytes, level_bytes, joined, all_levels, code_point_bytes};
@@ -6,110 +6,150 @@ ghost use Rattle.uca_model.specs.SortKey.{weight_bytes, level_bytes, joined, all
 use std::alloc::AllocError;
 use uca_weights::{Element, Variable, Weigher};
 
-// Appends a weight unless it is zero.
-fn push_weight(key: &mut Vec<u8>, weight: u16) -> Result<(), AllocError>
-    ensures { OnOk result (key.new.items ≡ key.old.items ++ flat_map weight_bytes (filter (λ w. not (w == 0)) (weight ∷ []))) }
+// Puts a weight to a place of a key, and returns where the next one goes: to the same place after a zero, which is left out.
+#[inline(always)]
+fn put_weight(key: &mut [u8], at: usize, weight: u16) -> usize
+    requires { at + 2 ≤ length key.old }
+    ensures front { take result key.new ≡ take at key.old ++ flat_map weight_bytes (filter (λ w. not (w == 0)) (weight ∷ [])) }
+    ensures within { result ≤ at + 2 }
 {
-    if weight == 0 {
-        return Ok(());
-    }
-    key.extend_from_slice(&weight.to_be_bytes())
+    let [high, low] = weight.to_be_bytes();
+    key[at] = high;
+    key[at + 1] = low;
+    if weight == 0 { at } else { at + 2 }
 }
 
-// Appends four weights.
-fn push_four(key: &mut Vec<u8>, a: u16, b: u16, c: u16, d: u16) -> Result<(), AllocError>
-    ensures { OnOk result (key.new.items ≡ key.old.items ++ flat_map weight_bytes (a ∷ b ∷ c ∷ d ∷ [])) }
+// Puts four weights to a place of a key.
+#[inline(always)]
+fn put_four(key: &mut [u8], at: usize, a: u16, b: u16, c: u16, d: u16)
+    requires { at + 8 ≤ length key.old }
+    ensures { take (at + 8) key.new ≡ take at key.old ++ flat_map weight_bytes (a ∷ b ∷ c ∷ d ∷ []) }
 {
     let [a_high, a_low] = a.to_be_bytes();
     let [b_high, b_low] = b.to_be_bytes();
     let [c_high, c_low] = c.to_be_bytes();
     let [d_high, d_low] = d.to_be_bytes();
-    key.extend_from_slice(&[a_high, a_low, b_high, b_low, c_high, c_low, d_high, d_low])
+    key[at..at + 8].copy_from_slice(&[a_high, a_low, b_high, b_low, c_high, c_low, d_high, d_low]);
 }
 
-// Appends the weight of one level, from 1 to 4, unless it is zero.
-fn push_weight_of(key: &mut Vec<u8>, weights: &[u16; 4], level: u8) -> Result<(), AllocError>
+// Puts the weight of one level, from 1 to 4, unless it is zero.
+#[inline(always)]
+fn put_weight_of(key: &mut [u8], at: usize, weights: &[u16; 4], level: u8) -> usize
     requires first { 1 ≤ level }
     requires last { level ≤ 4 }
-    ensures { OnOk result (key.new.items ≡ key.old.items ++ level_bytes (weights.now ∷ []) level) }
+    requires room { at + 2 ≤ length key.old }
+    ensures front { take result key.new ≡ take at key.old ++ level_bytes (weights.now ∷ []) level }
+    ensures within { result ≤ at + 2 }
 {
-    push_weight(key, weights[level as usize - 1])
+    put_weight(key, at, weights[level as usize - 1])
 }
 
-// Appends the weight of an element as the table has it, at a level from 1 to 3, unless it is zero.
-fn push_unchanged(key: &mut Vec<u8>, element: &Element, level: u8) -> Result<(), AllocError>
+// Puts the weight of an element as the table has it, at a level from 1 to 3, unless it is zero.
+#[inline(always)]
+fn put_unchanged(key: &mut [u8], at: usize, element: &Element, level: u8) -> usize
     requires first { 1 ≤ level }
     requires last { level ≤ 3 }
-    ensures { OnOk result (key.new.items ≡ key.old.items ++ level_bytes (unchanged element.now 0 ∷ []) level) }
+    requires room { at + 2 ≤ length key.old }
+    ensures front { take result key.new ≡ take at key.old ++ level_bytes (unchanged element.now 0 ∷ []) level }
+    ensures within { result ≤ at + 2 }
 {
-    push_weight(key, element.weight(level))
+    put_weight(key, at, element.weight(level))
 }
 
-// Appends the bytes of one level, from 1 to 3, of elements that keep their weights, one after the other.
-fn push_each_unchanged(key: &mut Vec<u8>, elements: &[Element], level: u8) -> Result<(), AllocError>
+// Puts the bytes of one level, from 1 to 3, of elements that keep their weights, one after the other.
+#[inline(always)]
+fn put_each_unchanged(key: &mut [u8], from: usize, elements: &[Element], level: u8) -> usize
     requires first { 1 ≤ level }
     requires last { level ≤ 3 }
-    ensures { OnOk result (key.new.items ≡ key.old.items ++ level_bytes (weighted NonIgnorable elements.now) level) }
+    requires room { from + 2 * length elements.now ≤ length key.old }
+    ensures front { take result key.new ≡ take from key.old ++ level_bytes (weighted NonIgnorable elements.now) level }
+    ensures within { result ≤ from + 2 * length elements.now }
 {
+    let mut at = from;
     for element in elements {
-        push_unchanged(key, element, level)?;
+        at = put_unchanged(key, at, element, level);
     }
-    Ok(())
+    at
 }
 
-// The same of four elements at most. Four weights that are not zero, as most are, take one check of room.
-fn push_unchanged_few(key: &mut Vec<u8>, elements: &[Element], level: u8) -> Result<(), AllocError>
+// The same of four elements at most. Four weights that are not zero, as most are, go out together.
+#[inline(always)]
+fn put_unchanged_few(key: &mut [u8], at: usize, elements: &[Element], level: u8) -> usize
     requires first { 1 ≤ level }
     requires last { level ≤ 3 }
-    ensures { OnOk result (key.new.items ≡ key.old.items ++ level_bytes (weighted NonIgnorable elements.now) level) }
+    requires room { at + 2 * length elements.now ≤ length key.old }
+    ensures front { take result key.new ≡ take at key.old ++ level_bytes (weighted NonIgnorable elements.now) level }
+    ensures within { result ≤ at + 2 * length elements.now }
 {
     if let [a, b, c, d] = elements {
         let (first, second) = (a.weight(level), b.weight(level));
         let (third, fourth) = (c.weight(level), d.weight(level));
         if first != 0 && second != 0 && third != 0 && fourth != 0 {
-            return push_four(key, first, second, third, fourth);
+            put_four(key, at, first, second, third, fourth);
+            return at + 8;
         }
     }
-    push_each_unchanged(key, elements, level)
+    put_each_unchanged(key, at, elements, level)
 }
 
-// Appends the bytes of one level, from 1 to 3, of elements that keep their weights. It is a loop of its own, since most texts
+// Puts the bytes of one level, from 1 to 3, of elements that keep their weights. It is a loop of its own, since most texts
 // come this way.
-fn push_unchanged_level(
-    key: &mut Vec<u8>,
-    elements: &[Element],
-    level: u8,
-) -> Result<(), AllocError>
+#[inline(always)]
+fn put_unchanged_level(key: &mut [u8], from: usize, elements: &[Element], level: u8) -> usize
     requires first { 1 ≤ level }
     requires last { level ≤ 3 }
-    ensures { OnOk result (key.new.items ≡ key.old.items ++ level_bytes (weighted NonIgnorable elements.now) level) }
+    requires room { from + 2 * length elements.now ≤ length key.old }
+    ensures front { take result key.new ≡ take from key.old ++ level_bytes (weighted NonIgnorable elements.now) level }
+    ensures within { result ≤ from + 2 * length elements.now }
 {
+    let mut at = from;
     let mut left = elements;
     while left.len() >= 4 {
         let (four, rest) = left.split_at(4);
-        push_unchanged_few(key, four, level)?;
+        at = put_unchanged_few(key, at, four, level);
         left = rest;
     }
-    push_each_unchanged(key, left, level)
+    put_each_unchanged(key, at, left, level)
 }
 
-// Appends the bytes of one level, from 1 to 4, of elements by their variable weighting.
-fn push_weighted_level(
-    key: &mut Vec<u8>,
+// Puts the bytes of one level, from 1 to 4, of elements by their variable weighting.
+fn put_weighted_level(
+    key: &mut [u8],
+    from: usize,
     v: Variable,
     elements: &[Element],
     level: u8,
-) -> Result<(), AllocError>
+) -> usize
     requires first { 1 ≤ level }
     requires last { level ≤ 4 }
-    ensures { OnOk result (key.new.items ≡ key.old.items ++ level_bytes (weighted v elements.now) level) }
+    requires room { from + 2 * length elements.now ≤ length key.old }
+    ensures front { take result key.new ≡ take from key.old ++ level_bytes (weighted v elements.now) level }
+    ensures within { result ≤ from + 2 * length elements.now }
 {
+    let mut at = from;
     let mut weigher = Weigher::new(v);
     for element in elements {
         let weights = weigher.weigh(*element);
-        push_weight_of(key, &weights, level)?;
+        at = put_weight_of(key, at, &weights, level);
     }
-    Ok(())
+    at
+}
+
+// Puts the bytes of one level, from 1 to 4, to a place of a key, and returns where they end. Each level of elements that keep
+// their weights has a loop of its own, which asks for no level.
+fn put_level(key: &mut [u8], at: usize, v: Variable, elements: &[Element], level: u8) -> usize
+    requires first { 1 ≤ level }
+    requires last { level ≤ 4 }
+    requires room { at + 2 * length elements.now ≤ length key.old }
+    ensures front { take result key.new ≡ take at key.old ++ level_bytes (weighted v elements.now) level }
+    ensures within { result ≤ at + 2 * length elements.now }
+{
+    match (v, level) {
+        (Variable::NonIgnorable, 1) => put_unchanged_level(key, at, elements, 1),
+        (Variable::NonIgnorable, 2) => put_unchanged_level(key, at, elements, 2),
+        (Variable::NonIgnorable, 3) => put_unchanged_level(key, at, elements, 3),
+        _ => put_weighted_level(key, at, v, elements, level),
+    }
 }
 
 // Appends the bytes of one level, from 1 to 4 (UTS #10, section 7.3, step S3).
@@ -123,11 +163,11 @@ fn push_level(
     requires last { level ≤ 4 }
     ensures { OnOk result (key.new.items ≡ key.old.items ++ level_bytes (weighted v elements.now) level) }
 {
-    key.reserve(2 * elements.len())?;
-    match v {
-        Variable::NonIgnorable if level < 4 => push_unchanged_level(key, elements, level),
-        _ => push_weighted_level(key, v, elements, level),
-    }
+    let start = key.len();
+    key.resize(start + 2 * elements.len(), 0)?;
+    let end = put_level(key.as_mut_slice(), start, v, elements, level);
+    key.truncate(end);
+    Ok(())
 }
 
 /// Appends the separator of levels (UTS #10, section 7.3, step S3.2).

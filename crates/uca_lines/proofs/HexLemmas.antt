@@ -1,7 +1,10 @@
 -- Bytes as pairs of digits, piece by piece.
-use Rattle.std.proofs.Common.{◌≡◌, ℕ, ◌*◌, List, [], ◌∷◌, ◌++◌, length, refl, sym, ap, ◌∙◌, arith}
+use Rattle.std.proofs.Common.{◌≡◌, ℕ, zero, suc, ◌+◌, ◌-◌, ◌*◌, ◌/◌, ◌%◌, ◌<◌, ◌≤◌, List, [], ◌∷◌, ◌++◌, length, take, drop, flat_map, refl, sym, ap, subst, ◌∙◌, arith, append_assoc, append-nil}
 use Rattle.std.proofs.lemmas.Grind.{flat_map-append}
-use Rattle.uca_model.specs.Output.{blank, hex_pair, hex_text}
+use Rattle.std.proofs.lemmas.List.{take_all, take-take, drop-take}
+use Rattle.std.proofs.Math.Seq.{take-add}
+use Rattle.std.specs.Simd.Lanes.{chunk}
+use Rattle.uca_model.specs.Output.{blank, hex_digit, hex_pair, hex_text}
 use Rattle.uca_model.proofs.OutputLemmas.{hex_after, hex_text-cons}
 use Rattle.uca_lines.specs.Hex.{spaced_pairs}
 
@@ -19,5 +22,61 @@ spaced_pairs-after [] = refl
 spaced_pairs-after (b ∷ bytes) = ap (λ l. blank ∷ hex_pair b ++ l) (spaced_pairs-after bytes)
 
 -- the first byte has no blank before it
-pub hex_text-first : (b : ℕ) (bytes : List ℕ) → hex_text (b ∷ bytes) ≡ hex_pair b ++ spaced_pairs bytes
+hex_text-first : (b : ℕ) (bytes : List ℕ) → hex_text (b ∷ bytes) ≡ hex_pair b ++ spaced_pairs bytes
 hex_text-first b bytes = hex_text-cons b bytes ∙ ap (λ l. hex_pair b ++ l) (spaced_pairs-after bytes)
+
+-- a first piece, and what is after it
+pub hex_text-parts : (first others : List ℕ) → 0 < length first → hex_text (first ++ others) ≡ hex_text first ++ spaced_pairs others
+hex_text-parts [] others some = absurd (omega arith)
+hex_text-parts (b ∷ first) others some =
+    hex_text-first b (first ++ others)
+    ∙ ap (λ l. hex_pair b ++ l) (flat_map-append (λ c. blank ∷ hex_pair c) first others)
+    ∙ sym (append_assoc (hex_pair b) (spaced_pairs first) (spaced_pairs others))
+    ∙ ap (λ l. l ++ spaced_pairs others) (sym (hex_text-first b first))
+
+-- the pairs of a first piece without their first blank
+without_blank : (bytes : List ℕ) → 0 < length bytes → drop 1 (spaced_pairs bytes) ≡ hex_text bytes
+without_blank [] some = absurd (omega arith)
+without_blank (b ∷ bytes) some = sym (hex_text-first b bytes)
+
+pub first_piece : (n : ℕ) (room bytes : List ℕ) → 0 < length bytes → 0 < n → take n room ≡ spaced_pairs bytes → take (n - 1) (drop 1 room) ≡ hex_text bytes
+first_piece n room bytes some more is =
+    let whole : 1 + (n - 1) ≡ n = omega arith in
+    sym (drop-take 1 (n - 1) room) ∙ ap (λ m. drop 1 (take m room)) whole ∙ ap (drop 1) is ∙ without_blank bytes some
+
+-- nothing is left
+pub all_sent : (sent left bytes : List ℕ) → length left ≡ 0 → sent ++ spaced_pairs left ≡ spaced_pairs bytes → sent ≡ spaced_pairs bytes
+all_sent sent [] bytes none complete = sym (append-nil sent) ∙ complete
+all_sent sent (b ∷ left) bytes none complete = absurd (omega arith)
+
+-- ---- sixteen bytes at a time
+
+pub take-spaced_pairs : (n : ℕ) (bytes : List ℕ) → take (3 * n) (spaced_pairs bytes) ≡ spaced_pairs (take n bytes)
+take-spaced_pairs zero bytes = refl
+take-spaced_pairs (suc n) [] =
+    let three : suc (suc (suc (3 * n))) ≡ 3 * suc n = omega arith in
+    let P : ℕ → Type 0 = λ k. take k (spaced_pairs []) ≡ spaced_pairs (take (suc n) []) in
+    subst P three refl
+take-spaced_pairs (suc n) (b ∷ bytes) =
+    let three : suc (suc (suc (3 * n))) ≡ 3 * suc n = omega arith in
+    let P : ℕ → Type 0 = λ k. take k (spaced_pairs (b ∷ bytes)) ≡ spaced_pairs (take (suc n) (b ∷ bytes)) in
+    subst P three (ap (λ l. blank ∷ hex_digit (b / 16) ∷ hex_digit (b % 16) ∷ l) (take-spaced_pairs n bytes))
+
+-- one block more
+pub spaced_pairs-block : (n : ℕ) (bytes : List ℕ) → spaced_pairs (take (n + 16) bytes) ≡ spaced_pairs (take n bytes) ++ spaced_pairs (chunk n 16 bytes)
+spaced_pairs-block n bytes = ap spaced_pairs (take-add n 16 bytes) ∙ flat_map-append (λ b. blank ∷ hex_pair b) (take n bytes) (chunk n 16 bytes)
+
+-- fewer of the bytes that were put
+pub put_fewer : (n m : ℕ) (room bytes : List ℕ) → n ≤ m → take (3 * m) room ≡ spaced_pairs (take m bytes) → take (3 * n) room ≡ spaced_pairs (take n bytes)
+put_fewer n m room bytes le done =
+    sym (take-take (3 * n) (3 * m) room (omega arith)) ∙ ap (take (3 * n)) done ∙ take-spaced_pairs n (take m bytes) ∙ ap spaced_pairs (take-take n m bytes le)
+
+-- the last block completes the bytes
+pub put_last : (last : ℕ) (before after bytes : List ℕ) → length bytes ≡ last + 16 → take (3 * last) before ≡ spaced_pairs (take last bytes) → take (3 * (last + 16)) after ≡ take (3 * last) before ++ spaced_pairs (chunk last 16 bytes)
+    → take (3 * length bytes) after ≡ spaced_pairs bytes
+put_last last before after bytes long done more =
+    ap (λ n. take (3 * n) after) long
+    ∙ more
+    ∙ ap (λ l. l ++ spaced_pairs (chunk last 16 bytes)) done
+    ∙ sym (spaced_pairs-block last bytes)
+    ∙ ap spaced_pairs (take_all (last + 16) bytes (omega (arith, long)))

@@ -1,2 +1,3 @@
+pub mod HexLanes
 pub mod LinesLemmas
 pub mod HexLemmas

@@ -1,15 +1,18 @@
 //! The lines of an input, which are texts, and bytes as hexadecimal digits.
 //!
 //! [`read_lines`] reads an input to its end and looks at each line: it is UTF-8, and a safe text. Then [`first_line`]
-//! takes the lines one by one. [`send_hex`] writes bytes as digits to a buffer.
+//! takes the lines one by one. An [`OutputBlock`] holds an output back until it is long, and [`send_hex`] writes bytes as
+//! digits to it.
 #![tactic(auto)]
 
 pub mod faults;
 mod hex;
 mod input;
 mod lines;
+pub mod output_block;
 
 pub use faults::{InputCause, InputFault};
 pub use hex::send_hex;
 pub use input::{read_input, refused};
 pub use lines::{check_lines, first_line, is_one_line, read_lines, read_one_line};
+pub use output_block::OutputBlock;

@@ -15,10 +15,9 @@ use crate::faults::CliFault;
 use crate::keyed_line::{KeyedLine, KeyedLines};
 use crate::output::text_of_line;
 use std::alloc::{AllocError, Global};
-use uca_io::OutputBuffer;
-use uca_io::output_buffer::ROOM;
 use uca_key::KeyMaker;
-use uca_lines::{first_line, read_lines};
+use uca_lines::output_block::BLOCK;
+use uca_lines::{OutputBlock, first_line, read_lines};
 use uca_table::Table;
 use uca_weights::{Reader, Settings, WriteFault, Writer};
 
@@ -76,24 +75,24 @@ fn sort_lines(lines: &mut Vec<KeyedLine<'_>>) -> Result<(), AllocError>
     lines.sort_by(|a, b| a.compare_keys(b))
 }
 
-/// Writes bytes to a buffer, however many they are.
-fn send_bytes<W: Writer>(w: &mut W, out: &mut OutputBuffer, bytes: &[u8]) -> Result<(), WriteFault>
+/// Writes bytes to a block of output, however many they are.
+fn send_bytes<W: Writer>(w: &mut W, out: &mut OutputBlock, bytes: &[u8]) -> Result<(), WriteFault>
     requires { accepted out.old + length bytes.now < 2 ^ 128 }
     ensures { MatchResult result
         (λ _. Accepts (W.state w.old) out.old (W.state w.new) out.new bytes.now)
         (λ f. FailsPartway (W.state w.old) out.old (W.state w.new) bytes.now f) }
 {
     let mut left = bytes;
-    while left.len() > ROOM {
-        let (front, rest) = left.split_at(ROOM);
+    while left.len() > BLOCK {
+        let (front, rest) = left.split_at(BLOCK);
         out.write(w, front)?;
         left = rest;
     }
     out.write(w, left)
 }
 
-/// Writes a line to a buffer, with LF.
-fn send_line<W: Writer>(w: &mut W, out: &mut OutputBuffer, line: &[u8]) -> Result<(), WriteFault>
+/// Writes a line to a block of output, with LF.
+fn send_line<W: Writer>(w: &mut W, out: &mut OutputBlock, line: &[u8]) -> Result<(), WriteFault>
     requires { accepted out.old < 2 ^ 127 }
     ensures sends { MatchResult result
         (λ _. Accepts (W.state w.old) out.old (W.state w.new) out.new (line.now ++ line_feed ∷ []))
@@ -113,7 +112,7 @@ fn write_keyed<W: Writer>(lines: &[KeyedLine<'_>], w: &mut W) -> Result<(), Writ
         (λ _. WritesAll (W.state w.old) (W.state w.new) (text_of_lines (map line_of lines.now)))
         (WritesFront (W.state w.old) (W.state w.new) (text_of_lines (map line_of lines.now))) }
 {
-    let mut out = OutputBuffer::new();
+    let mut out = OutputBlock::new();
     for keyed in lines {
         send_line(w, &mut out, keyed.line())?;
     }

@@ -1,9 +1,12 @@
-use Rattle.std.proofs.Common.{◌≡◌, ◌*◌, ◌++◌, take, drop}
+use Rattle.std.proofs.Common.{◌≡◌, ◌+◌, ◌-◌, ◌*◌, ◌<◌, length, take}
 use Rattle.uca_lines.specs.Hex.{spaced_pairs}
 use Rattle.uca_lines.proofs.hex.put_pairs.Given as goal
 
-abbrev pub invariant-loop-byte : goal.invariant-loop-byte
-invariant-loop-byte l = record {
-  place : l.at ≡ 3 * l.byte-index;
-  done : take l.at l.room ++ spaced_pairs (drop l.byte-index l.bytes) ≡ spaced_pairs l.bytes;
+abbrev pub invariant-loop-from : goal.invariant-loop-from
+invariant-loop-from l = record {
+  within : l.from < length l.bytes;
+  done : take (3 * l.from) l.room ≡ spaced_pairs (take l.from l.bytes);
 }
+
+abbrev pub decreases-loop-from : goal.decreases-loop-from
+decreases-loop-from l = length l.bytes + 16 - l.from

@@ -1,10 +1,10 @@
-use Rattle.std.proofs.Common.{◌≡◌, ℕ, ◌+◌, List, ◌++◌, length, refl, sym, arith}
+use Rattle.std.proofs.Common.{◌≡◌, ℕ, ◌+◌, List, ◌++◌, length, refl, sym, subst, eqb-true, arith}
 use Rattle.std.proofs.lemmas.Result.{err_from_is_err_and}
-use Rattle.uca_io.specs.OutputBuffer.{accepted}
+use Rattle.uca_io.specs.OutputBuffer.{accepted, Accepts}
 use Rattle.uca_io.proofs.BufferLemmas.{accepted-Accepts}
-use Rattle.uca_io.proofs.SendLemmas.{both_sent, sent_more, stopped_there}
+use Rattle.uca_io.proofs.SendLemmas.{sent_more, stopped_there}
 use Rattle.uca_lines.specs.Hex.{spaced_pairs}
-use Rattle.uca_lines.proofs.HexLemmas.{length-spaced_pairs, spaced_pairs-parts}
+use Rattle.uca_lines.proofs.HexLemmas.{length-spaced_pairs, spaced_pairs-parts, all_sent}
 use Rattle.uca_lines.proofs.hex.send_spaced.Goals as goal
 
 pub returns-in_err-send_pairs : goal.returns-in_err-send_pairs
@@ -29,4 +29,5 @@ loop-left-preserved g c =
 
 pub returns : goal.returns
 returns g c =
-    rw (sym c.loop-left.invariant.complete) (both_sent _ _ _ _ _ _ c.loop-left.invariant.sent (spaced_pairs c.loop-left.left.now) c.send_pairs-2.result c.loop-left.invariant.sends c.send_pairs-2.ensures)
+    let none : length c.loop-left.left.now ≡ 0 = eqb-true _ _ (sym c.loop-left-test.ensures) in
+    subst (λ (l : List ℕ). Accepts (g.W.Writer.state c.args.w.now) c.args.out.now (g.W.Writer.state c.loop-left.w) c.loop-left.out l) (all_sent c.loop-left.invariant.sent c.loop-left.left.now c.args.bytes.now none c.loop-left.invariant.complete) c.loop-left.invariant.sends

@@ -1,0 +1,13 @@
+use Rattle.std.proofs.Common.{◌≡◌, ◌+◌, ◌*◌, ◌≤◌, ◌++◌, take, drop}
+use Rattle.uca_weights.specs.VariableWeighting.{weighted, weighted_after}
+use Rattle.uca_weights.specs.Weigher.{HasSeen}
+use Rattle.uca_model.specs.SortKey.{level_bytes}
+use Rattle.uca_key.proofs.levels.put_weighted_level.Given as goal
+
+-- what is put and the bytes of what is left are the bytes of all
+abbrev pub invariant-loop-element : goal.invariant-loop-element
+invariant-loop-element l = record {
+  seen : HasSeen l.fn.v l.weigher (take l.element-index l.elements);
+  within : l.at ≤ l.from + 2 * l.element-index;
+  same : take l.at l.key ++ level_bytes (weighted_after l.fn.v (take l.element-index l.elements) (drop l.element-index l.elements)) l.level ≡ take l.from l.fn.key ++ level_bytes (weighted l.fn.v l.elements) l.level;
+}

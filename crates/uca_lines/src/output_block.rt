@@ -1,0 +1,85 @@
+ghost use Rattle.std.specs.Prelude.{◌≡◌, ◌+◌, ◌^◌, ◌<◌, ◌≤◌, [], length, MatchResult, OnErr};
+
+use arrayvec::ArrayVec;
+use std::marker::Model;
+use uca_io::write_whole;
+use uca_weights::{WriteFault, Writer};
+
+/// How many bytes wait at most until they go out, and how long a piece may be. Eight times as many as an
+/// `uca_io::OutputBuffer` holds take half the system's time for a byte.
+pub const BLOCK: usize = 65_536;
+
+/// A buffer before a [`Writer`], for outputs of many lines: what waits to go out, and the count of bytes that went out
+/// before it. Pieces go out in their order, and a fault reports how many bytes of all pieces went out.
+#[derive(Drop)]
+pub struct OutputBlock {
+    waiting: ArrayVec<u8, BLOCK>,
+    written: u128,
+}
+
+impl Model for OutputBlock {
+    ghost use Rattle.uca_io.specs.BufferState.{BufferState};
+
+    ghost Value = { BufferState };
+
+    ghost view = { λ o. record { waiting = o.waiting.items; written = o.written } };
+}
+
+impl OutputBlock {
+    ghost use Rattle.uca_io.specs.OutputBuffer.{accepted, Accepts, FailsPartway};
+
+    /// Nothing waits, and nothing went out.
+    pub fn new() -> OutputBlock
+        ensures written { result.written ≡ 0 }
+        ensures waiting { result.waiting ≡ [] }
+    {
+        OutputBlock {
+            waiting: ArrayVec::new(),
+            written: 0,
+        }
+    }
+
+    /// Writes what waits. On a fault the block stays as it was, and only the fault reports what went out of it.
+    pub fn flush<W: Writer>(&mut self, w: &mut W) -> Result<(), WriteFault>
+        requires { accepted self.old < 2 ^ 128 }
+        ensures all { MatchResult result
+            (λ _. Accepts (W.state w.old) self.old (W.state w.new) self.new [])
+            (λ f. FailsPartway (W.state w.old) self.old (W.state w.new) [] f) }
+        ensures empty { MatchResult result (λ _. self.new.waiting ≡ []) (λ _. Unit {0}) }
+        ensures err { OnErr result (self.new ≡ self.old) }
+    {
+        match write_whole(w, self.waiting.as_slice()) {
+            Ok(()) => {
+                self.written += self.waiting.len() as u128;
+                self.waiting.clear();
+                Ok(())
+            }
+            Err(fault) => Err(WriteFault {
+                written: self.written + fault.written,
+                cause: fault.cause,
+            }),
+        }
+    }
+
+    /// Writes a piece, now or later. On a fault the block stays as it was, without the piece, and only the fault
+    /// reports what went out of it.
+    pub fn write<W: Writer>(&mut self, w: &mut W, piece: &[u8]) -> Result<(), WriteFault>
+        requires short { length piece.now ≤ BLOCK }
+        requires room { accepted self.old + length piece.now < 2 ^ 128 }
+        ensures all { MatchResult result
+            (λ _. Accepts (W.state w.old) self.old (W.state w.new) self.new piece.now)
+            (λ f. FailsPartway (W.state w.old) self.old (W.state w.new) piece.now f) }
+        ensures err { OnErr result (self.new ≡ self.old) }
+    {
+        if self.waiting.try_extend_from_slice(piece).is_ok() {
+            return Ok(());
+        }
+        match self.flush(w) {
+            Ok(()) => {
+                self.waiting.try_extend_from_slice(piece).unwrap();
+                Ok(())
+            }
+            Err(fault) => Err(fault),
+        }
+    }
+}
