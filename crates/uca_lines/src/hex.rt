@@ -145,11 +145,7 @@ fn send_spaced<W: Writer>(w: &mut W, out: &mut OutputBlock, bytes: &[u8]) -> Res
 }
 
 /// Writes bytes to a buffer as pairs of digits, with one blank between.
-pub fn send_hex<W: Writer>(
-    w: &mut W,
-    out: &mut OutputBlock,
-    bytes: &[u8],
-) -> Result<(), WriteFault>
+pub fn send_hex<W: Writer>(w: &mut W, out: &mut OutputBlock, bytes: &[u8]) -> Result<(), WriteFault>
     requires { accepted out.old + 3 * length bytes.now < 2 ^ 128 }
     ensures { MatchResult result
         (λ _. Accepts (W.state w.old) out.old (W.state w.new) out.new (hex_text bytes.now))
