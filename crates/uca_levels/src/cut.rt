@@ -1,5 +1,5 @@
-ghost use Rattle.std.specs.Prelude.{◌≡◌, IsTrue, chars, length, take, ◌+◌, ◌++◌, ◌<◌, ◌≤◌};
-ghost use Rattle.std.specs.Str.{IsCharBoundary, IsUtf8};
+ghost use Rattle.std.specs.Prelude.{◌≡◌, IsTrue, chars, length, take, ◌+◌, ◌≤◌};
+ghost use Rattle.std.specs.Str.{IsCharBoundary};
 ghost use Rattle.std.specs.Simd.Lanes.{chunk};
 ghost use Rattle.uca_model.specs.SafeCut.{is_cut};
 ghost use Rattle.uca_levels.specs.WithoutFront.{AreWithoutFront, MayFollow};
@@ -11,9 +11,6 @@ use unicode_normalization::char::decomposition;
 
 /// How many bytes are looked at together.
 const LANES: usize = 16;
-
-/// How many characters are looked at for the end of a stretch.
-const FEW: usize = 32;
 
 /// Whether a text may be cut before a character.
 pub(crate) fn may_cut(t: &Table, c: char) -> bool
@@ -118,24 +115,4 @@ pub(crate) fn without_front<'t>(
         at -= 1;
     }
     (a, b)
-}
-
-/// A text in two parts, each of which has its elements by itself. The first is a stretch of one character or more, as far
-/// as no place to cut the text is found within some characters after it, or to the end.
-pub(crate) fn stretch_of<'t>(t: &Table, text: &'t str) -> (&'t str, &'t str)
-    ensures parts { chars text.now ≡ chars result.0.now ++ chars result.1.now }
-    ensures follows { MayFollow t.now (chars result.1.now) }
-    ensures utf8 { IsUtf8 result.1.now }
-    ensures shorter { 0 < length text.now → length result.1.now < length text.now }
-{
-    let mut rest = text.chars();
-    let _first = rest.next();
-    for _ in 0..FEW {
-        let left = rest.as_str();
-        if may_follow(t, left) {
-            return text.split_at(text.len() - left.len());
-        }
-        let _passed = rest.next();
-    }
-    (text, "")
 }

@@ -1,5 +1,4 @@
-ghost use Rattle.std.specs.Prelude.{◌≡◌, ◌≤◌, false};
-ghost use Rattle.uca_weights.specs.declared.settings.Variable.TheVariants.{Shifted};
+ghost use Rattle.std.specs.Prelude.{◌≡◌, ◌≤◌, IfOk, chars};
 ghost use Rattle.uca_model.specs.LevelWeights.{level_list};
 ghost use Rattle.uca_model.specs.DecidingLevel.{OrdersLevel};
 ghost use Rattle.uca_model.specs.SortKey.{key_order, sort_key};
@@ -8,58 +7,47 @@ ghost use Rattle.uca_window.specs.Passage.{text_of};
 use crate::cut::{common_front, without_front};
 use crate::first_weight::order_after;
 use crate::level_order::order_of_level;
+use crate::text_elements::NotAlone;
 use crate::text_weights::TextWeights;
 use std::cmp::Ordering;
 use uca_table::Table;
 use uca_weights::{Settings, Variable};
 use uca_window::{Passage, PassageSource};
 
-// The order of two texts in memory at a level of weights.
-fn order_of_weights(t: &Table, v: Variable, level: u8, a: &Passage, b: &Passage) -> Ordering
+// The order of two texts at a level of weights, where the characters of both stand alone up to their first difference.
+fn order_of_alone(t: &Table, v: Variable, level: u8, a: &str, b: &str) -> Result<Ordering, NotAlone>
     requires first { 1 ≤ level }
     requires last { level ≤ 4 }
-    ensures { OrdersLevel level (level_list t.now v (text_of a.now) level) (level_list t.now v (text_of b.now) level) result }
+    ensures { IfOk result (OrdersLevel level (level_list t.now v (chars a.now) level) (level_list t.now v (chars b.now) level)) }
 {
     let mut left = TextWeights::new(t, v, level, a);
     let mut right = TextWeights::new(t, v, level, b);
     loop {
-        let x = left.next();
-        let y = right.next();
+        let x = left.next()?;
+        let y = right.next()?;
         match (x, y) {
             (Some(x), Some(y)) => {
                 if x != y {
-                    return x.cmp(&y);
+                    return Ok(x.cmp(&y));
                 }
             }
-            (None, None) => return Ordering::Equal,
-            (None, Some(_)) => return Ordering::Less,
-            (Some(_), None) => return Ordering::Greater,
+            (None, None) => return Ok(Ordering::Equal),
+            (None, Some(_)) => return Ok(Ordering::Less),
+            (Some(_), None) => return Ok(Ordering::Greater),
         }
     }
 }
 
-// Whether some text has weights at the fourth level.
-fn has_fourth_level(v: Variable) -> bool
-    ensures { result ≡ false → ¬ (v ≡ Shifted) }
-{
-    match v {
-        Variable::Shifted => true,
-        Variable::NonIgnorable | Variable::Blanked => false,
-    }
-}
-
-// The order of two texts in memory at one level. At the fourth only shifted elements have weights, so that the texts are
-// not read there by other options.
+// The order of two texts in memory at one level.
 fn order_of_texts(t: &Table, v: Variable, level: u8, a: &Passage, b: &Passage) -> Ordering
     requires first { 1 ≤ level }
     requires last { level ≤ 5 }
     ensures { OrdersLevel level (level_list t.now v (text_of a.now) level) (level_list t.now v (text_of b.now) level) result }
 {
-    if level == 4 && !has_fourth_level(v) {
-        return Ordering::Equal;
-    }
     if level < 5 {
-        return order_of_weights(t, v, level, a, b);
+        if let Ok(order) = order_of_alone(t, v, level, a.as_str(), b.as_str()) {
+            return order;
+        }
     }
     let mut left = PassageSource::new(a);
     let mut right = PassageSource::new(b);

@@ -1,15 +1,14 @@
-use Rattle.std.proofs.Common.{◌≡◌, length}
+use Rattle.std.proofs.Common.{◌≡◌, length, chars}
 use Rattle.uca_model.specs.LevelWeights.{level_list}
-use Rattle.uca_window.specs.Passage.{text_of}
 use Rattle.uca_levels.specs.Reads.{InStep}
 use Rattle.uca_levels.specs.TextWeights.{weights_left}
-use Rattle.uca_levels.proofs.text_order.order_of_weights.Given as goal
+use Rattle.uca_levels.proofs.text_order.order_of_alone.Given as goal
 
 abbrev pub invariant-loop-x : goal.invariant-loop-x
 invariant-loop-x l = record {
   level_a : l.left.level ≡ l.level;
   level_b : l.right.level ≡ l.level;
-  lists : InStep (level_list l.t l.fn.v (text_of l.fn.a) l.level) (level_list l.t l.fn.v (text_of l.fn.b) l.level) (weights_left l.left) (weights_left l.right);
+  lists : InStep (level_list l.t l.fn.v (chars l.a) l.level) (level_list l.t l.fn.v (chars l.b) l.level) (weights_left l.left) (weights_left l.right);
 }
 
 abbrev pub decreases-loop-x : goal.decreases-loop-x
