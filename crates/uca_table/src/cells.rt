@@ -503,7 +503,8 @@ impl Cells {
         }
     }
 
-    // The cell of a character by its block.
+    // The cell of a character by its block. It is seldom asked for, and would keep the look-up of the others from being inlined.
+    #[inline(never)]
     fn cell_in_block(&self, c: char) -> Cell
         ensures { (t : _) → HoldsCells t self.now → IsCell t self.now.elements.items c result }
     {
@@ -514,6 +515,7 @@ impl Cells {
         }
     }
 
+    #[inline(always)]
     fn cell(&self, c: char) -> Cell
         ensures { (t : _) → HoldsCells t self.now → IsCell t self.now.elements.items c result }
     {

@@ -178,7 +178,7 @@ impl Table {
     }
 
     /// The collation elements of a character, where no text after it changes them (UTS #10, section 7.2). It takes no
-    /// memory. `None`: some text may change them.
+    /// memory. `None`: that is not known.
     pub fn always_alone(&self, c: char) -> Option<&[Element]>
         ensures { IfSome result (λ es. (after : List ℕ) → es.now ++ elements self.now (nfd after) ≡ elements self.now (nfd (c ∷ after))) }
     {
