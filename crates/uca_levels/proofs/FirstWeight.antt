@@ -108,8 +108,3 @@ some_first (y ∷ ys) x d some is = ap (λ z. z ∷ ys) (sym is)
 pub order-of : (t : ElementTable) (v : Variable) (x y u w : Option ℕ) (o p : Ordering) → x ≡ u → y ≡ w → o ≡ p → OrderTexts t v u w p → OrderTexts t v x y o
 order-of t v x y u w o p e f same h =
     subst (λ k. OrderTexts t v k y o) (sym e) (subst (λ k. OrderTexts t v u k o) (sym f) (subst (λ k. OrderTexts t v u w k) (sym same) h))
-
--- what an order brings
-pub if_order : (result : Option Ordering) (P Q : Ordering → Type 0) → ((o : Ordering) → P o → Q o) → IfSome result P → IfSome result Q
-if_order None P Q brings h = h
-if_order (Some o) P Q brings h = brings o h

@@ -1,39 +1,32 @@
 -- Two texts without a common front have the order of the whole texts.
-use Rattle.std.proofs.Common.{◌⊎◌, ◌≡◌, ℕ, zero, suc, ◌-◌, ◌≤◌, ◌==◌, List, [], ◌∷◌, ◌++◌, Option, take, drop, chars, IsUtf8, refl, sym, ap, subst, ◌∙◌, arith, inl, inr, append-nil}
+use Rattle.std.proofs.Common.{◌⊎◌, ◌≡◌, ℕ, zero, suc, ◌-◌, ◌≤◌, ◌==◌, List, [], ◌∷◌, ◌++◌, take, drop, chars, IsUtf8, refl, sym, ap, subst, ◌∙◌, arith, inl, inr, append-nil}
 use Rattle.std.proofs.lemmas.Bool.{cases_Bool, cond-true, cond-false}
 use Rattle.std.proofs.lemmas.List.{take-append-drop}
 use Rattle.std.proofs.lemmas.Str.{chars-append, IsUtf8-take}
 use Rattle.std.specs.Str.{IsCharBoundary}
-use Rattle.std.specs.Ordering.{nat_cmp, ordering_then}
 use Rattle.std.specs.declared.cmp.Ordering.{Ordering}
-use Rattle.std.specs.declared.cmp.Ordering.TheVariants.{Equal}
 use Rattle.unicode_normalization.proofs.OrderLemmas.{canonical_order-nil}
-use Rattle.uca_weights.specs.declared.settings.Settings.{Settings}
 use Rattle.uca_weights.specs.declared.settings.Variable.{Variable}
 use Rattle.uca_weights.specs.VariableWeighting.{weighted}
 use Rattle.uca_model.specs.Table.{ElementTable, IsTable}
 use Rattle.uca_model.specs.LevelWeights.{level_weights, level_list}
 use Rattle.uca_model.specs.DecidingLevel.{OrdersLevel}
 use Rattle.uca_model.specs.SafeText.{IsSafe}
-use Rattle.uca_model.specs.SortKey.{key_order, sort_key}
 use Rattle.uca_model.proofs.LevelLemmas.{OrdersLevel-front}
 use Rattle.uca_model.proofs.SafeLemmas.{nfd-is, safe_none}
 use Rattle.uca_model.proofs.StandAloneLemmas.{elements_none}
 use Rattle.uca_model.proofs.SafeCutLemmas.{IsCut-from, level_list-cut, IsSafe-back}
-use Rattle.uca_window.specs.declared.passage.Passage.{Passage}
-use Rattle.uca_window.specs.Passage.{bytes_of, text_of}
-use Rattle.uca_levels.specs.FirstWeight.{GoesOnWith, OrderTexts, going_on}
 use Rattle.uca_levels.specs.WithoutFront.{MayFollow, AreWithoutFront}
 
 -- ---- level lists
 
-no_list : (t : ElementTable) (v : Variable) (level : ℕ) → level_list t v [] level ≡ []
+pub no_list : (t : ElementTable) (v : Variable) (level : ℕ) → level_list t v [] level ≡ []
 no_list t v level = elim (cases_Bool (level == 5)) [
   | inl five ↦ cond-true _ _ _ five ∙ (nfd-is [] ∙ canonical_order-nil)
   | inr weights ↦ cond-false _ _ _ weights ∙ ap (λ es. level_weights level (weighted v es)) (elements_none t)
 ]
 
-lists-follow : (t : ElementTable) (v : Variable) (front left : List ℕ) (level : ℕ) → IsTable t → MayFollow t left → level_list t v (front ++ left) level ≡ level_list t v front level ++ level_list t v left level
+pub lists-follow : (t : ElementTable) (v : Variable) (front left : List ℕ) (level : ℕ) → IsTable t → MayFollow t left → level_list t v (front ++ left) level ≡ level_list t v front level ++ level_list t v left level
 lists-follow t v front left level valid may =
     elim may [
       | inl none ↦
@@ -78,20 +71,6 @@ left-safe t a b x y h safe_a safe_b =
       | inr both ↦ (safe-follow t h.front x both.0 (subst IsSafe h.first safe_a), safe-follow t h.front y both.1 (subst IsSafe h.second safe_b))
     ]
 
--- ---- equal texts
-
-number-same : (n : ℕ) → nat_cmp n n ≡ Equal
-number-same n = grind arith
-
-order-same : (xs : List ℕ) → key_order xs xs ≡ Equal
-order-same [] = refl
-order-same (x ∷ xs) = ap (λ o. ordering_then o (key_order xs xs)) (number-same x) ∙ order-same xs
-
--- where nothing is left of either, they are the same
-pub left-none : (t : ElementTable) (s : Settings) (a b x y : List ℕ) → AreWithoutFront t a b x y → x ≡ [] → y ≡ [] → key_order (sort_key t s a) (sort_key t s b) ≡ Equal
-left-none t s a b x y h none_x none_y =
-    ap (λ u. key_order (sort_key t s a) (sort_key t s u)) (h.second ∙ ap (λ l. h.front ++ l) (none_y ∙ sym none_x) ∙ sym h.first) ∙ order-same (sort_key t s a)
-
 -- ---- their bytes
 
 -- the characters before a place and those after it
@@ -109,16 +88,6 @@ left-at t a b x y at utf8_a utf8_b inside_a inside_b same of_a of_b may_a may_b 
   follow = inr (may_a, may_b);
 }
 
--- the texts have the order of what they go on with from there
-pub orders-after : (t : ElementTable) (v : Variable) (a b left right : List ℕ) (at : ℕ) (x y : Option ℕ) (o : Ordering) → IsUtf8 a → IsUtf8 b → IsCharBoundary a at → IsCharBoundary b at → take at a ≡ take at b → left ≡ drop at a → right ≡ drop at b
-    → GoesOnWith x (chars left) → GoesOnWith y (chars right) → OrderTexts t v x y o → OrdersLevel 1 (level_list t v (chars a) 1) (level_list t v (chars b) 1) o
-orders-after t v a b left right at x y o utf8_a utf8_b inside_a inside_b same of_a of_b on_a on_b orders =
-    let front = chars (take at a) in
-    let is_a : chars a ≡ front ++ going_on x on_a.later = parts-at a left at utf8_a inside_a of_a ∙ ap (λ l. front ++ l) on_a.same in
-    let is_b : chars b ≡ front ++ going_on y on_b.later = parts-at b right at utf8_b inside_b of_b ∙ ap (λ f. chars f ++ chars right) (sym same) ∙ ap (λ l. front ++ l) on_b.same in
-    subst (λ l. OrdersLevel 1 (level_list t v l 1) (level_list t v (chars b) 1) o) (sym is_a)
-    (subst (λ l. OrdersLevel 1 (level_list t v (front ++ going_on x on_a.later) 1) (level_list t v l 1) o) (sym is_b) (orders front on_a.later on_b.later))
-
 pub left-whole : (t : ElementTable) (a b : List ℕ) → AreWithoutFront t a b a b
 left-whole t a b = record { front = []; first = refl; second = refl; follow = inl refl }
 
@@ -134,18 +103,3 @@ same-before a b at same = sym (shorter a) ∙ ap (take (at - 1)) same ∙ shorte
   where
     shorter : (l : List ℕ) → take (at - 1) (take at l) ≡ take (at - 1) l
     shorter l = take-fewer (at - 1) at l (omega arith)
-
--- the same of passages, by their bytes and those that are left
-pub orders-passages : (t : ElementTable) (v : Variable) (a b left_a left_b : Passage) (bytes_a bytes_b first second : List ℕ) (level : ℕ) (o : Ordering) → IsTable t → bytes_a ≡ bytes_of a → bytes_b ≡ bytes_of b → bytes_of left_a ≡ first → bytes_of left_b ≡ second
-    → AreWithoutFront t (chars bytes_a) (chars bytes_b) (chars first) (chars second)
-    → OrdersLevel level (level_list t v (text_of left_a) level) (level_list t v (text_of left_b) level) o → OrdersLevel level (level_list t v (text_of a) level) (level_list t v (text_of b) level) o
-orders-passages t v a b left_a left_b bytes_a bytes_b first second level o valid of_a of_b of_first of_second h orders =
-    orders-left t v (text_of a) (text_of b) (text_of left_a) (text_of left_b) level o valid whole orders
-  where
-    whole : AreWithoutFront t (text_of a) (text_of b) (text_of left_a) (text_of left_b)
-    whole = record {
-      front = h.front;
-      first = ap chars (sym of_a) ∙ h.first ∙ ap (λ u. h.front ++ chars u) (sym of_first);
-      second = ap chars (sym of_b) ∙ h.second ∙ ap (λ u. h.front ++ chars u) (sym of_second);
-      follow = subst (λ u. (h.front ≡ []) ⊎ (MayFollow t (chars u) × MayFollow t (text_of left_b))) (sym of_first) (subst (λ u. (h.front ≡ []) ⊎ (MayFollow t (chars first) × MayFollow t (chars u))) (sym of_second) h.follow);
-    }

@@ -19,11 +19,6 @@ abbrev pub going_on : Option ℕ → List ℕ → List ℕ
 going_on None later = []
 going_on (Some c) later = c ∷ later
 
--- a text begins with a character, or is at its end
-pub record GoesOnWith (x : Option ℕ) (text : List ℕ) : Type 0 where
-  pub later : List ℕ
-  pub same : text ≡ going_on x later
-
 -- whatever stands before them and after them, two characters, or ends, have texts in this order at the first level
 abbrev pub OrderTexts : ElementTable → Variable → Option ℕ → Option ℕ → Ordering → Type 0
 OrderTexts t v x y order = (front a b : List ℕ) → OrdersLevel 1 (level_list t v (front ++ going_on x a) 1) (level_list t v (front ++ going_on y b) 1) order

@@ -4,4 +4,5 @@ pub mod InCommon
 pub mod FromCut
 pub mod WithoutFront
 pub mod TextWeights
+pub mod PrimaryWeights
 pub mod FirstWeight

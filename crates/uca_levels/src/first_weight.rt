@@ -1,9 +1,6 @@
-ghost use Rattle.std.specs.Prelude.{◌≡◌, chars, take, IfSome};
-ghost use Rattle.std.specs.Str.{IsCharBoundary};
-ghost use Rattle.uca_model.specs.DecidingLevel.{OrdersLevel};
-ghost use Rattle.uca_model.specs.LevelWeights.{level_list};
+ghost use Rattle.std.specs.Prelude.{IfSome};
 ghost use Rattle.uca_model.specs.Table.{IsTable};
-ghost use Rattle.uca_levels.specs.FirstWeight.{BringsWeight, GoesOnWith, OrderTexts};
+ghost use Rattle.uca_levels.specs.FirstWeight.{BringsWeight, OrderTexts};
 
 use crate::weights::at_level;
 use std::cmp::Ordering;
@@ -69,35 +66,4 @@ pub(crate) fn order_by_first(
         }
         (None, None) => Some(Ordering::Equal),
     }
-}
-
-// The first character of a text.
-fn first_char(text: &str) -> Option<char>
-    ensures { GoesOnWith result (chars text.now) }
-{
-    let mut left = text.chars();
-    match left.next() {
-        Some(c) => Some(c),
-        None => None,
-    }
-}
-
-/// The order at the first level of two texts that have so many bytes in common. `None`: more than their first characters
-/// after these decides it.
-pub(crate) fn order_after(
-    t: &Table,
-    v: Variable,
-    a: &str,
-    b: &str,
-    common: usize,
-) -> Option<Ordering>
-    requires valid { IsTable t.now }
-    requires in_a { IsCharBoundary a.now common }
-    requires in_b { IsCharBoundary b.now common }
-    requires same { take common a.now ≡ take common b.now }
-    ensures { IfSome result (λ order. OrdersLevel 1 (level_list t.now v (chars a.now) 1) (level_list t.now v (chars b.now) 1) order) }
-{
-    let x = first_char(a.split_at(common).1);
-    let y = first_char(b.split_at(common).1);
-    order_by_first(t, v, x, y)
 }

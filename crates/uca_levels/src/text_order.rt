@@ -3,9 +3,10 @@ ghost use Rattle.uca_model.specs.LevelWeights.{level_list};
 ghost use Rattle.uca_model.specs.DecidingLevel.{OrdersLevel};
 ghost use Rattle.uca_model.specs.SortKey.{key_order, sort_key};
 ghost use Rattle.uca_window.specs.Passage.{text_of};
+ghost use Rattle.uca_levels.specs.WithoutFront.{AreWithoutFront};
 
 use crate::cut::{common_front, without_front};
-use crate::first_weight::order_after;
+use crate::in_step::order_in_step;
 use crate::level_order::order_of_level;
 use crate::text_elements::NotAlone;
 use crate::text_weights::TextWeights;
@@ -38,6 +39,17 @@ fn order_of_alone(t: &Table, v: Variable, level: u8, a: &str, b: &str) -> Result
     }
 }
 
+// The order of two texts in memory at one level, through windows.
+fn order_in_windows(t: &Table, v: Variable, level: u8, a: &Passage, b: &Passage) -> Ordering
+    requires first { 1 ≤ level }
+    requires last { level ≤ 5 }
+    ensures { OrdersLevel level (level_list t.now v (text_of a.now) level) (level_list t.now v (text_of b.now) level) result }
+{
+    let mut left = PassageSource::new(a);
+    let mut right = PassageSource::new(b);
+    order_of_level(t, v, level, &mut left, &mut right)
+}
+
 // The order of two texts in memory at one level.
 fn order_of_texts(t: &Table, v: Variable, level: u8, a: &Passage, b: &Passage) -> Ordering
     requires first { 1 ≤ level }
@@ -49,34 +61,48 @@ fn order_of_texts(t: &Table, v: Variable, level: u8, a: &Passage, b: &Passage) -
             return order;
         }
     }
-    let mut left = PassageSource::new(a);
-    let mut right = PassageSource::new(b);
-    order_of_level(t, v, level, &mut left, &mut right)
+    order_in_windows(t, v, level, a, b)
+}
+
+// What is left of two texts from the last place on at which both may be cut, of those that they have in common. What stands
+// before it can't decide their order.
+fn left_of<'t>(t: &Table, a: &Passage<'t>, b: &Passage<'t>) -> (Passage<'t>, Passage<'t>)
+    ensures { AreWithoutFront t.now (text_of a.now) (text_of b.now) (text_of result.0) (text_of result.1) }
+{
+    let (text_a, text_b) = (a.as_str(), b.as_str());
+    let common = common_front(text_a, text_b);
+    let (left_a, left_b) = without_front(t, text_a, text_b, common);
+    (Passage::of_safe(left_a), Passage::of_safe(left_b))
+}
+
+// The order of two texts in memory at the first level.
+fn first_order(t: &Table, v: Variable, a: &Passage, b: &Passage) -> Ordering
+    ensures { OrdersLevel 1 (level_list t.now v (text_of a.now) 1) (level_list t.now v (text_of b.now) 1) result }
+{
+    let _longest = t.longest();
+    if let Ok(order) = order_in_step(t, v, a.as_str(), b.as_str()) {
+        return order;
+    }
+    let (first, second) = left_of(t, a, b);
+    order_in_windows(t, v, 1, &first, &second)
 }
 
 /// The order of the sort keys of two texts (UTS #10, section 7.4, step S4), without their keys. It takes no memory.
 ///
-/// The characters that both texts begin with are passed over. Where the next ones have first weights that nothing around them
-/// changes, these decide, if they differ. Else the texts are compared from the last place on at which both may be cut.
+/// At the first level the characters that both have are passed over, and the weights of those at which they differ are
+/// compared, unless some character there depends on what stands around it. Later levels are compared from the last place on at
+/// which both texts may be cut.
 pub fn compare(t: &Table, s: Settings, a: &Passage, b: &Passage) -> Ordering
     ensures { result ≡ key_order (sort_key t.now s (text_of a.now)) (sort_key t.now s (text_of b.now)) }
 {
     let _longest = t.longest();
-    let (text_a, text_b) = (a.as_str(), b.as_str());
-    let common = common_front(text_a, text_b);
-    if let Some(order) = order_after(t, s.weighting, text_a, text_b, common) {
-        if order.is_ne() {
-            return order;
-        }
+    let order = first_order(t, s.weighting, a, b);
+    if order.is_ne() {
+        return order;
     }
-    let (left_a, left_b) = without_front(t, text_a, text_b, common);
-    if left_a.is_empty() && left_b.is_empty() {
-        return Ordering::Equal;
-    }
-    let first = Passage::of_safe(left_a);
-    let second = Passage::of_safe(left_b);
+    let (first, second) = left_of(t, a, b);
     let last = s.levels();
-    let mut level = 1;
+    let mut level = 2;
     'each: while level <= last {
         let order = order_of_texts(t, s.weighting, level, &first, &second);
         if order.is_ne() {

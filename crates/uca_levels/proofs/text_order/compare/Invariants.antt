@@ -9,7 +9,7 @@ abbrev pub invariant-each : goal.invariant-each
 invariant-each l = record {
   first : 1 ≤ l.level;
   last : l.level ≤ levels l.s.strength + 1;
-  undecided : Undecided l.t l.s (text_of l.a) (text_of l.b) l.level;
+  undecided : Undecided l.t l.s (text_of l.fn.a) (text_of l.fn.b) l.level;
 }
 
 abbrev pub decreases-each : goal.decreases-each
