@@ -4,14 +4,18 @@ use Rattle.std.proofs.lemmas.Bool.{cases_Bool, cond-true, cond-false}
 use Rattle.std.proofs.lemmas.List.{take-append-drop}
 use Rattle.std.proofs.lemmas.Str.{chars-append, IsUtf8-take}
 use Rattle.std.specs.Str.{IsCharBoundary}
+use Rattle.std.specs.Ordering.{nat_cmp, ordering_then}
 use Rattle.std.specs.declared.cmp.Ordering.{Ordering}
+use Rattle.std.specs.declared.cmp.Ordering.TheVariants.{Equal}
 use Rattle.unicode_normalization.proofs.OrderLemmas.{canonical_order-nil}
+use Rattle.uca_weights.specs.declared.settings.Settings.{Settings}
 use Rattle.uca_weights.specs.declared.settings.Variable.{Variable}
 use Rattle.uca_weights.specs.VariableWeighting.{weighted}
 use Rattle.uca_model.specs.Table.{ElementTable, IsTable}
 use Rattle.uca_model.specs.LevelWeights.{level_weights, level_list}
 use Rattle.uca_model.specs.DecidingLevel.{OrdersLevel}
 use Rattle.uca_model.specs.SafeText.{IsSafe}
+use Rattle.uca_model.specs.SortKey.{key_order, sort_key}
 use Rattle.uca_model.proofs.LevelLemmas.{OrdersLevel-front}
 use Rattle.uca_model.proofs.SafeLemmas.{nfd-is, safe_none}
 use Rattle.uca_model.proofs.StandAloneLemmas.{elements_none}
@@ -70,6 +74,20 @@ left-safe t a b x y h safe_a safe_b =
       | inl none ↦ (subst IsSafe (h.first ∙ ap (λ f. f ++ x) none) safe_a, subst IsSafe (h.second ∙ ap (λ f. f ++ y) none) safe_b)
       | inr both ↦ (safe-follow t h.front x both.0 (subst IsSafe h.first safe_a), safe-follow t h.front y both.1 (subst IsSafe h.second safe_b))
     ]
+
+-- ---- equal texts
+
+number-same : (n : ℕ) → nat_cmp n n ≡ Equal
+number-same n = grind arith
+
+order-same : (xs : List ℕ) → key_order xs xs ≡ Equal
+order-same [] = refl
+order-same (x ∷ xs) = ap (λ o. ordering_then o (key_order xs xs)) (number-same x) ∙ order-same xs
+
+-- where nothing is left of either, they are the same
+pub left-none : (t : ElementTable) (s : Settings) (a b x y : List ℕ) → AreWithoutFront t a b x y → x ≡ [] → y ≡ [] → key_order (sort_key t s a) (sort_key t s b) ≡ Equal
+left-none t s a b x y h none_x none_y =
+    ap (λ u. key_order (sort_key t s a) (sort_key t s u)) (h.second ∙ ap (λ l. h.front ++ l) (none_y ∙ sym none_x) ∙ sym h.first) ∙ order-same (sort_key t s a)
 
 -- ---- their bytes
 

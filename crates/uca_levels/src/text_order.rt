@@ -1,4 +1,4 @@
-ghost use Rattle.std.specs.Prelude.{◌≡◌, ◌≤◌, IfOk, chars};
+ghost use Rattle.std.specs.Prelude.{◌≡◌, ◌≤◌, [], IfOk, IsTrue, chars};
 ghost use Rattle.uca_model.specs.LevelWeights.{level_list};
 ghost use Rattle.uca_model.specs.DecidingLevel.{OrdersLevel};
 ghost use Rattle.uca_model.specs.SortKey.{key_order, sort_key};
@@ -64,6 +64,13 @@ fn order_of_texts(t: &Table, v: Variable, level: u8, a: &Passage, b: &Passage) -
     order_in_windows(t, v, level, a, b)
 }
 
+// Whether both texts are empty.
+fn are_empty(a: &Passage, b: &Passage) -> bool
+    ensures { IsTrue result → (text_of a.now ≡ []) × (text_of b.now ≡ []) }
+{
+    a.as_str().is_empty() && b.as_str().is_empty()
+}
+
 // What is left of two texts from the last place on at which both may be cut, of those that they have in common. What stands
 // before it can't decide their order.
 fn left_of<'t>(t: &Table, a: &Passage<'t>, b: &Passage<'t>) -> (Passage<'t>, Passage<'t>)
@@ -95,12 +102,18 @@ fn first_order(t: &Table, v: Variable, a: &Passage, b: &Passage) -> Ordering
 pub fn compare(t: &Table, s: Settings, a: &Passage, b: &Passage) -> Ordering
     ensures { result ≡ key_order (sort_key t.now s (text_of a.now)) (sort_key t.now s (text_of b.now)) }
 {
+    if are_empty(a, b) {
+        return Ordering::Equal;
+    }
     let _longest = t.longest();
     let order = first_order(t, s.weighting, a, b);
     if order.is_ne() {
         return order;
     }
     let (first, second) = left_of(t, a, b);
+    if are_empty(&first, &second) {
+        return Ordering::Equal;
+    }
     let last = s.levels();
     let mut level = 2;
     'each: while level <= last {
