@@ -1,5 +1,5 @@
 -- The primary weights of a text in memory, element after element and character after character.
-use Rattle.std.proofs.Common.{◌≡◌, ℕ, Bool, false, not, ◌==◌, List, [], ◌∷◌, ◌++◌, slice_index, chars, Option, Some, None, IsUtf8, encode_utf8, refl, sym, ap, ap₂, ◌∙◌, inl, inr, append_assoc, ne_eqb}
+use Rattle.std.proofs.Common.{◌≡◌, ℕ, Bool, false, not, ◌==◌, List, [], ◌∷◌, ◌++◌, slice_index, chars, Option, Some, None, IsUtf8, encode_utf8, refl, sym, ap, ap₂, ◌∙◌, arith, inl, inr, append_assoc, ne_eqb}
 use Rattle.std.proofs.lemmas.Bool.{cond-true, cond-false}
 use Rattle.std.proofs.lemmas.Str.{chars_past_char}
 use Rattle.std.specs.Option.{IfNone, is_some}
@@ -7,15 +7,15 @@ use Rattle.unicode_normalization.specs.Forms.{nfd}
 use Rattle.uca_weights.specs.declared.element.Element.{Element}
 use Rattle.uca_weights.specs.declared.settings.Variable.{Variable}
 use Rattle.uca_weights.specs.VariableWeighting.{weights, weighted}
-use Rattle.uca_model.specs.Table.{ElementTable, IsTable}
+use Rattle.uca_model.specs.Table.{ElementTable}
 use Rattle.uca_model.specs.CollationElements.{elements}
 use Rattle.uca_model.specs.LevelWeights.{level_weights, level_list}
+use Rattle.uca_model.proofs.StandAloneLemmas.{apart-before, apart-end}
 use Rattle.uca_model.proofs.PrefixLemmas.{first_level-is, first_level-append}
 use Rattle.uca_levels.specs.declared.primary_weights.PrimaryWeights.{PrimaryWeights}
 use Rattle.uca_levels.specs.PrimaryWeights.{AreBy, primaries, primaries_left}
 use Rattle.uca_levels.specs.Reads.{InStep}
-use Rattle.uca_levels.specs.WithoutFront.{AreWithoutFront}
-use Rattle.uca_levels.proofs.WithoutFront.{lists-follow}
+use Rattle.uca_levels.specs.WithoutFront.{AreApart, JoinsNothing}
 
 -- ---- elements
 
@@ -44,6 +44,13 @@ primaries-character t v rest after c es utf8 step alone =
 
 -- ---- two texts
 
+elements-apart : (t : ElementTable) (front left : List ℕ) → JoinsNothing t left → elements t (nfd (front ++ left)) ≡ elements t (nfd front) ++ elements t (nfd left)
+elements-apart t front left joins =
+    elim joins [
+      | inl none ↦ ap (λ l. elements t (nfd (front ++ l))) none ∙ apart-end t front ∙ ap (λ l. elements t (nfd front) ++ elements t (nfd l)) (sym none)
+      | inr some ↦ ap (λ l. elements t (nfd (front ++ l))) some.same ∙ apart-before t front some.later some.c (omega (arith, some.apart)) ∙ ap (λ l. elements t (nfd front) ++ elements t (nfd l)) (sym some.same)
+    ]
+
 pub InStep-none : (xs ys : List ℕ) → InStep xs ys xs ys
 InStep-none xs ys = record { front = []; first = refl; second = refl }
 
@@ -54,9 +61,13 @@ InStep-on xs ys left right later other h k = record {
   second = h.second ∙ ap (λ l. h.front ++ l) k.second ∙ sym (append_assoc h.front k.front other);
 }
 
+-- what joins nothing adds its weights to those of what stands before it
+lists-apart : (t : ElementTable) (v : Variable) (front left : List ℕ) → JoinsNothing t left → level_list t v (front ++ left) 1 ≡ level_list t v front 1 ++ level_list t v left 1
+lists-apart t v front left joins = ap (λ l. level_weights 1 (weighted v l)) (elements-apart t front left joins) ∙ primaries-append v (elements t (nfd front)) (elements t (nfd left))
+
 -- what was passed over has the same weights in both
-pub without-in_step : (t : ElementTable) (v : Variable) (a b x y : List ℕ) → IsTable t → AreWithoutFront t a b x y → InStep (level_list t v a 1) (level_list t v b 1) (level_list t v x 1) (level_list t v y 1)
-without-in_step t v a b x y valid h =
+without-in_step : (t : ElementTable) (v : Variable) (a b x y : List ℕ) → AreApart t a b x y → InStep (level_list t v a 1) (level_list t v b 1) (level_list t v x 1) (level_list t v y 1)
+without-in_step t v a b x y h =
     elim h.follow [
       | inl none ↦ record {
         front = [];
@@ -65,8 +76,8 @@ without-in_step t v a b x y valid h =
       }
       | inr both ↦ record {
         front = level_list t v h.front 1;
-        first = ap (λ l. level_list t v l 1) h.first ∙ lists-follow t v h.front x 1 valid both.0;
-        second = ap (λ l. level_list t v l 1) h.second ∙ lists-follow t v h.front y 1 valid both.1;
+        first = ap (λ l. level_list t v l 1) h.first ∙ lists-apart t v h.front x both.0;
+        second = ap (λ l. level_list t v l 1) h.second ∙ lists-apart t v h.front y both.1;
       }
     ]
 
@@ -76,12 +87,12 @@ at_rest w t v of by none =
     ap (λ es. primaries w.weighting es ++ level_list w.table.now w.weighting (chars w.rest.now) 1) none ∙ ap₂ (λ u x. level_list u x (chars w.rest.now) 1) of by
 
 -- where no element waits of either, what their rests have in common may be passed over
-pub passes_over : (t : ElementTable) (v : Variable) (left right later other : PrimaryWeights) → IsTable t → AreBy t v left right → AreBy t v later other
+pub passes_over : (t : ElementTable) (v : Variable) (left right later other : PrimaryWeights) → AreBy t v left right → AreBy t v later other
     → left.waiting.now ≡ [] → right.waiting.now ≡ [] → later.waiting.now ≡ [] → other.waiting.now ≡ []
-    → AreWithoutFront t (chars left.rest.now) (chars right.rest.now) (chars later.rest.now) (chars other.rest.now)
+    → AreApart t (chars left.rest.now) (chars right.rest.now) (chars later.rest.now) (chars other.rest.now)
     → InStep (primaries_left left) (primaries_left right) (primaries_left later) (primaries_left other)
-passes_over t v left right later other valid of on none_a none_b none_c none_d h =
-    let k = without-in_step t v _ _ _ _ valid h in
+passes_over t v left right later other of on none_a none_b none_c none_d h =
+    let k = without-in_step t v _ _ _ _ h in
     record {
       front = k.front;
       first = at_rest left t v of.table_a of.weighting_a none_a ∙ k.first ∙ ap (λ l. k.front ++ l) (sym (at_rest later t v on.table_a on.weighting_a none_c));

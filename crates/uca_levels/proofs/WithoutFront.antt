@@ -20,7 +20,7 @@ use Rattle.uca_model.proofs.LevelLemmas.{OrdersLevel-front}
 use Rattle.uca_model.proofs.SafeLemmas.{nfd-is, safe_none}
 use Rattle.uca_model.proofs.StandAloneLemmas.{elements_none}
 use Rattle.uca_model.proofs.SafeCutLemmas.{IsCut-from, level_list-cut, IsSafe-back}
-use Rattle.uca_levels.specs.WithoutFront.{MayFollow, AreWithoutFront}
+use Rattle.uca_levels.specs.WithoutFront.{MayFollow, AreLeft, AreWithoutFront}
 
 -- ---- level lists
 
@@ -30,7 +30,7 @@ no_list t v level = elim (cases_Bool (level == 5)) [
   | inr weights ↦ cond-false _ _ _ weights ∙ ap (λ es. level_weights level (weighted v es)) (elements_none t)
 ]
 
-pub lists-follow : (t : ElementTable) (v : Variable) (front left : List ℕ) (level : ℕ) → IsTable t → MayFollow t left → level_list t v (front ++ left) level ≡ level_list t v front level ++ level_list t v left level
+lists-follow : (t : ElementTable) (v : Variable) (front left : List ℕ) (level : ℕ) → IsTable t → MayFollow t left → level_list t v (front ++ left) level ≡ level_list t v front level ++ level_list t v left level
 lists-follow t v front left level valid may =
     elim may [
       | inl none ↦
@@ -97,17 +97,17 @@ parts-at text left at utf8 inside e =
     ap chars (sym (take-append-drop at text)) ∙ chars-append (take at text) (drop at text) (IsUtf8-take text at utf8 inside) ∙ ap (λ l. chars (take at text) ++ chars l) (sym e)
 
 -- what is left from a place on, up to which the bytes are the same
-pub left-at : (t : ElementTable) (a b x y : List ℕ) (at : ℕ) → IsUtf8 a → IsUtf8 b → IsCharBoundary a at → IsCharBoundary b at → take at a ≡ take at b → x ≡ drop at a → y ≡ drop at b
-    → MayFollow t (chars x) → MayFollow t (chars y) → AreWithoutFront t (chars a) (chars b) (chars x) (chars y)
-left-at t a b x y at utf8_a utf8_b inside_a inside_b same of_a of_b may_a may_b = record {
+pub left-at : (Follows : List ℕ → Type 0) (a b x y : List ℕ) (at : ℕ) → IsUtf8 a → IsUtf8 b → IsCharBoundary a at → IsCharBoundary b at → take at a ≡ take at b → x ≡ drop at a → y ≡ drop at b
+    → Follows (chars x) → Follows (chars y) → AreLeft Follows (chars a) (chars b) (chars x) (chars y)
+left-at Follows a b x y at utf8_a utf8_b inside_a inside_b same of_a of_b may_a may_b = record {
   front = chars (take at a);
   first = parts-at a x at utf8_a inside_a of_a;
   second = parts-at b y at utf8_b inside_b of_b ∙ ap (λ f. chars f ++ chars y) (sym same);
   follow = inr (may_a, may_b);
 }
 
-pub left-whole : (t : ElementTable) (a b : List ℕ) → AreWithoutFront t a b a b
-left-whole t a b = record { front = []; first = refl; second = refl; follow = inl refl }
+pub left-whole : (Follows : List ℕ → Type 0) (a b : List ℕ) → AreLeft Follows a b a b
+left-whole Follows a b = record { front = []; first = refl; second = refl; follow = inl refl }
 
 take-fewer : (k n : ℕ) (l : List ℕ) → k ≤ n → take k (take n l) ≡ take k l
 take-fewer zero n l h = refl

@@ -2,6 +2,7 @@
 use Rattle.std.specs.Prelude.{◌≡◌, ◌⊎◌, ℕ, true, List, [], ◌∷◌, ◌++◌}
 use Rattle.uca_model.specs.Table.{ElementTable}
 use Rattle.uca_model.specs.SafeCut.{is_cut}
+use Rattle.uca_model.specs.StandAlone.{joining}
 
 -- a text begins with a character before which it may be cut
 pub record BeginsWithCut (t : ElementTable) (text : List ℕ) : Type 0 where
@@ -14,9 +15,28 @@ pub record BeginsWithCut (t : ElementTable) (text : List ℕ) : Type 0 where
 abbrev pub MayFollow : ElementTable → List ℕ → Type 0
 MayFollow t text = (text ≡ []) ⊎ BeginsWithCut t text
 
--- these are left of two texts after a front that they have in common, and may follow it if there is one
-pub record AreWithoutFront (t : ElementTable) (a b left_a left_b : List ℕ) : Type 0 where
+-- a text begins with a character that joins nothing
+pub record BeginsApart (t : ElementTable) (text : List ℕ) : Type 0 where
+  pub c : ℕ
+  pub later : List ℕ
+  pub same : text ≡ c ∷ later
+  pub apart : joining t c ≡ 0
+
+-- a text joins nothing that stands before it: it is empty, or begins with such a character
+abbrev pub JoinsNothing : ElementTable → List ℕ → Type 0
+JoinsNothing t text = (text ≡ []) ⊎ BeginsApart t text
+
+-- these are left of two texts after a front that they have in common, and both are of such a kind if there is one
+pub record AreLeft (Follows : List ℕ → Type 0) (a b left_a left_b : List ℕ) : Type 0 where
   pub front : List ℕ
   pub first : a ≡ front ++ left_a
   pub second : b ≡ front ++ left_b
-  pub follow : (front ≡ []) ⊎ (MayFollow t left_a × MayFollow t left_b)
+  pub follow : (front ≡ []) ⊎ (Follows left_a × Follows left_b)
+
+-- they may follow it
+abbrev pub AreWithoutFront : ElementTable → List ℕ → List ℕ → List ℕ → List ℕ → Type 0
+AreWithoutFront t = AreLeft (MayFollow t)
+
+-- they join nothing of it
+abbrev pub AreApart : ElementTable → List ℕ → List ℕ → List ℕ → List ℕ → Type 0
+AreApart t = AreLeft (JoinsNothing t)

@@ -69,8 +69,8 @@ fn common_len(a: &[u8], b: &[u8]) -> usize
     at
 }
 
-// Whether no character of two texts lies on both sides of a place.
-fn are_whole(a: &str, b: &str, at: usize) -> bool
+/// Whether no character of two texts lies on both sides of a place.
+pub(crate) fn are_whole(a: &str, b: &str, at: usize) -> bool
     ensures { IsTrue result → IsCharBoundary a.now at × IsCharBoundary b.now at }
 {
     a.is_char_boundary(at) && b.is_char_boundary(at)

@@ -1,18 +1,48 @@
-ghost use Rattle.std.specs.Prelude.{chars, IfOk};
+ghost use Rattle.std.specs.Prelude.{◌≡◌, chars, take, IfOk, IsTrue};
 ghost use Rattle.uca_model.specs.DecidingLevel.{OrdersLevel};
 ghost use Rattle.uca_model.specs.LevelWeights.{level_list};
-ghost use Rattle.uca_model.specs.Table.{IsTable};
 ghost use Rattle.uca_levels.specs.PrimaryWeights.{AreBy, primaries_left};
 ghost use Rattle.uca_levels.specs.Reads.{InStep};
+ghost use Rattle.uca_levels.specs.WithoutFront.{AreApart, JoinsNothing};
 
-use crate::cut::{common_front, without_front};
+use crate::cut::{are_whole, common_front};
 use crate::primary_weights::PrimaryWeights;
 use crate::text_elements::NotAlone;
 use std::cmp::Ordering;
 use uca_table::Table;
 use uca_weights::Variable;
 
-// Passes over the characters with which the rests of two texts begin, up to the last place at which both may be cut, unless
+// Whether a text joins nothing that stands before it.
+fn joins_nothing(t: &Table, text: &str) -> bool
+    ensures { IsTrue result → JoinsNothing t.now (chars text.now) }
+{
+    match text.chars().next() {
+        Some(c) => t.joins_nothing(c),
+        None => true,
+    }
+}
+
+// What is left of two texts from the last place on at which neither joins what stands before it, of those in the bytes that
+// they have in common.
+fn apart_after<'t>(t: &Table, a: &'t str, b: &'t str, common: usize) -> (&'t str, &'t str)
+    requires { take common a.now ≡ take common b.now }
+    ensures { AreApart t.now (chars a.now) (chars b.now) (chars result.0.now) (chars result.1.now) }
+{
+    let mut at = common;
+    'back: while at > 0 {
+        if are_whole(a, b, at) {
+            let left_a = a.split_at(at).1;
+            let left_b = b.split_at(at).1;
+            if joins_nothing(t, left_a) && joins_nothing(t, left_b) {
+                return (left_a, left_b);
+            }
+        }
+        at -= 1;
+    }
+    (a, b)
+}
+
+// Passes over the characters with which the rests of two texts begin, up to the last place at which both stand apart, unless
 // a weight waits, or `apart` bytes of the first or more are left. Returns how many bytes of it are left where the two differ.
 fn pass_over<'t>(
     t: &Table,
@@ -20,8 +50,7 @@ fn pass_over<'t>(
     right: &mut PrimaryWeights<'t>,
     apart: usize,
 ) -> usize
-    requires valid { IsTable t.now }
-    requires of { AreBy t.now left.old.weighting left.old right.old }
+    requires { AreBy t.now left.old.weighting left.old right.old }
     ensures lists { InStep (primaries_left left.old) (primaries_left right.old) (primaries_left left.new) (primaries_left right.new) }
     ensures of { AreBy t.now left.old.weighting left.new right.new }
 {
@@ -33,7 +62,7 @@ fn pass_over<'t>(
     }
     let common = common_front(left.rest, right.rest);
     let differ = left.rest.len() - common;
-    let (a, b) = without_front(t, left.rest, right.rest, common);
+    let (a, b) = apart_after(t, left.rest, right.rest, common);
     left.rest = a;
     right.rest = b;
     differ
@@ -42,7 +71,6 @@ fn pass_over<'t>(
 /// The order of two texts at the first level, for as long as their characters stand alone. Characters that both have where no
 /// weight waits are passed over, each of them once at most.
 pub(crate) fn order_in_step(t: &Table, v: Variable, a: &str, b: &str) -> Result<Ordering, NotAlone>
-    requires { IsTable t.now }
     ensures { IfOk result (OrdersLevel 1 (level_list t.now v (chars a.now) 1) (level_list t.now v (chars b.now) 1)) }
 {
     let mut left = PrimaryWeights::new(t, v, a);

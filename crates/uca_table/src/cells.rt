@@ -569,7 +569,17 @@ impl Cells {
         }
     }
 
+    /// Whether a character joins nothing that stands before it.
+    #[inline(always)]
+    pub(crate) fn joins_nothing(&self, t: &Stored, c: char) -> bool
+        requires cells { HoldsCells t.now self.now }
+        ensures { IsTrue result → joining t.now c ≡ 0 }
+    {
+        self.cell(c).joining == 0
+    }
+
     /// The elements of a character before other text, where they stand alone. That text is looked at only where they may not.
+    #[inline(always)]
     pub(crate) fn alone_before(&self, t: &Stored, c: char, after: &str) -> Option<&[Element]>
         requires cells { HoldsCells t.now self.now }
         ensures { IfSome result (λ es. es.now ++ elements t.now (nfd (chars after.now)) ≡ elements t.now (nfd (c ∷ chars after.now))) }

@@ -1,6 +1,7 @@
-ghost use Rattle.std.specs.Prelude.{◌≡◌, ℕ, List, ◌≤◌, ◌<◌, ◌^◌, ◌++◌, ◌∷◌, [], length, chars, All, option_copied, IfSome, IfOk, OnOk, OnErr, MatchResult, None};
+ghost use Rattle.std.specs.Prelude.{◌≡◌, ℕ, List, ◌≤◌, ◌<◌, ◌^◌, ◌++◌, ◌∷◌, [], length, chars, All, option_copied, IfSome, IfOk, OnOk, OnErr, IsTrue, MatchResult, None};
 ghost use Rattle.unicode_normalization.specs.Forms.{nfd};
 ghost use Rattle.uca_model.specs.CollationElements.{elements};
+ghost use Rattle.uca_model.specs.StandAlone.{joining};
 
 use crate::cells::{Cells, push_text};
 use crate::entries::Entries;
@@ -169,8 +170,18 @@ impl Table {
         &self.stored
     }
 
+    /// Whether a character joins nothing that stands before it, so that a text that ends before it and one that begins with
+    /// it have their collation elements by themselves (UTS #10, section 7.2). It takes no memory. `false`: that is not known.
+    #[inline(always)]
+    pub fn joins_nothing(&self, c: char) -> bool
+        ensures { IsTrue result → joining self.now c ≡ 0 }
+    {
+        self.cells.joins_nothing(&self.stored, c)
+    }
+
     /// The collation elements of a character before other text, where that text does not change them (UTS #10, section 7.2).
     /// It takes no memory. `None`: they are not known without a look at more of the text.
+    #[inline(always)]
     pub fn alone_before(&self, c: char, after: &str) -> Option<&[Element]>
         ensures { IfSome result (λ es. es.now ++ elements self.now (nfd (chars after.now)) ≡ elements self.now (nfd (c ∷ chars after.now))) }
     {

@@ -9,22 +9,22 @@ pub returns-clause-lists : goal.returns-clause-lists
 returns-clause-lists c =
     let left : PrimaryWeights = c.waiting_weight.new.self in
     let right : PrimaryWeights = c.waiting_weight-else-is_some.new.self in
-    let later : PrimaryWeights = record { table = left.table; weighting = left.weighting; waiting = left.waiting; rest = c.without_front.result.0 } in
-    let other : PrimaryWeights = record { table = right.table; weighting = right.weighting; waiting = right.waiting; rest = c.without_front.result.1 } in
+    let later : PrimaryWeights = record { table = left.table; weighting = left.weighting; waiting = left.waiting; rest = c.apart_after.result.0 } in
+    let other : PrimaryWeights = record { table = right.table; weighting = right.weighting; waiting = right.waiting; rest = c.apart_after.result.1 } in
     let none_a : left.waiting.now ≡ [] = if_none _ _ c.waiting_weight.ensures.none (sym c.is_some.ensures ∙ c.if-is_some.false) in
     let none_b : right.waiting.now ≡ [] = if_none _ _ c.waiting_weight-else-is_some.ensures.none (sym c.is_some-else-is_some.ensures ∙ c.if-is_some-2.false) in
     let of : AreBy c.args.t.now c.args.left.now.weighting left right = record {
-      table_a = c.waiting_weight.ensures.table ∙ c.requires.of.table_a;
-      table_b = c.waiting_weight-else-is_some.ensures.table ∙ c.requires.of.table_b;
+      table_a = c.waiting_weight.ensures.table ∙ c.requires.table_a;
+      table_b = c.waiting_weight-else-is_some.ensures.table ∙ c.requires.table_b;
       weighting_a = c.waiting_weight.ensures.weighting;
-      weighting_b = c.waiting_weight-else-is_some.ensures.weighting ∙ c.requires.of.weighting_b;
+      weighting_b = c.waiting_weight-else-is_some.ensures.weighting ∙ c.requires.weighting_b;
     } in
     let on : AreBy c.args.t.now c.args.left.now.weighting later other = record {
-      table_a = c.waiting_weight.ensures.table ∙ c.requires.of.table_a;
-      table_b = c.waiting_weight-else-is_some.ensures.table ∙ c.requires.of.table_b;
+      table_a = c.waiting_weight.ensures.table ∙ c.requires.table_a;
+      table_b = c.waiting_weight-else-is_some.ensures.table ∙ c.requires.table_b;
       weighting_a = c.waiting_weight.ensures.weighting;
-      weighting_b = c.waiting_weight-else-is_some.ensures.weighting ∙ c.requires.of.weighting_b;
+      weighting_b = c.waiting_weight-else-is_some.ensures.weighting ∙ c.requires.weighting_b;
     } in
     subst (λ l. InStep l (primaries_left c.args.right.now) (primaries_left later) (primaries_left other)) c.waiting_weight.ensures.left
     (subst (λ l. InStep (primaries_left left) l (primaries_left later) (primaries_left other)) c.waiting_weight-else-is_some.ensures.left
-    (passes_over c.args.t.now c.args.left.now.weighting left right later other c.requires.valid of on none_a none_b none_a none_b c.without_front.ensures))
+    (passes_over c.args.t.now c.args.left.now.weighting left right later other of on none_a none_b none_a none_b c.apart_after.ensures))

@@ -5,6 +5,7 @@ use Rattle.uca_model.specs.LevelWeights.{level_list}
 use Rattle.uca_model.specs.DecidingLevel.{OrdersLevel}
 use Rattle.uca_model.proofs.LevelLemmas.{levels-within}
 use Rattle.uca_window.specs.Passage.{text_of}
+use Rattle.uca_levels.specs.WithoutFront.{MayFollow}
 use Rattle.uca_levels.proofs.ReadsLemmas.{from_ne, from_not_ne}
 use Rattle.uca_levels.proofs.LevelsFromCut.{undecided-first, undecided-next, decided-here}
 use Rattle.uca_levels.proofs.WithoutFront.{orders-left, left-none, left-whole}
@@ -13,7 +14,7 @@ use Rattle.uca_levels.proofs.text_order.compare.Goals as goal
 pub returns-then-are_empty : goal.returns-then-are_empty
 returns-then-are_empty c =
     let none = c.are_empty.ensures c.if-are_empty.true in
-    sym (left-none c.args.t.now c.args.s _ _ _ _ (left-whole c.args.t.now (text_of c.args.a.now) (text_of c.args.b.now)) none.0 none.1)
+    sym (left-none c.args.t.now c.args.s _ _ _ _ (left-whole (MayFollow c.args.t.now) (text_of c.args.a.now) (text_of c.args.b.now)) none.0 none.1)
 
 pub returns-then-are_empty-2 : goal.returns-then-are_empty-2
 returns-then-are_empty-2 c =
