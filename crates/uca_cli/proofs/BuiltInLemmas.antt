@@ -1,5 +1,5 @@
 -- The built-in table, entry after entry.
-use Rattle.std.proofs.Common.{◌≡◌, ℕ, List, [], ◌∷◌, fold, length, refl, sym, ap, ap₂, ◌∙◌, arith}
+use Rattle.std.proofs.Common.{◌≡◌, ℕ, List, [], ◌∷◌, Result, Ok, Err, IfOk, IsErrAnd, MatchResult, fold, length, refl, sym, ap, ap₂, ◌∙◌, arith}
 use Rattle.std.specs.FinMap.{FinMap, empty, put, entries, entries-from_sorted, entries-insert, same_entries_map, len-entries, len-empty}
 use Rattle.std.specs.Cmp.Lexicographic.{nat_list_cmp_total}
 use Rattle.uca_weights.specs.declared.element.Element.{Element}
@@ -69,3 +69,10 @@ whole_table-all =
     let same : whole_table.entries ≡ built_in_table.entries = same_entries_map _ _ (made ∙ sym (entries-from_sorted key_cmp built_in_entries tt)) in
     let f : FinMap key_cmp (List Element) → List Range → ElementTable = λ m rs. record { entries = m; ranges = rs; ideographs = whole_table.ideographs } in
     ap₂ f same (ranges-all (with_contractions (fold with_point start ENTRIES)) (ranges-points ENTRIES start)) ∙ ap (with_ideographs built_in_table) (ideographs-points ENTRIES start)
+
+-- the table that was made, where memory sufficed
+pub table_made : {D E : Type 0} (made : Result ElementTable D) (result : Result ElementTable E) (P : D → Type 0) (Q : D → E → Type 0) (t : ElementTable)
+    → MatchResult made (λ u. u ≡ t) P → MatchResult made (λ u. result ≡ Ok u) (λ f. IsErrAnd result (Q f)) → t ≡ built_in_table → IfOk result (λ u. u ≡ built_in_table)
+table_made (Ok u) result P Q t is same all = rw same (is ∙ all)
+table_made (Err f) (Ok u) P Q t is same all = absurd same
+table_made (Err f) (Err e) P Q t is same all = tt

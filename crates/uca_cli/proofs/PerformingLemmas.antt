@@ -1,5 +1,5 @@
 -- A job is its table, the rules for it, and the command with the tailored table.
-use Rattle.std.proofs.Common.{ℕ, Option, Result, Ok, Err, IfOk, IfErr, inl, inr, refl}
+use Rattle.std.proofs.Common.{◌≡◌, ◌⊎◌, ℕ, Option, None, Some, Result, Ok, Err, IfOk, IfErr, inl, inr, refl}
 use Rattle.uca_io.specs.Reader.{ReaderState}
 use Rattle.uca_model.specs.Table.{ElementTable}
 use Rattle.uca_commands.specs.Commands.{Ends, Does, Fails}
@@ -8,16 +8,18 @@ use Rattle.uca_cli.specs.RuleFile.{Tailors, RefusesTailoring}
 use Rattle.uca_commands.specs.declared.faults.CliFault.{CliFault}
 use Rattle.uca_job.specs.declared.job.Job.{Job}
 
--- the table that was read has the range, or may not have it
-pub makes_base : (ends : Option (ℕ × ℕ)) (old new : Option ReaderState) (given : ElementTable) (result : Result ElementTable CliFault)
-    → ReadsTable old new given → IfOk result (Widens ends given) → IfOk result (MakesBase ends old new)
-makes_base ends old new given (Ok t) table range = record { given = given; table = table; range = range }
-makes_base ends old new given (Err f) table range = tt
+-- there is a value, or there is none
+pub option_cases : {A : Type 0} (o : Option A) → (o ≡ None) ⊎ ((a : A) × (o ≡ Some a))
+option_cases None = inl refl
+option_cases (Some a) = inr (a, refl)
 
-pub stops_widening : (ends : Option (ℕ × ℕ)) (old new : Option ReaderState) (given : ElementTable) (result : Result ElementTable CliFault)
-    → ReadsTable old new given → IfErr result (RefusesWidening ends given) → IfErr result (StopsBase ends old new)
-stops_widening ends old new given (Ok t) table range = tt
-stops_widening ends old new given (Err f) table range = inr (record { given = given; table = table; range = range })
+-- the table that was made has the range
+pub makes_base : (ends : Option (ℕ × ℕ)) (old new : Option ReaderState) (given read base : ElementTable) → given ≡ read → ReadsTable old new read → Widens ends given base → MakesBase ends old new base
+makes_base ends old new given read base is table range = record { given = given; table = rw is table; range = range }
+
+-- .. or may not have it
+pub stops_widening : (ends : Option (ℕ × ℕ)) (old new : Option ReaderState) (given read : ElementTable) (f : CliFault) → given ≡ read → ReadsTable old new read → RefusesWidening ends given f → StopsBase ends old new f
+stops_widening ends old new given read f is table range = inr (record { given = given; table = rw is table; range = range })
 
 -- the command was done with the table
 pub performs : (job : Job) (old_table new_table old_rules new_rules : Option ReaderState) (base t : ElementTable) (old new : Ends) (result : Result ℕ CliFault)

@@ -30,11 +30,8 @@ fn insert_points(builder: &mut TableBuilder, points: &[(char, Element)]) -> Resu
     ensures { OnOk result (builder.new ≡ fold with_point builder.old points.now) }
 {
     for (c, element) in points {
-        match builder.insert(&[*c], &[*element]) {
-            Ok(()) => {}
-            // No point of the table has another fault than an allocation failure.
-            Err(_) => return Err(AllocError),
-        }
+        // No point of the table has another fault than an allocation failure.
+        builder.insert(&[*c], &[*element]).map_err(|_| AllocError)?;
     }
     Ok(())
 }
@@ -49,11 +46,8 @@ fn insert_contraction(builder: &mut TableBuilder, key: &[char], l1: u16) -> Resu
         l2: 0x20,
         l3: 2,
     };
-    match builder.insert(key, &[element]) {
-        Ok(()) => Ok(()),
-        // No contraction of the table has another fault than an allocation failure.
-        Err(_) => Err(AllocError),
-    }
+    // No contraction of the table has another fault than an allocation failure.
+    builder.insert(key, &[element]).map_err(|_| AllocError)
 }
 
 /// Adds the contractions of the built-in table.
@@ -70,14 +64,13 @@ fn insert_contractions(builder: &mut TableBuilder) -> Result<(), AllocError>
 fn add_ranges(builder: &mut TableBuilder) -> Result<(), AllocError>
     ensures { OnOk result (builder.new ≡ with_ranges builder.old) }
 {
-    match builder.add_implicit('\u{17000}', '\u{18AFF}', 0xFB00) {
-        Ok(()) => match builder.add_implicit('\u{18D00}', '\u{18D8F}', 0xFB00) {
-            Ok(()) => Ok(()),
-            // No range of the table has another fault than an allocation failure.
-            Err(_) => Err(AllocError),
-        },
-        Err(_) => Err(AllocError),
-    }
+    // No range of the table has another fault than an allocation failure.
+    builder
+        .add_implicit('\u{17000}', '\u{18AFF}', 0xFB00)
+        .map_err(|_| AllocError)?;
+    builder
+        .add_implicit('\u{18D00}', '\u{18D8F}', 0xFB00)
+        .map_err(|_| AllocError)
 }
 
 /// A small table for trials: ignorable and variable elements, some Latin letters and marks, contractions, and ranges of
@@ -89,8 +82,5 @@ pub fn built_in(alloc: Global) -> Result<Table, AllocError>
     insert_points(&mut builder, &ENTRIES)?;
     insert_contractions(&mut builder)?;
     add_ranges(&mut builder)?;
-    match builder.finish() {
-        Ok(table) => Ok(table),
-        Err(_) => Err(AllocError),
-    }
+    builder.finish().map_err(|_| AllocError)
 }

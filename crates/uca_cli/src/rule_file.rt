@@ -16,18 +16,17 @@ fn read_rules<U: Reader>(alloc: Global, reader: &mut U) -> Result<Vec<u8>, CliFa
     ensures err { IfErr result (RefusesRules (U.state reader.old) (U.state reader.new)) }
     ensures calls { U.calls reader.new ≤ U.calls reader.old + (MAX_RULES + 1) }
 {
-    match read_whole(alloc, reader, MAX_RULES) {
-        Ok(bytes) => Ok(bytes),
-        Err(Stop::TooLarge) => Err(CliFault::RulesText {
+    read_whole(alloc, reader, MAX_RULES).map_err(|stop| match stop {
+        Stop::TooLarge => CliFault::RulesText {
             at: MAX_RULES,
             cause: RulesTextCause::TooLarge,
-        }),
-        Err(Stop::Read) => Err(CliFault::RulesText {
+        },
+        Stop::Read => CliFault::RulesText {
             at: 0,
             cause: RulesTextCause::Read,
-        }),
-        Err(Stop::OutOfMemory) => Err(CliFault::OutOfMemory),
-    }
+        },
+        Stop::OutOfMemory => CliFault::OutOfMemory,
+    })
 }
 
 /// The rules in the text of a reader. The text is read whole before anything else is looked at.
