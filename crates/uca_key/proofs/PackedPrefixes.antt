@@ -1,17 +1,35 @@
--- Packed keys of texts that begin with a complete one, and packed keys that begin with the key of a text at the strength Primary.
-use Rattle.std.proofs.Common.{◌⊎◌, ◌≡◌, ℕ, ◌/◌, ◌%◌, List, [], ◌∷◌, ◌++◌, flat_map, refl, sym, ap, ap₂, ◌∙◌, arith, inl, inr, append_assoc}
+-- Packed keys of more levels, of texts that begin with a complete one, and packed keys that begin with the key of a text at the strength Primary.
+use Rattle.std.proofs.Common.{◌⊎◌, ◌≡◌, ℕ, zero, suc, ◌/◌, ◌%◌, ◌≤◌, List, [], ◌∷◌, ◌++◌, flat_map, take, refl, sym, ap, ap₂, ◌∙◌, arith, inl, inr, append_assoc}
+use Rattle.std.specs.List.{concat}
+use Rattle.unicode_normalization.specs.Forms.{nfd}
 use Rattle.uca_weights.specs.declared.settings.Strength.{Strength}
 use Rattle.uca_weights.specs.declared.settings.Strength.TheVariants.{Primary, Secondary, Tertiary, Quaternary, Identical}
 use Rattle.uca_weights.specs.declared.settings.Variable.{Variable}
+use Rattle.uca_weights.specs.Settings.{levels}
+use Rattle.uca_weights.specs.VariableWeighting.{weighted}
 use Rattle.uca_model.specs.Table.{ElementTable}
+use Rattle.uca_model.specs.CollationElements.{elements}
 use Rattle.uca_model.specs.LevelWeights.{level_list}
 use Rattle.uca_model.specs.Laws.{AreWeights, BeginsWith}
 use Rattle.uca_model.specs.Prefix.{primary_key}
 use Rattle.uca_model.specs.SortKey.{weight_bytes}
 use Rattle.uca_model.proofs.PrefixKeys.{primary_key-is, keys-begin}
 use Rattle.uca_model.proofs.WeightLemmas.{HasWeights-IsTable}
-use Rattle.uca_key.specs.PackedKey.{packed_key}
-use Rattle.uca_key.specs.PackedLaws.{PackedKeysBeginWithCompleteTexts, PackedKeysBeginWithPrimaryWeights}
+use Rattle.uca_key.specs.PackedKey.{packed_levels, packed_key}
+use Rattle.uca_key.specs.PackedLaws.{PackedKeysGrowByLevels, PackedKeysBeginWithCompleteTexts, PackedKeysBeginWithPrimaryWeights}
+
+-- the first pieces, one after the other, begin with fewer of them
+begins-take : (m n : ℕ) (ls : List (List ℕ)) → m ≤ n → BeginsWith (concat (take n ls)) (concat (take m ls))
+begins-take zero n ls few = record { rest = concat (take n ls); parts = refl }
+begins-take (suc m) zero ls few = absurd (omega arith)
+begins-take (suc m) (suc n) [] few = record { rest = []; parts = refl }
+begins-take (suc m) (suc n) (x ∷ xs) few =
+    let below = begins-take m n xs (omega arith) in
+    record { rest = below.rest; parts = ap (λ l. x ++ l) below.parts ∙ sym (append_assoc x (concat (take m xs)) below.rest) }
+
+pub packed-grow : PackedKeysGrowByLevels
+unfolding packed_key
+packed-grow t v low high text fewer = begins-take (levels low) (levels high) (packed_levels (weighted v (elements t (nfd text))) (nfd text)) fewer
 
 -- nothing, or a separator
 abbrev EndsLevel : List ℕ → Type 0

@@ -1,5 +1,5 @@
 //! Laws of packed sort keys: the contracts of functions that do nothing.
-ghost use Rattle.uca_key.specs.PackedLaws.{PackedKeysFollowKeys, PackedKeysTellTextsApart, PackedKeysBeginWithCompleteTexts, PackedKeysBeginWithPrimaryWeights};
+ghost use Rattle.uca_key.specs.PackedLaws.{PackedKeysFollowKeys, PackedKeysTellTextsApart, PackedKeysGrowByLevels, PackedKeysBeginWithCompleteTexts, PackedKeysBeginWithPrimaryWeights};
 
 /// Under every table, packed keys are in the byte order of the sort keys. So an index by either has its rows in the same
 /// order.
@@ -10,6 +10,11 @@ pub fn packed_keys_follow_keys()
 /// Under every table, two packed keys are equal exactly where the sort keys are.
 pub fn packed_keys_tell_texts_apart()
     ensures { PackedKeysTellTextsApart }
+{}
+
+/// The packed key of a text at a strength is the beginning of its packed key at each higher strength.
+pub fn packed_keys_grow_by_levels()
+    ensures { PackedKeysGrowByLevels }
 {}
 
 /// Where a text is complete, the packed key of every text that begins with it begins with its sort key at the strength
