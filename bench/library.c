@@ -64,6 +64,13 @@ static size_t uca_key(const struct line *line) {
     return needed;
 }
 
+static size_t uca_packed(const struct line *line) {
+    uca_fault fault;
+    size_t needed = 0;
+    if (uca_packed_key(&collator, &settings, (uint8_t *)line->text, line->size, key, sizeof key, &needed, &fault)) exit(3);
+    return needed;
+}
+
 static size_t uca_written(const struct line *line) {
     uca_fault fault;
     size_t needed = 0;
@@ -154,9 +161,10 @@ int main(int words, char **word) {
     printf("a comparison that finds no table %.1f ns; two checks of an empty text %.1f\n", same("", closed_order), same("", two_checks));
     double uca = pairs(uca_order), other = pairs(icu_order);
     printf("neighbours: %.0f ns (ICU %.0f, %.2f times)\n", uca, other, uca / other);
-    double written = keys(uca_written);
+    double written = keys(uca_written), packed = keys(uca_packed);
     uca = keys(uca_key), other = keys(icu_key);
     printf("keys: %.0f ns (ICU %.0f, %.2f times)\n", uca, other, uca / other);
+    printf("packed keys: %.0f ns (%.2f times ICU's)\n", packed, packed / other);
     printf("keys without memory: %.0f ns (%.2f times those in memory)\n", written, written / uca);
     qsort(lines, count, sizeof *lines, by_order);
     uca = pairs(uca_order), other = pairs(icu_order);

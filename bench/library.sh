@@ -1,7 +1,7 @@
 #!/usr/bin/env bash
 # The C library beside ICU's C API, in one run, over lines of one to four words of Debian's lists, which it brings without installing
-# them: nanoseconds of a call, of all scripts and of Latin ones. Then SQLite's index and order by uca_key beside those by ICU's keys,
-# over 1,000,000 lines of all scripts, where Debian's libsqlite3-dev is there. It needs Debian's libicu-dev. It is no test.
+# them: nanoseconds of a call, of all scripts and of Latin ones. Then SQLite's index and order by uca_key and by uca_packed_key
+# beside those by ICU's keys, over 1,000,000 lines of all scripts, where Debian's libsqlite3-dev is there. It needs Debian's libicu-dev. It is no test.
 uca=none # the program is not measured here
 source "$(dirname "${BASH_SOURCE[0]}")/shared.bash"
 source tests/debian.bash

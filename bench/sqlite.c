@@ -1,4 +1,5 @@
-// SQLite over rows of a file: an index and an order by uca_key beside the same by ICU's keys: sqlite TABLE LINES EXTENSION [ROUNDS]
+// SQLite over rows of a file: an index and an order by uca_key and by uca_packed_key beside the same by ICU's keys:
+// sqlite TABLE LINES EXTENSION [ROUNDS]
 // Each figure is the processor time of the fastest of some rounds, which are interleaved. What the keys themselves take is what
 // the same blobs do not take where a function of a row's number has them ready.
 #include <sqlite3.h>
@@ -22,7 +23,10 @@ struct blobs {
     size_t count;
 };
 
-static struct blobs ready_keys[2];
+/* Sort keys, packed ones, and ICU's. */
+enum { KINDS = 3, ICU = KINDS - 1 };
+
+static struct blobs ready_keys[KINDS];
 
 static double now(void) {
     struct timespec time;
@@ -87,10 +91,12 @@ static void load_lines(const char *path) {
     fclose(file);
 }
 
-static void make_ready(struct blobs *keys, const char *form) {
+static void make_ready(struct blobs *keys, const char *form, const char *key) {
     sqlite3_stmt *select;
     size_t room = 0;
-    if (sqlite3_prepare_v2(database, form, -1, &select, NULL)) exit(3);
+    char *text = sqlite3_mprintf(form, key);
+    if (sqlite3_prepare_v2(database, text, -1, &select, NULL)) exit(3);
+    sqlite3_free(text);
     while (sqlite3_step(select) == SQLITE_ROW) {
         if (keys->count == room && !(keys->of = realloc(keys->of, (room = room ? 2 * room : 1024) * sizeof *keys->of))) exit(3);
         struct blob blob = {NULL, sqlite3_column_bytes(select, 0)};
@@ -110,11 +116,13 @@ static double mean_size(const struct blobs *keys) {
 #define SORTED "SELECT count(*) FROM (SELECT t FROM w ORDER BY %s LIMIT -1 OFFSET 1)"
 
 int main(int count, char **words) {
-    static const char *const names[] = {"uca_key(t)", "icu_key(t)", "ready_uca_key(n)", "ready_icu_key(n)"};
+    static const char *const names[2 * KINDS] = {"uca_key(t)", "uca_packed_key(t)", "icu_key(t)", "ready_key(n)", "ready_packed_key(n)", "ready_icu_key(n)"};
+    static const char *const ready[KINDS] = {"ready_key", "ready_packed_key", "ready_icu_key"};
+    static const char *const kinds[KINDS] = {"sort keys", "packed keys", "ICU's keys"};
     static const char *const what[] = {"CREATE INDEX i ON w (%s)", SORTED, "DROP INDEX i", SORTED};
     static const char *const titles[] = {"an index is built", "ORDER BY with it", NULL, "ORDER BY without it"};
     int rounds = count > 4 ? atoi(words[4]) : 3;
-    double best[4][4];
+    double best[4][2 * KINDS];
     UErrorCode error = U_ZERO_ERROR;
     if (count < 4) return 2;
     icu = ucol_open("", &error);
@@ -123,18 +131,18 @@ int main(int count, char **words) {
     sqlite3_enable_load_extension(database, 1);
     if (sqlite3_load_extension(database, words[3], "sqlite3_ucasqlite_init", NULL)) return 3;
     sqlite3_create_function(database, "icu_key", 1, SQLITE_UTF8 | SQLITE_DETERMINISTIC | SQLITE_INNOCUOUS, NULL, icu_key, NULL, NULL);
-    for (int by = 0; by < 2; by++) {
-        sqlite3_create_function(database, by ? "ready_icu_key" : "ready_uca_key", 1, SQLITE_UTF8 | SQLITE_DETERMINISTIC | SQLITE_INNOCUOUS,
-                                &ready_keys[by], ready_key, NULL, NULL);
+    for (int by = 0; by < KINDS; by++) {
+        sqlite3_create_function(database, ready[by], 1, SQLITE_UTF8 | SQLITE_DETERMINISTIC | SQLITE_INNOCUOUS, &ready_keys[by], ready_key, NULL, NULL);
     }
     run("SELECT uca_load('uca', %Q)", words[1], "");
     load_lines(words[2]);
     run("PRAGMA cache_size = -1000000", "", "");
-    make_ready(&ready_keys[0], "SELECT uca_key(t) FROM w ORDER BY n");
-    make_ready(&ready_keys[1], "SELECT icu_key(t) FROM w ORDER BY n");
-    printf("%zu rows, keys of %.0f bytes (ICU %.0f)\n", ready_keys[0].count, mean_size(&ready_keys[0]), mean_size(&ready_keys[1]));
+    for (int by = 0; by < KINDS; by++) make_ready(&ready_keys[by], "SELECT %s FROM w ORDER BY n", names[by]);
+    printf("%zu rows", ready_keys[ICU].count);
+    for (int by = 0; by < KINDS; by++) printf(", %s of %.0f bytes", kinds[by], mean_size(&ready_keys[by]));
+    printf("\n");
     for (int round = 0; round < rounds; round++) {
-        for (int by = 0; by < 4; by++) {
+        for (int by = 0; by < 2 * KINDS; by++) {
             for (int step = 0; step < 4; step++) {
                 double took = seconds(what[step], names[by]);
                 if (round == 0 || took < best[step][by]) best[step][by] = took;
@@ -142,8 +150,11 @@ int main(int count, char **words) {
         }
     }
     for (int step = 0; step < 4; step++) {
-        if (titles[step]) printf("%s: %.2f s (ICU %.2f, %.2f times), with keys that are ready %.2f (%.2f, %.2f times)\n", titles[step], best[step][0], best[step][1],
-                                 best[step][0] / best[step][1], best[step][2], best[step][3], best[step][2] / best[step][3]);
+        for (int by = 0; titles[step] && by < ICU; by++) {
+            const double *of_ready = best[step] + KINDS;
+            printf("%s, %s: %.2f s (ICU %.2f, %.2f times), with keys that are ready %.2f (%.2f, %.2f times)\n", titles[step], kinds[by], best[step][by],
+                   best[step][ICU], best[step][by] / best[step][ICU], of_ready[by], of_ready[ICU], of_ready[by] / of_ready[ICU]);
+        }
     }
     sqlite3_close(database);
     ucol_close(icu);

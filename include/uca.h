@@ -20,8 +20,8 @@
  * Every call returns a status, and most say in a uca_fault where a fault is. Where a call returns any status but UCA_OK,
  * it has changed nothing but the fault.
  *
- * Memory: uca_open, uca_clone, uca_sort_key, uca_prefix_bounds and uca_fingerprint call malloc, realloc and free. All other calls
- * allocate nothing. No call keeps a pointer that it was given.
+ * Memory: uca_open, uca_clone, uca_sort_key, uca_packed_key, uca_prefix_bounds and uca_fingerprint call malloc, realloc and free.
+ * All other calls allocate nothing. No call keeps a pointer that it was given.
  *
  * Threads: one call at a time may use a collator. A collator may go from thread to thread. To use one table in several
  * threads at once, give each thread a collator of its own by uca_clone: they share the table. No call may be made from a
@@ -186,8 +186,19 @@ uint32_t uca_sort_key(uca_collator *collator, const uca_settings *settings, cons
                       size_t capacity, size_t *needed, uca_fault *fault);
 
 /*
- * Writes the same bytes to `out` and the same number to `needed`, without allocating. It reads the text once for each level, so it
- * takes five to nine times as long as uca_sort_key, which makes a key in memory and copies it. If a key had more than SIZE_MAX
+ * Writes the first bytes of a text's packed sort key to `out`, as uca_sort_key does of its sort key. Packed keys are for indexes:
+ * comparing two of them byte by byte gives the order of the two sort keys under the same settings, and they are equal exactly
+ * where those are, but most have less than half the bytes. They depend on what sort keys depend on, so a stored fingerprint is
+ * right for both. uca_prefix_bounds gives the range of packed keys, too. A packed key cannot be compared with a sort key (at
+ * the strength UCA_PRIMARY the two are the same bytes).
+ * Returns UCA_OK, UCA_BAD_SETTINGS, UCA_NOT_OPEN, UCA_NOT_UTF8, UCA_LONG_RUN or UCA_NO_MEMORY.
+ */
+uint32_t uca_packed_key(uca_collator *collator, const uca_settings *settings, const uint8_t *text, size_t size, uint8_t *out,
+                        size_t capacity, size_t *needed, uca_fault *fault);
+
+/*
+ * Writes the sort key that uca_sort_key writes, and its number of bytes, without allocating. It reads the text once for each level, so
+ * it takes five to nine times as long as uca_sort_key, which makes a key in memory and copies it. If a key had more than SIZE_MAX
  * bytes, `needed` would be SIZE_MAX.
  * Returns UCA_OK, UCA_BAD_SETTINGS, UCA_NOT_OPEN, UCA_NOT_UTF8 or UCA_LONG_RUN.
  */
@@ -195,8 +206,8 @@ uint32_t uca_write_key(uca_collator *collator, const uca_settings *settings, con
                        size_t capacity, size_t *needed, uca_fault *fault);
 
 /*
- * The range in which an index has the keys of all texts that begin with a text: each such key, of whatever strength, is not
- * before `lower` and is before `upper`, and no key of a text with other primary weights at its beginning is. `lower` is the
+ * The range in which an index has the keys, packed or not, of all texts that begin with a text: each such key, of whatever
+ * strength, is not before `lower` and is before `upper`, and no key of a text with other primary weights at its beginning is. `lower` is the
  * key of the text at strength UCA_PRIMARY, and `upper` the first byte string after all that begin with it. Of each the first
  * bytes are written, at most its capacity, and the number of bytes of the whole to `lower_needed` and `upper_needed`. An
  * upper end has at least one byte. Where `upper_needed` is 0 there is none, and all keys from `lower` on are in the range:
@@ -210,7 +221,7 @@ uint32_t uca_prefix_bounds(uca_collator *collator, const uca_settings *settings,
 
 /*
  * Writes the SHA-256 digest of all that sort keys depend on: the table in its canonical form, the settings, and the version
- * of Unicode. Store it with an index of sort keys: while it is the same, the keys are right. It takes about as long as
+ * of Unicode. Store it with an index of keys, packed or not: while it is the same, the keys are right. It takes about as long as
  * uca_open.
  * Returns UCA_OK, UCA_BAD_SETTINGS, UCA_NOT_OPEN or UCA_NO_MEMORY.
  */
@@ -249,6 +260,12 @@ static inline uint32_t uca_private_sort_key(uca_collator *collator, const uca_se
     return uca_sort_key(collator, settings, uca_private_bytes(text), size, out ? out : none, capacity, needed, fault);
 }
 
+static inline uint32_t uca_private_packed_key(uca_collator *collator, const uca_settings *settings, const uint8_t *text,
+                                              size_t size, uint8_t *out, size_t capacity, size_t *needed, uca_fault *fault) {
+    uint8_t none[1];
+    return uca_packed_key(collator, settings, uca_private_bytes(text), size, out ? out : none, capacity, needed, fault);
+}
+
 static inline uint32_t uca_private_write_key(uca_collator *collator, const uca_settings *settings, const uint8_t *text,
                                              size_t size, uint8_t *out, size_t capacity, size_t *needed, uca_fault *fault) {
     uint8_t none[1];
@@ -268,6 +285,7 @@ static inline uint32_t uca_private_prefix_bounds(uca_collator *collator, const u
 #define uca_check uca_private_check
 #define uca_compare uca_private_compare
 #define uca_sort_key uca_private_sort_key
+#define uca_packed_key uca_private_packed_key
 #define uca_write_key uca_private_write_key
 #define uca_prefix_bounds uca_private_prefix_bounds
 

@@ -18,7 +18,7 @@ make -s -C bindings/c install OUT="$work/c" PREFIX="$work/usr" >"$work/log" 2>&1
 usr=$work/usr
 
 # What the library shows, and what it takes.
-names="uca_check uca_clone uca_close uca_compare uca_fingerprint uca_open uca_prefix_bounds uca_sort_key uca_unicode_version uca_version uca_write_key"
+names="uca_check uca_clone uca_close uca_compare uca_fingerprint uca_open uca_packed_key uca_prefix_bounds uca_sort_key uca_unicode_version uca_version uca_write_key"
 is "the names of the shared library" "$names" "$(nm -D --defined-only "$usr/lib/libuca.so.1" | awk '{ print $3 }' | sort | paste -sd' ')"
 is "the names of the archive" "$names" "$(nm --extern-only --defined-only "$usr/lib/libuca.a" 2>/dev/null | awk 'NF == 3 { print $3 }' | sort | paste -sd' ')"
 is "the functions of the header" "$names" "$(sed -n 's/^[a-z0-9_]* \(uca_[a-z_]*\)(.*/\1/p' include/uca.h | sort -u | paste -sd' ')"
@@ -54,7 +54,7 @@ compiles refused bindings/c/tests/refused.c "$usr/lib/libuca.a" -Wl,--wrap=mallo
 is "allocations that are refused" "well" "$("$work/refused" 2>&1 | sed 's/,.*//')"
 compiles stack bindings/c/tests/stack.c "$usr/lib/libuca.a" -lpthread
 "$work/stack" "$table" rules/sv.rules >"$work/stacks"
-is "stack that calls take" "0|9 calls, uca_open and uca_fingerprint at most 24 KiB, the others at most 8" \
+is "stack that calls take" "0|10 calls, uca_open and uca_fingerprint at most 24 KiB, the others at most 8" \
     "$?|$(awk '$2 > ($1 == "uca_open" || $1 == "uca_fingerprint" ? 24576 : 8192) { print; bad = 1 } END { if (!bad) print NR " calls, uca_open and uca_fingerprint at most 24 KiB, the others at most 8" }' "$work/stacks")"
 echo "$script: bytes of stack: $(paste -sd' ' "$work/stacks")"
 compiles threads bindings/c/tests/threads.c "$usr/lib/libuca.a" -lpthread
@@ -106,12 +106,13 @@ in_sqlite() {
     sqlite3 -cmd ".load $folder/uca_sqlite sqlite3_ucasqlite_init" "$folder/db" <"$folder/test.sql" >"$folder/out" 2>"$folder/errors"
     is "SQLite: by collation" "" "$(cmp "$folder/by_collation" "$work/ordered" 2>&1)"
     is "SQLite: by key" "" "$(cmp "$folder/by_key" "$work/ordered" 2>&1)"
+    is "SQLite: by packed key" "" "$(cmp "$folder/by_packed_key" "$work/ordered" 2>&1)"
     is "SQLite: indexes are used, and are well" \
-        "50000|SCAN w USING COVERING INDEX by_collation|SCAN w USING INDEX by_key|SEARCH w USING COVERING INDEX by_collation (t>? AND t<?)|SEARCH w USING INDEX by_key (<expr>>? AND <expr><?)|1|lomo luna llano mano|SEARCH w USING INDEX by_key (<expr>>? AND <expr><?)|lo Lómo||1|1|2000|1|$digest|ok" \
-        "$(grep -v '^QUERY PLAN' "$folder/answers" | sed 's/^`--//' | sed -n '1,12p' | paste -sd'|')"
+        "50000|SCAN w USING COVERING INDEX by_collation|SCAN w USING INDEX by_key|SEARCH w USING COVERING INDEX by_collation (t>? AND t<?)|SEARCH w USING INDEX by_key (<expr>>? AND <expr><?)|1|lomo luna llano mano|SEARCH w USING INDEX by_key (<expr>>? AND <expr><?)|lo Lómo||1|1|2000|1|SCAN w USING INDEX by_packed_key|SEARCH w USING INDEX by_packed_key (<expr>>? AND <expr><?)|1|1|2026|1FA21FBC00000505|$digest|ok" \
+        "$(grep -v '^QUERY PLAN' "$folder/answers" | sed 's/^`--//' | sed -n '1,16p' | paste -sd'|')"
     is "SQLite: a null, and a long key" "|6004" "$(tail -1 "$folder/answers")"
     is "SQLite: faults" \
-        "uca_key: not UTF-8, kind 0, at 1|uca: no collation of this name: call uca_load first|uca_load: there is a collation of this name|uca_load: a file could not be read|uca_load: bad table, kind 3, at 1|uca_load: bad settings, kind 0, at 0" \
+        "uca_key: not UTF-8, kind 0, at 1|uca_packed_key: not UTF-8, kind 0, at 1|uca: no collation of this name: call uca_load first|uca_load: there is a collation of this name|uca_load: a file could not be read|uca_load: bad table, kind 3, at 1|uca_load: bad settings, kind 0, at 0" \
         "$(sed 's/^.*near line [0-9]*: //' "$folder/errors" | paste -sd'|')"
 }
 if command -v sqlite3 >/dev/null && echo '#include <sqlite3ext.h>' | cc -E - >/dev/null 2>&1; then
@@ -175,9 +176,10 @@ in_postgresql() {
     stop_server
     wait
     is "PostgreSQL: by key" "" "$(cmp "$work/by_key.csv" "$work/ordered.csv" 2>&1)"
+    is "PostgreSQL: by packed key" "" "$(cmp "$work/by_packed_key.csv" "$work/ordered.csv" 2>&1)"
     is "PostgreSQL: by operator class" "" "$(cmp "$work/by_text.csv" "$work/ordered.csv" 2>&1)"
     is "PostgreSQL: indexes are used" \
-        "50000|Index Scan using by_key on w|Index Only Scan using by_text on w|Index Scan using by_key on w|  Index Cond: ((uca_key(t) >= '\x20d60000002000000002'::bytea) AND (uca_key(t) <= '\x21090000002000000002'::bytea))|Index Only Scan using by_text on w|  Index Cond: ((t >=~ 'l'::text) AND (t <=~ 'm'::text))|Index Scan using by_key on w|  Index Cond: ((uca_key(t) >= '\x20d6213c'::bytea) AND (uca_key(t) < '\x20d6213d'::bytea))|t|-1|1|0|t|t|0|lo Lómo|$digest" \
+        "50000|Index Scan using by_key on w|Index Scan using by_packed_key on w|Index Only Scan using by_text on w|Index Scan using by_key on w|  Index Cond: ((uca_key(t) >= '\x20d60000002000000002'::bytea) AND (uca_key(t) <= '\x21090000002000000002'::bytea))|Index Only Scan using by_text on w|  Index Cond: ((t >=~ 'l'::text) AND (t <=~ 'm'::text))|Index Scan using by_key on w|  Index Cond: ((uca_key(t) >= '\x20d6213c'::bytea) AND (uca_key(t) < '\x20d6213d'::bytea))|t|t|-1|1|0|t|t|0|lo Lómo|$digest" \
         "$(paste -sd'|' "$work/pgout")"
     is "PostgreSQL: faults" \
         "ERROR:  uca_key: too many nonstarters in a row, kind 0, at 121|ERROR:  uca: the table or the settings are not those that were fixed" \

@@ -1,5 +1,5 @@
 #!/usr/bin/env bash
-# docs/DATABASES.md: keys in an index of SQLite, prefixes as ranges of keys, and the fingerprint of an order.
+# docs/DATABASES.md: keys in an index of SQLite, packed keys, prefixes as ranges of keys, and the fingerprint of an order.
 source "$(dirname "${BASH_SOURCE[0]}")/checks.bash"
 export LC_ALL=C.UTF-8
 
@@ -33,6 +33,26 @@ is "a word is in the range of its beginnings" "$(wc -l <"$work/cuts") of $(wc -l
 is "what is in a range begins with the same primary weights" "0" "$(head -n 60 "$work/ends" | while read -r low high; do
     awk -v low="$low" -v high="$high" '($0 "" >= low "") && ($0 "" < high "") && substr($0, 1, length(low)) != low' "$work/keys"
 done | wc -l)"
+
+# Packed keys, by the C library: of each line of standard input, at the strength of a number
+packed() { "$work/bounds_of" "$published" "${2:-/dev/null}" "$1"; }
+packed 3 <"$work/words" >"$work/packed"
+is "packed keys at primary are the keys at primary" "" "$(packed 1 <"$work/words" | cmp - "$work/primary" 2>&1)"
+is "a level of four common weights is a byte" "20D6213C2109213C00000909" "$(echo lomo | packed 3)"
+for strength in 1:primary 2:secondary 3:tertiary 4:quaternary 5:identical; do
+    is "words by packed keys at ${strength#*:}" "same" "$(paste <(packed "${strength%:*}" <"$work/words") "$work/words" | LC_ALL=C sort -s -t $'\t' -k1,1 | cut -f2- |
+        cmp -s - <(./uca order --table "$published" --strength "${strength#*:}" <"$work/words") && echo same)"
+done
+cut -f2 "$work/cuts" | packed 3 >"$work/own_packed"
+is "a word is in the range of its beginnings by its packed key" "$(wc -l <"$work/cuts") of $(wc -l <"$work/cuts")" \
+    "$(paste -d' ' "$work/ends" "$work/own_packed" | awk '($1 "" <= $3 "") && ($3 "" < $2 "") { n++ } END { print n + 0 " of " NR }')"
+places() { awk -v low="$1" -v high="$2" '($0 "" >= low "") && ($0 "" < high "") { print NR }' "$3" | paste -sd' '; }
+is "a range has the same words by keys and by packed keys" "" "$(head -n 60 "$work/ends" | while read -r low high; do
+    [ "$(places "$low" "$high" "$work/keys")" = "$(places "$low" "$high" "$work/packed")" ] || echo "$low"
+done)"
+is "the words of each language rise by their packed keys" "" "$(for rules in rules/*.rules; do
+    packed 3 "$rules" <"tests/rules/$(basename "$rules" .rules).words" | LC_ALL=C sort -cu 2>/dev/null || echo "$rules"
+done)"
 
 # The premise: where what follows may join the end of the text, there are no ends.
 in_range() {

@@ -4,6 +4,10 @@
 CREATE FUNCTION uca_key(text) RETURNS bytea
     AS 'MODULE_PATHNAME', 'uca_pg_key' LANGUAGE C IMMUTABLE STRICT PARALLEL SAFE;
 
+-- The packed sort key: shorter, and in the same order as the sort keys. The two kinds cannot be compared.
+CREATE FUNCTION uca_packed_key(text) RETURNS bytea
+    AS 'MODULE_PATHNAME', 'uca_pg_packed_key' LANGUAGE C IMMUTABLE STRICT PARALLEL SAFE;
+
 -- The ends of the range that the keys of all texts that begin with a text are in: none is before the lower one, and all are before
 -- the upper one. That is null where there is no such end.
 CREATE FUNCTION uca_prefix_lower(text) RETURNS bytea

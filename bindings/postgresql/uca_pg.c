@@ -125,10 +125,12 @@ static void make_ready(void) {
     is_fixed_checked = true;
 }
 
-PG_FUNCTION_INFO_V1(uca_pg_key);
-Datum uca_pg_key(PG_FUNCTION_ARGS) {
+/* A call that makes a key: uca_sort_key or uca_packed_key. */
+typedef uint32_t key_call(uca_collator *, const uca_settings *, const uint8_t *, size_t, uint8_t *, size_t, size_t *, uca_fault *);
+
+static Datum key_by(FunctionCallInfo fcinfo, key_call *makes_key, const char *function, size_t bytes_of_each) {
     text *given = PG_GETARG_TEXT_PP(0);
-    size_t size = VARSIZE_ANY_EXHDR(given), room = 8 * size + 64, needed = 0;
+    size_t size = VARSIZE_ANY_EXHDR(given), room = bytes_of_each * size + 64, needed = 0;
     uca_settings settings = settings_now();
     uca_fault fault;
     uint32_t status;
@@ -136,16 +138,22 @@ Datum uca_pg_key(PG_FUNCTION_ARGS) {
     make_ready();
     for (;;) {
         key = palloc_extended(VARHDRSZ + room, MCXT_ALLOC_HUGE);
-        status = uca_sort_key(&collator, &settings, (uint8_t *)VARDATA_ANY(given), size, (uint8_t *)VARDATA(key), room, &needed, &fault);
-        if (status != UCA_OK) report("uca_key", status, &fault);
+        status = makes_key(&collator, &settings, (uint8_t *)VARDATA_ANY(given), size, (uint8_t *)VARDATA(key), room, &needed, &fault);
+        if (status != UCA_OK) report(function, status, &fault);
         if (needed <= room) break;
         pfree(key);
         room = needed;
     }
-    if (needed > MaxAllocSize - VARHDRSZ) ereport(ERROR, (errcode(ERRCODE_PROGRAM_LIMIT_EXCEEDED), errmsg("uca_key: the key is too long")));
+    if (needed > MaxAllocSize - VARHDRSZ) ereport(ERROR, (errcode(ERRCODE_PROGRAM_LIMIT_EXCEEDED), errmsg("%s: the key is too long", function)));
     SET_VARSIZE(key, VARHDRSZ + needed);
     PG_RETURN_BYTEA_P(key);
 }
+
+PG_FUNCTION_INFO_V1(uca_pg_key);
+Datum uca_pg_key(PG_FUNCTION_ARGS) { return key_by(fcinfo, uca_sort_key, "uca_key", 8); }
+
+PG_FUNCTION_INFO_V1(uca_pg_packed_key);
+Datum uca_pg_packed_key(PG_FUNCTION_ARGS) { return key_by(fcinfo, uca_packed_key, "uca_packed_key", 4); }
 
 /* One of the two ends of the keys of all texts that begin with a text; null where there is no upper one. */
 static Datum bound(FunctionCallInfo fcinfo, bool is_upper) {

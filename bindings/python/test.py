@@ -24,18 +24,22 @@ def refuses(call, status, at=None):
 assert uca.version() == (1, 0, 0) and uca.unicode_version() == (18, 0, 0)
 with uca.Collator(table) as collator:
     assert sorted(lines, key=collator.key) == ordered
+    assert sorted(lines, key=collator.packed_key) == ordered
     few = lines[:3000]
     assert sorted(few, key=functools.cmp_to_key(collator.compare)) == sorted(few, key=collator.key)
     assert collator.fingerprint().hex() == fingerprint
     refuses(lambda: collator.key(b"a\xff"), 1, 1)
     refuses(lambda: collator.compare("a", "x" + "\u0301" * 61), 2)
     refuses(lambda: collator.key("\udc80"), 1, 0)
+    refuses(lambda: collator.packed_key(b"a\xff"), 1, 1)
+    assert len(collator.packed_key("\ufdfa" * 1000)) > 2 * 18 * 1000
     assert collator.key("a" * 10000) > collator.key("a" * 9999)
     assert collator.prefix_bounds("") == (b"", None)
     lower, upper = collator.prefix_bounds("lo" * 3000)
     assert len(lower) == len(upper) == 12000 and lower < collator.key("LÓ" * 3000 + "x") < upper
     lower, upper = collator.prefix_bounds("lo")
-    assert [lower <= collator.key(word) < upper for word in ("lo", "Lómo", "l", "lp", "ln\uffff")] == [True, True, False, False, False]
+    for key in (collator.key, collator.packed_key):
+        assert [lower <= key(word) < upper for word in ("lo", "Lómo", "l", "lp", "ln\uffff")] == [True, True, False, False, False]
     refuses(lambda: collator.prefix_bounds(b"a\xff"), 1, 1)
 
     wanted, sums = [collator.key(line) for line in few], []

@@ -43,6 +43,7 @@ def _load():
         ("uca_check", [text, size, fault], ctypes.c_uint32),
         ("uca_compare", [collator, settings, text, size, text, size, ctypes.POINTER(ctypes.c_int32), fault], ctypes.c_uint32),
         ("uca_sort_key", [collator, settings, text, size, ctypes.c_char_p, size, ctypes.POINTER(size), fault], ctypes.c_uint32),
+        ("uca_packed_key", [collator, settings, text, size, ctypes.c_char_p, size, ctypes.POINTER(size), fault], ctypes.c_uint32),
         ("uca_prefix_bounds", [collator, settings, text, size, ctypes.c_char_p, size, ctypes.c_char_p, size, ctypes.POINTER(size),
                                ctypes.POINTER(size), fault], ctypes.c_uint32),
         ("uca_fingerprint", [collator, settings, ctypes.c_char_p], ctypes.c_uint32),
@@ -130,12 +131,19 @@ class Collator:
 
     def key(self, text):
         """The sort key of a text, as bytes that compare as the texts do."""
+        return self._key(_library.uca_sort_key, text, 16)
+
+    def packed_key(self, text):
+        """The packed sort key of a text: shorter bytes, in the same order as the sort keys. The two kinds cannot be compared."""
+        return self._key(_library.uca_packed_key, text, 8)
+
+    def _key(self, makes_key, text, bytes_of_each):
         text, needed, fault = _bytes(text), ctypes.c_size_t(), _Fault()
-        room = 16 * len(text) + 64
+        room = bytes_of_each * len(text) + 64
         while True:
             out = ctypes.create_string_buffer(room)
             with self._lock:
-                status = _library.uca_sort_key(self._collator, self._settings, text, len(text), out, room, needed, fault)
+                status = makes_key(self._collator, self._settings, text, len(text), out, room, needed, fault)
             if status:
                 _refuse(status, fault)
             if needed.value <= room:

@@ -8,13 +8,14 @@
  *     CREATE INDEX by_key ON words(uca_key(t));                        -- a sort key as a blob, by the collation 'uca'
  *     SELECT t FROM words ORDER BY uca_key(t);
  *     SELECT uca_key(t, 'es') FROM words;                              -- by the collation of this name
+ *     CREATE INDEX by_packed_key ON words(uca_packed_key(t));          -- shorter blobs in the same order, for indexes
  *     SELECT t FROM words WHERE uca_key(t) >= uca_prefix_lower('l') AND uca_key(t) < uca_prefix_upper('l');
- *                                                                      -- the texts that begin with a text
+ *                                                                      -- the texts that begin with a text; or by uca_packed_key
  *     SELECT uca_fingerprint('uca');                                   -- store it with an index, and compare before use
  *
  * uca_load has to run on each connection before a statement that needs its collation. A file that it names is read by the
  * process, so it cannot be called from triggers and views. Bytes that are no text come after all texts, by their bytes,
- * since a collation of SQLite cannot fail; uca_key reports them.
+ * since a collation of SQLite cannot fail; uca_key and uca_packed_key report them.
  */
 #include <sqlite3ext.h>
 SQLITE_EXTENSION_INIT1
@@ -93,25 +94,34 @@ static struct collation *wanted(sqlite3_context *context, int count, sqlite3_val
     return collation;
 }
 
-static void key(sqlite3_context *context, int count, sqlite3_value **values) {
+/* A call that makes a key: uca_sort_key or uca_packed_key. */
+typedef uint32_t key_call(uca_collator *, const uca_settings *, const uint8_t *, size_t, uint8_t *, size_t, size_t *, uca_fault *);
+
+static void key_by(key_call *makes_key, const char *function, sqlite3_context *context, int count, sqlite3_value **values) {
     struct collation *collation = wanted(context, count, values, 1);
     if (!collation || sqlite3_value_type(values[0]) == SQLITE_NULL) return;
     const uint8_t *text = sqlite3_value_text(values[0]);
     size_t size = sqlite3_value_bytes(values[0]), needed = 0;
     uint8_t room[1024], *out = room;
     uca_fault fault;
-    uint32_t status = uca_sort_key(&collation->collator, &collation->settings, text, size, out, sizeof room, &needed, &fault);
+    uint32_t status = makes_key(&collation->collator, &collation->settings, text, size, out, sizeof room, &needed, &fault);
     if (status == UCA_OK && needed > sizeof room) {
         out = sqlite3_malloc64(needed);
         if (!out) {
             sqlite3_result_error_nomem(context);
             return;
         }
-        status = uca_sort_key(&collation->collator, &collation->settings, text, size, out, needed, &needed, &fault);
+        status = makes_key(&collation->collator, &collation->settings, text, size, out, needed, &needed, &fault);
     }
-    if (status != UCA_OK) report(context, "uca_key", status, &fault);
+    if (status != UCA_OK) report(context, function, status, &fault);
     else sqlite3_result_blob64(context, out, needed, SQLITE_TRANSIENT);
     if (out != room) sqlite3_free(out);
+}
+
+static void key(sqlite3_context *context, int count, sqlite3_value **values) { key_by(uca_sort_key, "uca_key", context, count, values); }
+
+static void packed_key(sqlite3_context *context, int count, sqlite3_value **values) {
+    key_by(uca_packed_key, "uca_packed_key", context, count, values);
 }
 
 /* One of the two ends of the keys of all texts that begin with a text; null where there is no upper one. */
@@ -268,9 +278,9 @@ int sqlite3_ucasqlite_init(sqlite3 *connection, char **error, const sqlite3_api_
     int flags = SQLITE_UTF8 | SQLITE_DETERMINISTIC | SQLITE_INNOCUOUS;
     /* The first function lets the registry go, with the connection. */
     int result = sqlite3_create_function_v2(connection, "uca_load", -1, SQLITE_UTF8 | SQLITE_DIRECTONLY, registry, load, NULL, NULL, let_all_go);
-    if (result == SQLITE_OK) result = sqlite3_create_function_v2(connection, "uca_key", 1, flags, registry, key, NULL, NULL, NULL);
-    if (result == SQLITE_OK) result = sqlite3_create_function_v2(connection, "uca_key", 2, flags, registry, key, NULL, NULL, NULL);
     for (int count = 1; count <= 2; count++) {
+        if (result == SQLITE_OK) result = sqlite3_create_function_v2(connection, "uca_key", count, flags, registry, key, NULL, NULL, NULL);
+        if (result == SQLITE_OK) result = sqlite3_create_function_v2(connection, "uca_packed_key", count, flags, registry, packed_key, NULL, NULL, NULL);
         if (result == SQLITE_OK) result = sqlite3_create_function_v2(connection, "uca_prefix_lower", count, flags, registry, lower_bound, NULL, NULL, NULL);
         if (result == SQLITE_OK) result = sqlite3_create_function_v2(connection, "uca_prefix_upper", count, flags, registry, upper_bound, NULL, NULL, NULL);
     }

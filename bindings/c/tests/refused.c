@@ -55,15 +55,16 @@ static long refuses_the_rest(void) {
     uca_collator collator = UCA_CLOSED;
     uca_fault fault;
     uca_digest digest, right;
-    uint8_t key[256], whole[256], lower[16], upper[16];
-    size_t needed, size, lower_size, upper_size;
+    uint8_t key[256], whole[256], packed[256], lower[16], upper[16];
+    size_t needed, size, packed_size, lower_size, upper_size;
     long count, none_left = 0, tried = 0;
     refused = 0;
     open_small(&collator);
     long open_blocks = live;
     CHECK(uca_sort_key(&collator, &settings, TEXT(text), whole, sizeof whole, &size, &fault) == UCA_OK);
+    CHECK(uca_packed_key(&collator, &settings, TEXT(text), packed, sizeof packed, &packed_size, &fault) == UCA_OK);
     CHECK(uca_fingerprint(&collator, &settings, &right) == UCA_OK);
-    for (int call = 0; call < 4; call++) {
+    for (int call = 0; call < 5; call++) {
         for (count = 1, none_left = 0; !none_left; count = next(count), tried++) {
             uca_collator other = UCA_CLOSED;
             uint32_t status;
@@ -79,6 +80,9 @@ static long refuses_the_rest(void) {
                 status = uca_prefix_bounds(&collator, &settings, TEXT("\xC3\xA1" "b"), lower, sizeof lower, upper, sizeof upper,
                                            &lower_size, &upper_size, &fault);
                 if (status == UCA_OK) CHECK(lower_size == 4 && memcmp(lower, "\x10\0\x10\1", 4) == 0 && upper_size == 4 && memcmp(upper, "\x10\0\x10\2", 4) == 0);
+            } else if (call == 3) {
+                status = uca_packed_key(&collator, &settings, TEXT(text), key, sizeof key, &needed, &fault);
+                if (status == UCA_OK) CHECK(needed == packed_size && memcmp(key, packed, packed_size) == 0);
             } else {
                 status = uca_clone(&collator, &other);
                 CHECK(other.private_is_open == (status == UCA_OK));

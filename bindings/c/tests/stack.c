@@ -71,6 +71,13 @@ static void *makes_a_key(void *none) {
     return none;
 }
 
+static void *packs_a_key(void *none) {
+    uca_fault fault;
+    size_t needed;
+    CHECK(uca_packed_key(&collator, &settings, long_text.bytes, long_text.size, key, room, &needed, &fault) == UCA_OK);
+    return none;
+}
+
 static void *writes_a_key(void *none) {
     uca_fault fault;
     size_t needed;
@@ -125,6 +132,7 @@ int main(int count, char **words) {
     printf("uca_check %zu\n", taken(checks, NULL) - own);
     printf("uca_compare %zu\n", taken(compares, NULL) - own);
     printf("uca_sort_key %zu\n", taken(makes_a_key, NULL) - own);
+    printf("uca_packed_key %zu\n", taken(packs_a_key, NULL) - own);
     printf("uca_write_key %zu\n", taken(writes_a_key, NULL) - own);
     printf("uca_prefix_bounds %zu\n", taken(finds_bounds, NULL) - own);
     printf("uca_fingerprint %zu\n", taken(takes_a_fingerprint, NULL) - own);

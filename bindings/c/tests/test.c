@@ -93,6 +93,9 @@ static void settings(void) {
         CHECK(uca_sort_key(&collator, &refused[i], TEXT("a"), out, sizeof out, &needed, &fault) == UCA_BAD_SETTINGS && needed == 77);
         SAME_FAULT(0, 0, 0);
         memset(&fault, 0xEE, sizeof fault);
+        CHECK(uca_packed_key(&collator, &refused[i], TEXT("a"), out, sizeof out, &needed, &fault) == UCA_BAD_SETTINGS && needed == 77);
+        SAME_FAULT(0, 0, 0);
+        memset(&fault, 0xEE, sizeof fault);
         CHECK(uca_write_key(&collator, &refused[i], TEXT("a"), out, sizeof out, &needed, &fault) == UCA_BAD_SETTINGS && needed == 77);
         SAME_FAULT(0, 0, 0);
         CHECK(uca_fingerprint(&collator, &refused[i], &digest) == UCA_BAD_SETTINGS);
@@ -101,35 +104,38 @@ static void settings(void) {
     uca_close(&collator);
 }
 
-/* A call that makes a key: uca_sort_key or uca_write_key. */
+/* A call that makes a key: uca_sort_key, uca_packed_key or uca_write_key. */
 typedef uint32_t key_call(uca_collator *, const uca_settings *, const uint8_t *, size_t, uint8_t *, size_t, size_t *, uca_fault *);
 
-static void keys(key_call *makes_key) {
-    static const uint8_t key[] = {0x10, 0, 0x10, 1, 0, 0, 0, 0x20, 0, 0x24, 0, 0x20, 0, 0, 0, 2, 0, 2, 0, 2};
+static const uint8_t sort_key[] = {0x10, 0, 0x10, 1, 0, 0, 0, 0x20, 0, 0x24, 0, 0x20, 0, 0, 0, 2, 0, 2, 0, 2};
+static const uint8_t packed_key[] = {0x10, 0, 0x10, 1, 0, 0, 0xFE, 0x24, 3, 7};
+
+/* These are the key of a text of two letters with a mark, and the length of the key of one letter. */
+static void keys(key_call *makes_key, const uint8_t *key, size_t key_size, size_t size_of_a) {
     uca_settings settings = UCA_TERTIARY_SETTINGS;
     uca_collator collator = UCA_CLOSED;
     uca_fault fault;
     uint8_t out[64];
     open_small(&collator);
     for (size_t capacity = 0; capacity <= sizeof out; capacity++) {
-        size_t needed = 0, fits = capacity < sizeof key ? capacity : sizeof key;
+        size_t needed = 0, fits = capacity < key_size ? capacity : key_size;
         memset(out, 0xEE, sizeof out);
         CHECK(makes_key(&collator, &settings, TEXT("\xC3\xA1" "b"), out, capacity, &needed, &fault) == UCA_OK);
-        CHECK(needed == sizeof key && memcmp(out, key, fits) == 0);
+        CHECK(needed == key_size && memcmp(out, key, fits) == 0);
         for (size_t i = fits; i < sizeof out; i++) CHECK(out[i] == 0xEE);
     }
     size_t needed = 0;
-    CHECK(makes_key(&collator, &settings, TEXT("a"), NULL, 0, &needed, &fault) == UCA_OK && needed == 10);
+    CHECK(makes_key(&collator, &settings, TEXT("a"), NULL, 0, &needed, &fault) == UCA_OK && needed == size_of_a);
     memset(out, 0xEE, sizeof out);
-    CHECK(makes_key(&collator, &settings, TEXT("a\xFF"), out, sizeof out, &needed, &fault) == UCA_NOT_UTF8 && needed == 10);
+    CHECK(makes_key(&collator, &settings, TEXT("a\xFF"), out, sizeof out, &needed, &fault) == UCA_NOT_UTF8 && needed == size_of_a);
     SAME_FAULT(0, 1, 1);
     CHECK(out[0] == 0xEE);
     uca_close(&collator);
-    CHECK(makes_key(&collator, &settings, TEXT("a"), out, sizeof out, &needed, &fault) == UCA_NOT_OPEN && needed == 10);
+    CHECK(makes_key(&collator, &settings, TEXT("a"), out, sizeof out, &needed, &fault) == UCA_NOT_OPEN && needed == size_of_a);
     SAME_FAULT(0, 0, 0);
 }
 
-/* The two calls make the same key of a text, at each strength and under each option. */
+/* uca_sort_key and uca_write_key make the same key of a text, at each strength and under each option. */
 static void same_keys(void) {
     static const char *const texts[] = {"", "a", "A b", "\xC3\xA1" "b", "ch", "Chch a\xCC\x81\xCC\xA3", "\xEF\xB7\xBA", "\xE4\xB8\x80 z", "\xCC\x81"};
     uca_collator collator = UCA_CLOSED;
@@ -143,6 +149,39 @@ static void same_keys(void) {
             CHECK(uca_sort_key(&collator, &settings, (uint8_t *)texts[i], strlen(texts[i]), out[0], sizeof out[0], &needed[0], &fault) == UCA_OK);
             CHECK(uca_write_key(&collator, &settings, (uint8_t *)texts[i], strlen(texts[i]), out[1], sizeof out[1], &needed[1], &fault) == UCA_OK);
             CHECK(needed[0] <= sizeof out[0] && needed[0] == needed[1] && memcmp(out[0], out[1], needed[0]) == 0);
+        }
+    }
+    uca_close(&collator);
+}
+
+static int order_of(const uint8_t *a, size_t a_size, const uint8_t *b, size_t b_size) {
+    int order = memcmp(a, b, a_size < b_size ? a_size : b_size);
+    return order ? (order > 0) - (order < 0) : (a_size > b_size) - (a_size < b_size);
+}
+
+/* Packed keys are in the order that uca_compare gives, at each strength and under each option. */
+static void packed_keys(void) {
+    static const char *const texts[] = {"", "a", "A", "a b", "ab", "aB", "a\xCC\x81", "\xC3\xA1" "b", "ch", "cz", "Chch", "\xE4\xB8\x80 z", "\xCC\x81", "b",
+        "aaaaaaaaaaaaaaaaaaaaaaaaaaaaaaaaaaaaaaaaaaaaaaaaaaaaaaaaaaaaaaaaaaaaaaaaaaaaaaaaaaaaaaaaaaaaaaaaaaaa",
+        "aaaaaaaaaaaaaaaaaaaaaaaaaaaaaaaaaaaaaaaaaaaaaaaaaaaaaaaaaaaaaaaaaaaaaaaaaaaaaaaaaaaaaaaaaaaaaaaaaaaA"};
+    enum { COUNT = sizeof texts / sizeof texts[0] };
+    uca_collator collator = UCA_CLOSED;
+    uca_fault fault;
+    open_small(&collator);
+    for (uint32_t number = 0; number < 15; number++) {
+        uca_settings settings = UCA_SETTINGS(1 + number / 3, number % 3);
+        uint8_t out[COUNT][1024];
+        size_t needed[COUNT];
+        for (size_t i = 0; i < COUNT; i++) {
+            CHECK(uca_packed_key(&collator, &settings, (uint8_t *)texts[i], strlen(texts[i]), out[i], sizeof out[i], &needed[i], &fault) == UCA_OK);
+            CHECK(needed[i] <= sizeof out[i]);
+        }
+        for (size_t i = 0; i < COUNT; i++) {
+            for (size_t j = 0; j < COUNT; j++) {
+                int32_t order = 9;
+                CHECK(uca_compare(&collator, &settings, (uint8_t *)texts[i], strlen(texts[i]), (uint8_t *)texts[j], strlen(texts[j]), &order, &fault) == UCA_OK);
+                CHECK(order == order_of(out[i], needed[i], out[j], needed[j]));
+            }
         }
     }
     uca_close(&collator);
@@ -291,9 +330,11 @@ int main(int count, char **words) {
     checking();
     comparing();
     settings();
-    keys(uca_sort_key);
-    keys(uca_write_key);
+    keys(uca_sort_key, sort_key, sizeof sort_key, 10);
+    keys(uca_write_key, sort_key, sizeof sort_key, 10);
+    keys(uca_packed_key, packed_key, sizeof packed_key, 6);
     same_keys();
+    packed_keys();
     bounds();
     fingerprints(count > 1 ? words[1] : NULL);
     opening();

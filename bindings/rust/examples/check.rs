@@ -1,6 +1,6 @@
 //! Sorts the lines of a file by key, as `uca order` does: check TABLE LINES ORDERED FINGERPRINT
 use std::cmp::Ordering;
-use uca::{Collator, Key, Settings, Strength, Variable};
+use uca::{Collator, Key, PackedKey, Settings, Strength, Variable};
 
 fn main() {
     let words: Vec<String> = std::env::args().skip(1).collect();
@@ -12,6 +12,10 @@ fn main() {
     let mut sorted: Vec<(Key, &str)> = lines.split_terminator('\n').map(|line| (collator.key(line).unwrap(), line)).collect();
     sorted.sort_by(|a, b| a.0.cmp(&b.0));
     assert!(sorted.iter().map(|pair| pair.1).eq(ordered.split_terminator('\n')));
+    let packed: Vec<PackedKey> = sorted.iter().map(|pair| collator.packed_key(pair.1).unwrap()).collect();
+    for (pair, keys) in sorted.windows(2).zip(packed.windows(2)) {
+        assert_eq!(keys[0].cmp(&keys[1]), pair[0].0.cmp(&pair[1].0));
+    }
     for pair in sorted.windows(2) {
         assert_eq!(collator.compare(pair[0].1, pair[1].1), Ok(pair[0].0.cmp(&pair[1].0)));
     }
@@ -20,9 +24,11 @@ fn main() {
     assert_eq!(front, lomo.as_bytes()[..6]);
     let bounds = collator.prefix_bounds("lo").unwrap();
     let upper = bounds.upper.unwrap();
-    let is_between = |key: Key| key.as_bytes() >= &bounds.lower[..] && key.as_bytes() < &upper[..];
-    let inside: Vec<bool> = ["lo", "Lómo", "l", "lp"].iter().map(|word| is_between(collator.key(word).unwrap())).collect();
-    assert_eq!(inside, [true, true, false, false]);
+    let is_between = |key: &[u8]| key >= &bounds.lower[..] && key < &upper[..];
+    for (word, inside) in [("lo", true), ("Lómo", true), ("l", false), ("lp", false)] {
+        assert_eq!(is_between(collator.key(word).unwrap().as_bytes()), inside);
+        assert_eq!(is_between(collator.packed_key(word).unwrap().as_bytes()), inside);
+    }
     assert_eq!(collator.prefix_bounds(&"\u{FDFA}".repeat(100)).map(|ends| ends.lower.len() > 32), Ok(true));
     let digits: String = collator.fingerprint().unwrap().iter().map(|byte| format!("{byte:02x}")).collect();
     assert_eq!(digits, words[3]);
@@ -40,6 +46,8 @@ fn main() {
     assert_eq!(empty.prefix_bounds("").map(|ends| (ends.lower, ends.upper)), Ok((vec![], None)));
     let mut joined = Collator::open(b"0063 ; [.1000.0020.0002]\n0063 0068 ; [.1001.0020.0002]\n", b"", settings).unwrap();
     assert_eq!(joined.prefix_bounds("c").err().map(|error| (error.status, error.text, error.at)), Some((9, 0, 0)));
+    assert_eq!(empty.packed_key("").map(PackedKey::into_bytes), Ok(vec![0, 0, 1, 1, 1]));
+    assert_eq!(empty.packed_key(&"\u{301}".repeat(61)).err().map(|error| (error.status, error.at)), Some((2, 120)));
     assert_eq!(empty.key(&"\u{301}".repeat(61)).err().map(|error| (error.status, error.at)), Some((2, 120)));
     assert_eq!(uca::check(b"a\xFF").err().map(|error| (error.status, error.text, error.at)), Some((1, 1, 1)));
     assert_eq!((uca::version(), uca::unicode_version()), (0x010000, 0x120000));

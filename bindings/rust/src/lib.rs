@@ -32,6 +32,7 @@ mod ffi {
         pub fn uca_check(text: *const u8, size: usize, fault: *mut RawFault) -> u32;
         pub fn uca_compare(c: *mut RawCollator, s: *const RawSettings, a: *const u8, a_size: usize, b: *const u8, b_size: usize, order: *mut i32, fault: *mut RawFault) -> u32;
         pub fn uca_sort_key(c: *mut RawCollator, s: *const RawSettings, text: *const u8, size: usize, out: *mut u8, capacity: usize, needed: *mut usize, fault: *mut RawFault) -> u32;
+        pub fn uca_packed_key(c: *mut RawCollator, s: *const RawSettings, text: *const u8, size: usize, out: *mut u8, capacity: usize, needed: *mut usize, fault: *mut RawFault) -> u32;
         pub fn uca_write_key(c: *mut RawCollator, s: *const RawSettings, text: *const u8, size: usize, out: *mut u8, capacity: usize, needed: *mut usize, fault: *mut RawFault) -> u32;
         pub fn uca_prefix_bounds(c: *mut RawCollator, s: *const RawSettings, text: *const u8, size: usize, lower: *mut u8, lower_capacity: usize, upper: *mut u8, upper_capacity: usize, lower_needed: *mut usize, upper_needed: *mut usize, fault: *mut RawFault) -> u32;
         pub fn uca_fingerprint(c: *mut RawCollator, s: *const RawSettings, out: *mut [u8; 32]) -> u32;
@@ -123,6 +124,23 @@ impl Key {
     }
 }
 
+/// A packed sort key: shorter bytes, in the order of the sort keys under the same table and settings.
+#[derive(Clone, Debug, PartialEq, Eq, PartialOrd, Ord, Hash)]
+pub struct PackedKey(Vec<u8>);
+
+impl PackedKey {
+    pub fn as_bytes(&self) -> &[u8] {
+        &self.0
+    }
+
+    pub fn into_bytes(self) -> Vec<u8> {
+        self.0
+    }
+}
+
+/// A call that makes a key.
+type MakesKey = unsafe extern "C" fn(*mut ffi::RawCollator, *const RawSettings, *const u8, usize, *mut u8, usize, *mut usize, *mut RawFault) -> u32;
+
 /// The ends of the range that the keys of all texts that begin with a text are in: these keys are not before `lower`, and before
 /// `upper` where there is such an end.
 #[derive(Clone, Debug, PartialEq, Eq)]
@@ -167,17 +185,26 @@ impl Collator {
     }
 
     pub fn key(&mut self, text: &str) -> Result<Key, Error> {
-        let mut out = vec![0; 8 * text.len() + 32];
+        self.key_by(ffi::uca_sort_key, text, 8).map(Key)
+    }
+
+    /// The packed sort key of a text, for an index.
+    pub fn packed_key(&mut self, text: &str) -> Result<PackedKey, Error> {
+        self.key_by(ffi::uca_packed_key, text, 4).map(PackedKey)
+    }
+
+    fn key_by(&mut self, makes_key: MakesKey, text: &str, bytes_of_each: usize) -> Result<Vec<u8>, Error> {
+        let mut out = vec![0; bytes_of_each * text.len() + 32];
         loop {
             let (mut needed, mut fault) = (0, RawFault::default());
             let status = unsafe {
-                ffi::uca_sort_key(&mut self.raw, &self.settings, text.as_ptr(), text.len(), out.as_mut_ptr(), out.len(), &mut needed, &mut fault)
+                makes_key(&mut self.raw, &self.settings, text.as_ptr(), text.len(), out.as_mut_ptr(), out.len(), &mut needed, &mut fault)
             };
             answer(status, fault, ())?;
             let whole = needed <= out.len();
             out.resize(needed, 0);
             if whole {
-                return Ok(Key(out));
+                return Ok(out);
             }
         }
     }

@@ -4,7 +4,7 @@
 
 ghost use Rattle.std.specs.Prelude.{◌≡◌, ◌+◌, ◌*◌, None, MatchOption};
 ghost use Rattle.ucd_table.specs.declared.version.TheConstants.{UNICODE_VERSION};
-ghost use Rattle.uca_handle.specs.Calls.{Checks, Compares, Fingerprints, MakesKey, Opens, PutsBounds, Shares, WritesKey};
+ghost use Rattle.uca_handle.specs.Calls.{Checks, Compares, Fingerprints, MakesKey, MakesPackedKey, Opens, PutsBounds, Shares, WritesKey};
 ghost use Rattle.uca_handle.specs.Collator.{held};
 ghost use Rattle.uca_c.specs.Reports.{IsRefused, Reports, ReportsStatus, bounds_report, check_report, compare_report, digest_after, fingerprint_status, key_report, lower_size_after, open_report, order_after, share_status, size_after, upper_size_after};
 ghost use Rattle.uca_c.specs.Settings.{settings_named};
@@ -138,6 +138,29 @@ pub extern "C" fn uca_sort_key(
         return BAD_SETTINGS;
     };
     report_key(collator.sort_key(alloc, s, text, out), needed, fault)
+}
+
+/// Puts the packed sort key of a text into the front of a buffer, or as many of its bytes as fit, and reports how many it has.
+#[unsafe(no_mangle)]
+pub extern "C" fn uca_packed_key(
+    alloc: Global,
+    collator: &mut Collator,
+    settings: &RawSettings,
+    text: &[u8],
+    out: &mut [u8],
+    needed: &mut usize,
+    fault: &mut Fault,
+) -> u32
+    ensures key { MatchOption (settings_named settings.now)
+        (IsRefused result fault.new × (out.new ≡ out.old) × (needed.new ≡ needed.old))
+        (λ s. Reports key_report result fault.new (λ outcome. MakesPackedKey (held collator.old) s text.now out.old out.new outcome × (needed.new ≡ size_after needed.old outcome))) }
+    ensures same { held collator.new ≡ held collator.old }
+{
+    let Some(s) = settings_of(settings) else {
+        *fault = NO_FAULT;
+        return BAD_SETTINGS;
+    };
+    report_key(collator.packed_key(alloc, s, text, out), needed, fault)
 }
 
 /// Writes the sort key of a text into the front of a buffer, or as many of its bytes as fit, and reports how many it has. It

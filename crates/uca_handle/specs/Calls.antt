@@ -9,6 +9,7 @@ use Rattle.uca_model.specs.SortKey.{key_order, sort_key}
 use Rattle.uca_model.specs.Table.{ElementTable}
 use Rattle.uca_weights.specs.declared.settings.Settings.{Settings}
 use Rattle.uca_weights.specs.declared.settings.Variable.{Variable}
+use Rattle.uca_key.specs.PackedKey.{packed_key}
 use Rattle.uca_handle.specs.Fingerprint.{fingerprinted}
 use Rattle.uca_handle.specs.Opening.{SaysTable, RefusesTable}
 use Rattle.uca_handle.specs.Placing.{with_front}
@@ -70,23 +71,28 @@ abbrev pub Compares : Option ElementTable → Settings → List ℕ → List ℕ
 Compares None s a b result = result ≡ Err compare.Closed
 Compares (Some t) s a b result = ComparesBy t s a b result
 
--- the key of a text under a table is in the front of a buffer, and this is its length
-pub record IsKeyIn (t : ElementTable) (s : Settings) (text before after : List ℕ) (size : ℕ) : Type 0 where
+-- a key of a text is in the front of a buffer, and this is its length
+pub record IsKeyIn (bytes text before after : List ℕ) (size : ℕ) : Type 0 where
   pub safe : IsTextLine text
-  pub length_is : size ≡ length (sort_key t s (chars text))
-  pub written : after ≡ with_front (sort_key t s (chars text)) before
+  pub length_is : size ≡ length bytes
+  pub written : after ≡ with_front bytes before
 
--- the key is made, or the buffer stays as it was
-abbrev pub MakesKeyBy : ElementTable → Settings → List ℕ → List ℕ → List ℕ → Result ℕ KeyFault → Type 0
-MakesKeyBy t s text before after (Ok size) = IsKeyIn t s text before after size
-MakesKeyBy t s text before after (Err key.Closed) = ⊥
-MakesKeyBy t s text before after (Err (key.Text f)) = IsFault text f × (after ≡ before)
-MakesKeyBy t s text before after (Err key.OutOfMemory) = IsTextLine text × (after ≡ before)
+-- a key of a text, which has these bytes, is made, or the buffer stays as it was
+abbrev pub MakesKeyBy : List ℕ → List ℕ → List ℕ → List ℕ → Result ℕ KeyFault → Type 0
+MakesKeyBy bytes text before after (Ok size) = IsKeyIn bytes text before after size
+MakesKeyBy bytes text before after (Err key.Closed) = ⊥
+MakesKeyBy bytes text before after (Err (key.Text f)) = IsFault text f × (after ≡ before)
+MakesKeyBy bytes text before after (Err key.OutOfMemory) = IsTextLine text × (after ≡ before)
 
--- the same by a collator, which may have no table
+-- the sort key is made by a collator, which may have no table
 abbrev pub MakesKey : Option ElementTable → Settings → List ℕ → List ℕ → List ℕ → Result ℕ KeyFault → Type 0
 MakesKey None s text before after result = (result ≡ Err key.Closed) × (after ≡ before)
-MakesKey (Some t) s text before after result = MakesKeyBy t s text before after result
+MakesKey (Some t) s text before after result = MakesKeyBy (sort_key t s (chars text)) text before after result
+
+-- the same of the packed sort key
+abbrev pub MakesPackedKey : Option ElementTable → Settings → List ℕ → List ℕ → List ℕ → Result ℕ KeyFault → Type 0
+MakesPackedKey None s text before after result = (result ≡ Err key.Closed) × (after ≡ before)
+MakesPackedKey (Some t) s text before after result = MakesKeyBy (packed_key t s (chars text)) text before after result
 
 -- the key of a text under a table is in the front of a buffer, and this is its length, which stops at 2^64 - 1
 pub record IsKeyWritten (t : ElementTable) (s : Settings) (text before after : List ℕ) (size : ℕ) : Type 0 where

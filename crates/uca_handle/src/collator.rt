@@ -6,7 +6,7 @@ use crate::bounds::{BoundsSize, put_bounds};
 use crate::digest::digest_of;
 use crate::faults::{BoundsFault, CompareFault, FingerprintFault, KeyFault, OpenFault, ShareFault};
 use crate::handle::Handle;
-use crate::keys::put_key;
+use crate::keys::{put_key, put_packed_key};
 use crate::loose::Loose;
 use crate::opening::table_of;
 use crate::placing::write_key_of;
@@ -37,7 +37,7 @@ impl Drop for Collator {
 }
 
 impl Collator {
-    ghost use Rattle.uca_handle.specs.Calls.{Compares, Fingerprints, MakesKey, Opens, PutsBounds, Shares, WritesKey};
+    ghost use Rattle.uca_handle.specs.Calls.{Compares, Fingerprints, MakesKey, MakesPackedKey, Opens, PutsBounds, Shares, WritesKey};
     ghost use Rattle.uca_handle.specs.Collator.{held};
 
     /// A collator without a table.
@@ -153,6 +153,27 @@ impl Collator {
             return Err(KeyFault::Closed);
         };
         let answer = put_key(alloc, table_in(&table), s, text, out);
+        self.fill(table);
+        answer
+    }
+
+    /// Puts the packed sort key of a text into the front of a buffer, or as many of its bytes as fit, and returns how many bytes
+    /// it has. Packed keys are in the order of the sort keys, and most are shorter by half. A packed key cannot be compared
+    /// with a sort key.
+    pub fn packed_key(
+        &mut self,
+        alloc: Global,
+        s: Settings,
+        text: &[u8],
+        out: &mut [u8],
+    ) -> Result<usize, KeyFault>
+        ensures key { MakesPackedKey (held self.old) s text.now out.old out.new result }
+        ensures same { held self.new ≡ held self.old }
+    {
+        let Some(table) = self.take(alloc) else {
+            return Err(KeyFault::Closed);
+        };
+        let answer = put_packed_key(alloc, table_in(&table), s, text, out);
         self.fill(table);
         answer
     }

@@ -1,11 +1,13 @@
-ghost use Rattle.std.specs.Prelude.{◌≡◌};
+ghost use Rattle.std.specs.Prelude.{◌≡◌, chars, length};
+ghost use Rattle.uca_model.specs.SortKey.{sort_key};
+ghost use Rattle.uca_key.specs.PackedKey.{packed_key};
 ghost use Rattle.uca_handle.specs.Calls.{MakesKeyBy};
 ghost use Rattle.uca_handle.specs.Placing.{with_front};
 
 use crate::faults::KeyFault;
 use crate::texts::passage_of;
 use std::alloc::Global;
-use uca_key::key_of;
+use uca_key::{key_of, packed_key_of};
 use uca_table::Table;
 use uca_weights::Settings;
 
@@ -17,6 +19,15 @@ pub(crate) fn copy_front(bytes: &[u8], out: &mut [u8])
     out[..n].copy_from_slice(&bytes[..n]);
 }
 
+/// The same of a whole key. Returns how many bytes it has.
+fn put_front(key: &[u8], out: &mut [u8]) -> usize
+    ensures size { result ≡ length key.now }
+    ensures front { out.new ≡ with_front key.now out.old }
+{
+    copy_front(key, out);
+    key.len()
+}
+
 /// Puts the sort key of a text into the front of a buffer, or as many of its bytes as fit.
 pub(crate) fn put_key(
     alloc: Global,
@@ -25,17 +36,34 @@ pub(crate) fn put_key(
     text: &[u8],
     out: &mut [u8],
 ) -> Result<usize, KeyFault>
-    ensures { MakesKeyBy t.now s text.now out.old out.new result }
+    ensures { MakesKeyBy (sort_key t.now s (chars text.now)) text.now out.old out.new result }
 {
     let passage = match passage_of(text) {
         Ok(passage) => passage,
         Err(fault) => return Err(KeyFault::Text(fault)),
     };
     match key_of(alloc, t, s, &passage) {
-        Ok(key) => {
-            copy_front(key.as_slice(), out);
-            Ok(key.len())
-        }
+        Ok(key) => Ok(put_front(key.as_slice(), out)),
+        Err(_) => Err(KeyFault::OutOfMemory),
+    }
+}
+
+/// The same of the packed sort key.
+pub(crate) fn put_packed_key(
+    alloc: Global,
+    t: &Table,
+    s: Settings,
+    text: &[u8],
+    out: &mut [u8],
+) -> Result<usize, KeyFault>
+    ensures { MakesKeyBy (packed_key t.now s (chars text.now)) text.now out.old out.new result }
+{
+    let passage = match passage_of(text) {
+        Ok(passage) => passage,
+        Err(fault) => return Err(KeyFault::Text(fault)),
+    };
+    match packed_key_of(alloc, t, s, &passage) {
+        Ok(key) => Ok(put_front(key.as_slice(), out)),
         Err(_) => Err(KeyFault::OutOfMemory),
     }
 }

@@ -3,8 +3,8 @@
 //!
 //! [`Collator::load`] gives it the table that two texts say, and [`Collator::share`] gives another collator the same
 //! table. The table is freed with the last collator that has it. [`Collator::compare`], [`Collator::sort_key`],
-//! [`Collator::write_key`] and [`Collator::prefix_bounds`] work on bytes: they check them, and report where a text ends or is
-//! not safe. [`Collator::fingerprint`] is of the table and the settings alone.
+//! [`Collator::packed_key`], [`Collator::write_key`] and [`Collator::prefix_bounds`] work on bytes: they check them, and
+//! report where a text ends or is not safe. [`Collator::fingerprint`] is of the table and the settings alone.
 #![tactic(auto)]
 
 pub mod bounds;

@@ -92,6 +92,25 @@ fn a_key_is_written_as_far_as_it_fits(rt: HostRuntime) {
 }
 
 #[test]
+fn a_packed_key_is_written_as_far_as_it_fits(rt: HostRuntime) {
+    let alloc = rt.alloc();
+    let mut collator = opened(&rt, alloc, b"");
+    let wanted = [0x10, 0, 0, 0, 3, 3, 9, 9];
+    for room in [8, 6, 3, 0] {
+        let mut key = [9; 8];
+        let written = match collator.packed_key(alloc, TERTIARY, b"a", &mut key[..room]) {
+            Err(KeyFault::OutOfMemory) => {
+                collator.packed_key(alloc, TERTIARY, b"a", &mut key[..room])
+            }
+            answer => answer,
+        };
+        assert_eq!(rt; written, Ok(6));
+        assert_eq!(rt; key[..room], wanted[..room]);
+        assert_eq!(rt; key[room..], [9; 8][room..]);
+    }
+}
+
+#[test]
 fn a_fingerprint_is_of_the_table_and_the_settings(rt: HostRuntime) {
     let alloc = rt.alloc();
     let mut collator = opened(&rt, alloc, b"");

@@ -3,3 +3,6 @@ pub mod KeySize
 pub mod BoundLemmas
 pub mod KeyPieces
 pub mod LevelLemmas
+pub mod PackedBytes
+pub mod PackedOrder
+pub mod PackedPrefixes

@@ -2,8 +2,10 @@ ghost use Rattle.std.specs.Prelude.{◌≡◌, ◌++◌, ◌∷◌, [], flat_map
 ghost use Rattle.unicode_normalization.specs.Forms.{nfd};
 ghost use Rattle.uca_model.specs.SortKey.{code_point_bytes, sort_key};
 ghost use Rattle.uca_window.specs.Passage.{text_of};
+ghost use Rattle.uca_key.specs.PackedKey.{packed_key};
 
 use crate::levels::{push_code_points, push_levels, push_separator};
+use crate::packed::push_packed_levels;
 use std::alloc::{AllocError, Global};
 use uca_match::read_elements;
 use uca_table::Table;
@@ -54,6 +56,27 @@ impl KeyMaker {
         }
         push_levels(keys, s.weighting, &self.elements, 4)?;
         push_text(alloc, keys, p)
+    }
+
+    /// Appends the packed sort key of a text to others.
+    pub fn push_packed_key(
+        &mut self,
+        alloc: Global,
+        t: &Table,
+        s: Settings,
+        p: &Passage,
+        keys: &mut Vec<u8>,
+    ) -> Result<(), AllocError>
+        ensures { OnOk result (keys.new.items ≡ keys.old.items ++ packed_key t.now s (text_of p.now)) }
+    {
+        self.reserve(p.as_str().len())?;
+        read_elements(alloc, t, p, &mut self.text, &mut self.elements)?;
+        let levels = s.levels();
+        if levels < 5 {
+            return push_packed_levels(keys, s.weighting, &self.elements, levels);
+        }
+        push_packed_levels(keys, s.weighting, &self.elements, 4)?;
+        push_code_points(keys, &nfd_of(alloc, p)?)
     }
 }
 

@@ -2,6 +2,7 @@ ghost use Rattle.std.specs.Prelude.{◌≡◌, [], IfOk, IsOk};
 ghost use Rattle.uca_weights.specs.Settings.{levels};
 ghost use Rattle.uca_model.specs.SortKey.{sort_key};
 ghost use Rattle.uca_window.specs.Passage.{bytes_of, text_of};
+ghost use Rattle.uca_key.specs.PackedKey.{packed_key};
 
 use crate::key_maker::KeyMaker;
 use std::alloc::{AllocError, Global};
@@ -22,5 +23,21 @@ pub fn key_of(alloc: Global, t: &Table, s: Settings, p: &Passage) -> Result<Vec<
     }
     let mut key = Vec::new(alloc);
     KeyMaker::new(alloc).push_key(alloc, t, s, p, &mut key)?;
+    Ok(key)
+}
+
+/// The packed sort key of a text. Packed keys are in the order of the sort keys (`laws`), and most of them are shorter by half: the
+/// first level is as there, and a run of the weight that most characters have at a later level is one byte. A packed key
+/// cannot be compared with a sort key. `AllocError`: an allocation was refused.
+pub fn packed_key_of(
+    alloc: Global,
+    t: &Table,
+    s: Settings,
+    p: &Passage,
+) -> Result<Vec<u8>, AllocError>
+    ensures { IfOk result (λ v. v.items ≡ packed_key t.now s (text_of p.now)) }
+{
+    let mut key = Vec::new(alloc);
+    KeyMaker::new(alloc).push_packed_key(alloc, t, s, p, &mut key)?;
     Ok(key)
 }

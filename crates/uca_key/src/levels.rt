@@ -152,8 +152,8 @@ fn put_level(key: &mut [u8], at: usize, v: Variable, elements: &[Element], level
     }
 }
 
-// Appends the bytes of one level, from 1 to 4 (UTS #10, section 7.3, step S3).
-fn push_level(
+/// Appends the bytes of one level, from 1 to 4 (UTS #10, section 7.3, step S3).
+pub(crate) fn push_level(
     key: &mut Vec<u8>,
     v: Variable,
     elements: &[Element],

@@ -1,19 +1,21 @@
 //! Sort keys (UTS #10, section 7.3, Form Sort Keys).
 //!
 //! [`key_of`] makes the key of a text at all strengths, and under all options of variable weighting; a [`KeyMaker`] makes
-//! the keys of many texts. [`write_key`] writes the same bytes to a writer, and takes no memory. [`prefix_bounds`] gives
+//! the keys of many texts. [`packed_key_of`] makes shorter keys in the same order. [`write_key`] writes the same bytes to a writer, and takes no memory. [`prefix_bounds`] gives
 //! the two ends between which an index has the keys of all texts that begin with a text.
 #![tactic(auto)]
 
 pub mod bounds;
 pub mod key_maker;
 pub mod keys;
+pub mod laws;
 mod levels;
+mod packed;
 pub mod streaming;
 
 pub use bounds::{PrefixBounds, PrefixFault, prefix_bounds};
 pub use key_maker::KeyMaker;
-pub use keys::key_of;
+pub use keys::{key_of, packed_key_of};
 pub use streaming::{KeyFault, write_key};
 
 #[cfg(test)]

@@ -1,5 +1,6 @@
 mod all_pairs;
 mod bounds;
+mod packed;
 mod written;
 
 use crate::key_of;

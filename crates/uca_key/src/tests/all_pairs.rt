@@ -1,5 +1,5 @@
 use super::STRENGTHS;
-use crate::key_of;
+use crate::{key_of, packed_key_of};
 use std::alloc::{AllocError, Global};
 use std::cmp::Ordering;
 use std::process::Abort;
@@ -188,11 +188,12 @@ fn texts_after(alloc: Global, front: &str) -> Result<Vec<String>, AllocError> {
     Ok(texts)
 }
 
-/// A text and its key.
+/// A text and its keys.
 #[derive(Drop)]
 struct Keyed<'t> {
     passage: Passage<'t>,
     key: Vec<u8>,
+    packed: Vec<u8>,
 }
 
 /// These texts with their keys at these settings.
@@ -207,7 +208,12 @@ fn keyed_texts<'t>(
     for text in texts {
         let passage = Passage::check(text.as_str()).ok().expect(rt, "a safe text");
         let key = key_of(alloc, t, s, &passage)?;
-        keyed.push(Keyed { passage, key })?;
+        let packed = packed_key_of(alloc, t, s, &passage)?;
+        keyed.push(Keyed {
+            passage,
+            key,
+            packed,
+        })?;
     }
     Ok(keyed)
 }
@@ -225,6 +231,8 @@ fn count_equal(rt: &impl Abort, t: &Table, s: Settings, keyed: &[Keyed]) -> usiz
                 left.passage.as_str(),
                 right.passage.as_str()
             );
+            let packed_order = left.packed.as_slice().cmp(right.packed.as_slice());
+            assert_eq!(rt; packed_order, order);
             if order == Ordering::Equal {
                 equal = equal.saturating_add(1);
             }
@@ -233,7 +241,7 @@ fn count_equal(rt: &impl Abort, t: &Table, s: Settings, keyed: &[Keyed]) -> usiz
     equal
 }
 
-/// At each strength every two texts after a front compare as their keys do, and some differ first at this strength's own
+/// At each strength every two texts after a front compare as their keys and packed keys do, and some differ first at this strength's own
 /// level.
 fn check_all_pairs(
     rt: &impl Abort,

@@ -1,0 +1,2 @@
+pub mod PackedKey
+pub mod PackedLaws

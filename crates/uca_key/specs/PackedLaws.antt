@@ -1,0 +1,37 @@
+-- Laws of packed sort keys, which public functions with no body have as their contracts.
+use Rattle.std.specs.Prelude.{◌≡◌, ◌↔◌, ℕ, true, ◌≤◌, List, ◌++◌, All}
+use Rattle.std.specs.Char.{IsScalar}
+use Rattle.uca_weights.specs.declared.settings.Settings.{Settings}
+use Rattle.uca_weights.specs.declared.settings.Strength.{Strength}
+use Rattle.uca_weights.specs.declared.settings.Variable.{Variable}
+use Rattle.uca_weights.specs.Settings.{levels}
+use Rattle.uca_model.specs.Table.{ElementTable, IsTable}
+use Rattle.uca_model.specs.LevelWeights.{level_list}
+use Rattle.uca_model.specs.Laws.{BeginsWith}
+use Rattle.uca_model.specs.Prefix.{is_complete, primary_key}
+use Rattle.uca_model.specs.SortKey.{key_order, sort_key}
+use Rattle.uca_key.specs.PackedKey.{packed_key}
+
+-- under every table, packed keys are in the byte order of the sort keys
+abbrev pub PackedKeysFollowKeys : Type 0
+PackedKeysFollowKeys = (t : ElementTable) (s : Settings) (a b : List ℕ) → IsTable t → All IsScalar a → All IsScalar b
+    → key_order (packed_key t s a) (packed_key t s b) ≡ key_order (sort_key t s a) (sort_key t s b)
+
+-- under every table, two packed keys are equal exactly where the sort keys are
+abbrev pub PackedKeysTellTextsApart : Type 0
+PackedKeysTellTextsApart = (t : ElementTable) (s : Settings) (a b : List ℕ) → IsTable t → All IsScalar a → All IsScalar b
+    → (packed_key t s a ≡ packed_key t s b) ↔ (sort_key t s a ≡ sort_key t s b)
+
+-- the packed key of a text at a strength is the beginning of its packed key at each strength of as many levels or more
+abbrev pub PackedKeysGrowByLevels : Type 0
+PackedKeysGrowByLevels = (t : ElementTable) (v : Variable) (low high : Strength) (text : List ℕ) → levels low ≤ levels high
+    → BeginsWith (packed_key t (record { strength = high; weighting = v }) text) (packed_key t (record { strength = low; weighting = v }) text)
+
+-- under every table, where a text is complete, the packed key of each text that begins with it begins with its sort key at the strength Primary, at every strength and option
+abbrev pub PackedKeysBeginWithCompleteTexts : Type 0
+PackedKeysBeginWithCompleteTexts = (t : ElementTable) (s : Settings) (p x : List ℕ) → is_complete t p ≡ true → BeginsWith (packed_key t s (p ++ x)) (primary_key t s.weighting p)
+
+-- under every table, a packed key that begins with the sort key of another text at the strength Primary is that of a text whose primary weights begin with those of the other
+abbrev pub PackedKeysBeginWithPrimaryWeights : Type 0
+PackedKeysBeginWithPrimaryWeights = (t : ElementTable) (s : Settings) (p x : List ℕ) → IsTable t → All IsScalar p → All IsScalar x
+    → BeginsWith (packed_key t s x) (primary_key t s.weighting p) → BeginsWith (level_list t s.weighting x 1) (level_list t s.weighting p 1)
