@@ -6,3 +6,4 @@ pub mod WithoutFront
 pub mod TextLemmas
 pub mod CommonFront
 pub mod FirstWeight
+pub mod ListLemmas

@@ -5,3 +5,4 @@ pub mod FromCut
 pub mod WithoutFront
 pub mod TextWeights
 pub mod FirstWeight
+pub mod LevelLists
