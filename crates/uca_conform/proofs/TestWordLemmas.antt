@@ -1,7 +1,8 @@
 -- The words of a test line, from its front on, and the digits that they begin with.
-use Rattle.std.proofs.Common.{◌⊎◌, ◌≡◌, ℕ, suc, zero, ◌+◌, ◌*◌, ◌^◌, ◌<◌, ◌≤◌, Bool, true, false, not, ◌||◌, ◌==◌, nat_lt, List, [], ◌∷◌, ◌++◌, length, take, drop, get_or, Option, Some, None, refl, sym, ap, ap₂, subst, ◌∙◌, arith, inl, inr, append_assoc, append-nil, length-append}
+use Rattle.std.proofs.Common.{◌⊎◌, ◌≡◌, ℕ, suc, zero, ◌+◌, ◌*◌, ◌^◌, ◌<◌, ◌≤◌, Bool, true, false, not, ◌||◌, ◌==◌, nat_le, List, [], ◌∷◌, ◌++◌, length, take, drop, get_or, Option, Some, None, refl, sym, ap, ap₂, subst, ◌∙◌, arith, inl, inr, append_assoc, append-nil, length-append}
 use Rattle.std.proofs.lemmas.Bool.{cases_Bool, cond-true, cond-false, eqb-true}
 use Rattle.std.proofs.lemmas.Bool.Decides.{nat_tests}
+use Rattle.std.proofs.Math.Nat.{pow-suc}
 use Rattle.std.specs.Char.{digit_value, is_digit}
 use Rattle.std.specs.List.{AllByRecursion, before_first, position_or_len}
 use Rattle.std.specs.Option.{option_and_then}
@@ -223,7 +224,8 @@ point-few word value len digits few =
 pub point-large : (word : List ℕ) (value len : ℕ) → AreDigits word value len → 0x10FFFF < value → None ≡ test_point word
 unfolding test_point
 point-large word value len digits large =
-    let none : only_point value ≡ None = cond-false _ _ _ (grind (arith, nat_tests)) in
+    let out : nat_le value 0x10FFFF ≡ false = grind (arith, nat_tests) in
+    let none : only_point value ≡ None = cond-false _ _ _ out in
     elim (cases_Bool (is_four_to_six (length word))) [
       | inl in_range ↦ sym (cond-true _ _ _ in_range ∙ ap (option_and_then only_point) digits.said ∙ none)
       | inr other ↦ sym (cond-false _ _ _ other)
@@ -235,7 +237,8 @@ point-said word value len digits long small =
     let low : 4 ≤ length word = omega (arith, digits.size) in
     let high : length word ≤ 6 = omega (arith, digits.size, digits.few) in
     let in_range : is_four_to_six (length word) ≡ true = grind (arith, nat_tests) in
-    let one : only_point value ≡ Some value = cond-true _ _ _ (grind (arith, nat_tests)) in
+    let within : nat_le value 0x10FFFF ≡ true = grind (arith, nat_tests) in
+    let one : only_point value ≡ Some value = cond-true _ _ _ within in
     sym (cond-true _ _ _ in_range ∙ ap (option_and_then only_point) digits.said ∙ one)
 
 -- ---- digits one by one
@@ -251,7 +254,7 @@ pub digits-none : (bytes : List ℕ) → DigitsSoFar bytes 0 0 bytes
 digits-none bytes = record { word = []; parts = refl; digits = record { said = refl; size = refl; few = omega arith }; small = omega arith }
 
 power-next : (n : ℕ) → 16 ^ (n + 1) ≡ 16 ^ n * 16
-power-next n = grind arith
+power-next n = let more : n + 1 ≡ suc n = omega arith in ap (λ k. 16 ^ k) more ∙ pow-suc 16 n
 
 pub digits-push : (bytes rest others : List ℕ) (value len first digit : ℕ) → DigitsSoFar bytes value len rest → rest ≡ first ∷ others → is_digit first 16 ≡ true → digit ≡ digit_value first → digit < 16 → len < 6
     → DigitsSoFar bytes (value * 16 + digit) (len + 1) others

@@ -80,8 +80,8 @@ state_of c = record { report = report_in c.report; last = last_text c }
 
 -- a text can be compared, and these are its weights
 pub record IsRead (t : ElementTable) (s : Settings) (text : List ℕ) (weights : LevelLists) : Type 0 where
-  pub text : can_compare text ≡ true
-  pub weights : AreOf t s.weighting text weights
+  pub comparable : can_compare text ≡ true
+  pub lists : AreOf t s.weighting text weights
 
 -- the text that was compared last was read, if there is one
 abbrev pub IsLastRead : ElementTable → Settings → Comparison → Type 0

@@ -114,7 +114,12 @@ fn order_of_bytes(t: &Table, s: Settings, a: &TestText, b: &TestText) -> Orderin
     let mut second = ArrayString::new();
     write_bytes(a.points.as_slice(), &mut first);
     write_bytes(b.points.as_slice(), &mut second);
-    compare(t, s, &Passage::of_safe(first.as_str()), &Passage::of_safe(second.as_str()))
+    compare(
+        t,
+        s,
+        &Passage::of_safe(first.as_str()),
+        &Passage::of_safe(second.as_str()),
+    )
 }
 
 /// The order of two texts whose weights were read.

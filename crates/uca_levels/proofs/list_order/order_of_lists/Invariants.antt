@@ -9,9 +9,9 @@ use Rattle.uca_levels.proofs.list_order.order_of_lists.Given as goal
 abbrev pub invariant-each : goal.invariant-each
 invariant-each l = record {
   first : 1 ≤ l.level;
-  last : l.level ≤ levels l.s.strength + 1;
-  undecided : (x y : List ℕ) → All IsScalar x → All IsScalar y → AreOf l.t l.s.weighting x l.a → AreOf l.t l.s.weighting y l.b → Undecided l.t l.s x y l.level;
+  last : l.level ≤ levels l.fn.s.strength + 1;
+  undecided : (x y : List ℕ) → All IsScalar x → All IsScalar y → AreOf l.t l.fn.s.weighting x l.a → AreOf l.t l.fn.s.weighting y l.b → Undecided l.t l.fn.s x y l.level;
 }
 
 abbrev pub decreases-each : goal.decreases-each
-decreases-each l = levels l.s.strength + 1 - l.level
+decreases-each l = levels l.fn.s.strength + 1 - l.level
