@@ -1,3 +1,4 @@
 pub mod ComparingLemmas
 pub mod TestLineLemmas
+pub mod TestWordLemmas
 pub mod ReportLemmas

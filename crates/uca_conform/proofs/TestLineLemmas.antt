@@ -1,24 +1,30 @@
 -- What the words of a test line say, and the text that is made of them.
-use Rattle.std.proofs.Common.{◌≡◌, ℕ, ◌+◌, ◌≤◌, Bool, true, false, not, ◌&&◌, ◌==◌, List, [], ◌∷◌, ◌++◌, length, Option, Some, None, encode_utf8, encode_utf8_all, append-nil, length-append, refl, sym, subst, ap, ap₂, ◌∙◌, arith, inl, inr, ne_eqb}
+use Rattle.std.proofs.Common.{◌≡◌, ℕ, ◌+◌, ◌*◌, ◌≤◌, Bool, true, false, not, ◌&&◌, ◌==◌, List, [], ◌∷◌, ◌++◌, length, flat_map, get_or, All, Option, Some, None, encode_utf8_all, length-append, refl, sym, subst, ap, ap₂, ◌∙◌, arith, inl, inr, ne_eqb}
 use Rattle.std.proofs.lemmas.Bool.{and_from, and_parts, cases_Bool, cond-true, cond-false, le-leb, leb-true}
 use Rattle.std.proofs.lemmas.List.Folds.{list_all-append}
 use Rattle.std.proofs.lemmas.List.Sums.{AllPass-from_list_all, list_all-from_AllPass}
-use Rattle.std.proofs.lemmas.Str.{chars_from_encodes, encodes-append}
+use Rattle.std.proofs.lemmas.Str.{chars_from_encodes}
+use Rattle.std.specs.Char.{IsScalar}
 use Rattle.std.specs.List.{list_all}
 use Rattle.std.specs.Option.{ok_or, option_and_then}
 use Rattle.std.specs.Prelude.{Result, Ok, Err, nat_le}
 use Rattle.std.specs.Str.{chars}
 use Rattle.unicode_normalization.specs.Forms.{nfd}
 use Rattle.uca_weights.specs.declared.limits.TheConstants.{MAX_DECOMPOSITION, MAX_RUN}
-use Rattle.uca_model.specs.SafeText.{is_safe, longest_run, IsSafe}
+use Rattle.uca_model.specs.SafeText.{is_safe, longest_run, longest_run_after, IsSafe}
+use Rattle.uca_model.proofs.SafeLemmas.{longest_run-nfd, length-nfd_one}
+use Rattle.unicode_normalization.specs.Decompose.{decompose_canonical}
+use Rattle.unicode_normalization.specs.Order.{is_nonstarter}
+use Rattle.uca_window.proofs.PassedCharacters.{decompose-short}
 use Rattle.uca_weights.specs.declared.settings.Settings.{Settings}
 use Rattle.uca_io.specs.Lines.{carriage_return, without_return}
 use Rattle.uca_model.specs.Table.{ElementTable}
 use Rattle.uca_io.specs.LineFold.{map_ok}
-use Rattle.uca_model.specs.TableText.{◌>>=◌, skip_blanks, words}
-use Rattle.uca_model.specs.TestFile.{TestCause, TestLine, bad_line, is_test, points_after, points_of, some_points, test_point, tests_of_line}
-use Rattle.uca_conform.specs.Comparing.{Compared, with_line, with_skipped, with_tests, with_text}
+use Rattle.uca_model.specs.TableText.{◌>>=◌, skip_blanks}
+use Rattle.uca_model.specs.TestFile.{TestCause, TestLine, bad_line, is_test, points_after, points_of, some_points, tests_of_line}
+use Rattle.uca_conform.specs.Comparing.{Compared, can_compare, with_line, with_skipped, with_tests, with_text}
 use Rattle.uca_conform.specs.TestReading.{HasPoints, SaysPoints}
+use Rattle.uca_conform.specs.TestWords.{said_words, HasBadWord, IsNextPoint}
 use lib.Utf8.{scalar, scalars}
 
 -- Safe texts
@@ -49,6 +55,41 @@ scalars-list_all (c ∷ cs) = ap (λ (b : Bool). scalar c && b) (scalars-list_al
 chars_of_points : (points : List ℕ) → list_all scalar points ≡ true → chars (encode_utf8_all points) ≡ points
 chars_of_points points all = sym (chars_from_encodes points (encode_utf8_all points) (points, (scalars-list_all points ∙ all, refl)) refl)
 
+-- the bytes of a text are that text
+pub chars_written : (points bytes : List ℕ) → bytes ≡ encode_utf8_all points → list_all scalar points ≡ true → chars bytes ≡ points
+chars_written points bytes is all = ap chars is ∙ chars_of_points points all
+
+-- a text that can be compared has scalar values, and is safe
+pub compared-parts : (points : List ℕ) → can_compare points ≡ true → (list_all scalar points ≡ true) × IsSafe points
+compared-parts points is = let parts = and_parts (list_all scalar points) (is_safe points) is in (parts.0, safe_from points parts.1)
+
+pub compared-scalars : (points : List ℕ) → can_compare points ≡ true → All IsScalar points
+compared-scalars points is = λ k d low. AllPass-from_list_all scalar points (compared-parts points is).0 k d low
+
+-- the bytes of a text that can be compared are safe
+pub written-safe : (points bytes : List ℕ) → bytes ≡ encode_utf8_all points → can_compare points ≡ true → IsSafe (chars bytes)
+written-safe points bytes is can = let parts = compared-parts points can in subst IsSafe (sym (chars_written points bytes is parts.0)) parts.1
+
+-- ---- short texts
+
+run-short : (n : ℕ) (xs : List ℕ) → longest_run_after n xs ≤ n + length xs
+run-short n [] = omega arith
+run-short n (x ∷ xs) = elim (cases_Bool (is_nonstarter x)) [
+  | inl mark ↦ rw mark (let h : longest_run_after (n + 1) xs ≤ n + 1 + length xs = run-short (n + 1) xs in omega arith)
+  | inr starter ↦ rw starter (let h : longest_run_after 0 xs ≤ 0 + length xs = run-short 0 xs in omega arith)
+]
+
+decomposed-short : (xs : List ℕ) → length (flat_map decompose_canonical xs) ≤ 4 * length xs
+decomposed-short [] = omega arith
+decomposed-short (x ∷ xs) = omega (arith, length-append (decompose_canonical x) (flat_map decompose_canonical xs), decompose-short x, decomposed-short xs)
+
+-- a text of at most fifteen characters is safe: each has at most four code points in NFD
+pub short-safe : (text : List ℕ) → length text ≤ 15 → IsSafe text
+short-safe text few = record {
+  runs = omega (arith, few, longest_run-nfd text, run-short 0 (flat_map decompose_canonical text), decomposed-short text);
+  short = λ k d low. omega (arith, length-nfd_one (get_or text k d), decompose-short (get_or text k d));
+}
+
 -- before the first word
 pub points-none : (bytes text : List ℕ) → text ≡ [] → HasPoints bytes bytes text false true
 points-none bytes text is = record {
@@ -56,23 +97,21 @@ points-none bytes text is = record {
   same = refl;
   some = refl;
   scalars = refl;
-  encoded = λ _. is;
+  kept = λ _. is;
   room = omega (arith, ap (length {A = ℕ}) is);
 }
 
 -- with the code point of one more word
-pub points-push : (bytes rest word others text new : List ℕ) (point : ℕ) (is_some is_text is_scalar : Bool) → HasPoints bytes rest text is_some is_text → words rest ≡ word ∷ words others → Some point ≡ test_point word
-    → 4 ≤ length word → length word + length others ≤ length rest → is_scalar ≡ scalar point → (is_scalar ≡ true → new ≡ text ++ encode_utf8 point) → length new ≤ length text + 4 → HasPoints bytes others new true (is_text && is_scalar)
-points-push bytes rest word others text new point is_some is_text is_scalar has split said long shorter scalar_is added room =
+pub points-push : (line rest others text new : List ℕ) (point : ℕ) (is_some is_text is_scalar : Bool) → HasPoints line rest text is_some is_text → IsNextPoint rest point others
+    → is_scalar ≡ scalar point → (is_scalar ≡ true → new ≡ text ++ point ∷ []) → length new ≤ length text + 1 → HasPoints line others new true (is_text && is_scalar)
+points-push line rest others text new point is_some is_text is_scalar has next scalar_is added room =
     let points : List ℕ = has.points in record {
       points = points ++ point ∷ [];
-      same = has.same ∙ ap (points_after points) split ∙ ap (option_and_then (λ c. points_after (points ++ c ∷ []) (words others))) (sym said);
+      same = has.same ∙ ap (points_after points) next.split ∙ ap (option_and_then (λ c. points_after (points ++ c ∷ []) (said_words others))) (sym next.said);
       some = sym (ap not (ne_eqb (length (points ++ point ∷ [])) 0 (λ none. omega (arith, length-append points (point ∷ [])))));
       scalars = ap₂ (λ (a b : Bool). a && b) has.scalars (scalar_is ∙ sym (and_true (scalar point))) ∙ sym (list_all-append scalar points (point ∷ []));
-      encoded = λ both.
-          let parts = and_parts is_text is_scalar both in
-          added parts.1 ∙ ap₂ (λ (a b : List ℕ). a ++ b) (has.encoded parts.0) (sym (append-nil (encode_utf8 point))) ∙ sym (encodes-append points (point ∷ []));
-      room = omega (arith, has.room);
+      kept = λ both. (let parts = and_parts is_text is_scalar both in added parts.1 ∙ ap (λ (xs : List ℕ). xs ++ point ∷ []) (has.kept parts.0));
+      room = omega (arith, has.room, next.shorter, room);
     }
   where
     and_true : (b : Bool) → (b && true) ≡ b
@@ -80,18 +119,18 @@ points-push bytes rest word others text new point is_some is_text is_scalar has 
     and_true false = refl
 
 -- a word that is no code point
-pub points-fault : (bytes rest word others text : List ℕ) (is_some is_text : Bool) → HasPoints bytes rest text is_some is_text → words rest ≡ word ∷ words others → None ≡ test_point word
-    → ok_or (option_and_then some_points (points_after [] (words bytes))) bad_line ≡ (let r : Result (List ℕ) TestCause = Err bad_line in r)
-points-fault bytes rest word others text is_some is_text has split said =
+pub points-fault : (line rest text : List ℕ) (is_some is_text : Bool) → HasPoints line rest text is_some is_text → HasBadWord rest
+    → ok_or (option_and_then some_points (points_after [] (said_words line))) bad_line ≡ (let r : Result (List ℕ) TestCause = Err bad_line in r)
+points-fault line rest text is_some is_text has bad =
     ap (λ (o : Option (List ℕ)). ok_or (option_and_then some_points o) bad_line)
-    (has.same ∙ ap (points_after has.points) split ∙ ap (option_and_then (λ c. points_after (has.points ++ c ∷ []) (words others))) (sym said))
+    (has.same ∙ ap (points_after has.points) bad.split ∙ ap (option_and_then (λ c. points_after (has.points ++ c ∷ []) bad.others)) (sym bad.said))
 
 -- what the words of a test line say
 abbrev says : List ℕ → Result (List ℕ) TestCause
-says bytes = ok_or (option_and_then some_points (points_after [] (words bytes))) bad_line
+says line = ok_or (option_and_then some_points (points_after [] (said_words line))) bad_line
 
 -- after the last word
-says_points : (bytes rest text : List ℕ) (is_some is_text : Bool) (has : HasPoints bytes rest text is_some is_text) → words rest ≡ [] → says bytes ≡ ok_or (some_points has.points) bad_line
+says_points : (bytes rest text : List ℕ) (is_some is_text : Bool) (has : HasPoints bytes rest text is_some is_text) → said_words rest ≡ [] → says bytes ≡ ok_or (some_points has.points) bad_line
 says_points bytes rest text is_some is_text has none = ap (λ (o : Option (List ℕ)). ok_or (option_and_then some_points o) bad_line) (has.same ∙ ap (points_after has.points) none)
 
 not-false : (b : Bool) → not b ≡ false → b ≡ true
@@ -102,39 +141,39 @@ not-true : (b : Bool) → not b ≡ true → b ≡ false
 not-true true is = cc
 not-true false is = refl
 
-pub points-missing : (bytes rest text : List ℕ) (is_some is_text : Bool) → HasPoints bytes rest text is_some is_text → words rest ≡ [] → is_some ≡ false → says bytes ≡ Err bad_line
+pub points-missing : (bytes rest text : List ℕ) (is_some is_text : Bool) → HasPoints bytes rest text is_some is_text → said_words rest ≡ [] → is_some ≡ false → says bytes ≡ Err bad_line
 points-missing bytes rest text is_some is_text has none empty =
     says_points bytes rest text is_some is_text has none
     ∙ ap (λ (o : Option (List ℕ)). ok_or o bad_line) (cond-true _ _ _ (not-false (length has.points == 0) (sym has.some ∙ empty)))
 
-known : (bytes rest text : List ℕ) (is_some is_text : Bool) (has : HasPoints bytes rest text is_some is_text) → words rest ≡ [] → is_some ≡ true → says bytes ≡ Ok has.points
+known : (bytes rest text : List ℕ) (is_some is_text : Bool) (has : HasPoints bytes rest text is_some is_text) → said_words rest ≡ [] → is_some ≡ true → says bytes ≡ Ok has.points
 known bytes rest text is_some is_text has none some =
     says_points bytes rest text is_some is_text has none
     ∙ ap (λ (o : Option (List ℕ)). ok_or o bad_line) (cond-false _ _ _ (not-true (length has.points == 0) (sym has.some ∙ some)))
 
 -- after the last word, a line with a surrogate, or whose text was looked at
-pub points-read : (bytes rest text : List ℕ) (is_some is_text is_compared : Bool) → HasPoints bytes rest text is_some is_text → words rest ≡ [] → is_some ≡ true
-    → (is_text ≡ false → is_compared ≡ false) → (is_text ≡ true → is_compared ≡ is_safe (chars text)) → SaysPoints (says bytes) is_compared text
+pub points-read : (bytes rest text : List ℕ) (is_some is_text is_compared : Bool) → HasPoints bytes rest text is_some is_text → said_words rest ≡ [] → is_some ≡ true
+    → (is_text ≡ false → is_compared ≡ false) → (is_text ≡ true → is_compared ≡ is_safe text) → SaysPoints (says bytes) is_compared text
 points-read bytes rest text is_some is_text is_compared has none some not_text is_read = record {
   points = has.points;
   known = known bytes rest text is_some is_text has none some;
   compared = elim (cases_Bool is_text) [
-    | inl e ↦ ap₂ (λ (x y : Bool). x && y) (sym has.scalars ∙ e) (ap is_safe (sym (chars_are e)) ∙ sym (is_read e))
+    | inl e ↦ ap₂ (λ (x y : Bool). x && y) (sym has.scalars ∙ e) (ap is_safe (sym (has.kept e)) ∙ sym (is_read e))
     | inr e ↦ ap (λ (b : Bool). b && is_safe has.points) (sym has.scalars ∙ e) ∙ sym (not_text e)
   ];
-  encoded = λ is. elim (cases_Bool is_text) [
-    | inl e ↦ chars_are e
+  same = λ is. elim (cases_Bool is_text) [
+    | inl e ↦ has.kept e
     | inr e ↦ (let other : true ≡ false = sym is ∙ not_text e in cc)
   ];
 }
-  where
-    chars_are : is_text ≡ true → chars text ≡ has.points
-    chars_are all = ap chars (has.encoded all) ∙ chars_of_points has.points (sym has.scalars ∙ all)
 
--- the text of a line that is compared is safe
-pub compared-safe : (said : Result (List ℕ) TestCause) (is_compared : Bool) (text : List ℕ) → SaysPoints said is_compared text → is_compared ≡ true → IsSafe (chars text)
-compared-safe said is_compared text has is =
-    subst IsSafe (sym (has.encoded is)) (safe_from has.points (and_parts (list_all scalar has.points) (is_safe has.points) (has.compared ∙ is)).1)
+-- the code points are scalar values where they are a text
+pub points-scalars : (bytes rest text : List ℕ) (is_some is_text : Bool) → HasPoints bytes rest text is_some is_text → is_text ≡ true → list_all scalar text ≡ true
+points-scalars bytes rest text is_some is_text has is = ap (list_all scalar) (has.kept is) ∙ sym has.scalars ∙ is
+
+-- the text of a line that is compared
+pub compared-text : (said : Result (List ℕ) TestCause) (is_compared : Bool) (text : List ℕ) → SaysPoints said is_compared text → is_compared ≡ true → can_compare text ≡ true
+compared-text said is_compared text has is = ap can_compare (has.same is) ∙ has.compared ∙ is
 
 -- Lines
 
@@ -172,6 +211,6 @@ line-skipped t s n sum line text read is test has = line-test t s n sum line tex
 
 -- a test line that is compared
 pub line-compared : (t : ElementTable) (s : Settings) (n : ℕ) (sum : Compared) (line text read : List ℕ) → text ≡ without_return line → true ≡ is_test (skip_blanks text) → SaysPoints (points_of text) true read
-    → with_line t s n sum line ≡ Ok (with_text t s n sum (chars read))
+    → with_line t s n sum line ≡ Ok (with_text t s n sum read)
 line-compared t s n sum line text read is test has =
-    line-test t s n sum line text (Ok has.points) is test has.known ∙ ap Ok (cond-true _ _ _ has.compared) ∙ ap (λ (points : List ℕ). Ok (with_text t s n sum points)) (sym (has.encoded refl))
+    line-test t s n sum line text (Ok has.points) is test has.known ∙ ap Ok (cond-true _ _ _ has.compared) ∙ ap (λ (points : List ℕ). Ok (with_text t s n sum points)) (sym (has.same refl))

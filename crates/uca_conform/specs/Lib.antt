@@ -1,3 +1,4 @@
 pub mod Conforming
 pub mod Comparing
 pub mod TestReading
+pub mod TestWords

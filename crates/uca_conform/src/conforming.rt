@@ -75,7 +75,7 @@ impl<'t> LineSink for TestLines<'t> {
 
     ghost possible = { IsOfFile };
 
-    ghost ready = { λ lines n. IsCounted lines.comparison n };
+    ghost ready = { λ lines n. IsCounted lines.table.now lines.settings lines.comparison n };
 
     fn add(&mut self, number: u64, line: &[u8]) -> Result<(), ConformCause> {
         add_line(

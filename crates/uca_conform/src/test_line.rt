@@ -1,55 +1,116 @@
-ghost use Rattle.std.specs.Prelude.{◌≡◌, ◌≤◌, [], length, option_and_then, Err, IfErr, IfOk, IfSome};
-ghost use Rattle.std.specs.List.{position_or_len};
-ghost use Rattle.std.specs.Option.{ok_or};
+ghost use Rattle.std.specs.Prelude.{◌≡◌, ◌≤◌, ℕ, List, [], length, Err, IfErr, IfOk, IfSome, MatchOption};
 ghost use Rattle.uca_weights.specs.declared.limits.TheConstants.{MAX_LINE};
-ghost use Rattle.uca_model.specs.TableText.{skip_blanks, words};
-ghost use Rattle.uca_model.specs.TestFile.{bad_line, ends_points, is_test, points_after, points_of, some_points, test_point};
-ghost use Rattle.uca_conform.specs.TestReading.{test_cause, IsOfFile, SaysPoints};
+ghost use Rattle.uca_model.specs.TableText.{skip_blanks};
+ghost use Rattle.uca_model.specs.TestFile.{is_test, points_of, test_point};
+ghost use Rattle.uca_conform.specs.TestWords.{ends_at, ends_word, said_words, AreDigits, BeginsWithDigits, HasBadWord, IsNextPoint};
+ghost use Rattle.uca_conform.specs.TestReading.{test_cause, IsBadLine, IsOfFile, SaysPoints};
 
 use crate::conforming::ConformCause;
-use crate::test_text::{is_safe, push_point};
-use arrayvec::ArrayString;
-use uca_io::digits::number;
-use uca_io::words::{next_word, skip_blanks};
-use uca_weights::MAX_LINE;
+use crate::test_text::TestText;
+use uca_io::words::{is_blank, skip_blanks};
 
-/// The code point, also a surrogate, that four to six hexadecimal digits say.
-#[tactic(auto, unfolding(uca_model::specs::TestFile::test_point))]
-fn test_point(digits: &[u8]) -> Option<u32>
-    ensures value { result ≡ test_point digits.now }
-    ensures long { IfSome result (λ _. 4 ≤ length digits.now) }
+/// The most digits of a code point.
+const MAX_DIGITS: usize = 6;
+
+/// Hexadecimal digits at the front of some bytes, six of them at most.
+#[derive(Clone, Copy, Debug)]
+struct Digits<'l> {
+    value: u32,
+    len: usize,
+    // What follows them.
+    rest: &'l [u8],
+}
+
+/// Reads the digits at the front of some bytes.
+#[inline(always)]
+fn read_digits(bytes: &[u8]) -> Digits<'_>
+    ensures { BeginsWithDigits bytes.now result.value result.len result.rest.now }
 {
-    if digits.len() < 4 || digits.len() > 6 {
+    let mut value = 0;
+    let mut len = 0;
+    let mut rest = bytes;
+    while let Some((first, others)) = rest.split_first() {
+        let Some(digit) = (*first as char).to_digit(16) else {
+            return Digits { value, len, rest };
+        };
+        if len == MAX_DIGITS {
+            return Digits { value, len, rest };
+        }
+        value = value * 16 + digit;
+        len += 1;
+        rest = others;
+    }
+    Digits { value, len, rest }
+}
+
+/// The code point, also a surrogate, that digits say where there are four of them at least.
+#[inline(always)]
+fn point_of(value: u32, len: usize) -> Option<u32>
+    ensures value { (word : List ℕ) → AreDigits word value len → result ≡ test_point word }
+    ensures long { IfSome result (λ _. 4 ≤ len) }
+{
+    if len < 4 {
         return None;
     }
-    match number(digits) {
-        Some(code) => {
-            if code <= 0x0010_FFFF {
-                Some(code)
-            } else {
-                None
-            }
-        }
-        None => None,
+    if value > 0x0010_FFFF {
+        return None;
+    }
+    Some(value)
+}
+
+/// Whether a word ends before a byte.
+#[inline(always)]
+fn ends_at(byte: u8) -> bool
+    ensures { result ≡ ends_at byte }
+{
+    is_blank(byte) || byte == b';' || byte == b'#'
+}
+
+/// Whether a word ends before these bytes.
+#[inline(always)]
+fn ends_word(bytes: &[u8]) -> bool
+    ensures { result ≡ ends_word bytes.now }
+{
+    match bytes.first() {
+        Some(byte) => ends_at(*byte),
+        None => true,
     }
 }
 
-/// Puts the text that some words say in place of another, and returns whether it is compared.
-fn text_of_words(bytes: &[u8], text: &mut ArrayString<MAX_LINE>) -> Result<bool, ConformCause>
-    requires { length bytes.now ≤ MAX_LINE }
-    ensures points { IfOk result (λ is_compared. SaysPoints (ok_or (option_and_then some_points (points_after [] (words bytes.now))) bad_line) is_compared text.new.bytes) }
-    ensures fault { IfErr result (λ cause. ok_or (option_and_then some_points (points_after [] (words bytes.now))) bad_line ≡ Err (test_cause cause)) }
+/// The next code point of a line, also a surrogate, and what follows it. `None`: there is no more.
+#[inline(always)]
+fn next_point(line: &[u8]) -> Result<Option<(u32, &[u8])>, ConformCause>
+    ensures next { IfOk result (λ next. MatchOption next (said_words line.now ≡ []) (λ p. IsNextPoint line.now p.0 p.1.now)) }
+    ensures bad { IfErr result (λ _. HasBadWord line.now) }
+    ensures cause { IfErr result IsBadLine }
+{
+    let digits = read_digits(skip_blanks(line));
+    if !ends_word(digits.rest) {
+        return Err(ConformCause::BadLine);
+    }
+    if digits.len == 0 {
+        return Ok(None);
+    }
+    match point_of(digits.value, digits.len) {
+        Some(point) => Ok(Some((point, digits.rest))),
+        None => Err(ConformCause::BadLine),
+    }
+}
+
+/// Puts the text of a test line in place of another, and returns whether it is compared.
+#[tactic(auto, unfolding(uca_model::specs::TestFile::points_of))]
+pub(crate) fn text_of_test(line: &[u8], text: &mut TestText) -> Result<bool, ConformCause>
+    requires { length line.now ≤ MAX_LINE }
+    ensures points { IfOk result (λ is_compared. SaysPoints (points_of line.now) is_compared text.new.points.items) }
+    ensures fault { IfErr result (λ cause. points_of line.now ≡ Err (test_cause cause)) }
     ensures of_file { IfErr result IsOfFile }
 {
     text.clear();
     let mut is_some = false;
     let mut is_text = true;
-    let mut rest = bytes;
-    while let Some((word, others)) = next_word(rest) {
-        let Some(point) = test_point(word) else {
-            return Err(ConformCause::BadLine);
-        };
-        let is_scalar = push_point(text, point);
+    let mut rest = line;
+    while let Some((point, others)) = next_point(rest)? {
+        let is_scalar = text.push(point);
         is_text = is_text && is_scalar;
         is_some = true;
         rest = others;
@@ -57,38 +118,7 @@ fn text_of_words(bytes: &[u8], text: &mut ArrayString<MAX_LINE>) -> Result<bool,
     if !is_some {
         return Err(ConformCause::BadLine);
     }
-    Ok(is_text && is_safe(text.as_str()))
-}
-
-/// How many bytes stand before the first `;` or `#`.
-fn points_len(line: &[u8]) -> usize
-    ensures value { result ≡ position_or_len ends_points line.now }
-    ensures within { result ≤ length line.now }
-{
-    let mut len = 0;
-    let mut rest = line;
-    while let Some((first, others)) = rest.split_first() {
-        if *first == b';' || *first == b'#' {
-            return len;
-        }
-        len += 1;
-        rest = others;
-    }
-    len
-}
-
-/// Puts the text of a test line in place of another, and returns whether it is compared.
-#[tactic(auto, unfolding(uca_model::specs::TestFile::points_of))]
-pub(crate) fn text_of_test(
-    line: &[u8],
-    text: &mut ArrayString<MAX_LINE>,
-) -> Result<bool, ConformCause>
-    requires { length line.now ≤ MAX_LINE }
-    ensures points { IfOk result (λ is_compared. SaysPoints (points_of line.now) is_compared text.new.bytes) }
-    ensures fault { IfErr result (λ cause. points_of line.now ≡ Err (test_cause cause)) }
-    ensures of_file { IfErr result IsOfFile }
-{
-    text_of_words(&line[..points_len(line)], text)
+    Ok(is_text && text.is_safe())
 }
 
 /// Whether a line is a test line: it has a byte but for blanks, and the first one isn't `#`.

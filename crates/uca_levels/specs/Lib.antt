@@ -6,3 +6,4 @@ pub mod WithoutFront
 pub mod TextWeights
 pub mod PrimaryWeights
 pub mod FirstWeight
+pub mod LevelLists

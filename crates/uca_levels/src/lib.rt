@@ -11,17 +11,23 @@ pub mod comparison;
 mod cut;
 mod first_weight;
 mod in_step;
+pub mod level_lists;
 mod level_order;
+pub mod list_order;
 pub mod points;
 mod primary_weights;
 mod text_elements;
 pub mod text_order;
 mod text_weights;
+mod weight_list;
 pub mod weights;
 
 pub use comparison::compare_sources;
+pub use level_lists::LevelLists;
+pub use list_order::order_of_lists;
 pub use points::Points;
 pub use text_order::compare;
+pub use weight_list::KEPT_WEIGHTS;
 pub use weights::Weights;
 
 #[cfg(test)]
