@@ -1,12 +1,13 @@
 -- The output of a command, line after line.
-use Rattle.std.proofs.Common.{◌≡◌, ℕ, ◌+◌, ◌<◌, List, [], ◌∷◌, ◌++◌, length, flat_map, Result, Ok, Err, OnOk, MatchResult, sym, ap, subst, ◌∙◌, arith, append_assoc, length-append}
+use Rattle.std.proofs.Common.{◌≡◌, ℕ, ◌+◌, ◌<◌, List, [], ◌∷◌, ◌++◌, length, flat_map, Result, Ok, Err, OnOk, MatchResult, sym, ap, subst, ◌∙◌, arith, append_assoc, append-nil, length-append}
 use Rattle.uca_io.specs.WriterState.{WriterState}
-use Rattle.uca_io.specs.Writer.{WritesFront}
+use Rattle.uca_io.specs.Writer.{WritesAll, WritesFront}
 use Rattle.uca_io.specs.OutputBuffer.{accepted, Accepts, FailsPartway}
 use Rattle.uca_io.specs.BufferState.{BufferState}
 use Rattle.uca_weights.specs.declared.settings.Settings.{Settings}
 use Rattle.uca_io.specs.declared.writer.WriteFault.{WriteFault}
-use Rattle.uca_io.proofs.BufferLemmas.{accepted-Accepts, FailsPartway-later, FailsPartway-longer, FailsPartway-front}
+use Rattle.uca_io.proofs.SendLemmas.{stopped_last}
+use Rattle.uca_io.proofs.BufferLemmas.{accepted-Accepts, Accepts-all, Accepts-more, FailsPartway-later, FailsPartway-longer, FailsPartway-front}
 use Rattle.uca_model.specs.CanonicalText.{element_text}
 use Rattle.uca_model.specs.CollationElements.{elements}
 use Rattle.uca_model.specs.Table.{ElementTable}
@@ -73,3 +74,9 @@ StopsOutput-line (RulesText at cause) form t s s0 s1 s2 o0 o1 o2 sent line rest 
 StopsOutput-line (Rules f) form t s s0 s1 s2 o0 o1 o2 sent line rest whole empty none sends stops is = absurd stops
 StopsOutput-line (Tailor f) form t s s0 s1 s2 o0 o1 o2 sent line rest whole empty none sends stops is = absurd stops
 StopsOutput-line (Conform f) form t s s0 s1 s2 o0 o1 o2 sent line rest whole empty none sends stops is = absurd stops
+
+-- all lines went to the buffer, and what waits of them goes out
+pub flushed : (s0 s1 s2 : WriterState) (o0 o1 o2 : BufferState) (sent whole : List ℕ) (r : Result (Unit {0}) WriteFault) → o0.waiting ≡ [] → o0.written ≡ 0 → Accepts s0 o0 s1 o1 sent → sent ++ [] ≡ whole
+    → MatchResult r (λ _. Accepts s1 o1 s2 o2 []) (λ f. FailsPartway s1 o1 s2 [] f) → MatchResult r (λ _. o2.waiting ≡ []) (λ _. Unit {0}) → MatchResult r (λ _. WritesAll s0 s2 whole) (WritesFront s0 s2 whole)
+flushed s0 s1 s2 o0 o1 o2 sent whole (Ok x) waits written sends complete more empty = subst (WritesAll s0 s2) complete (Accepts-all s0 s2 o0 o2 (sent ++ []) waits empty (Accepts-more s0 s1 s2 o0 o1 o2 sent [] sends more))
+flushed s0 s1 s2 o0 o1 o2 sent whole (Err f) waits written sends complete stops empty = subst (λ l. WritesFront s0 s2 l f) (sym (append-nil sent) ∙ complete) (stopped_last s0 s1 s2 o0 o1 sent f waits written sends stops)

@@ -97,10 +97,8 @@ fn send_elements<W: Writer>(
         (FailsPartway (W.state w.old) out.old (W.state w.new) (elements_text elements.now)) }
     ensures small { OnOk result (accepted out.new < accepted out.old + 2 ^ 70) }
 {
-    match send_each(w, out, elements) {
-        Ok(()) => out.write(w, b"\n"),
-        Err(fault) => Err(fault),
-    }
+    send_each(w, out, elements)?;
+    out.write(w, b"\n")
 }
 
 /// Writes the line of a key to a block of output.
@@ -111,10 +109,8 @@ fn send_key<W: Writer>(w: &mut W, out: &mut OutputBlock, key: &[u8]) -> Result<(
         (FailsPartway (W.state w.old) out.old (W.state w.new) (hex_line key.now)) }
     ensures small { OnOk result (accepted out.new < accepted out.old + 2 ^ 70) }
 {
-    match send_hex(w, out, key) {
-        Ok(()) => out.write(w, b"\n"),
-        Err(fault) => Err(fault),
-    }
+    send_hex(w, out, key)?;
+    out.write(w, b"\n")
 }
 
 /// Writes to a block of output what a command writes for a line.
@@ -137,21 +133,16 @@ fn send_line<W: Writer>(
 {
     let passage = text_of_line(line);
     match form {
-        LineForm::Elements => match elements_of(alloc, t, &passage) {
-            Ok(elements) => match send_elements(w, out, &elements) {
-                Ok(()) => Ok(()),
-                Err(fault) => Err(CliFault::Output(fault)),
-            },
-            Err(_) => Err(CliFault::OutOfMemory),
-        },
-        LineForm::Key => match keys.make_key(alloc, t, s, &passage) {
-            Ok(()) => match send_key(w, out, &keys.key) {
-                Ok(()) => Ok(()),
-                Err(fault) => Err(CliFault::Output(fault)),
-            },
-            Err(_) => Err(CliFault::OutOfMemory),
-        },
+        LineForm::Elements => {
+            let elements = elements_of(alloc, t, &passage)?;
+            send_elements(w, out, &elements)?;
+        }
+        LineForm::Key => {
+            keys.make_key(alloc, t, s, &passage)?;
+            send_key(w, out, &keys.key)?;
+        }
     }
+    Ok(())
 }
 
 /// Writes what a command writes for each line of an input, which was checked. The keys are made in the room that is given.
@@ -174,15 +165,11 @@ fn send_lines<W: Writer>(
     let mut left = bytes;
     while !left.is_empty() {
         let (line, rest) = first_line(left);
-        match send_line(alloc, form, t, s, line, keys, w, &mut out) {
-            Ok(()) => left = rest,
-            Err(fault) => return Err(fault),
-        }
+        send_line(alloc, form, t, s, line, keys, w, &mut out)?;
+        left = rest;
     }
-    match out.flush(w) {
-        Ok(()) => Ok(()),
-        Err(fault) => Err(CliFault::Output(fault)),
-    }
+    out.flush(w)?;
+    Ok(())
 }
 
 /// Writes what a command writes for each line of an input, which was checked.

@@ -90,9 +90,7 @@ pub fn job_of(alloc: Global, words: &[&str]) -> Result<Job, JobFault>
     ensures usage { IfErr result (λ f. IsUsage f → IsRefused (map (λ w. w.now) words.now)) }
     ensures ideographs { IfErr result (λ f. f ≡ JobFault.BadIdeographs → IsWithoutRange (map (λ w. w.now) words.now)) }
 {
-    let Ok(command) = uca_command(alloc, STRENGTHS.as_slice(), WEIGHTINGS.as_slice()) else {
-        return Err(JobFault::OutOfMemory);
-    };
+    let command = uca_command(alloc, STRENGTHS.as_slice(), WEIGHTINGS.as_slice())?;
     match command.try_get_matches_from(words) {
         Ok(matches) => job_from(alloc, &matches),
         Err(error) => Err(fault_from(alloc, &error)),
@@ -353,12 +351,8 @@ fn job_from(alloc: Global, matches: &ArgMatches<'_>) -> Result<Job, JobFault>
     ensures job { IfOk result (λ job. IsSomeAnd (subcommand_rows_of matches.now) (IsJobFrom job)) }
     ensures fault { IfErr result (λ f. (f ≡ JobFault.OutOfMemory) ⊎ ((f ≡ JobFault.BadIdeographs) × IsSomeAnd (subcommand_rows_of matches.now) LacksRange)) }
 {
-    let Some((name, options)) = matches.subcommand() else {
-        unreachable!();
-    };
-    let Some(command) = task_named(name) else {
-        unreachable!();
-    };
+    let (name, options) = matches.subcommand().unwrap();
+    let command = task_named(name).unwrap();
     Ok(Job {
         command,
         strength: strength_in(options),

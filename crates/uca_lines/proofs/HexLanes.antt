@@ -1,11 +1,11 @@
 -- The digits of sixteen bytes together.
-use Rattle.std.proofs.Common.{◌≡◌, ℕ, zero, suc, ◌+◌, ◌*◌, ◌/◌, ◌%◌, ◌^◌, ◌<◌, ◌≤◌, List, [], ◌∷◌, ◌++◌, length, map, take, get_or, replicate, bit_and, eqb, eqb→eq, refl, sym, ap, subst, ◌∙◌, arith, w8, Fits}
+use Rattle.std.proofs.Common.{◌≡◌, ℕ, ◌+◌, ◌/◌, ◌%◌, ◌^◌, ◌<◌, ◌≤◌, List, [], ◌∷◌, ◌++◌, length, map, take, get_or, replicate, bit_and, eqb, eqb→eq, refl, sym, ap, subst, ◌∙◌, arith, w8, Fits}
 use Rattle.std.proofs.lemmas.List.{get_or-map, length-map, length-take, take-take, ext_get_or}
 use Rattle.std.proofs.Math.Seq.{take-append-add}
 use Rattle.std.proofs.lemmas.Nat.{and_le_r, and_mask}
 use Rattle.std.proofs.lemmas.Simd.{Each1-all, Each1-get_or, Each1-weaker, Each1-zip2, Each2-splat, below_from_Fits, length-zip2, zip2_splat, swz_l, SwzOk, SwzOk-from_below, length-swz_l, get_or-swz_l_below, take_more_put_chunk, pick_l_whole}
 use lib.Lanes.{zip2, Each1, pick_l, put_chunk}
-use Rattle.simdutf8.proofs.Pairs.{all_below, every_below}
+use Rattle.simdutf8.proofs.Pairs.{every_below}
 use Rattle.uca_model.specs.Output.{hex_digit}
 use Rattle.uca_lines.specs.Hex.{spaced, spaced_pairs}
 use Rattle.uca_lines.specs.declared.hex.TheConstants.{DIGITS}

@@ -25,10 +25,9 @@ pub fn read_input<I: Reader>(alloc: Global, input: &mut I) -> Result<Vec<u8>, In
         (λ f. StopsReading (I.state input.old) (I.state input.new) f) }
     ensures calls { I.calls input.new ≤ I.calls input.old + (MAX_INPUT + 1) }
 {
-    match read_whole(alloc, input, MAX_INPUT) {
-        Ok(bytes) => Ok(bytes),
-        Err(Stop::TooLarge) => Err(refused(InputCause::TooLarge)),
-        Err(Stop::Read) => Err(refused(InputCause::Read)),
-        Err(Stop::OutOfMemory) => Err(refused(InputCause::OutOfMemory)),
-    }
+    read_whole(alloc, input, MAX_INPUT).map_err(|stop| match stop {
+        Stop::TooLarge => refused(InputCause::TooLarge),
+        Stop::Read => refused(InputCause::Read),
+        Stop::OutOfMemory => refused(InputCause::OutOfMemory),
+    })
 }

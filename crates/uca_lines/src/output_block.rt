@@ -74,12 +74,8 @@ impl OutputBlock {
         if self.waiting.try_extend_from_slice(piece).is_ok() {
             return Ok(());
         }
-        match self.flush(w) {
-            Ok(()) => {
-                self.waiting.try_extend_from_slice(piece).unwrap();
-                Ok(())
-            }
-            Err(fault) => Err(fault),
-        }
+        self.flush(w)?;
+        self.waiting.try_extend_from_slice(piece).unwrap();
+        Ok(())
     }
 }

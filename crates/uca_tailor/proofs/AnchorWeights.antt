@@ -1,15 +1,14 @@
 -- The weights of an anchor at a level and below it, and those of the base of the item that is placed after it.
-use Rattle.std.proofs.Common.{◌≡◌, ℕ, ◌+◌, Bool, true, false, cond, not, ◌&&◌, ◌||◌, ◌==◌, eqb, nat_lt, nat_le, List, [], ◌∷◌, ◌++◌, map, Option, Some, None, refl, sym, ap, ap₂, subst, ◌∙◌, arith, eqb-true, eq-eqb, ne_eqb}
-use Rattle.std.proofs.lemmas.Bool.{eqb-false}
+use Rattle.std.proofs.Common.{◌≡◌, ℕ, ◌+◌, Bool, true, false, cond, not, ◌&&◌, ◌||◌, ◌==◌, eqb, nat_lt, nat_le, List, [], ◌∷◌, ◌++◌, map, Some, refl, sym, ap, ap₂, subst, ◌∙◌, arith, eq-eqb, ne_eqb}
 use Rattle.std.proofs.lemmas.Bool.Decides.{nat_tests}
 use Rattle.std.specs.List.{AllByRecursion, list_any}
-use Rattle.std.specs.Option.{option_map_or}
 use Rattle.uca_weights.specs.declared.element.Element.{Element}
 use Rattle.uca_weights.specs.Element.{weight}
 use Rattle.uca_model.specs.WellFormed.{skips_a_level}
 use Rattle.uca_model.specs.Room.{weight_with_room, with_room}
-use Rattle.uca_model.specs.Tailoring.{Anchor, alone, preceded_by, anchor_of, is_high, raised}
+use Rattle.uca_model.specs.Tailoring.{Anchor, anchor_of, is_high, raised}
 use Rattle.uca_model.proofs.AnchorElements.{or_false}
+use Rattle.uca_model.proofs.AnchorPlaces.{ends_in_a_weight}
 use Rattle.uca_model.proofs.RoomAtWeights.{weight_with_room-is_zero}
 use Rattle.uca_tailor.specs.TailoringLaws.{weights_at}
 use Rattle.uca_tailor.proofs.Levels.{IsLevel, IsBelow, first_of_second, first_of_third, second_of_third, weight-with_room, weight-raised, weight-shifted_above, weight-raised_above}
@@ -17,41 +16,6 @@ use Rattle.uca_tailor.proofs.Levels.{IsLevel, IsBelow, first_of_second, first_of
 -- an element that is well-formed: where a weight is zero, those at the levels below it are
 abbrev pub IsFull : Element → Type 0
 IsFull e = (e.l2 ≡ 0 → e.l1 ≡ 0) × (e.l3 ≡ 0 → e.l2 ≡ 0)
-
--- the elements of an anchor: those after its last one have no weight at the level
-pub record IsSplit (level : ℕ) (es : List Element) (a : Anchor) : Type 0 where
-  pub rest : List Element
-  pub are : es ≡ a.before ++ a.last ∷ rest
-  pub none : AllByRecursion (λ e. weight level e ≡ 0) rest
-  pub some : weight level a.last ≡ 0 → ⊥
-
-zero_of : (b : Bool) (x : ℕ) (y : Anchor) → eqb x 0 ≡ b → cond b None (Some y) ≡ None → x ≡ 0
-zero_of true x y is e = eqb-true x 0 is
-zero_of false x y is e = absurd (cc)
-
-none_step : (level : ℕ) (e : Element) (o : Option Anchor) → option_map_or (λ z. Some (preceded_by e z)) o (cond (weight level e == 0) None (Some (alone e))) ≡ None → (o ≡ None) × (weight level e ≡ 0)
-none_step level e None h = (refl, zero_of (weight level e == 0) (weight level e) (alone e) refl h)
-none_step level e (Some b) h = absurd (cc)
-
-all_none : (level : ℕ) (es : List Element) → anchor_of level es ≡ None → AllByRecursion (λ e. weight level e ≡ 0) es
-all_none level [] h = tt
-all_none level (e ∷ es) h = let s = none_step level e (anchor_of level es) h in (s.1, all_none level es s.0)
-
-split_here : (level : ℕ) (e : Element) (es : List Element) (b : Bool) (a : Anchor) → eqb (weight level e) 0 ≡ b → AllByRecursion (λ x. weight level x ≡ 0) es → cond b None (Some (alone e)) ≡ Some a → IsSplit level (e ∷ es) a
-split_here level e es true a is n h = absurd (cc)
-split_here level e es false a is n h = let same : alone e ≡ a = cc in subst (λ z. IsSplit level (e ∷ es) z) same (record { rest = es; are = refl; none = n; some = eqb-false (weight level e) 0 is })
-
-split_step : (level : ℕ) (e : Element) (es : List Element) (o : Option Anchor) (a : Anchor) → anchor_of level es ≡ o → option_map_or (λ z. Some (preceded_by e z)) o (cond (weight level e == 0) None (Some (alone e))) ≡ Some a
-    → ((b : Anchor) → o ≡ Some b → IsSplit level es b) → IsSplit level (e ∷ es) a
-split_step level e es None a is h more = split_here level e es (weight level e == 0) a refl (all_none level es is) h
-split_step level e es (Some b) a is h more =
-    let same : preceded_by e b ≡ a = cc in
-    let s = more b refl in
-    subst (λ z. IsSplit level (e ∷ es) z) same (record { rest = s.rest; are = ap (λ x. e ∷ x) s.are; none = s.none; some = s.some })
-
-pub anchor_split : (level : ℕ) (es : List Element) (a : Anchor) → anchor_of level es ≡ Some a → IsSplit level es a
-anchor_split level [] a h = absurd (cc)
-anchor_split level (e ∷ es) a h = split_step level e es (anchor_of level es) a refl h (λ b is. anchor_split level es b (is))
 
 -- ## Weights of a level
 
@@ -90,11 +54,11 @@ zeros j m (e ∷ es) b h n = (zero_above j m e b h.0 n.0, zeros j m es b h.1 n.1
 pub placed_below : (j m w : ℕ) (es : List Element) (a : Anchor) → anchor_of m es ≡ Some a → IsBelow j m → AllByRecursion IsFull es
     → weights_at j (map (with_room m w) a.before ++ raised m a.last ∷ []) ≡ weights_at j es
 placed_below j m w es a h b full =
-    let s = anchor_split m es a h in
-    let rest : AllByRecursion IsFull (a.last ∷ s.rest) = (parts_of IsFull a.before (a.last ∷ s.rest) (subst (AllByRecursion IsFull) s.are full)).1 in
+    let s = ends_in_a_weight m es a h in
+    let rest : AllByRecursion IsFull (a.last ∷ s.dropped) = (parts_of IsFull a.before (a.last ∷ s.dropped) (subst (AllByRecursion IsFull) s.parts full)).1 in
     weights_at-append j (map (with_room m w) a.before) (raised m a.last ∷ []) ∙ ap₂ (λ x y. x ++ y) (weights_at-same j (with_room m w) (λ e. weight-shifted_above j m w e b) a.before)
-    (weights_at-cons j (raised m a.last) [] s.rest a.last (weight-raised_above j m a.last b) (sym (weights_at-none j s.rest (zeros j m s.rest b rest.1 s.none))))
-    ∙ sym (ap (weights_at j) s.are ∙ weights_at-append j a.before (a.last ∷ s.rest))
+    (weights_at-cons j (raised m a.last) [] s.dropped a.last (weight-raised_above j m a.last b) (sym (weights_at-none j s.dropped (zeros j m s.dropped b rest.1 s.none))))
+    ∙ sym (ap (weights_at j) s.parts ∙ weights_at-append j a.before (a.last ∷ s.dropped))
 
 -- at the level of a relation the anchor ends in its weight
 some_weight : (m : ℕ) (e : Element) → (weight m e ≡ 0 → ⊥) → weights_at m (e ∷ []) ≡ weight m e ∷ []
@@ -102,9 +66,9 @@ some_weight m e h = ap (λ b. cond (not b) (weight m e ∷ []) []) (ne_eqb (weig
 
 pub placed_anchor : (m : ℕ) (es : List Element) (a : Anchor) → anchor_of m es ≡ Some a → weights_at m es ≡ weights_at m a.before ++ weight m a.last ∷ []
 placed_anchor m es a h =
-    let s = anchor_split m es a h in
-    ap (weights_at m) s.are ∙ weights_at-append m a.before (a.last ∷ s.rest)
-    ∙ ap (λ x. weights_at m a.before ++ x) (weights_at-cons m a.last s.rest [] a.last refl (weights_at-none m s.rest s.none) ∙ some_weight m a.last s.some)
+    let s = ends_in_a_weight m es a h in
+    ap (weights_at m) s.parts ∙ weights_at-append m a.before (a.last ∷ s.dropped)
+    ∙ ap (λ x. weights_at m a.before ++ x) (weights_at-cons m a.last s.dropped [] a.last refl (weights_at-none m s.dropped s.none) ∙ some_weight m a.last s.some)
 
 pub weights_at-weight_with_room : (m w : ℕ) → IsLevel m → (es : List Element) → weights_at m (map (with_room m w) es) ≡ map (weight_with_room m w) (weights_at m es)
 weights_at-weight_with_room m w l [] = refl

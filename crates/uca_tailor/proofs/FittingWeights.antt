@@ -12,6 +12,7 @@ use Rattle.uca_model.specs.Table.{ElementTable, IsElement, key_cmp, elements_at,
 use Rattle.uca_model.specs.Room.{with_room, table_with_room, has_no_room, max_weight}
 use Rattle.uca_model.specs.Tailoring.{is_high, raised, Placed}
 use Rattle.uca_model.proofs.AnchorElements.{any_anchor}
+use Rattle.uca_model.proofs.AnchorPlaces.{ends_in_a_weight}
 use Rattle.uca_model.proofs.RoomLookups.{elements_at-with_room}
 use Rattle.uca_model.proofs.RoomAtWeights.{weight_with_room-fits}
 use Rattle.uca_model.proofs.WeightLemmas.{Fits, each-append}
@@ -19,7 +20,7 @@ use Rattle.uca_tailor.proofs.Levels.{IsLevel, level_one, level_two, level_three}
 use Rattle.uca_tailor.proofs.LevelOrders.{AllHaveRoom}
 use Rattle.uca_tailor.proofs.ChangedTables.{all_of_none, found_room, elements_at-same, elements_at-other}
 use Rattle.uca_tailor.proofs.RelationFacts.{IsPlacedAt}
-use Rattle.uca_tailor.proofs.AnchorWeights.{anchor_split, parts_of}
+use Rattle.uca_tailor.proofs.AnchorWeights.{parts_of}
 
 -- ## An element with room
 
@@ -49,8 +50,8 @@ pub base_fits : (m : ℕ) (t : ElementTable) (es : List Element) (p : Placed) �
 base_fits m t es p l h fit =
     let a = h.split in
     let w = weight m a.last in
-    let s = anchor_split m es a h.is_split in
-    let parts = parts_of IsElement a.before (a.last ∷ s.rest) (subst (AllByRecursion IsElement) s.are fit) in
+    let s = ends_in_a_weight m es a h.is_split in
+    let parts = parts_of IsElement a.before (a.last ∷ s.dropped) (subst (AllByRecursion IsElement) s.parts fit) in
     let room = any_anchor (has_no_room m w) m es a h.is_split h.free.anchor_room in
     let low = any_anchor is_high m es a h.is_split h.free.low in
     subst (λ z. AllByRecursion IsElement z.base) (sym h.are)

@@ -37,10 +37,7 @@ fn append(
     ensures entry { OnOk result (merged.new ≡ insert merged.old key.now elements.now) }
     ensures fresh { OnOk result (contains_key merged.old key.now ≡ false) }
 {
-    match merged.push(key, elements) {
-        Ok(()) => Ok(()),
-        Err(_) => Err(AllocError),
-    }
+    merged.push(key, elements).map_err(|_| AllocError)
 }
 
 /// Appends an entry, or leaves it out where there is one with its key.

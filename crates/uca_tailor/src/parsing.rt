@@ -115,20 +115,14 @@ pub fn parse(alloc: Global, text: &str) -> Result<Rules, RuleFault>
     ensures some { IfErr result (λ _. rules_of (chars text.now) ≢ Ok []) }
 {
     let mut scanner = Scanner::new(text);
-    let mut next = match first_operator(alloc, &mut scanner) {
-        Ok(next) => next,
-        Err(fault) => return Err(fault),
-    };
+    let mut next = first_operator(alloc, &mut scanner)?;
     let mut chains = Vec::new(alloc);
     let mut count = 0;
     while let Some(found) = next {
         if !is_reset(found) {
             return Err(fault_at(found.at, RuleCause::Syntax));
         }
-        let (chain, after) = match read_chain(alloc, &mut scanner, count) {
-            Ok(read) => read,
-            Err(fault) => return Err(fault),
-        };
+        let (chain, after) = read_chain(alloc, &mut scanner, count)?;
         count += chain.relations.len();
         if chains.push(chain).is_err() {
             return Err(fault_at(0, RuleCause::OutOfMemory));

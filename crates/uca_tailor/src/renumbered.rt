@@ -1,11 +1,11 @@
 //! A table that is tailored relation after relation, and written anew only at the end.
-ghost use Rattle.std.specs.Prelude.{◌≡◌, ◌≤◌, ◌<◌, ◌++◌, false, length, IfOk, OnOk};
+ghost use Rattle.std.specs.Prelude.{◌≡◌, ◌≤◌, ◌<◌, ◌++◌, false, is_some, length, IfOk, IsTrue, OnOk};
 ghost use Rattle.std.specs.FinMap.{values};
 ghost use Rattle.std.specs.List.{list_any, AllByRecursion};
 ghost use Rattle.uca_weights.specs.declared.limits.TheConstants.{MAX_KEY};
 ghost use Rattle.uca_model.specs.CollationElements.{elements, elements_or_implicit};
 ghost use Rattle.uca_model.specs.Room.{has_no_room, table_with_room};
-ghost use Rattle.uca_model.specs.Table.{with_entry, IsElement};
+ghost use Rattle.uca_model.specs.Table.{elements_at, with_entry, IsElement};
 ghost use Rattle.uca_match.specs.Keys.{key_set};
 ghost use Rattle.uca_tailor.specs.Counts.{elements_or_none};
 
@@ -161,17 +161,21 @@ impl<'t> Renumbered<'t> {
         entries.finish(alloc, self.table)
     }
 
-    /// Appends the elements of a key, if it has some.
-    fn push_entry(&self, out: &mut Vec<Element>, key: &[char]) -> Result<(), AllocError>
-        ensures { OnOk result (out.new.items ≡ out.old.items ++ elements_or_none self.now key.now) }
+    /// Appends the elements of a key, and returns whether it has some.
+    fn push_entry(&self, out: &mut Vec<Element>, key: &[char]) -> Result<bool, AllocError>
+        ensures elements { OnOk result (out.new.items ≡ out.old.items ++ elements_or_none self.now key.now) }
+        ensures found { IfOk result (λ found. found ≡ is_some (elements_at self.now key.now)) }
+        ensures some { IfOk result (λ found. IsTrue found → length out.old.items < length out.new.items) }
     {
-        match self.items.get(key) {
-            Some(entered) => self.moves.push_moved(out, entered.after, &entered.elements),
-            None => match self.table.get(key) {
-                Some(elements) => self.moves.push_moved(out, START, elements),
-                None => Ok(()),
-            },
+        if let Some(item) = self.items.get(key) {
+            self.moves.push_moved(out, item.after, &item.elements)?;
+            return Ok(true);
         }
+        let Some(elements) = self.table.get(key) else {
+            return Ok(false);
+        };
+        self.moves.push_moved(out, START, elements)?;
+        Ok(true)
     }
 
     /// Appends the elements of a match: those of a key, or the implicit ones of its first code point.
@@ -180,13 +184,10 @@ impl<'t> Renumbered<'t> {
         ensures elements { OnOk result (out.new.items ≡ out.old.items ++ elements_or_implicit self.now matched.now) }
         ensures some { OnOk result (length out.old.items < length out.new.items) }
     {
-        match self.items.get(matched) {
-            Some(item) => self.moves.push_moved(out, item.after, &item.elements),
-            None => match self.table.get(matched) {
-                Some(elements) => self.moves.push_moved(out, START, elements),
-                None => out.extend_from_slice(&self.table.implicit(matched[0])),
-            },
+        if self.push_entry(out, matched)? {
+            return Ok(());
         }
+        out.extend_from_slice(&self.table.implicit(matched[0]))
     }
 }
 

@@ -30,10 +30,7 @@ fn place_after(
         return Err(TailorCause::SmallWeight);
     };
     let w = anchor.last.weight(level);
-    match check_place(alloc, level, w, t, elements) {
-        Ok(()) => {}
-        Err(cause) => return Err(cause),
-    }
+    check_place(alloc, level, w, t, elements)?;
     let base = base_after(alloc, level, anchor.before, anchor.last)?;
     t.make_room(level, w)?;
     Ok(base)
@@ -156,10 +153,8 @@ pub fn tailor(alloc: Global, t: &Table, r: &Rules) -> Result<Table, TailorFault>
     let mut count = 0;
     for chain in r.chains() {
         let reset = elements_of(alloc, &tailored, &chain.reset)?;
-        match relate_all(alloc, &mut tailored, reset, &chain.relations, count) {
-            Ok(()) => count += chain.relations.len() as u64,
-            Err(fault) => return Err(fault),
-        }
+        relate_all(alloc, &mut tailored, reset, &chain.relations, count)?;
+        count += chain.relations.len() as u64;
     }
     Ok(tailored.to_table(alloc)?)
 }

@@ -21,9 +21,7 @@ fn push(text: &mut ArrayVec<u8, REPORT>, part: &[u8])
     requires { length text.old.items + length part.now ≤ 96 }
     ensures { text.new.items ≡ text.old.items ++ part.now }
 {
-    if text.try_extend_from_slice(part).is_err() {
-        unreachable!();
-    }
+    text.try_extend_from_slice(part).unwrap();
 }
 
 /// Appends a number in decimal.

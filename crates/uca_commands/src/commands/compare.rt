@@ -71,18 +71,11 @@ pub fn write_orders<W: Writer>(
     let mut left = others;
     while !left.is_empty() {
         let (line, rest) = first_line(left);
-        match send_order(t, s, before, line, w, &mut out) {
-            Ok(()) => {
-                before = line;
-                left = rest;
-            }
-            Err(fault) => return Err(fault),
-        }
+        send_order(t, s, before, line, w, &mut out)?;
+        before = line;
+        left = rest;
     }
-    match out.flush(w) {
-        Ok(()) => Ok(()),
-        Err(fault) => Err(fault),
-    }
+    out.flush(w)
 }
 
 /// Writes the order of each two neighbours among the lines of its input.

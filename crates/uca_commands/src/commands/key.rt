@@ -48,10 +48,8 @@ fn write_raw_key<W: Writer>(
         (WritesFront (W.state w.old) (W.state w.new) (raw_key_output t.now s (lines_of bytes.now))) }
 {
     let (line, _) = first_line(bytes);
-    match write_key(w, t, s, &text_of_line(line)) {
-        Ok(_) => Ok(()),
-        Err(fault) => Err(fault),
-    }
+    write_key(w, t, s, &text_of_line(line))?;
+    Ok(())
 }
 
 /// Writes the bytes of the sort key of its input, which is one line.

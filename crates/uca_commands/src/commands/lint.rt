@@ -55,13 +55,9 @@ pub fn write_findings<W: Writer>(t: &Table, w: &mut W) -> Result<u8, WriteFault>
     let found = lint(t);
     let broken = found.as_slice();
     let mut out = OutputBuffer::new();
-    match send_findings(w, &mut out, broken) {
-        Ok(()) => match out.flush(w) {
-            Ok(()) => Ok(u8::from(!broken.is_empty())),
-            Err(fault) => Err(fault),
-        },
-        Err(fault) => Err(fault),
-    }
+    send_findings(w, &mut out, broken)?;
+    out.flush(w)?;
+    Ok(u8::from(!broken.is_empty()))
 }
 
 /// Writes which conditions the table breaks. It has no input, and its status is 1 where there are any.

@@ -99,10 +99,8 @@ fn send_line<W: Writer>(w: &mut W, out: &mut OutputBlock, line: &[u8]) -> Result
         (λ f. FailsPartway (W.state w.old) out.old (W.state w.new) (line.now ++ line_feed ∷ []) f) }
     ensures small { OnOk result (accepted out.new < accepted out.old + 2 ^ 70) }
 {
-    match send_bytes(w, out, line) {
-        Ok(()) => out.write(w, b"\n"),
-        Err(fault) => Err(fault),
-    }
+    send_bytes(w, out, line)?;
+    out.write(w, b"\n")
 }
 
 /// Writes lines, each with LF.
@@ -137,24 +135,16 @@ pub fn write_in_order<W: Writer>(
     if bytes.is_empty() {
         return Ok(0);
     }
-    let Ok(keys) = keys_of(alloc, t, s, bytes) else {
-        return Err(CliFault::OutOfMemory);
-    };
+    let keys = keys_of(alloc, t, s, bytes)?;
     let of = KeyedLines {
         input: bytes,
         keys: &keys.bytes,
         ends: &keys.ends,
     };
-    let Ok(mut lines) = keyed_lines(alloc, &of) else {
-        return Err(CliFault::OutOfMemory);
-    };
-    let Ok(()) = sort_lines(&mut lines) else {
-        return Err(CliFault::OutOfMemory);
-    };
-    match write_keyed(&lines, w) {
-        Ok(()) => Ok(lines.len() as u64),
-        Err(fault) => Err(CliFault::Output(fault)),
-    }
+    let mut lines = keyed_lines(alloc, &of)?;
+    sort_lines(&mut lines)?;
+    write_keyed(&lines, w)?;
+    Ok(lines.len() as u64)
 }
 
 /// Writes the lines of an input in the order of their sort keys (UTS #10, section 7.4), each with LF. Lines of equal keys
@@ -178,10 +168,8 @@ pub fn order<R: Reader, W: Writer>(
         (record { input = R.state r.new; output = W.state w.new })) }
     ensures calls { R.calls r.new ≤ R.calls r.old + (MAX_INPUT + 1) }
 {
-    match read_lines(alloc, r) {
-        Ok(bytes) => write_in_order(alloc, t, s, &bytes, w),
-        Err(fault) => Err(CliFault::Input(fault)),
-    }
+    let bytes = read_lines(alloc, r)?;
+    write_in_order(alloc, t, s, &bytes, w)
 }
 
 /// Writes the lines of its input in the order of their sort keys.

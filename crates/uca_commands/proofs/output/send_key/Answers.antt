@@ -10,13 +10,13 @@ use Rattle.uca_commands.proofs.output.send_key.Goals as goal
 
 pub write-requires-clause-room : goal.write-requires-clause-room
 write-requires-clause-room g c =
-    let size : accepted c.send_hex.new.out ≡ accepted c.args.out.now + length (hex_text c.args.key.now) = accepted-Accepts _ _ _ _ (hex_text c.args.key.now) c.in-Ok.ensures in
+    let size : accepted c.send_hex.new.out ≡ accepted c.args.out.now + length (hex_text c.args.key.now) = accepted-Accepts _ _ _ _ (hex_text c.args.key.now) c.in_ok-send_hex.ensures in
     omega (arith, size, length-hex_text c.args.key.now)
 
-pub returns-in-Ok-clause-sends : goal.returns-in-Ok-clause-sends
-returns-in-Ok-clause-sends g c = both_sent _ _ _ _ _ _ (hex_text c.args.key.now) (line_feed ∷ []) c.write.result c.in-Ok.ensures c.write.ensures.all
+pub returns-clause-sends : goal.returns-clause-sends
+returns-clause-sends g c = both_sent _ _ _ _ _ _ (hex_text c.args.key.now) (line_feed ∷ []) c.write.result c.in_ok-send_hex.ensures c.write.ensures.all
 
-pub returns-in-Ok-clause-small : goal.returns-in-Ok-clause-small
-returns-in-Ok-clause-small g c =
-    let size : accepted c.send_hex.new.out ≡ accepted c.args.out.now + length (hex_text c.args.key.now) = accepted-Accepts _ _ _ _ (hex_text c.args.key.now) c.in-Ok.ensures in
+pub returns-clause-small : goal.returns-clause-small
+returns-clause-small g c =
+    let size : accepted c.send_hex.new.out ≡ accepted c.args.out.now + length (hex_text c.args.key.now) = accepted-Accepts _ _ _ _ (hex_text c.args.key.now) c.in_ok-send_hex.ensures in
     accepted-after _ _ _ _ (line_feed ∷ []) _ c.write.result c.write.ensures.all (omega (arith, size, length-hex_text c.args.key.now))

@@ -1,4 +1,4 @@
-use Rattle.std.proofs.Common.{arith, ◌≡◌, ◌≢◌, ◌∙◌, ℕ, List, [], ◌∷◌, Bool, true, false, Option, Some, None, ap, refl, sym}
+use Rattle.std.proofs.Common.{arith, ◌≡◌, ◌≢◌, ◌∙◌, ℕ, List, [], ◌∷◌, Bool, true, false, Some, None, ap, refl, sym}
 use Rattle.std.proofs.lemmas.Str.Pattern.{split_once_first, strip_prefix_char}
 use Rattle.std.specs.Prelude.{option_and_then}
 use Rattle.std.specs.List.{after_first, before_first}

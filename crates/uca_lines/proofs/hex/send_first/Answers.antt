@@ -1,6 +1,5 @@
-use Rattle.std.proofs.Common.{◌≡◌, ℕ, ◌*◌, List, length, subst, MatchResult, arith}
+use Rattle.std.proofs.Common.{ℕ, ◌*◌, List, length, subst, MatchResult, arith}
 use Rattle.uca_io.specs.OutputBuffer.{Accepts, FailsPartway}
-use Rattle.uca_model.specs.Output.{hex_text}
 use Rattle.uca_lines.proofs.HexLemmas.{first_piece}
 use Rattle.uca_lines.proofs.hex.send_first.Goals as goal
 

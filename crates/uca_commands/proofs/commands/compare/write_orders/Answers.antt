@@ -1,11 +1,13 @@
-use Rattle.std.proofs.Common.{◌≡◌, ℕ, List, [], ◌∷◌, ◌++◌, length, All, sym, ap, subst, ◌∙◌, arith, append-nil, append_assoc}
+use Rattle.std.proofs.Common.{◌≡◌, ℕ, List, [], ◌∷◌, ◌++◌, length, All, sym, ap, subst, ◌∙◌, arith, append_assoc, eqb-true}
+use Rattle.std.proofs.lemmas.List.{nil_from_length}
 use Rattle.std.proofs.lemmas.List.Elements.{All-head, All-tail}
+use Rattle.std.proofs.lemmas.Result.{err_from_is_err_and}
 use Rattle.uca_io.proofs.BufferLemmas.{Accepts-none, Accepts-more}
 use Rattle.uca_weights.specs.declared.settings.Settings.{Settings}
 use Rattle.uca_model.specs.Table.{ElementTable}
 use Rattle.uca_model.specs.CompareOutput.{compare_line, compare_each, compare_lines}
 use Rattle.uca_model.specs.Lines.{lines_of, IsTextLine}
-use Rattle.uca_commands.proofs.SendingLemmas.{FailsPartway-whole}
+use Rattle.uca_commands.proofs.SendingLemmas.{FailsPartway-whole, flushed}
 use Rattle.uca_commands.proofs.commands.compare.write_orders.Goals as goal
 
 pub loop-before-init : goal.loop-before-init
@@ -40,24 +42,25 @@ loop-before-preserved g c =
     let texts : All IsTextLine (line ∷ lines_of rest) = subst (All IsTextLine) c.first_line-in-loop-before.ensures.parts c.loop-before.invariant.texts in
     record {
       sent = c.loop-before.invariant.sent ++ compare_line c.args.t.now c.args.s before line;
-      sends = Accepts-more _ _ _ _ _ _ c.loop-before.invariant.sent (compare_line c.args.t.now c.args.s before line) c.loop-before.invariant.sends c.in-Ok.ensures.sends;
+      sends = Accepts-more _ _ _ _ _ _ c.loop-before.invariant.sent (compare_line c.args.t.now c.args.s before line) c.loop-before.invariant.sends c.in_ok-send_order.ensures.sends;
       complete = parts c.args.t.now c.args.s c.loop-before.invariant.sent before line _ (lines_of rest) (lines_of c.loop-before.left.now) c.loop-before.invariant.complete c.first_line-in-loop-before.ensures.parts;
       text = All-head IsTextLine line (lines_of rest) texts;
       texts = All-tail IsTextLine line (lines_of rest) texts;
-      room = omega (arith, c.in-Ok.ensures.small, c.first_line-in-loop-before.ensures.shorter, c.loop-before.invariant.room);
+      room = omega (arith, c.in_ok-send_order.ensures.small, c.first_line-in-loop-before.ensures.shorter, c.loop-before.invariant.room);
     }
 
-pub returns-in-Err : goal.returns-in-Err
-returns-in-Err g c =
+pub returns-in_err-send_order : goal.returns-in_err-send_order
+returns-in_err-send_order g c =
     let before : List ℕ = c.loop-before.before.now in
     let line : List ℕ = c.first_line-in-loop-before.result.0.now in let rest : List ℕ = c.first_line-in-loop-before.result.1.now in
-    FailsPartway-whole _ _ _ c.new-out.result c.loop-before.out c.loop-before.invariant.sent (compare_line c.args.t.now c.args.s before line) (compare_each c.args.t.now c.args.s line (lines_of rest)) _ _
-    c.new-out.ensures.waiting c.new-out.ensures.written c.loop-before.invariant.sends c.in-Err.ensures.sends
-    (parts c.args.t.now c.args.s c.loop-before.invariant.sent before line _ (lines_of rest) (lines_of c.loop-before.left.now) c.loop-before.invariant.complete c.first_line-in-loop-before.ensures.parts)
+    let p = err_from_is_err_and c.from_residual.result c.from_residual.ensures.1 in
+    rw (p.1, p.2) (FailsPartway-whole _ _ _ c.new-out.result c.loop-before.out c.loop-before.invariant.sent (compare_line c.args.t.now c.args.s before line) (compare_each c.args.t.now c.args.s line (lines_of rest)) _ _
+    c.new-out.ensures.waiting c.new-out.ensures.written c.loop-before.invariant.sends c.in_err-send_order.ensures.sends
+    (parts c.args.t.now c.args.s c.loop-before.invariant.sent before line _ (lines_of rest) (lines_of c.loop-before.left.now) c.loop-before.invariant.complete c.first_line-in-loop-before.ensures.parts))
 
-pub returns-in-Err-flush : goal.returns-in-Err-flush
-returns-in-Err-flush g c =
-    let left : List ℕ = compare_each c.args.t.now c.args.s c.loop-before.before.now (lines_of c.loop-before.left.now) in
-    FailsPartway-whole _ _ _ c.new-out.result c.loop-before.out c.loop-before.invariant.sent [] left _ _
-    c.new-out.ensures.waiting c.new-out.ensures.written c.loop-before.invariant.sends c.in-Err-flush.ensures.all
-    (ap (λ l. l ++ left) (append-nil c.loop-before.invariant.sent) ∙ c.loop-before.invariant.complete)
+pub returns : goal.returns
+returns g c =
+    let left : List ℕ = c.loop-before.left.now in
+    let none : left ≡ [] = nil_from_length left (eqb-true (length left) 0 (sym c.loop-before-test.ensures)) in
+    flushed _ _ _ c.new-out.result c.loop-before.out c.flush.new.self c.loop-before.invariant.sent _ c.flush.result c.new-out.ensures.waiting c.new-out.ensures.written c.loop-before.invariant.sends
+    (ap (λ l. c.loop-before.invariant.sent ++ compare_each c.args.t.now c.args.s c.loop-before.before.now (lines_of l)) (sym none) ∙ c.loop-before.invariant.complete) c.flush.ensures.all c.flush.ensures.empty

@@ -2,6 +2,7 @@ use Rattle.std.proofs.Common.{◌≡◌, ℕ, ◌-◌, List, [], ◌∷◌, leng
 use Rattle.std.specs.List.Sorted.{IsStableByKey}
 use Rattle.std.proofs.lemmas.List.{length-map, nil_from_length, take_all}
 use Rattle.std.proofs.lemmas.List.Sorted.{length_permutation}
+use Rattle.std.proofs.lemmas.Result.{err_from_is_err_and}
 use Rattle.uca_weights.specs.declared.settings.Settings.{Settings}
 use Rattle.uca_model.specs.Lines.{line_feed, lines_of}
 use Rattle.uca_model.specs.OrderOutput.{line_key, IsInOrder, IsOrderOutput, text_of_lines}
@@ -44,7 +45,7 @@ pub returns-then-is_empty : goal.returns-then-is_empty
 returns-then-is_empty g c = WritesInOrder-none c.args.t.now c.args.s c.args.bytes.now _ (nil_from_length c.args.bytes.now (eqb-true (length c.args.bytes.now) 0 (sym c.is_empty.ensures ∙ c.if-is_empty.true)))
 
 pub keyed_lines-requires-clause-each : goal.keyed_lines-requires-clause-each
-keyed_lines-requires-clause-each g c = ap length c.deref-2.ensures.value ∙ AreKeys-each c.args.t.now c.args.s (lines_of c.args.bytes.now) c.in-Ok.keys.bytes.items c.in-Ok.keys.ends.items c.in-Ok.ensures
+keyed_lines-requires-clause-each g c = ap length c.deref-2.ensures.value ∙ AreKeys-each c.args.t.now c.args.s (lines_of c.args.bytes.now) c.in_ok-keys.keys.bytes.items c.in_ok-keys.keys.ends.items c.in_ok-keys.ensures
 
 -- there are as many as lines
 count : (bytes : List ℕ) (xs ys : List KeyedLine) → map line_of xs ≡ lines_of bytes → IsPermutation xs ys → length ys ≡ length (lines_of bytes)
@@ -52,7 +53,7 @@ count bytes xs ys lines same = length_permutation xs ys same ∙ sym (length-map
 
 pub write_keyed-requires : goal.write_keyed-requires
 write_keyed-requires g c =
-    let many : length c.sort_lines.new.lines.items ≡ length (lines_of c.args.bytes.now) = count c.args.bytes.now c.in-Ok-keyed_lines.lines.items c.sort_lines.new.lines.items c.in-Ok-keyed_lines.ensures.lines c.sort_lines.ensures.same in
+    let many : length c.sort_lines.new.lines.items ≡ length (lines_of c.args.bytes.now) = count c.args.bytes.now c.in_ok-lines.lines.items c.sort_lines.new.lines.items c.in_ok-lines.ensures.lines c.sort_lines.ensures.same in
     omega (arith, many, ap length c.deref-3.ensures.value, length-lines_of c.args.bytes.now, c.requires.small)
 
 -- the lines that were sorted are in order
@@ -70,24 +71,25 @@ made t s bytes kept ends xs ys are keys lines same sorted stable = record {
   text = refl;
 }
 
-pub returns-in-Ok-write_keyed : goal.returns-in-Ok-write_keyed
-returns-in-Ok-write_keyed g c =
-    let ys : List KeyedLine = c.sort_lines.new.lines.items in
-    let many : length ys ≡ length (lines_of c.args.bytes.now) = count c.args.bytes.now c.in-Ok-keyed_lines.lines.items ys c.in-Ok-keyed_lines.ensures.lines c.sort_lines.ensures.same in
-    record {
-      output = text_of_lines (map line_of ys);
-      made = made c.args.t.now c.args.s c.args.bytes.now c.in-Ok.keys.bytes.items c.in-Ok.keys.ends.items c.in-Ok-keyed_lines.lines.items ys
-          c.in-Ok.ensures (c.in-Ok-keyed_lines.ensures.keys ∙ ap₂ (λ es bs. pieces es bs 0) c.deref-2.ensures.value c.deref.ensures.value) c.in-Ok-keyed_lines.ensures.lines c.sort_lines.ensures.same c.in-Ok-sort_lines.ensures.sorted c.sort_lines.ensures.stable;
-      writes = rw (sym c.deref-3.ensures.value) c.in-Ok-write_keyed.ensures;
-      counted = omega (arith, many, c.sort_lines.new.lines.ok.0, c.len.ensures);
-    }
-
 pub returns : goal.returns
 returns g c =
     let ys : List KeyedLine = c.sort_lines.new.lines.items in
+    let many : length ys ≡ length (lines_of c.args.bytes.now) = count c.args.bytes.now c.in_ok-lines.lines.items ys c.in_ok-lines.ensures.lines c.sort_lines.ensures.same in
     record {
       output = text_of_lines (map line_of ys);
-      made = made c.args.t.now c.args.s c.args.bytes.now c.in-Ok.keys.bytes.items c.in-Ok.keys.ends.items c.in-Ok-keyed_lines.lines.items ys
-          c.in-Ok.ensures (c.in-Ok-keyed_lines.ensures.keys ∙ ap₂ (λ es bs. pieces es bs 0) c.deref-2.ensures.value c.deref.ensures.value) c.in-Ok-keyed_lines.ensures.lines c.sort_lines.ensures.same c.in-Ok-sort_lines.ensures.sorted c.sort_lines.ensures.stable;
-      writes = rw (sym c.deref-3.ensures.value) c.in-Err.ensures;
+      made = made c.args.t.now c.args.s c.args.bytes.now c.in_ok-keys.keys.bytes.items c.in_ok-keys.keys.ends.items c.in_ok-lines.lines.items ys
+          c.in_ok-keys.ensures (c.in_ok-lines.ensures.keys ∙ ap₂ (λ es bs. pieces es bs 0) c.deref-2.ensures.value c.deref.ensures.value) c.in_ok-lines.ensures.lines c.sort_lines.ensures.same c.in_ok-sort_lines.ensures.sorted c.sort_lines.ensures.stable;
+      writes = rw (sym c.deref-3.ensures.value) c.in_ok-write_keyed.ensures;
+      counted = omega (arith, many, c.sort_lines.new.lines.ok.0, c.len.ensures);
     }
+
+pub returns-in_err-write_keyed : goal.returns-in_err-write_keyed
+returns-in_err-write_keyed g c =
+    let p = err_from_is_err_and c.from_residual-in_err-write_keyed.result c.from_residual-in_err-write_keyed.ensures.1 in
+    let ys : List KeyedLine = c.sort_lines.new.lines.items in
+    rw (p.1, p.2) (record {
+      output = text_of_lines (map line_of ys);
+      made = made c.args.t.now c.args.s c.args.bytes.now c.in_ok-keys.keys.bytes.items c.in_ok-keys.keys.ends.items c.in_ok-lines.lines.items ys
+          c.in_ok-keys.ensures (c.in_ok-lines.ensures.keys ∙ ap₂ (λ es bs. pieces es bs 0) c.deref-2.ensures.value c.deref.ensures.value) c.in_ok-lines.ensures.lines c.sort_lines.ensures.same c.in_ok-sort_lines.ensures.sorted c.sort_lines.ensures.stable;
+      writes = rw (sym c.deref-3.ensures.value) c.in_err-write_keyed.ensures;
+    })

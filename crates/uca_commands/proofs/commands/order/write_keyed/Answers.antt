@@ -1,17 +1,13 @@
-use Rattle.std.proofs.Common.{◌≡◌, ℕ, ◌+◌, ◌-◌, ◌<◌, List, [], ◌∷◌, ◌++◌, length, drop, get_or, map, Result, Ok, Err, MatchResult, refl, sym, ap, subst, ◌∙◌, arith, append-nil, drop_of_length-le}
+use Rattle.std.proofs.Common.{◌≡◌, ℕ, ◌+◌, ◌-◌, ◌<◌, List, [], ◌∷◌, ◌++◌, length, drop, get_or, map, refl, sym, ap, ◌∙◌, arith, drop_of_length-le}
 use Rattle.std.proofs.lemmas.List.{drop_more, get_or_read, length-drop}
 use Rattle.std.proofs.lemmas.Result.{err_from_is_err_and}
-use Rattle.uca_io.specs.WriterState.{WriterState}
-use Rattle.uca_io.specs.Writer.{WritesAll, WritesFront}
-use Rattle.uca_io.specs.OutputBuffer.{Accepts, FailsPartway}
-use Rattle.uca_io.specs.BufferState.{BufferState}
-use Rattle.uca_io.specs.declared.writer.WriteFault.{WriteFault}
-use Rattle.uca_io.proofs.BufferLemmas.{Accepts-more, Accepts-none, Accepts-all, FailsPartway-front}
-use Rattle.uca_io.proofs.SendLemmas.{sent_more, stopped_there, stopped_last}
+use Rattle.uca_io.proofs.BufferLemmas.{Accepts-none, FailsPartway-front}
+use Rattle.uca_io.proofs.SendLemmas.{sent_more, stopped_there}
 use Rattle.uca_model.specs.Lines.{line_feed}
 use Rattle.uca_model.specs.OrderOutput.{text_of_lines}
 use Rattle.uca_commands.specs.KeyedLines.{line_of}
 use Rattle.uca_commands.specs.declared.keyed_line.KeyedLine.{KeyedLine}
+use Rattle.uca_commands.proofs.SendingLemmas.{flushed}
 use Rattle.uca_commands.proofs.commands.order.write_keyed.Goals as goal
 
 -- a line with LF
@@ -62,12 +58,6 @@ loop-keyed-preserved g c =
       complete = more.1;
       room = omega (arith, c.in_ok-send_line.ensures.small, left, less, c.loop-keyed.invariant.room, c.loop-keyed-test.true);
     }
-
--- all lines went to the buffer, and what waits of them goes out
-flushed : (s0 s1 s2 : WriterState) (o0 o1 o2 : BufferState) (sent whole : List ℕ) (r : Result (Unit {0}) WriteFault) → o0.waiting ≡ [] → o0.written ≡ 0 → Accepts s0 o0 s1 o1 sent → sent ++ [] ≡ whole
-    → MatchResult r (λ _. Accepts s1 o1 s2 o2 []) (λ f. FailsPartway s1 o1 s2 [] f) → MatchResult r (λ _. o2.waiting ≡ []) (λ _. Unit {0}) → MatchResult r (λ _. WritesAll s0 s2 whole) (WritesFront s0 s2 whole)
-flushed s0 s1 s2 o0 o1 o2 sent whole (Ok x) waits written sends complete more empty = subst (WritesAll s0 s2) complete (Accepts-all s0 s2 o0 o2 (sent ++ []) waits empty (Accepts-more s0 s1 s2 o0 o1 o2 sent [] sends more))
-flushed s0 s1 s2 o0 o1 o2 sent whole (Err f) waits written sends complete stops empty = subst (λ l. WritesFront s0 s2 l f) (sym (append-nil sent) ∙ complete) (stopped_last s0 s1 s2 o0 o1 sent f waits written sends stops)
 
 pub returns : goal.returns
 returns g c =

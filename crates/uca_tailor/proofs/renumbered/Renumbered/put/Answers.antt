@@ -25,7 +25,7 @@ invariant_of-self-2 c =
     let exchanges : HaveCounts c.self.inside.counts view → HaveCounts c.exchange.new.self (with_entry view k.items i.elements.items) = λ have. elim c.if-not-are_none.branch [
       | then-not-are_none+in_ok-push_entry w ↦
           let had : c.deref.result.now ≡ elements_or_none view k.items =
-          c.deref.ensures.value ∙ (λ j. (w.before-is j).items) ∙ w.in_ok-push_entry.ensures ∙ ap (λ xs. xs ++ elements_or_none c.args.self.now c.args.key.now) c.new-before.ensures.items
+          c.deref.ensures.value ∙ (λ j. (w.before-is j).items) ∙ w.in_ok-push_entry.ensures.elements ∙ ap (λ xs. xs ++ elements_or_none c.args.self.now c.args.key.now) c.new-before.ensures.items
           ∙ ap₂ elements_or_none (sym c.self.view_is) (sym key) in
           subst (λ xs. HaveCounts c.exchange.new.self (with_entry view k.items xs)) (sym es) (c.exchange.ensures.some view k.items had have)
       | else-not-are_none w ↦ HaveCounts-none c.exchange.new.self (with_entry view k.items i.elements.items) (c.exchange.ensures.none (c.are_none.ensures w.if-not-are_none.false))
