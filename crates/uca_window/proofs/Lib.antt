@@ -10,3 +10,4 @@ pub mod PassedCharacters
 pub mod PassedRuns
 pub mod PassedBytes
 pub mod PassedLanes
+pub mod SkippedRuns

@@ -20,14 +20,14 @@ longest-over : (n : ℕ) (xs : List ℕ) → first_passed xs ≡ true → longes
 longest-over n [] h = cc
 longest-over n (x ∷ xs) h = rw (passed-starter x h) (omega arith)
 
-longest-short : (n : ℕ) (xs : List ℕ) → longest_run_after n xs ≤ n + length xs
+pub longest-short : (n : ℕ) (xs : List ℕ) → longest_run_after n xs ≤ n + length xs
 longest-short n [] = omega arith
 longest-short n (x ∷ xs) = elim (cases_Bool (is_nonstarter x)) [
   | inl mark ↦ rw mark (let h : longest_run_after (n + 1) xs ≤ n + 1 + length xs = longest-short (n + 1) xs in omega arith)
   | inr starter ↦ rw starter (let h : longest_run_after 0 xs ≤ 0 + length xs = longest-short 0 xs in omega arith)
 ]
 
-run-longest : (n : ℕ) (xs : List ℕ) → run_after n xs ≤ longest_run_after n xs
+pub run-longest : (n : ℕ) (xs : List ℕ) → run_after n xs ≤ longest_run_after n xs
 run-longest n [] = omega arith
 run-longest n (x ∷ xs) = elim (cases_Bool (is_nonstarter x)) [
   | inl mark ↦ rw mark (run-longest (n + 1) xs)

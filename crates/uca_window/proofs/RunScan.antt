@@ -32,7 +32,7 @@ runs_with : (front : List ℕ) (count c : ℕ) → Scanned front count → longe
 runs_with front count c s = runs-push front c ∙ ap (λ k. max (longest_run (nfd front)) (longest_run_after k (decompose_canonical c))) (sym s.ends)
 
 -- a character that fits is scanned too
-scanned_more : (front : List ℕ) (count c n : ℕ) → Scanned front count → Fits count c → n ≤ MAX_RUN → n ≡ run_after count (decompose_canonical c) → Scanned (front ++ c ∷ []) n
+pub scanned_more : (front : List ℕ) (count c n : ℕ) → Scanned front count → Fits count c → n ≤ MAX_RUN → n ≡ run_after count (decompose_canonical c) → Scanned (front ++ c ∷ []) n
 scanned_more front count c n s fits within is = record {
   ends = is ∙ ap (λ k. run_after k (decompose_canonical c)) s.ends ∙ sym (ends-append 0 (flat_map decompose_canonical front) (decompose_canonical c)) ∙ ap (run_after 0) (sym (parts-push front c));
   within = within;
@@ -85,17 +85,17 @@ pub scanned_start : (text : List ℕ) (count : ℕ) → count ≡ 0 → ScannedT
 scanned_start text count none = record { front = []; stands = refl; scan = subst (Scanned []) (sym none) scanned_none }
 
 -- one more character that is passed
-scanned_one : (front : List ℕ) (last run c : ℕ) → Scanned front (ending last run) → is_passed c ≡ true → Scanned (front ++ c ∷ []) (ending c run)
-scanned_one front last run c s passed =
+pub scanned_one : (front : List ℕ) (count run c : ℕ) → Scanned front count → is_passed c ≡ true → Scanned (front ++ c ∷ []) (ending c run)
+scanned_one front count run c s passed =
     let is : ending c run ≡ run_after 0 (decompose_canonical c) = ending-passed c run passed in
-    scanned_more front (ending last run) c (ending c run) s (passed_fits (ending last run) c s.within passed) (subst (λ n. n ≤ MAX_RUN) (sym is) (own_run_within c)) (is ∙ sym (passed_ends (ending last run) c passed))
+    scanned_more front count c (ending c run) s (passed_fits count c s.within passed) (subst (λ n. n ≤ MAX_RUN) (sym is) (own_run_within c)) (is ∙ sym (passed_ends count c passed))
 
 -- and more of them
 scanned_all : (front : List ℕ) (last run : ℕ) (cs : List ℕ) → Scanned front (ending last run) → list_all is_passed cs ≡ true → Scanned (front ++ cs) (ending (last_of last cs) run)
 scanned_all front last run [] s all = subst (λ xs. Scanned xs (ending last run)) (sym (append-nil front)) s
 scanned_all front last run (c ∷ cs) s all =
     let parts = and_parts (is_passed c) (list_all is_passed cs) all in
-    subst (λ xs. Scanned xs (ending (last_of c cs) run)) (append_assoc front (c ∷ []) cs) (scanned_all (front ++ c ∷ []) c run cs (scanned_one front last run c s parts.0) parts.1)
+    subst (λ xs. Scanned xs (ending (last_of c cs) run)) (append_assoc front (c ∷ []) cs) (scanned_all (front ++ c ∷ []) c run cs (scanned_one front (ending last run) run c s parts.0) parts.1)
 
 -- past characters that are passed
 pub scanned_pass : (text rest others : List ℕ) (last end run : ℕ) → ScannedTo text rest (ending last run) → Passes rest last others end → ScannedTo text others (ending end run)

@@ -4,7 +4,7 @@ ghost use Rattle.uca_model.specs.SafeText.{IsSafe, IsLongRunAt, longest_run_afte
 ghost use Rattle.uca_window.specs.Passing.{ending};
 ghost use Rattle.uca_window.specs.Scan.{run_after, Fits};
 
-use crate::passing::{is_passed, pass};
+use crate::passing::{STRIDE, is_passed, pass, skip};
 use thiserror::Error;
 use uca_weights::{MAX_DECOMPOSITION, MAX_RUN};
 use unicode_normalization::Form;
@@ -58,7 +58,8 @@ impl<'t> Passage<'t> {
 
 /// Goes over the characters to the first with which the text is no longer safe. The NFD has its nonstarters in
 /// another order, but their runs are as long as those of the decompositions, so nothing is put in order. Most characters
-/// are passed: the nonstarters after one of these are counted from the last alone.
+/// are passed: the nonstarters after one of these are counted from the last alone, and between two that stand close together
+/// nothing is counted.
 fn scan(text: &str) -> Result<(), LongRun>
     ensures safe { IsOk result ↔ IsSafe (chars text.now) }
     ensures long { IfErr result (λ e. IsLongRunAt (chars text.now) e.at) }
@@ -67,11 +68,19 @@ fn scan(text: &str) -> Result<(), LongRun>
     let mut last = '\0';
     let mut run = 0;
     loop {
+        if rest.len() <= STRIDE && is_passed(last) {
+            return Ok(());
+        }
         let (others, end) = pass(rest, last);
         let mut characters = others.chars();
         let Some(c) = characters.next() else {
             return Ok(());
         };
+        if let Some((more, passed)) = skip(others, end) {
+            rest = more;
+            last = passed;
+            continue;
+        }
         match run_with(end, run, c) {
             Some(n) => run = n,
             None => {

@@ -1,13 +1,18 @@
 //! Characters that a scan passes without a look at their decompositions.
-ghost use Rattle.std.specs.Prelude.{◌≡◌, ◌+◌, ◌≤◌, ◌<◌, ℕ, false, true, not, length, map, slice_index};
+ghost use Rattle.std.specs.Prelude.{◌≡◌, ◌+◌, ◌≤◌, ◌<◌, ℕ, false, true, not, length, map, slice_index, IfSome};
 ghost use Rattle.std.specs.List.{prefix_len};
 ghost use Rattle.std.specs.Simd.Lanes.{chunk, mask_l};
-ghost use Rattle.uca_window.specs.Passing.{is_passed, is_passed_outside, is_passed_between, is_stop, Passes};
+ghost use Rattle.uca_window.specs.Passing.{is_passed, is_passed_outside, is_passed_between, is_stop, Passes, Skips};
 
 use std::simd::prelude::*;
+use uca_weights::{MAX_DECOMPOSITION, MAX_RUN};
 
 /// How many bytes are looked at together.
 const LANES: usize = 32;
+
+/// How many bytes may stand after a passed character, whatever they spell: the NFD of that character ends in fewer than
+/// `MAX_DECOMPOSITION` nonstarters, and each byte brings at most two more.
+pub(crate) const STRIDE: usize = (MAX_RUN - MAX_DECOMPOSITION) / 2;
 
 /// Whether a character before Hebrew or after Lao is of a range in which each NFD begins with a starter: Latin, Greek and
 /// Cyrillic letters, Han, kana, Hangul, punctuation and symbols.
@@ -137,4 +142,26 @@ pub(crate) fn pass<'t>(text: &'t str, last: char) -> (&'t str, char)
         Some(end) => (others, end),
         None => (others, last),
     }
+}
+
+/// What is left of a text after a passed character that begins at most `STRIDE` bytes after `last`, and that character: the
+/// furthest of these. `None` where there is none, or `last` is not passed itself.
+pub(crate) fn skip<'t>(text: &'t str, last: char) -> Option<(&'t str, char)>
+    ensures { IfSome result (λ r. Skips text.now last r.0.now r.1) }
+{
+    if !is_passed(last) {
+        return None;
+    }
+    for at in (0..text.len().min(STRIDE + 1)).rev() {
+        if text.is_char_boundary(at) {
+            let mut characters = text.split_at(at).1.chars();
+            let next = characters.next();
+            if let Some(c) = next {
+                if is_passed(c) {
+                    return Some((characters.as_str(), c));
+                }
+            }
+        }
+    }
+    None
 }

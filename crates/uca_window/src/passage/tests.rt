@@ -125,3 +125,31 @@ fn shows_the_text_and_the_fault(rt: HostRuntime) {
         assert_eq!(rt; name.as_str(), "LongRun");
     }
 }
+
+#[test]
+fn runs_stand_among_letters_that_are_skipped(rt: HostRuntime) -> Result<(), Fail> {
+    // Thai letters of three bytes, and a vowel sign that is a nonstarter: as many letters before and after the run as bring the
+    // places that a skip looks at to the run's start, its inside and its end.
+    let (letter, sign) = ("\u{E01}", "\u{E38}");
+    for before in 0..12 {
+        for after in [0, 1, 8, 9, 10, 11] {
+            for (times, want) in [
+                (9, None),
+                (10, None),
+                (60, None),
+                (61, Some(3 * (before + 60))),
+            ] {
+                let text = join(
+                    rt.alloc(),
+                    &[(letter, before), (sign, times), (letter, after)],
+                )?;
+                assert_eq!(rt;
+                    refused_at(&text),
+                    want,
+                    "{before} before {times}, {after} after"
+                );
+            }
+        }
+    }
+    Ok(())
+}
