@@ -52,17 +52,28 @@ four_items (a ∷ b ∷ c ∷ []) d some few = absurd (omega arith)
 four_items (a ∷ b ∷ c ∷ e ∷ []) d some few = refl
 four_items (a ∷ b ∷ c ∷ e ∷ f ∷ es) d some few = absurd (omega arith)
 
+-- the weights of two lists, one after the other
+pub level_weights-both : (level : ℕ) (xs ys : List Element) → level_weights level (weighted NonIgnorable (xs ++ ys)) ≡ level_weights level (weighted NonIgnorable xs) ++ level_weights level (weighted NonIgnorable ys)
+level_weights-both level xs ys =
+    let f : Element → List ℕ = λ e. unchanged e 0 in
+    ap (level_weights level) (weighted-unchanged [] (xs ++ ys) ∙ map-append f xs ys ∙ sym (ap₂ (λ v w. v ++ w) (weighted-unchanged [] xs) (weighted-unchanged [] ys)))
+    ∙ level_weights-append level (weighted NonIgnorable xs) (weighted NonIgnorable ys)
+
 -- four elements whose weights at a level are not zero
-pub level_bytes-four : (level : ℕ) (es : List Element) (d : Element) (w x y z : ℕ) → 1 ≤ level → level ≤ 3 → 4 ≤ length es → length es < 5
+pub level_weights-four : (level : ℕ) (es : List Element) (d : Element) (w x y z : ℕ) → 1 ≤ level → level ≤ 3 → 4 ≤ length es → length es < 5
     → w ≡ weight level (get_or es 0 d) → x ≡ weight level (get_or es 1 d) → y ≡ weight level (get_or es 2 d) → z ≡ weight level (get_or es 3 d)
-    → (w ≡ 0 → ⊥) → (x ≡ 0 → ⊥) → (y ≡ 0 → ⊥) → (z ≡ 0 → ⊥) → flat_map weight_bytes (w ∷ x ∷ y ∷ z ∷ []) ≡ level_bytes (weighted NonIgnorable es) level
-level_bytes-four level es d w x y z first last some few is_w is_x is_y is_z w_some x_some y_some z_some =
+    → (w ≡ 0 → ⊥) → (x ≡ 0 → ⊥) → (y ≡ 0 → ⊥) → (z ≡ 0 → ⊥) → level_weights level (weighted NonIgnorable es) ≡ w ∷ x ∷ y ∷ z ∷ []
+level_weights-four level es d w x y z first last some few is_w is_x is_y is_z w_some x_some y_some z_some =
     let weights : Element → List ℕ = λ e. unchanged e 0 in
     let of : ℕ → List (List ℕ) → List (List ℕ) = λ i rest. weights (get_or es i d) ∷ rest in
-    let all : level_weights level (weighted NonIgnorable es) ≡ w ∷ x ∷ y ∷ z ∷ [] =
     ap (level_weights level) (weighted-unchanged [] es ∙ ap (map weights) (four_items es d some few))
     ∙ kept level (get_or es 0 d) w (of 1 (of 2 (of 3 []))) first last is_w w_some
     ∙ ap (λ l. w ∷ l) (kept level (get_or es 1 d) x (of 2 (of 3 [])) first last is_x x_some
     ∙ ap (λ l. x ∷ l) (kept level (get_or es 2 d) y (of 3 []) first last is_y y_some
-    ∙ ap (λ l. y ∷ l) (kept level (get_or es 3 d) z [] first last is_z z_some))) in
-    ap (flat_map weight_bytes) (sym all)
+    ∙ ap (λ l. y ∷ l) (kept level (get_or es 3 d) z [] first last is_z z_some)))
+
+pub level_bytes-four : (level : ℕ) (es : List Element) (d : Element) (w x y z : ℕ) → 1 ≤ level → level ≤ 3 → 4 ≤ length es → length es < 5
+    → w ≡ weight level (get_or es 0 d) → x ≡ weight level (get_or es 1 d) → y ≡ weight level (get_or es 2 d) → z ≡ weight level (get_or es 3 d)
+    → (w ≡ 0 → ⊥) → (x ≡ 0 → ⊥) → (y ≡ 0 → ⊥) → (z ≡ 0 → ⊥) → flat_map weight_bytes (w ∷ x ∷ y ∷ z ∷ []) ≡ level_bytes (weighted NonIgnorable es) level
+level_bytes-four level es d w x y z first last some few is_w is_x is_y is_z w_some x_some y_some z_some =
+    ap (flat_map weight_bytes) (sym (level_weights-four level es d w x y z first last some few is_w is_x is_y is_z w_some x_some y_some z_some))

@@ -91,6 +91,16 @@ module _ (c n : ℕ) (few : n < 84) (w : ℕ) (ws : List ℕ) where
   at_above : c < w → packed_after c n (w ∷ ws) ≡ (255 - n) ∷ other_bytes w ++ packed_after c 0 ws
   at_above above = cond-false _ _ _ (ne_eqb w c (λ e. absurd (omega arith))) ∙ ap (λ b. b ∷ other_bytes w ++ packed_after c 0 ws) (cond-false _ _ _ (le-ltb w c (omega arith)))
 
+-- four common weights
+pub packed_after-four : (c n : ℕ) (w x y z : ℕ) (ws : List ℕ) → n < 80 → w ≡ c → x ≡ c → y ≡ c → z ≡ c → packed_after c n (w ∷ x ∷ y ∷ z ∷ ws) ≡ packed_after c (n + 4) ws
+packed_after-four c n w x y z ws few is_w is_x is_y is_z =
+    let sum : n + 1 + 1 + 1 + 1 ≡ n + 4 = omega arith in
+    at_common c n (omega arith) w (x ∷ y ∷ z ∷ ws) is_w (λ e. absurd (omega arith))
+    ∙ at_common c (n + 1) (omega arith) x (y ∷ z ∷ ws) is_x (λ e. absurd (omega arith))
+    ∙ at_common c (n + 1 + 1) (omega arith) y (z ∷ ws) is_y (λ e. absurd (omega arith))
+    ∙ at_common c (n + 1 + 1 + 1) (omega arith) z ws is_z (λ e. absurd (omega arith))
+    ∙ ap (λ k. packed_after c k ws) sum
+
 -- below, at or above the common weight
 abbrev Kinds : ℕ → ℕ → Type 0
 Kinds w c = (w < c) ⊎ ((w ≡ c) ⊎ (c < w))

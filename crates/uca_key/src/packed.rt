@@ -3,6 +3,7 @@ ghost use Rattle.std.specs.Prelude.{◌≡◌, ◌≢◌, ◌==◌, ◌<◌, ◌
 ghost use Rattle.std.specs.List.{concat};
 ghost use Rattle.uca_weights.specs.declared.settings.Variable.TheVariants.{NonIgnorable};
 ghost use Rattle.uca_weights.specs.VariableWeighting.{weighted};
+ghost use Rattle.uca_model.specs.LevelWeights.{level_weights};
 ghost use Rattle.uca_key.specs.PackedKey.{common_weight, other_bytes, packed_after, packed_level, packed_levels};
 
 use crate::levels::{push_level, push_separator};
@@ -85,6 +86,44 @@ fn pack_weight(key: &mut Vec<u8>, common: u16, run: u8, weight: u16) -> Result<u
     Ok(0)
 }
 
+// Packs the weights of elements that keep them, at a level 2 or 3, one after the other.
+#[inline(always)]
+fn pack_each(key: &mut Vec<u8>, run: u8, elements: &[Element], level: u8) -> Result<u8, AllocError>
+    requires few { run < 84 }
+    requires first { 2 ≤ level }
+    requires last { level ≤ 3 }
+    ensures few { IfOk result (λ n. n < 84) }
+    ensures packed { IfOk result (λ n. (ws : List ℕ) → key.new.items ++ packed_after (common_weight level) n ws ≡ key.old.items ++ packed_after (common_weight level) run (level_weights level (weighted NonIgnorable elements.now) ++ ws)) }
+{
+    let common = common_weight(level);
+    let mut counted = run;
+    for element in elements {
+        counted = pack_weight(key, common, counted, element.weight(level))?;
+    }
+    Ok(counted)
+}
+
+// The same of four elements at most. Four common weights, as most are, are counted together.
+#[inline(always)]
+fn pack_few(key: &mut Vec<u8>, run: u8, elements: &[Element], level: u8) -> Result<u8, AllocError>
+    requires few { run < 84 }
+    requires first { 2 ≤ level }
+    requires last { level ≤ 3 }
+    ensures few { IfOk result (λ n. n < 84) }
+    ensures packed { IfOk result (λ n. (ws : List ℕ) → key.new.items ++ packed_after (common_weight level) n ws ≡ key.old.items ++ packed_after (common_weight level) run (level_weights level (weighted NonIgnorable elements.now) ++ ws)) }
+{
+    let common = common_weight(level);
+    if let [a, b, c, d] = elements {
+        let (first, second) = (a.weight(level), b.weight(level));
+        let (third, fourth) = (c.weight(level), d.weight(level));
+        let are_common = first == common && second == common && third == common && fourth == common;
+        if are_common && run < FULL_RUN - 4 {
+            return Ok(run + 4);
+        }
+    }
+    pack_each(key, run, elements, level)
+}
+
 // Appends the bytes of one level, 2 or 3, of elements that keep their weights. It is a loop of its own, since most texts come
 // this way.
 #[inline(always)]
@@ -97,12 +136,15 @@ fn push_packed_unchanged(
     requires last { level ≤ 3 }
     ensures { OnOk result (key.new.items ≡ key.old.items ++ packed_level (weighted NonIgnorable elements.now) level) }
 {
-    let common = common_weight(level);
     let mut run = 0;
-    for element in elements {
-        run = pack_weight(key, common, run, element.weight(level))?;
+    let mut left = elements;
+    while left.len() >= 4 {
+        let (four, rest) = left.split_at(4);
+        run = pack_few(key, run, four, level)?;
+        left = rest;
     }
-    push_end(key, run)
+    let end = pack_each(key, run, left, level)?;
+    push_end(key, end)
 }
 
 // Appends the bytes of one level, from 2 to 4, of elements by their variable weighting.
