@@ -129,10 +129,13 @@ fn passed_len(bytes: &[u8]) -> usize
 }
 
 /// What is left of a text after characters at its front that are all passed, and the last of these; `last` where there is
-/// none.
+/// none. A text of less than two blocks is left whole: two looks of [`skip`] cost less than its blocks and single bytes.
 pub(crate) fn pass<'t>(text: &'t str, last: char) -> (&'t str, char)
     ensures { Passes text.now last result.0.now result.1 }
 {
+    if text.len() < 2 * LANES {
+        return (text, last);
+    }
     let passed = passed_len(text.as_bytes());
     if passed == 0 {
         return (text, last);
