@@ -10,7 +10,7 @@ use uca_table::Table;
 use uca_weights::{Element, Variable, Weigher};
 use uca_window::{Passage, PassageSource};
 
-/// The weights of a text that are not zero, at each of the levels 1 to 4 (UTS #10, section 7.3, step S3), in room that serves
+/// The weights of a text that are not zero, at each of the levels 1 to 4 (UTS #10, section 7.3, step S3), in room that is used for
 /// one text after the other. It takes no memory. Of a text with more than [`KEPT_WEIGHTS`](crate::KEPT_WEIGHTS) at a level they are not known.
 #[derive(Drop)]
 pub struct LevelLists {

@@ -2,8 +2,9 @@
 //!
 //! [`Weights`] gives the weights of one level one by one, and [`Points`] the code points of the fifth. [`compare`] and [`compare_sources`] return the order of two
 //! sort keys without making them. For [`compare_sources`] each text is read once for each level up to the first one that decides,
-//! and at later levels only from the safe cut of the two texts on. [`compare`] has both texts in memory: it passes over the bytes
-//! that they begin with, and takes the elements of characters that stand alone without a window. Nothing here takes memory.
+//! and at later levels only from the safe cut of the two texts on. [`compare`] has both texts in memory: at the first level it passes
+//! over the bytes that both have, and takes the elements of characters that stand alone without a window. [`LevelLists`] keeps the
+//! weights of a text for several comparisons by [`order_of_lists`]. Nothing here takes memory.
 #![tactic(auto)]
 
 mod common_pass;
