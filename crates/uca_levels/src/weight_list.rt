@@ -46,13 +46,13 @@ impl WeightList {
     pub(crate) fn push(&mut self, weight: u16) -> bool
         ensures { IsTrue result → self.new ≡ self.old ++ filter (λ w. not (w == 0)) (weight ∷ []) }
     {
+        if weight == 0 {
+            return true;
+        }
         if self.len == KEPT_WEIGHTS {
             return false;
         }
         self.weights[self.len] = weight;
-        if weight == 0 {
-            return true;
-        }
         self.len += 1;
         true
     }
