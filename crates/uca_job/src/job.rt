@@ -1,10 +1,10 @@
 //! The words of the command line, and the job that they ask for.
 ghost use Rattle.std.specs.Prelude.{◌≡◌, ◌≢◌, ◌⊎◌, IfErr, IfOk, IsSome, IsSomeAnd, MatchResult, codes, false, map, option_map, string_bytes};
 ghost use Rattle.clap.specs.declared.builder.command.Command.TheViews.{out-Command};
-ghost use Rattle.clap.specs.Words.{app_of, first_of, found_of, kind_of, rows_of, rule_of, subcommand_rows_of};
+ghost use Rattle.clap.specs.Words.{app_of, first_of, found_of, kind_of, rows_of, rule_of, subcommand_rows_of, with_subcommand};
 ghost use Rattle.uca_job.specs.declared.job.JobFault.TheVariants.{OutOfMemory};
 ghost use Rattle.uca_job.specs.CommandLine.{IsJobFrom, IsJobOf, IsRefused, IsUsage, IsWithoutRange, LacksRange};
-ghost use Rattle.uca_job.specs.CommandLine.{command_with, ideographs_option, key_command, range_spelled, raw_flag, raw_in, rules_option, strength_option, table_option, uca_with, variable_option, with_line_commands, with_settings};
+ghost use Rattle.uca_job.specs.CommandLine.{bare_program, command_with, ideographs_option, key_command, range_spelled, raw_flag, raw_in, rules_option, strength_option, table_option, uca_with, variable_option, with_line_commands, with_settings};
 ghost use Rattle.uca_job.specs.CommandLine.{strength_in, strength_named, task_named, weighting_in, weighting_named};
 
 use clap::error::ErrorKind;
@@ -106,34 +106,34 @@ fn uca_command<'a>(
     ensures { IfOk result (λ c. app_of c
         ≡ uca_with (record { strengths = strengths.entry; weightings = weightings.entry })) }
 {
-    let check = command(
+    let program = line_commands(alloc, strengths, weightings)?;
+    let program = with_command(
         alloc,
+        program,
         "check",
         "Reads a CollationTest file as its input, and writes how many lines it has and which one fails first",
         strengths,
         weightings,
     )?;
-    let lint = command(
+    let program = with_command(
         alloc,
+        program,
         "lint",
         "Writes which conditions of well-formedness the table breaks; reads no input",
         strengths,
         weightings,
     )?;
-    let table = command(
+    with_command(
         alloc,
+        program,
         "table",
         "Writes the collation element table as text; reads no input",
         strengths,
         weightings,
-    )?;
-    line_commands(alloc, strengths, weightings)?
-        .subcommand(check)?
-        .subcommand(lint)?
-        .subcommand(table)
+    )
 }
 
-// The program with its commands that read lines. The words come without its name, so usage lines are given it.
+// The program with its commands that read lines.
 fn line_commands<'a>(
     alloc: Global,
     strengths: &'a [&'a str],
@@ -142,39 +142,74 @@ fn line_commands<'a>(
     ensures { IfOk result (λ c. app_of c
         ≡ with_line_commands (record { strengths = strengths.entry; weightings = weightings.entry })) }
 {
-    let elements = command(
+    let program = bare_program(alloc)?;
+    let program = with_command(
         alloc,
+        program,
         "elements",
         "Writes the collation elements of each line of the input",
         strengths,
         weightings,
     )?;
-    let key = key_command(alloc, strengths, weightings)?;
-    let compare = command(
+    let program = with_key_command(alloc, program, strengths, weightings)?;
+    let program = with_command(
         alloc,
+        program,
         "compare",
         "Writes the order of each line of the input against the line before it",
         strengths,
         weightings,
     )?;
-    let order = command(
+    with_command(
         alloc,
+        program,
         "order",
         "Writes the lines of the input in the order of their sort keys",
         strengths,
         weightings,
-    )?;
-    Command::new(alloc, "uca")
+    )
+}
+
+// The program without its commands. The words come without its name, so usage lines are given it.
+fn bare_program<'a>(alloc: Global) -> Result<Command<'a>, AllocError>
+    ensures { IfOk result (λ c. app_of c ≡ bare_program) }
+{
+    let named = Command::new(alloc, "uca")
         .about(
             "Sorts and compares lines of text by the Unicode Collation Algorithm: reads standard input, and writes to standard output",
         )
-        .bin_name("uca")?
-        .no_binary_name(true)
-        .subcommand_required(true)
-        .subcommand(elements)?
-        .subcommand(key)?
-        .subcommand(compare)?
-        .subcommand(order)
+        .bin_name("uca")?;
+    Ok(named.no_binary_name(true).subcommand_required(true))
+}
+
+// A program with one more command.
+fn with_command<'a>(
+    alloc: Global,
+    program: Command<'a>,
+    name: &'a str,
+    about: &'a str,
+    strengths: &'a [&'a str],
+    weightings: &'a [&'a str],
+) -> Result<Command<'a>, AllocError>
+    ensures { IfOk result (λ c. app_of c
+        ≡ with_subcommand (app_of program.entry) (command_with (record { strengths = strengths.entry; weightings = weightings.entry }) name.entry.now).top) }
+{
+    let added = command(alloc, name, about, strengths, weightings)?;
+    program.subcommand(added)
+}
+
+// A program with the command `key`.
+fn with_key_command<'a>(
+    alloc: Global,
+    program: Command<'a>,
+    strengths: &'a [&'a str],
+    weightings: &'a [&'a str],
+) -> Result<Command<'a>, AllocError>
+    ensures { IfOk result (λ c. app_of c
+        ≡ with_subcommand (app_of program.entry) (key_command (record { strengths = strengths.entry; weightings = weightings.entry })).top) }
+{
+    let added = key_command(alloc, strengths, weightings)?;
+    program.subcommand(added)
 }
 
 // A command. Each takes all options, also those without meaning for it.
