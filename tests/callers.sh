@@ -149,9 +149,9 @@ in_postgresql() {
     local pg=$work/pg release=$1 bin data
     bin=$pg/usr/lib/postgresql/$release/bin
     data=$work/pgdata
-    mkdir -p "$pg/usr/lib/postgresql" "$pg/usr/share/postgresql" "$data"
+    mkdir -p "$pg/usr/lib/postgresql" "$pg/usr/share/postgresql" "$data" "$work/extension"
     cp -r "/usr/lib/postgresql/$release" "$pg/usr/lib/postgresql/" && cp -rL "/usr/share/postgresql/$release" "$pg/usr/share/postgresql/" 2>/dev/null
-    cp -r bindings/postgresql "$work/extension"
+    cp bindings/postgresql/{Makefile,uca.control,uca--1.0.sql,uca_pg.c} "$work/extension/" # and nothing that was built before
     make -s -C "$work/extension" install UCA="$usr" DESTDIR="$pg" PG_CONFIG="$(command -v pg_config || echo "$work/dev/usr/bin/pg_config")" \
         COPT="-I$server -Wall -Werror" with_llvm=no >"$work/log" 2>&1 || { cat "$work/log"; return 1; }
     chmod -R a+rX "$pg" && chmod 644 "$work/lines" "$work/ordered"
