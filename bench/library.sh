@@ -36,5 +36,5 @@ echo '#include <sqlite3ext.h>' | cc -E - >/dev/null 2>&1 || exit 0
 cc -O2 -shared -fPIC -Iinclude -o "$work/uca_sqlite.so" bindings/sqlite/uca_sqlite.c "$work/c/libuca.a"
 cc -std=gnu11 -Wall -Wextra -O2 -o "$work/sqlite" bench/sqlite.c -lsqlite3 -licui18n -licuuc
 echo "SQLite"
-"$work/sqlite" "$published" "$work/rows" "$work/uca_sqlite.so" 3
+"$work/sqlite" "$published" "$work/rows" "$work/uca_sqlite.so" 6
 echo "load $(cut -d' ' -f1-3 /proc/loadavg)"
