@@ -1,7 +1,8 @@
 #!/usr/bin/env bash
 # The C library beside ICU's C API, in one run, over lines of one to four words of Debian's lists, which it brings without installing
-# them: nanoseconds of a call, of all scripts and of Latin ones. Then SQLite's index and order by uca_key and by uca_packed_key
-# beside those by ICU's keys, over 1,000,000 lines of all scripts, where Debian's libsqlite3-dev is there. It needs Debian's libicu-dev. It is no test.
+# them: nanoseconds of a call, of all scripts and of Latin ones. Then SQLite's index and order by uca_key (packed keys) and by
+# uca_sort_key beside those by ICU's keys, over 1,000,000 lines of all scripts, where Debian's libsqlite3-dev is there. It needs
+# Debian's libicu-dev. It is no test.
 uca=none # the program is not measured here
 source "$(dirname "${BASH_SOURCE[0]}")/shared.bash"
 source tests/debian.bash
@@ -35,5 +36,5 @@ echo '#include <sqlite3ext.h>' | cc -E - >/dev/null 2>&1 || exit 0
 cc -O2 -shared -fPIC -Iinclude -o "$work/uca_sqlite.so" bindings/sqlite/uca_sqlite.c "$work/c/libuca.a"
 cc -std=gnu11 -Wall -Wextra -O2 -o "$work/sqlite" bench/sqlite.c -lsqlite3 -licui18n -licuuc
 echo "SQLite"
-"$work/sqlite" "$published" "$work/rows" "$work/uca_sqlite.so" 2
+"$work/sqlite" "$published" "$work/rows" "$work/uca_sqlite.so" 6
 echo "load $(cut -d' ' -f1-3 /proc/loadavg)"

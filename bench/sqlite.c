@@ -1,4 +1,4 @@
-// SQLite over rows of a file: an index and an order by uca_key and by uca_packed_key beside the same by ICU's keys:
+// SQLite over rows of a file: an index and an order by uca_key (packed keys) and by uca_sort_key beside the same by ICU's keys:
 // sqlite TABLE LINES EXTENSION [ROUNDS]
 // Each figure is the processor time of the fastest of some rounds, which are interleaved. What the keys themselves take is what
 // the same blobs do not take where a function of a row's number has them ready.
@@ -23,7 +23,7 @@ struct blobs {
     size_t count;
 };
 
-/* Sort keys, packed ones, and ICU's. */
+/* Packed keys, sort keys, and ICU's. */
 enum { KINDS = 3, ICU = KINDS - 1 };
 
 static struct blobs ready_keys[KINDS];
@@ -116,9 +116,9 @@ static double mean_size(const struct blobs *keys) {
 #define SORTED "SELECT count(*) FROM (SELECT t FROM w ORDER BY %s LIMIT -1 OFFSET 1)"
 
 int main(int count, char **words) {
-    static const char *const names[2 * KINDS] = {"uca_key(t)", "uca_packed_key(t)", "icu_key(t)", "ready_key(n)", "ready_packed_key(n)", "ready_icu_key(n)"};
-    static const char *const ready[KINDS] = {"ready_key", "ready_packed_key", "ready_icu_key"};
-    static const char *const kinds[KINDS] = {"sort keys", "packed keys", "ICU's keys"};
+    static const char *const names[2 * KINDS] = {"uca_key(t)", "uca_sort_key(t)", "icu_key(t)", "ready_key(n)", "ready_sort_key(n)", "ready_icu_key(n)"};
+    static const char *const ready[KINDS] = {"ready_key", "ready_sort_key", "ready_icu_key"};
+    static const char *const kinds[KINDS] = {"packed keys", "sort keys", "ICU's keys"};
     static const char *const what[] = {"CREATE INDEX i ON w (%s)", SORTED, "DROP INDEX i", SORTED};
     static const char *const titles[] = {"an index is built", "ORDER BY with it", NULL, "ORDER BY without it"};
     int rounds = count > 4 ? atoi(words[4]) : 3;

@@ -106,13 +106,13 @@ in_sqlite() {
     sqlite3 -cmd ".load $folder/uca_sqlite sqlite3_ucasqlite_init" "$folder/db" <"$folder/test.sql" >"$folder/out" 2>"$folder/errors"
     is "SQLite: by collation" "" "$(cmp "$folder/by_collation" "$work/ordered" 2>&1)"
     is "SQLite: by key" "" "$(cmp "$folder/by_key" "$work/ordered" 2>&1)"
-    is "SQLite: by packed key" "" "$(cmp "$folder/by_packed_key" "$work/ordered" 2>&1)"
+    is "SQLite: by sort key" "" "$(cmp "$folder/by_sort_key" "$work/ordered" 2>&1)"
     is "SQLite: indexes are used, and are well" \
-        "50000|SCAN w USING COVERING INDEX by_collation|SCAN w USING INDEX by_key|SEARCH w USING COVERING INDEX by_collation (t>? AND t<?)|SEARCH w USING INDEX by_key (<expr>>? AND <expr><?)|1|lomo luna llano mano|SEARCH w USING INDEX by_key (<expr>>? AND <expr><?)|lo Lómo||1|1|2000|1|SCAN w USING INDEX by_packed_key|SEARCH w USING INDEX by_packed_key (<expr>>? AND <expr><?)|1|1|2026|1FA21FBC00000505|$digest|ok" \
+        "50000|SCAN w USING COVERING INDEX by_collation|SCAN w USING INDEX by_key|SEARCH w USING COVERING INDEX by_collation (t>? AND t<?)|SEARCH w USING INDEX by_key (<expr>>? AND <expr><?)|1|lomo luna llano mano|SEARCH w USING INDEX by_key (<expr>>? AND <expr><?)|lo Lómo||1|1|2000|1|SCAN w USING INDEX by_sort_key|SEARCH w USING INDEX by_sort_key (<expr>>? AND <expr><?)|1|1|2026|1FA21FBC00000505|1FA21FBC000000200020000000020002|$digest|ok" \
         "$(grep -v '^QUERY PLAN' "$folder/answers" | sed 's/^`--//' | sed -n '1,16p' | paste -sd'|')"
     is "SQLite: a null, and a long key" "|6004" "$(tail -1 "$folder/answers")"
     is "SQLite: faults" \
-        "uca_key: not UTF-8, kind 0, at 1|uca_packed_key: not UTF-8, kind 0, at 1|uca: no collation of this name: call uca_load first|uca_load: there is a collation of this name|uca_load: a file could not be read|uca_load: bad table, kind 3, at 1|uca_load: bad settings, kind 0, at 0" \
+        "uca_key: not UTF-8, kind 0, at 1|uca_sort_key: not UTF-8, kind 0, at 1|uca: no collation of this name: call uca_load first|uca_load: there is a collation of this name|uca_load: a file could not be read|uca_load: bad table, kind 3, at 1|uca_load: bad settings, kind 0, at 0" \
         "$(sed 's/^.*near line [0-9]*: //' "$folder/errors" | paste -sd'|')"
 }
 if command -v sqlite3 >/dev/null && echo '#include <sqlite3ext.h>' | cc -E - >/dev/null 2>&1; then
@@ -149,9 +149,9 @@ in_postgresql() {
     local pg=$work/pg release=$1 bin data
     bin=$pg/usr/lib/postgresql/$release/bin
     data=$work/pgdata
-    mkdir -p "$pg/usr/lib/postgresql" "$pg/usr/share/postgresql" "$data"
+    mkdir -p "$pg/usr/lib/postgresql" "$pg/usr/share/postgresql" "$data" "$work/extension"
     cp -r "/usr/lib/postgresql/$release" "$pg/usr/lib/postgresql/" && cp -rL "/usr/share/postgresql/$release" "$pg/usr/share/postgresql/" 2>/dev/null
-    cp -r bindings/postgresql "$work/extension"
+    cp bindings/postgresql/{Makefile,uca.control,uca--1.0.sql,uca_pg.c} "$work/extension/" # and nothing that was built before
     make -s -C "$work/extension" install UCA="$usr" DESTDIR="$pg" PG_CONFIG="$(command -v pg_config || echo "$work/dev/usr/bin/pg_config")" \
         COPT="-I$server -Wall -Werror" with_llvm=no >"$work/log" 2>&1 || { cat "$work/log"; return 1; }
     chmod -R a+rX "$pg" && chmod 644 "$work/lines" "$work/ordered"
@@ -176,13 +176,13 @@ in_postgresql() {
     stop_server
     wait
     is "PostgreSQL: by key" "" "$(cmp "$work/by_key.csv" "$work/ordered.csv" 2>&1)"
-    is "PostgreSQL: by packed key" "" "$(cmp "$work/by_packed_key.csv" "$work/ordered.csv" 2>&1)"
+    is "PostgreSQL: by sort key" "" "$(cmp "$work/by_sort_key.csv" "$work/ordered.csv" 2>&1)"
     is "PostgreSQL: by operator class" "" "$(cmp "$work/by_text.csv" "$work/ordered.csv" 2>&1)"
     is "PostgreSQL: indexes are used" \
-        "50000|Index Scan using by_key on w|Index Scan using by_packed_key on w|Index Only Scan using by_text on w|Index Scan using by_key on w|  Index Cond: ((uca_key(t) >= '\x20d60000002000000002'::bytea) AND (uca_key(t) <= '\x21090000002000000002'::bytea))|Index Only Scan using by_text on w|  Index Cond: ((t >=~ 'l'::text) AND (t <=~ 'm'::text))|Index Scan using by_key on w|  Index Cond: ((uca_key(t) >= '\x20d6213c'::bytea) AND (uca_key(t) < '\x20d6213d'::bytea))|t|t|-1|1|0|t|t|0|lo Lómo|$digest" \
+        "50000|Index Scan using by_key on w|Index Scan using by_sort_key on w|Index Only Scan using by_text on w|Index Scan using by_key on w|  Index Cond: ((uca_key(t) >= '\x20d600000303'::bytea) AND (uca_key(t) <= '\x210900000303'::bytea))|Index Only Scan using by_text on w|  Index Cond: ((t >=~ 'l'::text) AND (t <=~ 'm'::text))|Index Scan using by_key on w|  Index Cond: ((uca_key(t) >= '\x20d6213c'::bytea) AND (uca_key(t) < '\x20d6213d'::bytea))|Index Scan using by_sort_key on w|  Index Cond: ((uca_sort_key(t) >= '\x20d6213c'::bytea) AND (uca_sort_key(t) < '\x20d6213d'::bytea))|t|t|-1|1|0|t|\x20d6213c2109213c00000909|\x20d6213c2109213c0000002000200020002000000002000200020002|t|t|0|lo Lómo|$digest" \
         "$(paste -sd'|' "$work/pgout")"
     is "PostgreSQL: faults" \
-        "ERROR:  uca_key: too many nonstarters in a row, kind 0, at 121|ERROR:  uca: the table or the settings are not those that were fixed" \
+        "ERROR:  uca_key: too many nonstarters in a row, kind 0, at 121|ERROR:  uca_sort_key: too many nonstarters in a row, kind 0, at 121|ERROR:  uca: the table or the settings are not those that were fixed" \
         "$(sed 's/^psql:[^ ]* //' "$work/pgerrors" | grep ERROR | paste -sd'|')"
 }
 release=$(ls /usr/lib/postgresql 2>/dev/null | sort -n | tail -1)

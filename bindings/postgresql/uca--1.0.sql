@@ -1,12 +1,13 @@
 \echo Use "CREATE EXTENSION uca" to load this file. \quit
 
--- The sort key of a text, under the table and the settings of uca.table_file, uca.rules_file, uca.strength and uca.variable.
+-- The packed key of a text, for indexes, under the table and the settings of uca.table_file, uca.rules_file, uca.strength and
+-- uca.variable.
 CREATE FUNCTION uca_key(text) RETURNS bytea
-    AS 'MODULE_PATHNAME', 'uca_pg_key' LANGUAGE C IMMUTABLE STRICT PARALLEL SAFE;
-
--- The packed sort key: shorter, and in the same order as the sort keys. The two kinds cannot be compared.
-CREATE FUNCTION uca_packed_key(text) RETURNS bytea
     AS 'MODULE_PATHNAME', 'uca_pg_packed_key' LANGUAGE C IMMUTABLE STRICT PARALLEL SAFE;
+
+-- The sort key of the standard: longer, and in the same order as the packed keys. The two kinds cannot be compared.
+CREATE FUNCTION uca_sort_key(text) RETURNS bytea
+    AS 'MODULE_PATHNAME', 'uca_pg_sort_key' LANGUAGE C IMMUTABLE STRICT PARALLEL SAFE;
 
 -- The ends of the range that the keys of all texts that begin with a text are in: none is before the lower one, and all are before
 -- the upper one. That is null where there is no such end.

@@ -1,5 +1,5 @@
 /*
- * An extension of PostgreSQL that sorts and indexes text by libuca: sort keys as bytea, and an operator class for text.
+ * An extension of PostgreSQL that sorts and indexes text by libuca: keys as bytea, and an operator class for text.
  *
  * The table and the settings are those of the server's settings uca.table_file, uca.rules_file, uca.strength and uca.variable. Only a
  * superuser may set them, since each index depends on them. Where uca_fix() has stored their fingerprint, a session that has
@@ -125,7 +125,7 @@ static void make_ready(void) {
     is_fixed_checked = true;
 }
 
-/* A call that makes a key: uca_sort_key or uca_packed_key. */
+/* A call of the library that makes a key: uca_packed_key for uca_key of SQL, and uca_sort_key for uca_sort_key. */
 typedef uint32_t key_call(uca_collator *, const uca_settings *, const uint8_t *, size_t, uint8_t *, size_t, size_t *, uca_fault *);
 
 static Datum key_by(FunctionCallInfo fcinfo, key_call *makes_key, const char *function, size_t bytes_of_each) {
@@ -149,11 +149,11 @@ static Datum key_by(FunctionCallInfo fcinfo, key_call *makes_key, const char *fu
     PG_RETURN_BYTEA_P(key);
 }
 
-PG_FUNCTION_INFO_V1(uca_pg_key);
-Datum uca_pg_key(PG_FUNCTION_ARGS) { return key_by(fcinfo, uca_sort_key, "uca_key", 8); }
-
 PG_FUNCTION_INFO_V1(uca_pg_packed_key);
-Datum uca_pg_packed_key(PG_FUNCTION_ARGS) { return key_by(fcinfo, uca_packed_key, "uca_packed_key", 4); }
+Datum uca_pg_packed_key(PG_FUNCTION_ARGS) { return key_by(fcinfo, uca_packed_key, "uca_key", 4); }
+
+PG_FUNCTION_INFO_V1(uca_pg_sort_key);
+Datum uca_pg_sort_key(PG_FUNCTION_ARGS) { return key_by(fcinfo, uca_sort_key, "uca_sort_key", 8); }
 
 /* One of the two ends of the keys of all texts that begin with a text; null where there is no upper one. */
 static Datum bound(FunctionCallInfo fcinfo, bool is_upper) {

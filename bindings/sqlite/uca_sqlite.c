@@ -5,17 +5,17 @@
  *     SELECT uca_load('uca', 'allkeys.txt');                           -- or with rules: uca_load(name, table, rules)
  *     SELECT uca_load('es', 'allkeys.txt', 'es.rules', 'tertiary', 'non-ignorable');
  *     SELECT t FROM words ORDER BY t COLLATE uca;
- *     CREATE INDEX by_key ON words(uca_key(t));                        -- a sort key as a blob, by the collation 'uca'
+ *     CREATE INDEX by_key ON words(uca_key(t));                        -- a packed key as a blob, by the collation 'uca'
  *     SELECT t FROM words ORDER BY uca_key(t);
  *     SELECT uca_key(t, 'es') FROM words;                              -- by the collation of this name
- *     CREATE INDEX by_packed_key ON words(uca_packed_key(t));          -- shorter blobs in the same order, for indexes
+ *     SELECT uca_sort_key(t) FROM words;                               -- the sort key of the standard, longer, in the same order
  *     SELECT t FROM words WHERE uca_key(t) >= uca_prefix_lower('l') AND uca_key(t) < uca_prefix_upper('l');
- *                                                                      -- the texts that begin with a text; or by uca_packed_key
+ *                                                                      -- the texts that begin with a text; or by uca_sort_key
  *     SELECT uca_fingerprint('uca');                                   -- store it with an index, and compare before use
  *
  * uca_load has to run on each connection before a statement that needs its collation. A file that it names is read by the
  * process, so it cannot be called from triggers and views. Bytes that are no text come after all texts, by their bytes,
- * since a collation of SQLite cannot fail; uca_key and uca_packed_key report them.
+ * since a collation of SQLite cannot fail; uca_key and uca_sort_key report them.
  */
 #include <sqlite3ext.h>
 SQLITE_EXTENSION_INIT1
@@ -94,7 +94,7 @@ static struct collation *wanted(sqlite3_context *context, int count, sqlite3_val
     return collation;
 }
 
-/* A call that makes a key: uca_sort_key or uca_packed_key. */
+/* A call of the library that makes a key: uca_packed_key for uca_key of SQL, and uca_sort_key for uca_sort_key. */
 typedef uint32_t key_call(uca_collator *, const uca_settings *, const uint8_t *, size_t, uint8_t *, size_t, size_t *, uca_fault *);
 
 static void key_by(key_call *makes_key, const char *function, sqlite3_context *context, int count, sqlite3_value **values) {
@@ -118,11 +118,9 @@ static void key_by(key_call *makes_key, const char *function, sqlite3_context *c
     if (out != room) sqlite3_free(out);
 }
 
-static void key(sqlite3_context *context, int count, sqlite3_value **values) { key_by(uca_sort_key, "uca_key", context, count, values); }
+static void key(sqlite3_context *context, int count, sqlite3_value **values) { key_by(uca_packed_key, "uca_key", context, count, values); }
 
-static void packed_key(sqlite3_context *context, int count, sqlite3_value **values) {
-    key_by(uca_packed_key, "uca_packed_key", context, count, values);
-}
+static void sort_key(sqlite3_context *context, int count, sqlite3_value **values) { key_by(uca_sort_key, "uca_sort_key", context, count, values); }
 
 /* One of the two ends of the keys of all texts that begin with a text; null where there is no upper one. */
 static void bound(sqlite3_context *context, int count, sqlite3_value **values, int is_upper) {
@@ -280,7 +278,7 @@ int sqlite3_ucasqlite_init(sqlite3 *connection, char **error, const sqlite3_api_
     int result = sqlite3_create_function_v2(connection, "uca_load", -1, SQLITE_UTF8 | SQLITE_DIRECTONLY, registry, load, NULL, NULL, let_all_go);
     for (int count = 1; count <= 2; count++) {
         if (result == SQLITE_OK) result = sqlite3_create_function_v2(connection, "uca_key", count, flags, registry, key, NULL, NULL, NULL);
-        if (result == SQLITE_OK) result = sqlite3_create_function_v2(connection, "uca_packed_key", count, flags, registry, packed_key, NULL, NULL, NULL);
+        if (result == SQLITE_OK) result = sqlite3_create_function_v2(connection, "uca_sort_key", count, flags, registry, sort_key, NULL, NULL, NULL);
         if (result == SQLITE_OK) result = sqlite3_create_function_v2(connection, "uca_prefix_lower", count, flags, registry, lower_bound, NULL, NULL, NULL);
         if (result == SQLITE_OK) result = sqlite3_create_function_v2(connection, "uca_prefix_upper", count, flags, registry, upper_bound, NULL, NULL, NULL);
     }
