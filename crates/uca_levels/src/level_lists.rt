@@ -132,7 +132,8 @@ impl LevelLists {
     /// Makes these the weights of a text, if each of its characters but the last stands alone before any text, and returns
     /// whether that was so. Most texts are read here without a look at what follows their characters.
     pub fn read_points(&mut self, t: &Table, v: Variable, points: &[char]) -> bool
-        ensures { AreOf t.now v points.now self.new }
+        ensures of { AreOf t.now v points.now self.new }
+        ensures known { result ≡ self.new.is_whole }
     {
         self.clear();
         self.is_whole = self.push_points(t, v, points);
