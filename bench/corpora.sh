@@ -2,7 +2,8 @@
 # `uca key`, `uca compare` of sorted neighbours and `uca order` beside ICU over one script at a time, in the same run: ratios of the
 # processor's time for a line, without the load, at strength tertiary with non-ignorable variable elements, and those of keys and
 # comparisons at strength quaternary with shifted ones. Then the same for texts that are as bad as they can be, in microseconds a
-# line. Prints tables; it is no test. corpora.sh [BYTES [OLD]]: with the path of another build, its worst texts are measured too.
+# line, and how time and memory grow with the input. Prints tables; it is no test. corpora.sh [BYTES [OLD]]: with the path of another
+# build, its worst texts are measured too.
 source "$(dirname "${BASH_SOURCE[0]}")/shared.bash"
 source tests/debian.bash
 source bench/lists.bash
@@ -107,3 +108,40 @@ for name in "sixty marks" "sixty marks, two classes" contractions U+FDFA "Hangul
     done
     echo "$row"
 done
+
+# Keys of 32 code points, and texts that begin them at each character and never end one.
+perl -e '
+    my @key = ("0061") x 31;
+    print "0061;[.1000.0020.0002]\n0062;[.1001.0020.0002]\n@key 0063;[.1002.0020.0002]\n@key 0064;[.1003.0020.0002]\n"' >"$work/long-keys"
+perl -e 'print "a" x 30, "b", "a" x 30, "$_\n" for 1 .. 5000' >"$work/lines"
+row="| keys of 32 | | |"
+for program in "${programs[1]:-}" "${programs[0]}"; do
+    [ -n "$program" ] || continue
+    for job in key compare; do
+        row+=$(awk -v a="$(each "$work/lines" "$program" "$job" --table "$work/long-keys")" 'BEGIN { printf " %.2f |", a / 1000 }')
+    done
+done
+echo "$row"
+
+# growth BYTES: a row for so many bytes of mixed lines: time and memory of each job with the load, and the ratio to ICU's
+growth() {
+    local job input icu icu_memory ours memory
+    perl bench/corpus.pl "$work/lists" "$1" <<<"$lists" >"$work/lines" 2>/dev/null || refuses "no lines could be made"
+    "$uca" order --table "$published" <"$work/lines" >"$work/sorted" || refuses "uca order could not be run"
+    printf '| %d MB |' $(($1 / 1000000))
+    for job in key compare order; do
+        input=$work/lines
+        [ "$job" = compare ] && input=$work/sorted
+        read -r icu icu_memory <<<"$(measured 3 "$input" "$work/peer" icu "$job")"
+        read -r ours memory <<<"$(measured 3 "$input" "$uca" "$job" --table "$published")"
+        [ -n "$memory" ] || refuses "$job of $1 bytes could not be run"
+        awk -v a="$icu" -v m="$icu_memory" -v b="$ours" -v n="$memory" \
+            'BEGIN { printf " %.3f s, %.0f MiB; %.2f, %.2f |", b, n / 1024, b / a, n / m }'
+    done
+    echo
+}
+
+echo
+echo '| Mixed lines | Key: time and memory; to ICU | Compare | Order |'
+echo '|---|---|---|---|'
+for size in 1000000 4000000 16000000 64000000; do growth "$size"; done

@@ -1,6 +1,6 @@
 #!/usr/bin/env bash
 # The order of neighbours as `uca compare` finds it beside that of their keys by `uca key`, at every setting, under the table
-# that Debian's perl ships and two tailored ones: generated texts with long fronts in common that end where it matters.
+# that Debian's perl ships and three tailored ones: generated texts with long fronts in common that end where it matters.
 # COUNT is how many there are, 10,000 if it is not set.
 source "$(dirname "${BASH_SOURCE[0]}")/checks.bash"
 
@@ -19,7 +19,7 @@ by_keys() {
         $last = $_'
 }
 
-for rules in '' rules/cs.rules rules/da.rules; do
+for rules in '' rules/cs.rules rules/da.rules rules/hu.rules; do
     for variable in non-ignorable blanked shifted; do
         for strength in primary secondary tertiary quaternary identical; do
             settings=(--table "$published" --variable "$variable" --strength "$strength")
