@@ -98,7 +98,7 @@ echo
 echo "| Worst text | Key: ICU, µs a line | Compare: ICU |$([ -z "$before" ] || echo ' Key: before | Compare: before |') Key | Compare |"
 echo "|---|---|---|---|---|$([ -z "$before" ] || echo '---|---|')"
 for name in "sixty marks" "sixty marks, two classes" contractions U+FDFA "Hangul parts" variable ideographs; do
-    worst "$name" 5000 >"$work/lines"
+    worst "$name" 50000 >"$work/lines"
     row="| $name |"
     for job in key compare; do row+=$(awk -v a="$(each "$work/lines" "$work/peer" icu "$job")" 'BEGIN { printf " %.2f |", a / 1000 }'); done
     for ((at = ${#programs[@]} - 1; at >= 0; at--)); do
@@ -113,7 +113,7 @@ done
 perl -e '
     my @key = ("0061") x 31;
     print "0061;[.1000.0020.0002]\n0062;[.1001.0020.0002]\n@key 0063;[.1002.0020.0002]\n@key 0064;[.1003.0020.0002]\n"' >"$work/long-keys"
-perl -e 'print "a" x 30, "b", "a" x 30, "$_\n" for 1 .. 5000' >"$work/lines"
+perl -e 'print "a" x 30, "b", "a" x 30, "$_\n" for 1 .. 50000' >"$work/lines"
 row="| keys of 32 | | |"
 for program in "${programs[1]:-}" "${programs[0]}"; do
     [ -n "$program" ] || continue
