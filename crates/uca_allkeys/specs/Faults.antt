@@ -1,5 +1,5 @@
 -- What the faults say, by the words of the text of a table.
-use Rattle.std.specs.Prelude.{Option, Some, None}
+use Rattle.std.specs.Prelude.{Option, Some, None, Result, IfErr}
 use Rattle.uca_model.specs.TableText.{Cause, line_too_long, bad_directive, bad_code_point, key_too_long, no_semicolon, bad_element, no_element, too_many_elements, repeated, bad_range, too_large, read}
 use Rattle.uca_allkeys.specs.declared.faults.LineFault.{LineFault}
 use Rattle.uca_allkeys.specs.declared.faults.LineFault.TheVariants as line
@@ -36,3 +36,8 @@ read_cause OutOfMemory = None
 abbrev pub IsOfText : ReadCause → Type 0
 IsOfText Read = ⊥
 IsOfText _ = Unit {0}
+
+-- an allocation failure is reported only of what leads on without a fault
+abbrev pub FaultFirst : {A : Type 0} → Result A Cause → ReadCause → Type 0
+FaultFirst to OutOfMemory = IfErr to (λ _. ⊥)
+FaultFirst to _ = Unit {0}

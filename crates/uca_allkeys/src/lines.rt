@@ -2,7 +2,7 @@ ghost use Rattle.std.specs.Prelude.{◌≡◌, ◌<◌, ◌≤◌, length, IfErr
 ghost use Rattle.uca_io.specs.LineReader.{Leads};
 ghost use Rattle.uca_weights.specs.declared.limits.TheConstants.{MAX_KEY, MAX_ELEMENTS};
 ghost use Rattle.uca_model.specs.TableText.{Cause, TextState, add_statement, add_line, no_lines, table_fold, version, entry, range as range_said};
-ghost use Rattle.uca_allkeys.specs.Faults.{read_cause, IsOfText};
+ghost use Rattle.uca_allkeys.specs.Faults.{read_cause, FaultFirst, IsOfText};
 ghost use Rattle.uca_allkeys.specs.Reading.{state_of};
 ghost use Rattle.uca_allkeys.specs.Statements.{entry_in, directive_of, statement_in, IsReady, IsSomeEntry};
 
@@ -37,6 +37,7 @@ pub(crate) fn no_lines(alloc: Global) -> Lines
 /// Adds a version, which may stand once.
 fn add_version(lines: &mut Lines) -> Result<(), ReadCause>
     ensures adds { Leads read_cause (add_statement (state_of lines.old) version) (state_of lines.new) result }
+    ensures first { IfErr result (FaultFirst (add_statement (state_of lines.old) version)) }
     ensures of_text { IfErr result IsOfText }
 {
     if lines.has_version {
@@ -49,6 +50,7 @@ fn add_version(lines: &mut Lines) -> Result<(), ReadCause>
 /// Adds a range of implicit weights.
 fn add_range(lines: &mut Lines, range: Range) -> Result<(), ReadCause>
     ensures adds { Leads read_cause (add_statement (state_of lines.old) (range_said range)) (state_of lines.new) result }
+    ensures first { IfErr result (FaultFirst (add_statement (state_of lines.old) (range_said range))) }
     ensures of_text { IfErr result IsOfText }
 {
     match lines
@@ -65,6 +67,7 @@ fn add_range(lines: &mut Lines, range: Range) -> Result<(), ReadCause>
 fn add_entry(lines: &mut Lines) -> Result<(), ReadCause>
     requires { IsSomeEntry lines.old.entry }
     ensures adds { Leads read_cause (add_statement (state_of lines.old) (entry_in lines.old.entry)) (state_of lines.new) result }
+    ensures first { IfErr result (FaultFirst (add_statement (state_of lines.old) (entry_in lines.old.entry))) }
     ensures of_text { IfErr result IsOfText }
 {
     let (key, elements) = (lines.entry.key.as_slice(), lines.entry.elements.as_slice());
@@ -78,6 +81,7 @@ fn add_entry(lines: &mut Lines) -> Result<(), ReadCause>
 /// Adds what a directive says.
 fn add_directive(lines: &mut Lines, said: Directive) -> Result<(), ReadCause>
     ensures adds { Leads read_cause (add_statement (state_of lines.old) (directive_of said)) (state_of lines.new) result }
+    ensures first { IfErr result (FaultFirst (add_statement (state_of lines.old) (directive_of said))) }
     ensures of_text { IfErr result IsOfText }
 {
     match said {
@@ -90,6 +94,7 @@ fn add_directive(lines: &mut Lines, said: Directive) -> Result<(), ReadCause>
 fn add_statement(lines: &mut Lines, said: Statement) -> Result<(), ReadCause>
     requires { IsReady lines.old.entry said }
     ensures adds { Leads read_cause (add_statement (state_of lines.old) (statement_in lines.old.entry said)) (state_of lines.new) result }
+    ensures first { IfErr result (FaultFirst (add_statement (state_of lines.old) (statement_in lines.old.entry said))) }
     ensures of_text { IfErr result IsOfText }
 {
     match said {
@@ -102,6 +107,7 @@ fn add_statement(lines: &mut Lines, said: Statement) -> Result<(), ReadCause>
 /// Adds a line.
 fn add_line(lines: &mut Lines, line: &[u8]) -> Result<(), ReadCause>
     ensures adds { Leads read_cause (add_line (state_of lines.old) line.now) (state_of lines.new) result }
+    ensures first { IfErr result (FaultFirst (add_line (state_of lines.old) line.now)) }
     ensures of_text { IfErr result IsOfText }
 {
     match read_statement(&mut lines.entry, line) {
