@@ -67,10 +67,10 @@ abbrev pub Widens : Option (ℕ × ℕ) → ElementTable → ElementTable → Ty
 Widens None base t = t ≡ base
 Widens (Some ends) base t = (ideographs_fault base.ideographs (range_between ends) ≡ None) × (t ≡ with_more_ideographs base (range_between ends))
 
--- the range may not be added, or memory for it was refused
+-- the range may not be added, or it may, and memory for it was refused
 abbrev pub RefusesWidening : Option (ℕ × ℕ) → ElementTable → CliFault → Type 0
 RefusesWidening (Some ends) base fault.Ideographs = ideographs_fault base.ideographs (range_between ends) ≡ Some range.BadRange
-RefusesWidening (Some ends) base fault.OutOfMemory = ⊤
+RefusesWidening (Some ends) base fault.OutOfMemory = ideographs_fault base.ideographs (range_between ends) ≡ None
 RefusesWidening _ base f = ⊥
 
 -- the table was read, and the range was added

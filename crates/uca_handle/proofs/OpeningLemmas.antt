@@ -1,6 +1,6 @@
 -- What a reader of known bytes that never fails has said of a table.
-use Rattle.std.proofs.Common.{◌≡◌, ℕ, List, ◌++◌, refl, sym, ap, ◌∙◌, subst, append-nil, arith, inl, inr}
-use Rattle.std.specs.Prelude.{Option, Some, None, Result, Ok, Err, MatchOption}
+use Rattle.std.proofs.Common.{◌≡◌, ℕ, List, ◌++◌, sym, ap, ◌∙◌, subst, append-nil, arith, inl, inr}
+use Rattle.std.specs.Prelude.{Option, Some, None, Result, Ok, Err, MatchResult, IsErrAnd, chars, IsUtf8}
 use Rattle.uca_io.specs.Counts.{one_more}
 use Rattle.std.specs.Io.KnownBytes.{Consumes, IsAtEnd}
 use Rattle.uca_io.specs.Reader.{ReaderState}
@@ -11,15 +11,16 @@ use Rattle.uca_model.specs.TableText.{Cause, ends, table_of_text}
 use Rattle.uca_allkeys.specs.Reading.{GivesTable, RefusedBy}
 use Rattle.uca_allkeys.specs.declared.faults.ReadCause.TheVariants.{LineTooLong, BadDirective, BadCodePoint, KeyTooLong, NoSemicolon, BadElement, NoElement, TooManyElements, Repeated, BadRange, TooLarge, Read, OutOfMemory}
 use Rattle.uca_allkeys.specs.declared.faults.ReadCause.{ReadCause}
-use Rattle.uca_allkeys.specs.Faults.{read_cause}
-use Rattle.uca_model.specs.RuleText as rules
+use Rattle.uca_model.specs.RuleText.{rules_of}
 use Rattle.uca_model.specs.Rules.{Chain}
-use Rattle.uca_model.specs.Tailoring as tailoring
-use Rattle.uca_tailor.specs.Faults.{RefusesText, RefusesRelation, reported_text_cause, reported_cause}
+use Rattle.uca_model.specs.Tailoring.{tailored}
+use Rattle.uca_tailor.specs.Faults.{RefusesText, RefusesRelation}
 use Rattle.uca_tailor.specs.declared.faults.RuleCause.{RuleCause}
 use Rattle.uca_tailor.specs.declared.faults.RuleCause.TheVariants as rule
 use Rattle.uca_tailor.specs.declared.faults.TailorCause.{TailorCause}
 use Rattle.uca_tailor.specs.declared.faults.TailorCause.TheVariants as tailor
+use Rattle.uca_handle.specs.declared.faults.OpenFault.{OpenFault}
+use Rattle.uca_handle.specs.Opening.{RefusesBaseBy, RefusesTable, SaysBase, SaysChains, rules_fault_by, table_fault_by, tailor_fault_by}
 
 -- the bytes are all that were known
 all_known : (xs bytes : List ℕ) (left : Option (List ℕ)) → Consumes (Some xs) left bytes → IsAtEnd left → bytes ≡ xs
@@ -48,7 +49,7 @@ never_failed failed none more = omega arith
 
 -- the text is refused by a reader that never fails, so for its own fault or for memory
 pub refused_said : (old new : ReaderState) (xs : List ℕ) (line : ℕ) (cause : ReadCause) → old.coming ≡ Some xs → old.failures ≡ 0 → new.failures ≡ 0 → RefusedBy cause old new line
-    → MatchOption (read_cause cause) (Unit {0}) (λ c. table_of_text ends xs ≡ fault_at line c)
+    → RefusesBaseBy xs (table_fault_by cause (record { line = line; cause = cause }))
 refused_said old new xs line LineTooLong known none never g = faulty_said old new xs line _ known g
 refused_said old new xs line BadDirective known none never g = faulty_said old new xs line _ known g
 refused_said old new xs line BadCodePoint known none never g = faulty_said old new xs line _ known g
@@ -65,22 +66,27 @@ refused_said old new xs line OutOfMemory known none never g = tt
 
 -- ---- the rules
 
--- a text of rules is refused for its own fault
-pub rules_refused : (says : Result (List Chain) rules.RuleFault) (at : ℕ) (cause : RuleCause) → ¬ (cause ≡ rule.OutOfMemory) → RefusesText says (record { at = at; cause = cause })
-    → MatchOption (reported_text_cause cause) ⊥ (λ reported. says ≡ Err (record { at = at; cause = reported }))
-rules_refused says at rule.Syntax other refused = refused
-rules_refused says at rule.LeftOut other refused = refused
-rules_refused says at rule.EmptyString other refused = refused
-rules_refused says at rule.LongRun other refused = refused
-rules_refused says at rule.KeyTooLong other refused = refused
-rules_refused says at rule.TooManyRelations other refused = refused
-rules_refused says at rule.OutOfMemory other refused = absurd (other refl)
+-- a fault is reported as another one
+pub refused_as : {A : Type 0} (P : A → Type 0) (Q : OpenFault → Type 0) (f : OpenFault) (r : Result A OpenFault) → IsErrAnd r (λ opened. opened ≡ f) → Q f → MatchResult r P Q
+refused_as P Q f (Ok a) is q = absurd is
+refused_as P Q f (Err opened) is q = subst Q (sym is) q
 
--- a relation is refused for its own fault
-pub relation_refused : (says : Result ElementTable tailoring.TailorFault) (relation : ℕ) (cause : TailorCause) → ¬ (cause ≡ tailor.OutOfMemory) → RefusesRelation says (record { relation = relation; cause = cause })
-    → MatchOption (reported_cause cause) ⊥ (λ reported. says ≡ Err (record { relation = relation; cause = reported }))
-relation_refused says relation tailor.SmallWeight other refused = refused
-relation_refused says relation tailor.HighReset other refused = refused
-relation_refused says relation (tailor.Full level) other refused = refused
-relation_refused says relation tailor.TooManyElements other refused = refused
-relation_refused says relation tailor.OutOfMemory other refused = absurd (other refl)
+-- a text of rules is refused for its own fault, or memory was
+pub rules_opened : (table rules : List ℕ) (says_base : (base : ElementTable) × SaysBase table base) (utf8 : IsUtf8 rules) (at : ℕ) (cause : RuleCause)
+    → RefusesText (rules_of (chars rules)) (record { at = at; cause = cause }) → RefusesTable table rules (rules_fault_by cause (record { at = at; cause = cause }))
+rules_opened table rules base utf8 at rule.Syntax refused = record { base = base.0; says_base = base.1; utf8 = utf8; fault = refused }
+rules_opened table rules base utf8 at rule.LeftOut refused = record { base = base.0; says_base = base.1; utf8 = utf8; fault = refused }
+rules_opened table rules base utf8 at rule.EmptyString refused = record { base = base.0; says_base = base.1; utf8 = utf8; fault = refused }
+rules_opened table rules base utf8 at rule.LongRun refused = record { base = base.0; says_base = base.1; utf8 = utf8; fault = refused }
+rules_opened table rules base utf8 at rule.KeyTooLong refused = record { base = base.0; says_base = base.1; utf8 = utf8; fault = refused }
+rules_opened table rules base utf8 at rule.TooManyRelations refused = record { base = base.0; says_base = base.1; utf8 = utf8; fault = refused }
+rules_opened table rules base utf8 at rule.OutOfMemory refused = tt
+
+-- a relation is refused for its own fault, or memory was
+pub relation_opened : (table rules : List ℕ) (base : ElementTable) → SaysBase table base → (chains : List Chain) → SaysChains rules chains → (relation : ℕ) (cause : TailorCause)
+    → RefusesRelation (tailored base chains) (record { relation = relation; cause = cause }) → RefusesTable table rules (tailor_fault_by cause (record { relation = relation; cause = cause }))
+relation_opened table rules base says chains given relation tailor.SmallWeight refused = record { base = base; says_base = says; chains = chains; says_chains = given; fault = refused }
+relation_opened table rules base says chains given relation tailor.HighReset refused = record { base = base; says_base = says; chains = chains; says_chains = given; fault = refused }
+relation_opened table rules base says chains given relation (tailor.Full level) refused = record { base = base; says_base = says; chains = chains; says_chains = given; fault = refused }
+relation_opened table rules base says chains given relation tailor.TooManyElements refused = record { base = base; says_base = says; chains = chains; says_chains = given; fault = refused }
+relation_opened table rules base says chains given relation tailor.OutOfMemory refused = tt

@@ -2,6 +2,8 @@
 use Rattle.std.specs.Prelude.{◌≡◌, ℕ, List, Ok, Err, MatchOption, chars, IsUtf8}
 use Rattle.std.specs.Str.Lossy.{utf8_valid_len}
 use Rattle.uca_allkeys.specs.Faults.{read_cause}
+use Rattle.uca_allkeys.specs.declared.faults.ReadCause.{ReadCause}
+use Rattle.uca_allkeys.specs.declared.faults.ReadCause.TheVariants as read
 use Rattle.uca_allkeys.specs.declared.faults.ReadFault.{ReadFault}
 use Rattle.uca_model.specs.RuleText.{rules_of}
 use Rattle.uca_model.specs.Rules.{Chain}
@@ -9,10 +11,29 @@ use Rattle.uca_model.specs.Table.{ElementTable}
 use Rattle.uca_model.specs.TableText.{ends, table_of_text}
 use Rattle.uca_model.specs.Tailoring.{tailored}
 use Rattle.uca_tailor.specs.Faults.{reported_text_cause, reported_cause}
+use Rattle.uca_tailor.specs.declared.faults.RuleCause.{RuleCause}
+use Rattle.uca_tailor.specs.declared.faults.RuleCause.TheVariants as rule
 use Rattle.uca_tailor.specs.declared.faults.RuleFault.{RuleFault}
+use Rattle.uca_tailor.specs.declared.faults.TailorCause.{TailorCause}
+use Rattle.uca_tailor.specs.declared.faults.TailorCause.TheVariants as tailor
 use Rattle.uca_tailor.specs.declared.faults.TailorFault.{TailorFault}
 use Rattle.uca_handle.specs.declared.faults.OpenFault.{OpenFault}
 use Rattle.uca_handle.specs.declared.faults.OpenFault.TheVariants.{Table, RulesNotUtf8, Rules, Tailor, OutOfMemory}
+
+-- a fault of the table's text, by its cause
+abbrev pub table_fault_by : ReadCause → ReadFault → OpenFault
+table_fault_by read.OutOfMemory f = OutOfMemory
+table_fault_by _ f = Table f
+
+-- a fault of the rules' text, by its cause
+abbrev pub rules_fault_by : RuleCause → RuleFault → OpenFault
+rules_fault_by rule.OutOfMemory f = OutOfMemory
+rules_fault_by _ f = Rules f
+
+-- a fault of a relation, by its cause
+abbrev pub tailor_fault_by : TailorCause → TailorFault → OpenFault
+tailor_fault_by tailor.OutOfMemory f = OutOfMemory
+tailor_fault_by _ f = Tailor f
 
 -- the table that the first text says
 abbrev pub SaysBase : List ℕ → ElementTable → Type 0

@@ -2,8 +2,8 @@ ghost use Rattle.std.specs.Prelude.{◌≡◌};
 
 use std::alloc::AllocError;
 use thiserror::Error;
-use uca_allkeys::ReadFault;
-use uca_tailor::{RuleFault, TailorFault};
+use uca_allkeys::{ReadCause, ReadFault};
+use uca_tailor::{RuleCause, RuleFault, TailorCause, TailorFault};
 
 /// Why bytes are no text that can be collated.
 #[derive(Clone, Copy, Debug, PartialEq, Eq, Error)]
@@ -91,6 +91,45 @@ impl From<AllocError> for OpenFault {
 
     fn from(_refused: AllocError) -> OpenFault {
         OpenFault::OutOfMemory
+    }
+}
+
+impl From<ReadFault> for OpenFault {
+    ghost use Rattle.uca_handle.specs.Opening.{table_fault_by};
+
+    ghost from_gives = { λ fault opened. opened ≡ table_fault_by fault.cause fault };
+
+    fn from(fault: ReadFault) -> OpenFault {
+        match fault.cause {
+            ReadCause::OutOfMemory => OpenFault::OutOfMemory,
+            _ => OpenFault::Table(fault),
+        }
+    }
+}
+
+impl From<RuleFault> for OpenFault {
+    ghost use Rattle.uca_handle.specs.Opening.{rules_fault_by};
+
+    ghost from_gives = { λ fault opened. opened ≡ rules_fault_by fault.cause fault };
+
+    fn from(fault: RuleFault) -> OpenFault {
+        match fault.cause {
+            RuleCause::OutOfMemory => OpenFault::OutOfMemory,
+            _ => OpenFault::Rules(fault),
+        }
+    }
+}
+
+impl From<TailorFault> for OpenFault {
+    ghost use Rattle.uca_handle.specs.Opening.{tailor_fault_by};
+
+    ghost from_gives = { λ fault opened. opened ≡ tailor_fault_by fault.cause fault };
+
+    fn from(fault: TailorFault) -> OpenFault {
+        match fault.cause {
+            TailorCause::OutOfMemory => OpenFault::OutOfMemory,
+            _ => OpenFault::Tailor(fault),
+        }
     }
 }
 

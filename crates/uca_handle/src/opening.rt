@@ -5,22 +5,16 @@ use crate::bytes::Bytes;
 use crate::faults::OpenFault;
 use simdutf8::compat::from_utf8;
 use std::alloc::Global;
-use uca_allkeys::{ReadCause, read_table};
+use uca_allkeys::read_table;
 use uca_table::Table;
-use uca_tailor::{RuleCause, TailorCause, parse, tailor};
+use uca_tailor::{parse, tailor};
 
 /// The table that a text says.
 fn base_of(alloc: Global, table: &[u8]) -> Result<Table, OpenFault>
     ensures { MatchResult result (SaysBase table.now) (RefusesBaseBy table.now) }
 {
     let mut reader = Bytes::new(table);
-    match read_table(alloc, &mut reader) {
-        Ok(base) => Ok(base),
-        Err(fault) => match fault.cause {
-            ReadCause::OutOfMemory => Err(OpenFault::OutOfMemory),
-            _ => Err(OpenFault::Table(fault)),
-        },
-    }
+    Ok(read_table(alloc, &mut reader)?)
 }
 
 /// The table that two texts say: the first one a table, the second the rules that tailor it.
@@ -32,18 +26,6 @@ pub(crate) fn table_of(alloc: Global, table: &[u8], rules: &[u8]) -> Result<Tabl
         Ok(text) => text,
         Err(error) => return Err(OpenFault::RulesNotUtf8(error.valid_up_to())),
     };
-    let parsed = match parse(alloc, text) {
-        Ok(parsed) => parsed,
-        Err(fault) => match fault.cause {
-            RuleCause::OutOfMemory => return Err(OpenFault::OutOfMemory),
-            _ => return Err(OpenFault::Rules(fault)),
-        },
-    };
-    match tailor(alloc, &base, &parsed) {
-        Ok(tailored) => Ok(tailored),
-        Err(fault) => match fault.cause {
-            TailorCause::OutOfMemory => Err(OpenFault::OutOfMemory),
-            _ => Err(OpenFault::Tailor(fault)),
-        },
-    }
+    let parsed = parse(alloc, text)?;
+    Ok(tailor(alloc, &base, &parsed)?)
 }

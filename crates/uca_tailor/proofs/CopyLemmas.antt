@@ -1,8 +1,9 @@
 -- The entries of a tailored table are written one after the other.
-use Rattle.std.proofs.Common.{◌≡◌, ℕ, zero, suc, ◌+◌, ◌≤◌, ◌<◌, ◌==◌, nat_lt, Bool, true, false, cond, List, [], ◌∷◌, ◌++◌, length, take, map, get_or, Option, Some, None, is_some, Vec, Bor, refl, sym, ap, ap₂, subst, ◌∙◌, append_assoc, append-nil, arith}
+use Rattle.std.proofs.Common.{◌≡◌, ℕ, zero, suc, ◌+◌, ◌≤◌, ◌<◌, ◌==◌, nat_lt, Bool, true, false, cond, List, [], ◌∷◌, ◌++◌, length, take, drop, map, get_or, Option, Some, None, is_some, Vec, Bor, refl, sym, ap, ap₂, subst, ◌∙◌, append_assoc, append-nil, arith}
 use mathlib.Core.List.{map-append}
 use Rattle.std.proofs.lemmas.List.{get_or-map, take_all, take_more, length-map}
-use Rattle.std.specs.List.{AllByRecursion}
+use Rattle.std.proofs.lemmas.List.Sums.{prefix_len-drop_no, prefix_len-drop_yes}
+use Rattle.std.specs.List.{AllByRecursion, prefix_len}
 use Rattle.std.specs.Option.{option_map}
 use Rattle.std.specs.Ordering.{eq_by_cmp, is_eq}
 use Rattle.std.specs.declared.cmp.Ordering.{Ordering}
@@ -18,7 +19,7 @@ use Rattle.uca_table.specs.Ascending.{append_fault, has_greater}
 use Rattle.uca_table.specs.declared.fault.AppendFault.TheVariants.{EmptyKey, KeyTooLong, NoElement, TooManyElements, OutOfOrder, Repeated}
 use Rattle.uca_tailor.specs.declared.items.Item.{Item}
 use Rattle.uca_tailor.specs.declared.moves.Moves.{Moves}
-use Rattle.uca_tailor.specs.Copy.{cut_entry, entered_item, item_entries, Holds}
+use Rattle.uca_tailor.specs.Copy.{cut_entry, entered_item, is_up_to, item_entries, Holds}
 use Rattle.uca_tailor.specs.Moves.{start, moved_element, cut}
 use Rattle.uca_tailor.specs.Renumbered.{item_entry, moved_entry, all_entries, renumbered, IsItem}
 use Rattle.uca_tailor.proofs.RenumberedLemmas.{or_else, or_else-cond, find-over, find-map, same_table, elements-cut}
@@ -148,6 +149,22 @@ pub entered_at : {Y : Type 0} (m : Moves) (items : List (Bor (Vec ℕ Y) × Bor 
 entered_at m [] i d all h = absurd (omega arith)
 entered_at m (x ∷ items) zero d all h = all.0
 entered_at m (x ∷ items) (suc i) d all h = entered_at m items i d all.1 (omega arith)
+
+-- the items from a place on begin with one more that has a key or a smaller one
+pub one_up_to : {Y : Type 0} (key : List ℕ) (items : List (Bor (Vec ℕ Y) × Bor Item)) (i : ℕ) (d : Bor (Vec ℕ Y) × Bor Item) → i < length items → is_up_to key (entered_item (get_or items i d)) ≡ true
+    → i + prefix_len (is_up_to key) (drop i (map entered_item items)) ≡ i + 1 + prefix_len (is_up_to key) (drop (i + 1) (map entered_item items))
+one_up_to key items i d h is =
+    let n : length (map entered_item items) ≡ length items = length-map items entered_item in
+    let more : prefix_len (is_up_to key) (drop i (map entered_item items)) ≡ 1 + prefix_len (is_up_to key) (drop (i + 1) (map entered_item items)) =
+    prefix_len-drop_yes (is_up_to key) (map entered_item items) i (entered_item d) (omega arith) (ap (is_up_to key) (get_or-map entered_item items i d (entered_item d) h) ∙ is) in
+    omega arith
+
+-- they begin with none
+pub none_up_to : {Y : Type 0} (key : List ℕ) (items : List (Bor (Vec ℕ Y) × Bor Item)) (i : ℕ) (d : Bor (Vec ℕ Y) × Bor Item) → i < length items → is_up_to key (entered_item (get_or items i d)) ≡ false
+    → prefix_len (is_up_to key) (drop i (map entered_item items)) ≡ 0
+none_up_to key items i d h is =
+    let n : length (map entered_item items) ≡ length items = length-map items entered_item in
+    prefix_len-drop_no (is_up_to key) (map entered_item items) i (entered_item d) (omega arith) (ap (is_up_to key) (get_or-map entered_item items i d (entered_item d) h) ∙ is)
 
 -- one item more
 pub one_entered : {Y : Type 0} (m : Moves) (items : List (Bor (Vec ℕ Y) × Bor Item)) (i : ℕ) (d : Bor (Vec ℕ Y) × Bor Item) (k : List ℕ) (v : List Element) → i < length items → k ≡ (get_or items i d).0.now.items → v ≡ map cut (map (moved_element m (get_or items i d).1.now.after) (get_or items i d).1.now.elements.items)

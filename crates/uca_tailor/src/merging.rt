@@ -1,8 +1,8 @@
 //! The entries of a tailored table in their order: items, and entries of the given table that no item hides.
-ghost use Rattle.std.specs.Prelude.{◌≡◌, ◌≤◌, ◌<◌, ◌++◌, ◌∷◌, [], false, length, map, take, IfOk, OnOk};
+ghost use Rattle.std.specs.Prelude.{◌≡◌, ◌≤◌, ◌<◌, ◌+◌, ◌++◌, ◌∷◌, [], false, drop, length, map, take, IfOk, OnOk};
 ghost use Rattle.std.specs.FinMap.{contains_key, empty, entries, insert};
-ghost use Rattle.std.specs.List.{AllByRecursion};
-ghost use Rattle.uca_tailor.specs.Copy.{Holds, cut_entry, entered_item, item_entries};
+ghost use Rattle.std.specs.List.{AllByRecursion, prefix_len};
+ghost use Rattle.uca_tailor.specs.Copy.{Holds, cut_entry, entered_item, is_up_to, item_entries};
 ghost use Rattle.uca_tailor.specs.Renumbered.{all_entries, item_entry, IsItem};
 
 use crate::items::Item;
@@ -81,11 +81,12 @@ fn append_items(
 /// The place of the first of the items from one place on whose key is greater than another.
 fn end_of(items: &[Entered<'_>], from: usize, key: &[char]) -> usize
     requires { from ≤ length items.now }
+    ensures place { result ≡ from + prefix_len (is_up_to key.now) (drop from (map entered_item items.now)) }
     ensures ordered { from ≤ result }
     ensures within { result ≤ length items.now }
 {
     let mut at = from;
-    while at < items.len() && items[at].0.as_slice() <= key {
+    while at < items.len() && items[at].0.as_slice().cmp(key).is_le() {
         at += 1;
     }
     at

@@ -2,8 +2,8 @@ use Rattle.std.proofs.Common.{◌≡◌, ◌∙◌, subst}
 use Rattle.std.specs.Prelude.{chars, Ok}
 use Rattle.uca_model.specs.RuleText.{rules_of}
 use Rattle.uca_tailor.specs.Faults.{RefusesText}
-use Rattle.uca_handle.specs.Opening.{SaysChains}
-use Rattle.uca_handle.proofs.OpeningLemmas.{rules_refused, relation_refused}
+use Rattle.uca_handle.specs.Opening.{RefusesTable, SaysChains, rules_fault_by, tailor_fault_by}
+use Rattle.uca_handle.proofs.OpeningLemmas.{refused_as, rules_opened, relation_opened}
 use Rattle.uca_handle.proofs.opening.table_of.Goals as goal
 
 -- the rules are not UTF-8
@@ -16,41 +16,35 @@ returns-in-Err c = record {
 }
 
 -- the text of the rules is refused
-pub returns-in_default : goal.returns-in_default
-returns-in_default c = record {
-  base = c.in_ok-base.base;
-  says_base = c.in_ok-base.ensures;
-  utf8 = c.in-Ok.ensures.cases.1;
-  fault = rules_refused _ c.in-Err-parse.fault.at c.in-Err-parse.fault.cause c.in_default.not-OutOfMemory
-      (subst (λ bs. RefusesText (rules_of (chars bs)) c.in-Err-parse.fault) c.in-Ok.ensures.cases.0 c.in-Err-parse.ensures.says);
-}
-
--- the table is tailored
-pub returns-in-Ok-tailor : goal.returns-in-Ok-tailor
-returns-in-Ok-tailor c =
-    let said : SaysChains c.args.rules.now c.in-Ok-parse.parsed = record {
-      utf8 = c.in-Ok.ensures.cases.1;
-      says = subst (λ bs. rules_of (chars bs) ≡ Ok c.in-Ok-parse.parsed) c.in-Ok.ensures.cases.0 c.in-Ok-parse.ensures.says;
-    } in
-    record {
-      base = c.in_ok-base.base;
-      says_base = c.in_ok-base.ensures;
-      chains = c.in-Ok-parse.parsed;
-      says_chains = said;
-      tailoring = c.in-Ok-tailor.ensures;
-    }
+pub returns-in_err-parsed : goal.returns-in_err-parsed
+returns-in_err-parsed c =
+    let f = c.in_err-parsed.field-0.0 in
+    refused_as _ (RefusesTable c.args.table.now c.args.rules.now) (rules_fault_by f.cause f) c.from_residual-in_err-parsed.result c.from_residual-in_err-parsed.ensures.1
+    (rules_opened c.args.table.now c.args.rules.now (c.in_ok-base.base, c.in_ok-base.ensures) c.in-Ok.ensures.cases.1 f.at f.cause
+    (subst (λ bs. RefusesText (rules_of (chars bs)) f) c.in-Ok.ensures.cases.0 c.in_err-parsed.ensures.says))
 
 -- a relation is refused
+pub returns-in_err-tailor : goal.returns-in_err-tailor
+returns-in_err-tailor c =
+    let f = c.in_err-tailor.field-0.0 in
+    let said : SaysChains c.args.rules.now c.in_ok-parsed.parsed = record {
+      utf8 = c.in-Ok.ensures.cases.1;
+      says = subst (λ bs. rules_of (chars bs) ≡ Ok c.in_ok-parsed.parsed) c.in-Ok.ensures.cases.0 c.in_ok-parsed.ensures.says;
+    } in
+    refused_as _ (RefusesTable c.args.table.now c.args.rules.now) (tailor_fault_by f.cause f) c.from_residual-in_err-tailor.result c.from_residual-in_err-tailor.ensures.1
+    (relation_opened c.args.table.now c.args.rules.now c.in_ok-base.base c.in_ok-base.ensures c.in_ok-parsed.parsed said f.relation f.cause c.in_err-tailor.ensures)
+
+-- the table is tailored
 pub returns : goal.returns
 returns c =
-    let said : SaysChains c.args.rules.now c.in-Ok-parse.parsed = record {
+    let said : SaysChains c.args.rules.now c.in_ok-parsed.parsed = record {
       utf8 = c.in-Ok.ensures.cases.1;
-      says = subst (λ bs. rules_of (chars bs) ≡ Ok c.in-Ok-parse.parsed) c.in-Ok.ensures.cases.0 c.in-Ok-parse.ensures.says;
+      says = subst (λ bs. rules_of (chars bs) ≡ Ok c.in_ok-parsed.parsed) c.in-Ok.ensures.cases.0 c.in_ok-parsed.ensures.says;
     } in
     record {
       base = c.in_ok-base.base;
       says_base = c.in_ok-base.ensures;
-      chains = c.in-Ok-parse.parsed;
+      chains = c.in_ok-parsed.parsed;
       says_chains = said;
-      fault = relation_refused _ c.in-Err-tailor.fault.relation c.in-Err-tailor.fault.cause c.in_default-cause.not-OutOfMemory c.in-Err-tailor.ensures;
+      tailoring = c.in_ok-tailor.ensures;
     }
