@@ -1,4 +1,4 @@
-ghost use Rattle.std.specs.Prelude.{◌≡◌, ◌+◌, ◌≤◌, IfErr, IfOk, option_map};
+ghost use Rattle.std.specs.Prelude.{◌≡◌, ◌+◌, ◌≤◌, IfErr, IfOk, MatchResult, Some, option_map};
 ghost use Rattle.uca_weights.specs.declared.limits.TheConstants.{MAX_INPUT, MAX_RULES};
 ghost use Rattle.uca_cli.specs.Borrowed.{borrowed, given_back, GoesUpTo};
 ghost use Rattle.uca_commands.specs.Commands.{Does, Fails};
@@ -14,22 +14,26 @@ use uca_job::{Job, Task};
 use uca_table::{RangeFault, Table};
 use uca_weights::{Reader, Settings, Writer};
 
+/// Gives a table a range of ideographs, and its cells what follows from that.
+fn widen(alloc: Global, t: &mut Table, ends: (char, char)) -> Result<(), CliFault>
+    ensures { MatchResult result (λ _. Widens (Some ends) t.old t.new) (RefusesWidening (Some ends) t.old) }
+{
+    match t.add_ideographs(ends.0, ends.1) {
+        Ok(()) => Ok(t.prepare(alloc)?),
+        Err(RangeFault::BadRange) => Err(CliFault::Ideographs),
+        Err(RangeFault::OutOfMemory) => Err(CliFault::OutOfMemory),
+    }
+}
+
 /// Gives a table the range of ideographs of a job, where it has one.
 fn widened(alloc: Global, mut t: Table, ends: Option<(char, char)>) -> Result<Table, CliFault>
     ensures ok { IfOk result (Widens ends t) }
     ensures err { IfErr result (RefusesWidening ends t) }
 {
-    let Some((first, last)) = ends else {
-        return Ok(t);
-    };
-    match t.add_ideographs(first, last) {
-        Ok(()) => {
-            t.prepare(alloc)?;
-            Ok(t)
-        }
-        Err(RangeFault::BadRange) => Err(CliFault::Ideographs),
-        Err(RangeFault::OutOfMemory) => Err(CliFault::OutOfMemory),
+    if let Some(ends) = ends {
+        widen(alloc, &mut t, ends)?;
     }
+    Ok(t)
 }
 
 /// Does the command of a job with its table.

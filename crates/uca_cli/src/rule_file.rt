@@ -45,12 +45,21 @@ fn rules_in<U: Reader>(alloc: Global, reader: &mut U) -> Result<Rules, CliFault>
     }
 }
 
+/// The table that the rules in a reader make of another.
+fn tailored_by<U: Reader>(alloc: Global, t: &Table, reader: &mut U) -> Result<Table, CliFault>
+    ensures ok { IfOk result (TailorsBy (U.state reader.old) (U.state reader.new) t.now) }
+    ensures err { IfErr result (StopsTailoring (U.state reader.old) (U.state reader.new) t.now) }
+    ensures calls { U.calls reader.new ≤ U.calls reader.old + (MAX_RULES + 1) }
+{
+    let rules = rules_in(alloc, reader)?;
+    Ok(tailor(alloc, t, &rules)?)
+}
+
 /// The table tailored by the rules in a reader.
 pub fn tailored_in<U: Reader>(alloc: Global, t: Table, reader: &mut U) -> Result<Table, CliFault>
     ensures ok { IfOk result (TailorsBy (U.state reader.old) (U.state reader.new) t) }
     ensures err { IfErr result (StopsTailoring (U.state reader.old) (U.state reader.new) t) }
     ensures calls { U.calls reader.new ≤ U.calls reader.old + (MAX_RULES + 1) }
 {
-    let rules = rules_in(alloc, reader)?;
-    Ok(tailor(alloc, &t, &rules)?)
+    tailored_by(alloc, &t, reader)
 }

@@ -114,32 +114,59 @@ impl From<WriteFault> for CliFault {
     }
 }
 
+// What a fault of the table's text prints.
+fn write_read_fault<W: fmt::Write>(f: &mut fmt::Formatter<W>, fault: &ReadFault) -> fmt::Result {
+    let ReadFault { line, cause } = fault;
+    match cause {
+        ReadCause::OutOfMemory => write!(f, "uca: {cause}"),
+        _ => write!(f, "uca: table line {line}: {cause}"),
+    }
+}
+
+// What a fault of the text of the rules prints.
+fn write_rule_fault<W: fmt::Write>(f: &mut fmt::Formatter<W>, fault: &RuleFault) -> fmt::Result {
+    let RuleFault { at, cause } = fault;
+    match cause {
+        RuleCause::OutOfMemory => write!(f, "uca: {cause}"),
+        _ => write!(f, "uca: rules byte {at}: {cause}"),
+    }
+}
+
+// What a fault of a relation prints.
+fn write_tailor_fault<W: fmt::Write>(
+    f: &mut fmt::Formatter<W>,
+    fault: &TailorFault,
+) -> fmt::Result {
+    let TailorFault { relation, cause } = fault;
+    match cause {
+        TailorCause::OutOfMemory => write!(f, "uca: {cause}"),
+        _ => write!(f, "uca: rules relation {relation}: {cause}"),
+    }
+}
+
+// What a fault of an input of lines prints.
+fn write_input_fault<W: fmt::Write>(f: &mut fmt::Formatter<W>, fault: &InputFault) -> fmt::Result {
+    let InputFault { line, at, cause } = fault;
+    match cause {
+        InputCause::NotUtf8 | InputCause::LongRun => {
+            write!(f, "uca: input line {line} byte {at}: {cause}")
+        }
+        InputCause::TooLarge | InputCause::Read | InputCause::NotOneLine => {
+            write!(f, "uca: input: {cause}")
+        }
+        InputCause::OutOfMemory => write!(f, "uca: {cause}"),
+    }
+}
+
 impl fmt::Display for CliFault {
     fn fmt<W: fmt::Write>(&self, f: &mut fmt::Formatter<W>) -> fmt::Result {
         match self {
-            CliFault::Table(ReadFault { line, cause }) => match cause {
-                ReadCause::OutOfMemory => write!(f, "uca: {cause}"),
-                _ => write!(f, "uca: table line {line}: {cause}"),
-            },
+            CliFault::Table(fault) => write_read_fault(f, fault),
             CliFault::Ideographs => write!(f, "uca: ideographs: BadRange"),
             CliFault::RulesText { at, cause } => write!(f, "uca: rules byte {at}: {cause}"),
-            CliFault::Rules(RuleFault { at, cause }) => match cause {
-                RuleCause::OutOfMemory => write!(f, "uca: {cause}"),
-                _ => write!(f, "uca: rules byte {at}: {cause}"),
-            },
-            CliFault::Tailor(TailorFault { relation, cause }) => match cause {
-                TailorCause::OutOfMemory => write!(f, "uca: {cause}"),
-                _ => write!(f, "uca: rules relation {relation}: {cause}"),
-            },
-            CliFault::Input(InputFault { line, at, cause }) => match cause {
-                InputCause::NotUtf8 | InputCause::LongRun => {
-                    write!(f, "uca: input line {line} byte {at}: {cause}")
-                }
-                InputCause::TooLarge | InputCause::Read | InputCause::NotOneLine => {
-                    write!(f, "uca: input: {cause}")
-                }
-                InputCause::OutOfMemory => write!(f, "uca: {cause}"),
-            },
+            CliFault::Rules(fault) => write_rule_fault(f, fault),
+            CliFault::Tailor(fault) => write_tailor_fault(f, fault),
+            CliFault::Input(fault) => write_input_fault(f, fault),
             CliFault::Conform(ConformFault { line, cause }) => {
                 write!(f, "uca: input line {line}: {cause}")
             }

@@ -5,6 +5,7 @@ use std::process::ExitCode;
 use uca_allkeys::read_table;
 use uca_key::key_of;
 use uca_levels::compare;
+use uca_table::Table;
 use uca_weights::{Reading, Settings, Strength, Variable};
 use uca_window::Passage;
 
@@ -23,19 +24,25 @@ fn main(rt: HostRuntime) -> ExitCode {
 
 fn show(rt: &HostRuntime) -> Option<()> {
     let table = read_table(rt.alloc(), &mut Reading::new(TABLE)).ok()?;
+    compare_and_key(rt, &table)
+}
+
+fn compare_and_key(rt: &HostRuntime, table: &Table) -> Option<()> {
     let settings = Settings {
         strength: Strength::Tertiary,
         weighting: Variable::NonIgnorable,
     };
     let first = Passage::check("ab").ok()?;
     let second = Passage::check("áb").ok()?;
-    println!(rt; "{:?}", compare(&table, settings, &first, &second)).ok()?;
-    for text in [&first, &second] {
-        let key = key_of(rt.alloc(), &table, settings, text).ok()?;
-        for byte in key.as_slice() {
-            print!(rt; "{byte:02X} ").ok()?;
-        }
-        println!(rt; "").ok()?;
+    println!(rt; "{:?}", compare(table, settings, &first, &second)).ok()?;
+    show_key(rt, table, settings, &first)?;
+    show_key(rt, table, settings, &second)
+}
+
+fn show_key(rt: &HostRuntime, table: &Table, settings: Settings, text: &Passage) -> Option<()> {
+    let key = key_of(rt.alloc(), table, settings, text).ok()?;
+    for byte in key.as_slice() {
+        print!(rt; "{byte:02X} ").ok()?;
     }
-    Some(())
+    println!(rt; "").ok()
 }

@@ -17,15 +17,22 @@ fn base_of(alloc: Global, table: &[u8]) -> Result<Table, OpenFault>
     Ok(read_table(alloc, &mut reader)?)
 }
 
-/// The table that two texts say: the first one a table, the second the rules that tailor it.
-pub(crate) fn table_of(alloc: Global, table: &[u8], rules: &[u8]) -> Result<Table, OpenFault>
-    ensures { MatchResult result (SaysTable table.now rules.now) (RefusesTable table.now rules.now) }
+/// The table that the rules in a text make of another, whatever text says that one.
+fn tailored_by(alloc: Global, base: &Table, rules: &[u8]) -> Result<Table, OpenFault>
+    ensures { (table : _) → SaysBase table base.now → MatchResult result (SaysTable table rules.now) (RefusesTable table rules.now) }
 {
-    let base = base_of(alloc, table)?;
     let text = match from_utf8(rules) {
         Ok(text) => text,
         Err(error) => return Err(OpenFault::RulesNotUtf8(error.valid_up_to())),
     };
     let parsed = parse(alloc, text)?;
-    Ok(tailor(alloc, &base, &parsed)?)
+    Ok(tailor(alloc, base, &parsed)?)
+}
+
+/// The table that two texts say: the first one a table, the second the rules that tailor it.
+pub(crate) fn table_of(alloc: Global, table: &[u8], rules: &[u8]) -> Result<Table, OpenFault>
+    ensures { MatchResult result (SaysTable table.now rules.now) (RefusesTable table.now rules.now) }
+{
+    let base = base_of(alloc, table)?;
+    tailored_by(alloc, &base, rules)
 }
