@@ -272,7 +272,7 @@ done
 
 # The tests of crates that take memory: they ask once more where a growth was refused, or end by that failure. uca_lines and
 # uca_commands have no tests of their own: those of uca_cli and the commands of the program, above, are what calls them.
-for crate in uca_io uca_weights uca_window uca_table uca_allkeys uca_match uca_levels uca_key uca_tailor uca_conform uca_job uca_handle uca_cli; do
+for crate in uca_weights uca_{io,window,table,allkeys,match,levels,key,tailor,conform,job,handle,cli}_tests; do
     folder=crates/$crate
     tests=$folder/out/${crate}_tests
     if [ ! -x "$tests" ] || [ -n "$(find crates/*/src crates.txt -newer "$tests" -print -quit)" ]; then

@@ -15,6 +15,3 @@ mod statement;
 pub use canonical::{element_text, write_table};
 pub use faults::{ReadCause, ReadFault};
 pub use read::read_table;
-
-#[cfg(test)]
-mod tests;

@@ -52,6 +52,3 @@ pub fn read_table<R: Reader>(alloc: Global, reader: &mut R) -> Result<Table, Rea
         Err(fault) => Err(fault_of_lines(fault)),
     }
 }
-
-#[cfg(test)]
-mod tests;

@@ -7,8 +7,6 @@
 mod built_in_table;
 pub mod performing;
 mod rule_file;
-#[cfg(test)]
-mod tests;
 
 pub use built_in_table::built_in;
 pub use performing::{perform, status_of};

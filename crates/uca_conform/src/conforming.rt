@@ -122,6 +122,3 @@ pub fn conform<R: Reader>(t: &Table, s: Settings, r: &mut R) -> Result<Conforman
         }),
     }
 }
-
-#[cfg(test)]
-mod tests;

@@ -25,6 +25,3 @@ pub use faults::{
     BoundsFault, CompareFault, FingerprintFault, KeyFault, OpenFault, ShareFault, TextFault,
 };
 pub use texts::check;
-
-#[cfg(test)]
-mod tests;

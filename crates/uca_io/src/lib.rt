@@ -22,6 +22,3 @@ pub use reader::{Reader, Reading, Refused};
 pub use reading::{Stop, read_whole};
 pub use writer::{WriteCause, WriteFault, Writer, Writing};
 pub use writing::write_whole;
-
-#[cfg(test)]
-mod tests;

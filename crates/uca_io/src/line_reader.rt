@@ -269,6 +269,3 @@ pub fn read_lines<R: Reader, S: LineSink>(
         }
     }
 }
-
-#[cfg(test)]
-mod tests;

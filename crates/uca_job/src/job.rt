@@ -492,6 +492,3 @@ fn usage_text(alloc: Global, error: &clap::Error) -> Result<String, AllocError> 
     }
     Ok(text)
 }
-
-#[cfg(test)]
-mod tests;

@@ -17,6 +17,3 @@ pub use bounds::{PrefixBounds, PrefixFault, prefix_bounds};
 pub use key_maker::KeyMaker;
 pub use keys::{key_of, packed_key_of};
 pub use streaming::{KeyFault, write_key};
-
-#[cfg(test)]
-mod tests;

@@ -30,6 +30,3 @@ pub use points::Points;
 pub use text_order::compare;
 pub use weight_list::KEPT_WEIGHTS;
 pub use weights::Weights;
-
-#[cfg(test)]
-mod tests;

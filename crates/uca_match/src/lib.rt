@@ -15,6 +15,3 @@ pub use completeness::is_complete;
 pub use elements::{Elements, elements_of, elements_of_points, read_elements};
 pub use keys::Keys;
 pub use matches::{Match, matches_of, matches_of_points};
-
-#[cfg(test)]
-mod tests;

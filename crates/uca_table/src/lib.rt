@@ -29,8 +29,6 @@ mod span;
 pub mod starters;
 pub mod stored;
 pub mod table;
-#[cfg(test)]
-mod tests;
 mod trie;
 pub mod walk;
 pub mod well_formed;

@@ -216,6 +216,3 @@ fn has_key_without_front(t: &Table) -> bool
     }
     false
 }
-
-#[cfg(test)]
-mod tests;

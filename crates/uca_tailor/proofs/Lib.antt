@@ -1,6 +1,5 @@
 pub mod AnchorLemmas
 pub mod RelationSteps
-pub mod CheckedLemmas
 pub mod ScanSteps
 pub mod PieceLemmas
 pub mod StringLemmas

@@ -131,6 +131,3 @@ pub fn parse(alloc: Global, text: &str) -> Result<Rules, RuleFault>
     }
     Ok(Rules { chains })
 }
-
-#[cfg(test)]
-mod tests;

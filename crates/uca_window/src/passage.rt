@@ -158,6 +158,3 @@ fn run_through(count: usize, points: &[char]) -> Option<usize>
     }
     Some(run)
 }
-
-#[cfg(test)]
-mod tests;

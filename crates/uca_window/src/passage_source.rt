@@ -85,6 +85,3 @@ impl<'t> Source for PassageSource<'t> {
         self.rest = self.marked.as_str().chars();
     }
 }
-
-#[cfg(test)]
-mod tests;

@@ -144,6 +144,3 @@ impl Window {
         given
     }
 }
-
-#[cfg(test)]
-mod tests;

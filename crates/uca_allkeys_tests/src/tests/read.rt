@@ -1,0 +1,540 @@
+use super::with_room;
+use std::alloc::{AllocError, Global};
+use std::process::Abort;
+use std::test::Fail;
+use uca_allkeys::{ReadCause, ReadFault, read_table, write_table};
+use uca_table::Table;
+use uca_testing::SMALL_TEXT as CANONICAL_TEXT;
+use uca_weights::{MAX_INPUT, Range, Reader, Reading, Refused};
+
+const SMALL_TEXT: &str = "@version 15.1.0
+@implicitweights 18D00..18D8F; FB00 # second range, the same base
+@implicitweights 17000..18AFF; FB00 # first range
+
+0001  ; [.0000.0000.0000] # completely ignorable
+0020  ; [*0201.0020.0002] # SPACE
+002D  ; [*0202.0020.0002.002D] # HYPHEN-MINUS, an old fourth weight
+0300  ; [.0000.0021.0002]
+0301  ; [.0000.0022.0002]
+0308  ; [.0000.0023.0002]
+0323  ; [.0000.0024.0002]
+0061  ; [.1000.0020.0002]
+0041  ; [.1000.0020.0008]
+0062  ; [.1001.0020.0002]
+0063  ; [.1002.0020.0002]
+0065  ; [.1004.0020.0002]
+0068  ; [.1005.0020.0002]
+007a  ; [.1006.0020.0002]
+0063 0068 ; [.1007.0020.0002]
+0061 0301 ; [.1008.0020.0002]
+0062 0301 ; [.1009.0020.0002]
+0062 0301 0308 ; [.100a.0020.0002]
+";
+
+/// Gives so many bytes a call at most, and fails at the end if it is asked to.
+#[derive(Drop)]
+struct Slow<'t> {
+    rest: &'t [u8],
+    step: usize,
+    fails: bool,
+    failed: u128,
+}
+
+impl<'t> Reader for Slow<'t> {
+    ghost use Rattle.std.specs.Prelude.{None};
+
+    ghost state = { λ s. record { coming = None; failures = s.failed } };
+
+    fn pull(&mut self, buf: &mut [u8]) -> Result<usize, Refused> {
+        let count = self.rest.len().min(buf.len()).min(self.step);
+        if count == 0 && self.fails {
+            self.failed = self.failed.saturating_add(1);
+            return Err(Refused);
+        }
+        buf[..count].copy_from_slice(&self.rest[..count]);
+        self.rest = &self.rest[count..];
+        Ok(count)
+    }
+}
+
+/// Gives lines of so many `#`, up to so many bytes in all.
+#[derive(Drop)]
+struct Comments {
+    width: usize,
+    column: usize,
+    left: usize,
+}
+
+impl Reader for Comments {
+    ghost use Rattle.std.specs.Prelude.{None};
+
+    ghost state = { λ s. record { coming = None; failures = 0 } };
+
+    fn pull(&mut self, buf: &mut [u8]) -> Result<usize, Refused> {
+        let count = self.left.min(buf.len());
+        self.left -= count;
+        for byte in &mut buf[..count] {
+            if self.column < self.width {
+                *byte = b'#';
+                self.column += 1;
+            } else {
+                *byte = b'\n';
+                self.column = 0;
+            }
+        }
+        Ok(count)
+    }
+}
+
+fn slow_reader(rest: &[u8], step: usize, fails: bool) -> Slow<'_> {
+    Slow {
+        rest,
+        step,
+        fails,
+        failed: 0,
+    }
+}
+
+/// Lines of so many `#`, up to so many bytes in all.
+fn comment_reader(width: usize, left: usize) -> Comments {
+    Comments {
+        width,
+        column: 0,
+        left,
+    }
+}
+
+/// Whether memory was refused: then the call is made again, for a run refuses one growth at most.
+fn was_refused(answer: &Result<Table, ReadFault>) -> bool {
+    matches!(answer, Err(fault) if fault.cause == ReadCause::OutOfMemory)
+}
+
+fn read(alloc: Global, text: &[u8]) -> Result<Table, ReadFault> {
+    let answer = read_table(alloc, &mut Reading::new(text));
+    if was_refused(&answer) {
+        return read_table(alloc, &mut Reading::new(text));
+    }
+    answer
+}
+
+fn read_slowly(alloc: Global, text: &[u8], step: usize, fails: bool) -> Result<Table, ReadFault> {
+    let answer = read_table(alloc, &mut slow_reader(text, step, fails));
+    if was_refused(&answer) {
+        return read_table(alloc, &mut slow_reader(text, step, fails));
+    }
+    answer
+}
+
+fn read_comments(alloc: Global, width: usize, bytes: usize) -> Result<Table, ReadFault> {
+    let answer = read_table(alloc, &mut comment_reader(width, bytes));
+    if was_refused(&answer) {
+        return read_table(alloc, &mut comment_reader(width, bytes));
+    }
+    answer
+}
+
+/// The line and the cause, where a text is refused.
+fn fault(answer: Result<Table, ReadFault>) -> Option<(u64, ReadCause)> {
+    match answer {
+        Ok(_) => None,
+        Err(fault) => Some((fault.line, fault.cause)),
+    }
+}
+
+/// Looks at the table of the small text.
+fn assert_small(rt: &impl Abort, answer: Result<Table, ReadFault>) {
+    let table = answer.expect(rt, "a table");
+    assert!(rt; table.longest() == 3);
+    assert!(rt; table.entries().count() == 18);
+    let ranges = table.ranges();
+    assert!(rt; ranges.len() == 2);
+    let first = Range {
+        first: '\u{17000}',
+        last: '\u{18AFF}',
+        base: 0xFB00,
+    };
+    assert!(rt; ranges[0] == first);
+    let hyphen = table.get(&['-']).expect(rt, "a hyphen");
+    assert!(rt; hyphen[0].starred);
+    assert!(rt; hyphen[0].l1 == 0x202);
+    let long = table
+        .get(&['b', '\u{301}', '\u{308}'])
+        .expect(rt, "a key of three");
+    assert!(rt; long[0].l1 == 0x100A);
+    let mut writer = with_room(1024, true);
+    let count = CANONICAL_TEXT.len() as u128;
+    assert!(rt; write_table(&mut writer, &table) == Ok(count));
+    let taken = writer.into_inner().taken;
+    assert!(rt; taken.as_slice() == CANONICAL_TEXT);
+}
+
+/// The text with CR before each LF.
+fn with_returns(alloc: Global, text: &[u8]) -> Result<Vec<u8>, AllocError> {
+    let mut lines = Vec::new(alloc);
+    for byte in text {
+        if *byte == b'\n' {
+            lines.push(b'\r')?;
+        }
+        lines.push(*byte)?;
+    }
+    Ok(lines)
+}
+
+/// Some pieces of text, each so many times.
+fn repeated(alloc: Global, pieces: &[(&str, usize)]) -> Result<Vec<u8>, AllocError> {
+    let mut text = Vec::new(alloc);
+    for (piece, count) in pieces {
+        for _ in 0..*count {
+            text.extend_from_slice(piece.as_bytes())?;
+        }
+    }
+    Ok(text)
+}
+
+/// Looks at the answer for a text, given at once and byte by byte.
+fn assert_answer(rt: &impl Abort, alloc: Global, text: &[u8], answer: Option<(u64, ReadCause)>) {
+    assert!(rt; fault(read(alloc, text)) == answer);
+    assert!(rt; fault(read_slowly(alloc, text, 1, false)) == answer);
+}
+
+#[test]
+fn a_text_gives_its_table(rt: HostRuntime) -> Result<(), Fail> {
+    let text = SMALL_TEXT.as_bytes();
+    assert_small(&rt, read(rt.alloc(), text));
+    assert_small(&rt, read_slowly(rt.alloc(), text, 1, false));
+    assert_small(&rt, read_slowly(rt.alloc(), text, 100, false));
+    assert_small(&rt, read(rt.alloc(), CANONICAL_TEXT));
+    let lines = with_returns(rt.alloc(), text)?;
+    assert_small(&rt, read(rt.alloc(), &lines));
+    Ok(())
+}
+
+#[test]
+fn a_cut_text_says_the_same_at_once_and_in_pieces(rt: HostRuntime) {
+    let text = SMALL_TEXT.as_bytes();
+    for end in 0..text.len() {
+        let at_once = fault(read(rt.alloc(), &text[..end]));
+        let slowly = fault(read_slowly(rt.alloc(), &text[..end], 1, false));
+        assert!(rt; at_once == slowly);
+    }
+}
+
+/// How many bytes the lines before this one have.
+fn front_of_lines(text: &[u8], lines: usize) -> usize {
+    let mut left = lines;
+    for (at, byte) in text.iter().enumerate() {
+        if left == 0 {
+            return at;
+        }
+        if *byte == b'\n' {
+            left -= 1;
+        }
+    }
+    0
+}
+
+#[test]
+fn a_text_is_cut_in_its_thirteenth_line(rt: HostRuntime) {
+    let text = SMALL_TEXT.as_bytes();
+    let front = text.len().min(front_of_lines(text, 12));
+    for (left, cause) in [
+        (b"0041  ; [.1000.".as_slice(), ReadCause::BadElement),
+        (b"0041  ; ", ReadCause::NoElement),
+        (b"0041", ReadCause::NoSemicolon),
+    ] {
+        assert!(rt; text[front..].starts_with(left));
+        let cut = text.len().min(front.saturating_add(left.len()));
+        assert_answer(&rt, rt.alloc(), &text[..cut], Some((13, cause)));
+    }
+}
+
+#[test]
+fn no_bytes_give_an_empty_table(rt: HostRuntime) {
+    let table = read(rt.alloc(), b"").expect(&rt, "a table");
+    assert!(rt; table.longest() == 1);
+    assert!(rt; table.entries().count() == 0);
+    assert!(rt; table.ranges().is_empty());
+}
+
+#[test]
+fn each_fault_of_an_entry_is_reported_at_its_line(rt: HostRuntime) {
+    for (text, answer) in [
+        (
+            "0061 ; [.1000.0020.0002]\n0062 ; [.1000.0020]",
+            Some((2, ReadCause::BadElement)),
+        ),
+        (
+            "0061 ; [.1000.0020.0002]\n0061 ; [.1001.0020.0002]",
+            Some((2, ReadCause::Repeated)),
+        ),
+        ("0061 ; [.1000.0020]", Some((1, ReadCause::BadElement))),
+        ("0061 ; # nothing", Some((1, ReadCause::NoElement))),
+        (
+            "0061 ; [.1000.0020.0002]\n0062 ;",
+            Some((2, ReadCause::NoElement)),
+        ),
+        (
+            "0061 ; [.1000.0020.0002]\n0062",
+            Some((2, ReadCause::NoSemicolon)),
+        ),
+        (
+            "0061 ; [.1000.0020.0002]\n00",
+            Some((2, ReadCause::BadCodePoint)),
+        ),
+        (
+            "0061 ; [.1000.0020.0002]\n0062 ; [.10",
+            Some((2, ReadCause::BadElement)),
+        ),
+        (
+            "\n# no key\n ; [.1000.0020.0002]",
+            Some((3, ReadCause::BadCodePoint)),
+        ),
+        (
+            "D800 ; [.1000.0020.0002]",
+            Some((1, ReadCause::BadCodePoint)),
+        ),
+        (
+            "110000 ; [.1000.0020.0002]",
+            Some((1, ReadCause::BadCodePoint)),
+        ),
+        (
+            "0000061 ; [.1000.0020.0002]",
+            Some((1, ReadCause::BadCodePoint)),
+        ),
+        (
+            "0061 006g ; [.1000.0020.0002]",
+            Some((1, ReadCause::BadCodePoint)),
+        ),
+        ("0061 ; [-1000.0020.0002]", Some((1, ReadCause::BadElement))),
+        (
+            "0061 ; [.1000.0020.0002.002]",
+            Some((1, ReadCause::BadElement)),
+        ),
+        (
+            "0061 ; [.1000.0020.0002.0020020]",
+            Some((1, ReadCause::BadElement)),
+        ),
+        (
+            "0061 ; [.1000.0020.0002 ]",
+            Some((1, ReadCause::BadElement)),
+        ),
+        (
+            "0061 ; [.1000.0020.0002] x",
+            Some((1, ReadCause::BadElement)),
+        ),
+        (
+            "0061 ; [.1000.0020.0002]\n0061 ; # nothing",
+            Some((2, ReadCause::NoElement)),
+        ),
+        (
+            "0061\t;\t[.1000.0020.0002.10FFFF][*abCD.0020.0002] \t # two\r\n",
+            None,
+        ),
+        ("10FFFF;[.1000.0020.0002] [.0000.0000.0002]", None),
+    ] {
+        assert_answer(&rt, rt.alloc(), text.as_bytes(), answer);
+    }
+}
+
+#[test]
+fn each_fault_of_a_directive_is_reported_at_its_line(rt: HostRuntime) {
+    for (text, answer) in [
+        (
+            "0061 ; [.1000.0020.0002]\n@variable shifted",
+            Some((2, ReadCause::BadDirective)),
+        ),
+        ("\n@variable shifted", Some((2, ReadCause::BadDirective))),
+        (
+            "@version 1\n@version 1\n",
+            Some((2, ReadCause::BadDirective)),
+        ),
+        ("@version \t# 1", Some((1, ReadCause::BadDirective))),
+        ("@implicitweights", Some((1, ReadCause::BadDirective))),
+        (
+            "@implicitweights 17;000",
+            Some((1, ReadCause::BadCodePoint)),
+        ),
+        ("@implicitweights 17000", Some((1, ReadCause::BadDirective))),
+        (
+            "@implicitweights 17000. .17001; FB00",
+            Some((1, ReadCause::BadDirective)),
+        ),
+        (
+            "@implicitweights 17000..D800; FB00",
+            Some((1, ReadCause::BadCodePoint)),
+        ),
+        (
+            "@implicitweights 17000..17001, FB00",
+            Some((1, ReadCause::BadCodePoint)),
+        ),
+        (
+            "@implicitweights 17000..17001 FB00",
+            Some((1, ReadCause::BadDirective)),
+        ),
+        (
+            "@implicitweights 17000..17001; FB0",
+            Some((1, ReadCause::BadDirective)),
+        ),
+        (
+            "@implicitweights 17000..17001; FB00 x",
+            Some((1, ReadCause::BadDirective)),
+        ),
+        (
+            "@implicitweights 17001..17000; FB00",
+            Some((1, ReadCause::BadRange)),
+        ),
+        (
+            " @implicitweights\t17000 .. 17001 ;fb00 \n@version \u{e9}",
+            None,
+        ),
+    ] {
+        assert_answer(&rt, rt.alloc(), text.as_bytes(), answer);
+    }
+}
+
+#[test]
+fn a_range_may_not_meet_those_before_it(rt: HostRuntime) -> Result<(), Fail> {
+    let bad = Some((2, ReadCause::BadRange));
+    for (text, answer) in [
+        (
+            "@implicitweights 17002..17003; FB01\n@implicitweights 17000..17002; FB00",
+            bad,
+        ),
+        (
+            "@implicitweights 17000..17000; FB00\n@implicitweights 1F000..1F000; FB00",
+            bad,
+        ),
+        (
+            "@implicitweights 17000..17002; FB00\n@implicitweights 17002..17003; FB01",
+            bad,
+        ),
+        (
+            "@implicitweights 20000..20000; FB00\n@implicitweights 17000..18000; FB00",
+            bad,
+        ),
+        (
+            "@implicitweights 17000..17000; FB00\n@implicitweights 1EFFF..1EFFF; FB00",
+            None,
+        ),
+        (
+            "@implicitweights 17000..17001; 7FFF",
+            Some((1, ReadCause::BadRange)),
+        ),
+    ] {
+        assert_answer(&rt, rt.alloc(), text.as_bytes(), answer);
+    }
+    let text = repeated(
+        rt.alloc(),
+        &[(SMALL_TEXT, 1), ("@implicitweights 17500..17600; FB01", 1)],
+    )?;
+    assert_answer(&rt, rt.alloc(), &text, Some((23, ReadCause::BadRange)));
+    Ok(())
+}
+
+#[test]
+fn limits_hold_to_the_byte(rt: HostRuntime) -> Result<(), Fail> {
+    let cases: [(&[(&str, usize)], Option<(u64, ReadCause)>); 11] = [
+        (&[("#", 1), ("x", 4_095), ("\n", 1)], None),
+        (
+            &[("#", 1), ("x", 4_096), ("\n", 1)],
+            Some((1, ReadCause::LineTooLong)),
+        ),
+        (&[("#", 1), ("x", 4_095)], None),
+        (
+            &[("\n", 2), ("x", 4_097)],
+            Some((3, ReadCause::LineTooLong)),
+        ),
+        (&[("#", 1), ("x", 4_094), ("\r\n", 1)], None),
+        (
+            &[("#", 1), ("x", 4_095), ("\r\n", 1)],
+            Some((1, ReadCause::LineTooLong)),
+        ),
+        (&[("0061 ", 33)], Some((1, ReadCause::KeyTooLong))),
+        (&[("0061 ", 32), (";", 1), ("[.1000.0020.0002]", 64)], None),
+        (
+            &[("0061 ;", 1), ("[.1000.0020.0002]", 65), ("\n", 1)],
+            Some((1, ReadCause::TooManyElements)),
+        ),
+        (
+            &[("0061 ", 32), ("xyz", 1)],
+            Some((1, ReadCause::BadCodePoint)),
+        ),
+        (
+            &[("0061 ;", 1), ("[.1000.0020.0002]", 64), ("[]", 1)],
+            Some((1, ReadCause::BadElement)),
+        ),
+    ];
+    for (pieces, answer) in cases {
+        let text = repeated(rt.alloc(), pieces)?;
+        assert_answer(&rt, rt.alloc(), &text, answer);
+    }
+    Ok(())
+}
+
+#[test]
+fn a_failure_of_the_reader_is_reported_at_its_line(rt: HostRuntime) {
+    for (text, answer) in [
+        ("0061 ; [.1000.0020.0002]\n", (2, ReadCause::Read)),
+        ("", (1, ReadCause::Read)),
+        ("0061 ; [.1000.0020.0002]\n0062", (2, ReadCause::Read)),
+        (
+            "0061 ; [.1000.0020.0002]\n0062\n",
+            (2, ReadCause::NoSemicolon),
+        ),
+    ] {
+        let found = fault(read_slowly(rt.alloc(), text.as_bytes(), 7, true));
+        assert!(rt; found == Some(answer));
+    }
+}
+
+#[test]
+fn a_line_without_end_is_refused(rt: HostRuntime) {
+    let found = fault(read_comments(rt.alloc(), usize::MAX, usize::MAX));
+    assert!(rt; found == Some((1, ReadCause::LineTooLong)));
+}
+
+#[test]
+fn lines_without_end_are_refused(rt: HostRuntime) {
+    for (width, line) in [(0, 67_108_865), (63, 1_048_577), (4_095, 16_385)] {
+        let found = fault(read_comments(rt.alloc(), width, usize::MAX));
+        assert!(rt; found == Some((line, ReadCause::TooLarge)));
+    }
+}
+
+#[test]
+fn the_limit_of_the_input_holds_to_the_byte(rt: HostRuntime) {
+    for (width, line) in [(4_095, 16_385), (4_096, 16_381)] {
+        let found = fault(read_comments(rt.alloc(), width, MAX_INPUT));
+        assert!(rt; found == None);
+        let found = fault(read_comments(rt.alloc(), width, MAX_INPUT + 1));
+        assert!(rt; found == Some((line, ReadCause::TooLarge)));
+    }
+}
+
+#[test]
+fn a_fault_before_anything_was_added_takes_no_memory(rt: HostRuntime) {
+    // Each is asked for once: where no growth is asked for, none can be refused.
+    for (text, answer) in [
+        ("0041", (1, ReadCause::NoSemicolon)),
+        ("0041 ;", (1, ReadCause::NoElement)),
+        ("D800 ; [.1.1.1]", (1, ReadCause::BadCodePoint)),
+        ("# none\n\n0041 ; [.1", (3, ReadCause::BadElement)),
+        (
+            "@version 17.0.0\n@version 17.0.0\n",
+            (2, ReadCause::BadDirective),
+        ),
+        (
+            "@implicitweights 17000..17001; 7FFF",
+            (1, ReadCause::BadRange),
+        ),
+    ] {
+        let found = fault(read_table(rt.alloc(), &mut Reading::new(text.as_bytes())));
+        assert!(rt; found == Some(answer), "{text:?}");
+    }
+    let mut failing = slow_reader(b"# none\n", 7, true);
+    let found = fault(read_table(rt.alloc(), &mut failing));
+    assert!(rt; found == Some((2, ReadCause::Read)));
+    let mut endless = comment_reader(usize::MAX, usize::MAX);
+    let found = fault(read_table(rt.alloc(), &mut endless));
+    assert!(rt; found == Some((1, ReadCause::LineTooLong)));
+}

@@ -1,0 +1,5 @@
+//! Tests of `uca_levels`. They stand in a crate of their own, so that the crate is not proved once more with them.
+#![tactic(auto)]
+
+#[cfg(test)]
+mod tests;

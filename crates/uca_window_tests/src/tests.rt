@@ -1,0 +1,3 @@
+mod passage;
+mod passage_source;
+mod window;
