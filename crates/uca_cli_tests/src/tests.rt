@@ -10,6 +10,7 @@ mod tables;
 
 use given::{Given, failing, output_refused, whole};
 use std::alloc::{AllocError, Global};
+use std::process::Abort;
 use std::test::Fail;
 use uca_allkeys::ReadCause;
 use uca_cli::{CliFault, InputCause, InputFault, Job, Task, perform, status_of};
@@ -94,53 +95,57 @@ fn input_refused(line: u64, at: usize, cause: InputCause) -> CliFault {
     CliFault::Input(InputFault { line, at, cause })
 }
 
+/// Inputs, and the keys of their lines.
+const LINE_KEYS: [(&'static [u8], &'static [u8]); 12] = [
+    (TWO_LINES, TWO_KEYS),
+    (
+        b"\xC3\xA0\n\n\xE4\xB8\x80\n",
+        b"10 00 00 00 00 20 00 21 00 00 00 02 00 02\n00 00 00 00\nFB 40 CE 00 00 00 00 20 00 00 00 02\n",
+    ),
+    (b"", b""),
+    (b"\n", b"00 00 00 00\n"),
+    (b"\n\n", b"00 00 00 00\n00 00 00 00\n"),
+    // A line ends at the end of the input too.
+    (b"a\nab", TWO_KEYS),
+    // One CR is not part of the line.
+    (b"a\r\nab\r\n", TWO_KEYS),
+    (b"a\nab\r", TWO_KEYS),
+    (b"\r", b"00 00 00 00\n"),
+    (b"\r\n", b"00 00 00 00\n"),
+    // Another CR is, and has an implicit weight.
+    (b"\r\r\n", b"FB C0 80 0D 00 00 00 20 00 00 00 02\n"),
+    (b"\r\r", b"FB C0 80 0D 00 00 00 20 00 00 00 02\n"),
+];
+
 #[test]
 fn each_line_gets_its_key(rt: HostRuntime) {
-    let cases: [(&[u8], &[u8]); 12] = [
-        (TWO_LINES, TWO_KEYS),
-        (
-            "\u{E0}\n\n\u{4E00}\n".as_bytes(),
-            b"10 00 00 00 00 20 00 21 00 00 00 02 00 02\n00 00 00 00\nFB 40 CE 00 00 00 00 20 00 00 00 02\n",
-        ),
-        (b"", b""),
-        (b"\n", b"00 00 00 00\n"),
-        (b"\n\n", b"00 00 00 00\n00 00 00 00\n"),
-        // A line ends at the end of the input too.
-        (b"a\nab", TWO_KEYS),
-        // One CR is not part of the line.
-        (b"a\r\nab\r\n", TWO_KEYS),
-        (b"a\nab\r", TWO_KEYS),
-        (b"\r", b"00 00 00 00\n"),
-        (b"\r\n", b"00 00 00 00\n"),
-        // Another CR is, and has an implicit weight.
-        (b"\r\r\n", b"FB C0 80 0D 00 00 00 20 00 00 00 02\n"),
-        (b"\r\r", b"FB C0 80 0D 00 00 00 20 00 00 00 02\n"),
-    ];
-    for (input, want) in cases {
+    for (input, want) in &LINE_KEYS {
         // From a reader of std, and in one piece.
         let mut writer = Expecting::new(want, want.len(), WriteCause::Failed);
-        let answer = perform_key(rt.alloc(), &mut Reading::new(input), &mut writer);
+        let answer = perform_key(rt.alloc(), &mut Reading::new(*input), &mut writer);
         assert!(rt; wants_memory(&answer) || (answer == Ok(0) && writer.left() == Some(0)));
         let given = Given::new(Task::Key, whole(input));
         assert!(rt; given.writes(&rt, rt.alloc(), want), "{input:?}");
     }
 }
 
+/// Inputs, and the line, the byte and the cause of the first fault.
+const FAULTY_LINES: [(&'static [u8], u64, usize, InputCause); 7] = [
+    (b"a\nb\xFF\n", 2, 1, InputCause::NotUtf8),
+    (b"a\nb\xFF", 2, 1, InputCause::NotUtf8),
+    (b"\r\n\n\xFF\r\n\xFF\xFF", 3, 0, InputCause::NotUtf8),
+    // A sequence of bytes that its line cuts off.
+    (b"ab\xC3\n\xA0", 1, 2, InputCause::NotUtf8),
+    (b"ab\xC3\r\n\xA0", 1, 2, InputCause::NotUtf8),
+    (b"\xED\xA0\x80", 1, 0, InputCause::NotUtf8),
+    (b"\xEF\xBB\xBF\xC0\x80", 1, 3, InputCause::NotUtf8),
+];
+
 #[test]
 fn the_first_faulty_line_is_reported_and_nothing_is_written(rt: HostRuntime) {
-    let cases: [(&[u8], u64, usize, InputCause); 7] = [
-        (b"a\nb\xFF\n", 2, 1, InputCause::NotUtf8),
-        (b"a\nb\xFF", 2, 1, InputCause::NotUtf8),
-        (b"\r\n\n\xFF\r\n\xFF\xFF", 3, 0, InputCause::NotUtf8),
-        // A sequence of bytes that its line cuts off.
-        (b"ab\xC3\n\xA0", 1, 2, InputCause::NotUtf8),
-        (b"ab\xC3\r\n\xA0", 1, 2, InputCause::NotUtf8),
-        (b"\xED\xA0\x80", 1, 0, InputCause::NotUtf8),
-        (b"\xEF\xBB\xBF\xC0\x80", 1, 3, InputCause::NotUtf8),
-    ];
-    for (input, line, at, cause) in cases {
+    for (input, line, at, cause) in &FAULTY_LINES {
         let given = Given::new(Task::Key, whole(input));
-        let fault = input_refused(line, at, cause);
+        let fault = input_refused(*line, *at, *cause);
         assert!(rt; given.is_refused(&rt, rt.alloc(), fault), "{input:?}");
     }
 }
@@ -154,19 +159,21 @@ fn after(alloc: Global, front: &[u8], text: &[u8], count: usize) -> Result<Vec<u
     Ok(out)
 }
 
+/// What stands before a run of so many marks, and the line and the byte of the fault.
+const LONG_RUNS: [(&'static [u8], usize, u64, usize); 3] = [
+    (b"a", 61, 1, 121),
+    (b"b\n\na", 61, 3, 121),
+    (b"a\n", 62, 2, 120),
+];
+
 #[test]
 fn a_long_run_is_reported_by_its_place_in_the_line(rt: HostRuntime) -> Result<(), Fail> {
     let acutes = "\u{301}".as_bytes();
     let alloc = rt.alloc();
-    let cases: [(&[u8], usize, u64, usize); 3] = [
-        (b"a", 61, 1, 121),
-        (b"b\n\na", 61, 3, 121),
-        (b"a\n", 62, 2, 120),
-    ];
-    for (front, count, line, at) in cases {
-        let input = after(alloc, front, acutes, count)?;
+    for (front, count, line, at) in &LONG_RUNS {
+        let input = after(alloc, front, acutes, *count)?;
         let given = Given::new(Task::Key, whole(&input));
-        let fault = input_refused(line, at, InputCause::LongRun);
+        let fault = input_refused(*line, *at, InputCause::LongRun);
         assert!(rt; given.is_refused(&rt, alloc, fault));
     }
     Ok(())
@@ -216,8 +223,8 @@ fn an_input_at_the_limit_is_read(rt: HostRuntime) {
 
 #[test]
 fn a_failed_read_is_reported(rt: HostRuntime) {
-    for (most, calls) in [(5, 0), (5, 1), (1, 3), (1, 5)] {
-        let given = Given::new(Task::Key, Pieces::new(TWO_LINES, most, calls));
+    for (most, calls) in &[(5, 0), (5, 1), (1, 3), (1, 5)] {
+        let given = Given::new(Task::Key, Pieces::new(TWO_LINES, *most, *calls));
         let fault = input_refused(0, 0, InputCause::Read);
         assert!(rt; given.is_refused(&rt, rt.alloc(), fault));
     }
@@ -225,8 +232,8 @@ fn a_failed_read_is_reported(rt: HostRuntime) {
 
 #[test]
 fn pieces_of_the_input_change_nothing(rt: HostRuntime) {
-    for most in [1, 2, 3, 5] {
-        let given = Given::new(Task::Key, Pieces::new(TWO_LINES, most, 100));
+    for most in &[1, 2, 3, 5] {
+        let given = Given::new(Task::Key, Pieces::new(TWO_LINES, *most, 100));
         assert!(rt; given.writes(&rt, rt.alloc(), TWO_KEYS), "{most} at once");
     }
 }
@@ -234,14 +241,7 @@ fn pieces_of_the_input_change_nothing(rt: HostRuntime) {
 #[test]
 fn a_writer_that_stops_gets_the_front(rt: HostRuntime) {
     let given = Given::new(Task::Key, whole(TWO_LINES));
-    for cause in [WriteCause::Failed, WriteCause::Zero] {
-        for room in 0..TWO_KEYS.len() {
-            assert!(rt;
-                given.stops_at(&rt, rt.alloc(), TWO_KEYS, room, cause),
-                "{room} bytes"
-            );
-        }
-    }
+    given.assert_front(&rt, rt.alloc(), TWO_KEYS);
 }
 
 #[test]
@@ -250,13 +250,8 @@ fn a_writer_may_stop_a_long_output(rt: HostRuntime) -> Result<(), Fail> {
     let input = repeated(alloc, TWO_LINES, 400)?;
     let output = repeated(alloc, TWO_KEYS, 400)?;
     let given = Given::new(Task::Key, whole(&input));
-    for cause in [WriteCause::Failed, WriteCause::Zero] {
-        for room in [0, 1, 8191, 8192, 8193, 16_384, 31_199] {
-            assert!(rt;
-                given.stops_at(&rt, alloc, &output, room, cause),
-                "{room} bytes"
-            );
-        }
+    for room in &[0, 1, 8191, 8192, 8193, 16_384, 31_199] {
+        given.assert_stop(&rt, alloc, &output, *room);
     }
     assert!(rt; given.writes(&rt, alloc, &output));
     Ok(())
@@ -272,105 +267,118 @@ fn lines_may_lie_across_the_pieces_read(rt: HostRuntime) -> Result<(), Fail> {
     Ok(())
 }
 
+/// Inputs, and the elements of their lines.
+const LINE_ELEMENTS: [(&'static [u8], &'static [u8]); 5] = [
+    (b"", b""),
+    (
+        b"ch\n\xE1\xBA\xA1\xCC\x81\n\n\xE4\xB8\x80-",
+        b"[.1007.0020.0002]\n[.1008.0020.0002][.0000.0024.0002]\n\n[.FB40.0020.0002][.CE00.0000.0000][*0202.0020.0002]\n",
+    ),
+    (b"a-", b"[.1000.0020.0002][*0202.0020.0002]\n"),
+    // One CR before LF is not part of the line, and another one is.
+    (
+        b"ab\n\r\nc\r\r\nd",
+        b"[.1000.0020.0002][.1001.0020.0002]\n\n[.1002.0020.0002][.FBC0.0020.0002][.800D.0000.0000]\n[.FBC0.0020.0002][.8064.0000.0000]\n",
+    ),
+    // A range of implicit weights, and a mark that is blocked.
+    (
+        b"\xF0\x98\xB4\x80\r\na\xCC\x80\xCC\x81",
+        b"[.FB00.0020.0002][.9D00.0000.0000]\n[.1000.0020.0002][.0000.0021.0002][.0000.0022.0002]\n",
+    ),
+];
+
 #[test]
 fn each_line_gets_its_elements(rt: HostRuntime) {
-    let cases: [(&[u8], &[u8]); 5] = [
-        (b"", b""),
-        (
-            "ch\n\u{1EA1}\u{301}\n\n\u{4E00}-".as_bytes(),
-            b"[.1007.0020.0002]\n[.1008.0020.0002][.0000.0024.0002]\n\n[.FB40.0020.0002][.CE00.0000.0000][*0202.0020.0002]\n",
-        ),
-        (b"a-", b"[.1000.0020.0002][*0202.0020.0002]\n"),
-        // One CR before LF is not part of the line, and another one is.
-        (
-            b"ab\n\r\nc\r\r\nd",
-            b"[.1000.0020.0002][.1001.0020.0002]\n\n[.1002.0020.0002][.FBC0.0020.0002][.800D.0000.0000]\n[.FBC0.0020.0002][.8064.0000.0000]\n",
-        ),
-        // A range of implicit weights, and a mark that is blocked.
-        (
-            "\u{18D00}\r\na\u{300}\u{301}".as_bytes(),
-            b"[.FB00.0020.0002][.9D00.0000.0000]\n[.1000.0020.0002][.0000.0021.0002][.0000.0022.0002]\n",
-        ),
-    ];
-    for (input, want) in cases {
+    for (input, want) in &LINE_ELEMENTS {
         let given = Given::new(Task::Elements, whole(input)).at(PLAIN);
         assert!(rt; given.writes(&rt, rt.alloc(), want), "{input:?}");
     }
 }
 
+const SECONDARY: Settings = Settings {
+    strength: Strength::Secondary,
+    weighting: Variable::NonIgnorable,
+};
+
+/// Settings, an input, and how each two lines that are neighbours compare.
+const NEIGHBOURS: [(Settings, &'static [u8], &'static [u8]); 6] = [
+    (PLAIN, b"a\r\nA\nb", b"less\nless\n"),
+    (SECONDARY, b"a\r\nA\nb", b"equal\nless\n"),
+    (PLAIN, b"ch\ncz\n\n", b"greater\ngreater\n"),
+    (PLAIN, b"", b""),
+    (PLAIN, b"a", b""),
+    (PLAIN, b"\n\n", b"equal\n"),
+];
+
 #[test]
 fn each_two_neighbours_are_compared(rt: HostRuntime) {
-    let secondary = Settings {
-        strength: Strength::Secondary,
-        weighting: Variable::NonIgnorable,
-    };
-    let cases: [(Settings, &[u8], &[u8]); 6] = [
-        (PLAIN, b"a\r\nA\nb", b"less\nless\n"),
-        (secondary, b"a\r\nA\nb", b"equal\nless\n"),
-        (PLAIN, b"ch\ncz\n\n", b"greater\ngreater\n"),
-        (PLAIN, b"", b""),
-        (PLAIN, b"a", b""),
-        (PLAIN, b"\n\n", b"equal\n"),
-    ];
-    for (settings, input, want) in cases {
-        let given = Given::new(Task::Compare, whole(input)).at(settings);
+    for (settings, input, want) in &NEIGHBOURS {
+        let given = Given::new(Task::Compare, whole(input)).at(*settings);
         assert!(rt; given.writes(&rt, rt.alloc(), want), "{input:?}");
     }
 }
+
+const PRIMARY: Settings = Settings {
+    strength: Strength::Primary,
+    weighting: Variable::NonIgnorable,
+};
+
+/// Settings, an input, and its lines in their order.
+const ORDERED_LINES: [(Settings, &'static [u8], &'static [u8]); 8] = [
+    (PLAIN, b"b\r\nA\na", b"a\nA\nb\n"),
+    (PLAIN, b"b\nA\na\nch\ncz", b"a\nA\nb\ncz\nch\n"),
+    (PRIMARY, b"b\nA\na\nch\ncz", b"A\na\nb\ncz\nch\n"),
+    // Lines of equal keys stay as they stood.
+    (PRIMARY, b"b\r\nA\na\nA", b"A\na\nA\nb\n"),
+    (PLAIN, b"ch\ncz\n\n", b"\ncz\nch\n"),
+    (PLAIN, b"", b""),
+    (PLAIN, b"a", b"a\n"),
+    (PLAIN, b"\n\n", b"\n\n"),
+];
 
 #[test]
 fn lines_go_out_in_the_order_of_their_keys(rt: HostRuntime) {
-    let primary = Settings {
-        strength: Strength::Primary,
-        weighting: Variable::NonIgnorable,
-    };
-    let cases: [(Settings, &[u8], &[u8]); 8] = [
-        (PLAIN, b"b\r\nA\na", b"a\nA\nb\n"),
-        (PLAIN, b"b\nA\na\nch\ncz", b"a\nA\nb\ncz\nch\n"),
-        (primary, b"b\nA\na\nch\ncz", b"A\na\nb\ncz\nch\n"),
-        // Lines of equal keys stay as they stood.
-        (primary, b"b\r\nA\na\nA", b"A\na\nA\nb\n"),
-        (PLAIN, b"ch\ncz\n\n", b"\ncz\nch\n"),
-        (PLAIN, b"", b""),
-        (PLAIN, b"a", b"a\n"),
-        (PLAIN, b"\n\n", b"\n\n"),
-    ];
-    for (settings, input, want) in cases {
-        let given = Given::new(Task::Order, whole(input)).at(settings);
+    for (settings, input, want) in &ORDERED_LINES {
+        let given = Given::new(Task::Order, whole(input)).at(*settings);
         assert!(rt; given.writes(&rt, rt.alloc(), want), "{input:?}");
     }
 }
 
+const SHIFTED: Settings = Settings {
+    strength: Strength::Quaternary,
+    weighting: Variable::Shifted,
+};
+
+const IDENTICAL: Settings = Settings {
+    strength: Strength::Identical,
+    weighting: Variable::NonIgnorable,
+};
+
+const BLANKED: Settings = Settings {
+    strength: Strength::Primary,
+    weighting: Variable::Blanked,
+};
+
+/// Settings, an input, and the keys of its lines.
+const KEYS_BY_SETTINGS: [(Settings, &'static [u8], &'static [u8]); 4] = [
+    (
+        SHIFTED,
+        b"a-b",
+        b"10 00 10 01 00 00 00 20 00 20 00 00 00 02 00 02 00 00 FF FF 02 02 FF FF\n",
+    ),
+    (
+        IDENTICAL,
+        b"a",
+        b"10 00 00 00 00 20 00 00 00 02 00 00 00 00 00 00 61\n",
+    ),
+    (IDENTICAL, b"\n", b"00 00 00 00 00 00 00 00\n"),
+    (BLANKED, b"a-b", b"10 00 10 01\n"),
+];
+
 #[test]
 fn settings_are_those_of_the_job(rt: HostRuntime) {
-    let shifted = Settings {
-        strength: Strength::Quaternary,
-        weighting: Variable::Shifted,
-    };
-    let identical = Settings {
-        strength: Strength::Identical,
-        weighting: Variable::NonIgnorable,
-    };
-    let blanked = Settings {
-        strength: Strength::Primary,
-        weighting: Variable::Blanked,
-    };
-    let cases: [(Settings, &[u8], &[u8]); 4] = [
-        (
-            shifted,
-            b"a-b",
-            b"10 00 10 01 00 00 00 20 00 20 00 00 00 02 00 02 00 00 FF FF 02 02 FF FF\n",
-        ),
-        (
-            identical,
-            b"a",
-            b"10 00 00 00 00 20 00 00 00 02 00 00 00 00 00 00 61\n",
-        ),
-        (identical, b"\n", b"00 00 00 00 00 00 00 00\n"),
-        (blanked, b"a-b", b"10 00 10 01\n"),
-    ];
-    for (settings, input, want) in cases {
-        let given = Given::new(Task::Key, whole(input)).at(settings);
+    for (settings, input, want) in &KEYS_BY_SETTINGS {
+        let given = Given::new(Task::Key, whole(input)).at(*settings);
         assert!(rt; given.writes(&rt, rt.alloc(), want), "{input:?}");
     }
 }
@@ -393,44 +401,75 @@ fn a_range_of_ideographs_is_that_of_the_job(rt: HostRuntime) {
     assert!(rt; refused.is_refused(&rt, alloc, CliFault::Ideographs));
 }
 
+/// Stops a test where a fault has another text, or another status than three.
+fn assert_text(
+    rt: &impl Abort,
+    alloc: Global,
+    fault: CliFault,
+    want: &str,
+) -> Result<(), AllocError> {
+    assert!(rt; status_of(&fault) == 3, "{want}");
+    assert!(rt; fault.to_string(alloc)?.as_str() == want, "{want}");
+    Ok(())
+}
+
 #[test]
 fn faults_have_their_texts_and_status_three(rt: HostRuntime) -> Result<(), Fail> {
-    let cases = [
-        (
-            input_refused(2, 1, InputCause::NotUtf8),
-            "uca: input line 2 byte 1: NotUtf8",
-        ),
-        (
-            input_refused(1, 61, InputCause::LongRun),
-            "uca: input line 1 byte 61: LongRun",
-        ),
-        (
-            input_refused(0, 0, InputCause::TooLarge),
-            "uca: input: TooLarge",
-        ),
-        (input_refused(0, 0, InputCause::Read), "uca: input: Read"),
-        (CliFault::Ideographs, "uca: ideographs: BadRange"),
-        (
-            input_refused(0, 0, InputCause::NotOneLine),
-            "uca: input: NotOneLine",
-        ),
-        (
-            input_refused(0, 0, InputCause::OutOfMemory),
-            "uca: OutOfMemory",
-        ),
-        (
-            output_refused(3, WriteCause::Failed),
-            "uca: output byte 3: Failed",
-        ),
-        (
-            output_refused(0, WriteCause::Zero),
-            "uca: output byte 0: Zero",
-        ),
-        (CliFault::OutOfMemory, "uca: OutOfMemory"),
-    ];
-    for (fault, want) in cases {
-        assert!(rt; status_of(&fault) == 3, "{fault:?}");
-        assert!(rt; fault.to_string(rt.alloc())?.as_str() == want);
-    }
+    let alloc = rt.alloc();
+    assert_text(
+        &rt,
+        alloc,
+        input_refused(2, 1, InputCause::NotUtf8),
+        "uca: input line 2 byte 1: NotUtf8",
+    )?;
+    assert_text(
+        &rt,
+        alloc,
+        input_refused(1, 61, InputCause::LongRun),
+        "uca: input line 1 byte 61: LongRun",
+    )?;
+    assert_text(
+        &rt,
+        alloc,
+        input_refused(0, 0, InputCause::TooLarge),
+        "uca: input: TooLarge",
+    )?;
+    assert_text(
+        &rt,
+        alloc,
+        input_refused(0, 0, InputCause::Read),
+        "uca: input: Read",
+    )?;
+    assert_text(
+        &rt,
+        alloc,
+        CliFault::Ideographs,
+        "uca: ideographs: BadRange",
+    )?;
+    assert_text(
+        &rt,
+        alloc,
+        input_refused(0, 0, InputCause::NotOneLine),
+        "uca: input: NotOneLine",
+    )?;
+    assert_text(
+        &rt,
+        alloc,
+        input_refused(0, 0, InputCause::OutOfMemory),
+        "uca: OutOfMemory",
+    )?;
+    assert_text(
+        &rt,
+        alloc,
+        output_refused(3, WriteCause::Failed),
+        "uca: output byte 3: Failed",
+    )?;
+    assert_text(
+        &rt,
+        alloc,
+        output_refused(0, WriteCause::Zero),
+        "uca: output byte 0: Zero",
+    )?;
+    assert_text(&rt, alloc, CliFault::OutOfMemory, "uca: OutOfMemory")?;
     Ok(())
 }

@@ -1,10 +1,11 @@
 use std::alloc::{AllocError, Global};
+use std::process::Abort;
 use std::test::Fail;
 use uca_job::{Job, JobFault, Task, job_of};
 use uca_weights::{Strength, Variable};
 
 /// The commands by their names.
-const COMMANDS: [(&str, Task); 7] = [
+static COMMANDS: [(&str, Task); 7] = [
     ("elements", Task::Elements),
     ("key", Task::Key),
     ("compare", Task::Compare),
@@ -14,22 +15,49 @@ const COMMANDS: [(&str, Task); 7] = [
     ("table", Task::Table),
 ];
 
-// The job of a command with these settings, and with the built-in table.
-fn job_at(command: Task, strength: Strength, weighting: Variable) -> Job {
-    Job {
-        command,
-        strength,
-        weighting,
+/// What an option of the command line sets.
+#[derive(Clone, Copy)]
+enum Setting {
+    Strength(Strength),
+    Weighting(Variable),
+    Raw,
+    Table(&'static str),
+    Rules(&'static str),
+    Ideographs(char, char),
+}
+
+/// What a job has besides its command.
+#[derive(Clone, Copy)]
+struct Options {
+    strength: Strength,
+    weighting: Variable,
+    raw: bool,
+    table: Option<&'static str>,
+    rules: Option<&'static str>,
+    ideographs: Option<(char, char)>,
+}
+
+// What a command has with these settings, and with the built-in table where none of them names another.
+fn options_with(settings: &[Setting]) -> Options {
+    let mut options = Options {
+        strength: Strength::Tertiary,
+        weighting: Variable::NonIgnorable,
         raw: false,
         table: None,
         rules: None,
         ideographs: None,
+    };
+    for setting in settings {
+        match *setting {
+            Setting::Strength(strength) => options.strength = strength,
+            Setting::Weighting(weighting) => options.weighting = weighting,
+            Setting::Raw => options.raw = true,
+            Setting::Table(path) => options.table = Some(path),
+            Setting::Rules(path) => options.rules = Some(path),
+            Setting::Ideographs(first, last) => options.ideographs = Some((first, last)),
+        }
     }
-}
-
-// The job of a command without options.
-fn plain_job(command: Task) -> Job {
-    job_at(command, Strength::Tertiary, Variable::NonIgnorable)
+    options
 }
 
 // Asks once more where memory was refused.
@@ -62,6 +90,30 @@ fn job_after(
     Ok(job_again(alloc, &words))
 }
 
+// The answer is a job, and has this command and these options.
+fn is_job(answer: Result<Job, JobFault>, task: Task, options: &Options) -> bool {
+    let Ok(job) = answer else {
+        return false;
+    };
+    // Each field is named, so that a further one can't be left out.
+    let Job {
+        command,
+        strength,
+        weighting,
+        raw,
+        table,
+        rules,
+        ideographs,
+    } = &job;
+    *command == task
+        && *strength == options.strength
+        && *weighting == options.weighting
+        && *raw == options.raw
+        && table.as_deref() == options.table
+        && rules.as_deref() == options.rules
+        && *ideographs == options.ideographs
+}
+
 // The answer is a text for the user, and no allocation failure.
 fn is_refusal(answer: Result<Job, JobFault>) -> bool {
     match answer {
@@ -70,163 +122,205 @@ fn is_refusal(answer: Result<Job, JobFault>) -> bool {
     }
 }
 
-// Whether a line of words is refused.
-fn is_refused(alloc: Global, line: &str) -> Result<bool, AllocError> {
-    Ok(is_refusal(job_by(alloc, line)?))
+// Looks at what a line of words asks for.
+fn assert_asks(
+    rt: &impl Abort,
+    alloc: Global,
+    line: &str,
+    command: Task,
+    settings: &[Setting],
+) -> Result<(), Fail> {
+    let answer = job_by(alloc, line)?;
+    assert!(rt; is_job(answer, command, &options_with(settings)), "{line}");
+    Ok(())
 }
 
-// Whether a line of words is refused after a command.
-fn is_refused_after(alloc: Global, command: &str, line: &str) -> Result<bool, AllocError> {
-    Ok(is_refusal(job_after(alloc, command, line)?))
+// Looks at what a line of words asks for after each command.
+fn assert_each_asks(
+    rt: &impl Abort,
+    alloc: Global,
+    line: &str,
+    options: &Options,
+) -> Result<(), Fail> {
+    for (name, command) in &COMMANDS {
+        let answer = job_after(alloc, name, line)?;
+        assert!(rt; is_job(answer, *command, options), "{name} {line}");
+    }
+    Ok(())
 }
 
-// Whether a line of words asks for this job.
-fn asks_for(alloc: Global, line: &str, job: Job) -> Result<bool, AllocError> {
-    Ok(job_by(alloc, line)? == Ok(job))
+// Looks at whether each command takes each of these words, and has what they set.
+fn assert_each_takes(rt: &impl Abort, alloc: Global, rows: &[(&str, Setting)]) -> Result<(), Fail> {
+    for (line, setting) in rows {
+        assert_each_asks(rt, alloc, line, &options_with(&[*setting]))?;
+    }
+    Ok(())
 }
 
-// Whether a command and a line of words after it ask for this job.
-fn asks_for_after(alloc: Global, command: &str, line: &str, job: Job) -> Result<bool, AllocError> {
-    Ok(job_after(alloc, command, line)? == Ok(job))
+// Looks at whether each line of words is refused.
+fn assert_refused(rt: &impl Abort, alloc: Global, lines: &[&str]) -> Result<(), Fail> {
+    for line in lines {
+        assert!(rt; is_refusal(job_by(alloc, line)?), "{line}");
+    }
+    Ok(())
+}
+
+// Looks at whether each line of words is refused after this command.
+fn assert_refused_after(
+    rt: &impl Abort,
+    alloc: Global,
+    command: &str,
+    lines: &[&str],
+) -> Result<(), Fail> {
+    for line in lines {
+        assert!(rt;
+            is_refusal(job_after(alloc, command, line)?),
+            "{command} {line}"
+        );
+    }
+    Ok(())
+}
+
+// Looks at whether each line of words is refused after each command.
+fn assert_each_refuses(rt: &impl Abort, alloc: Global, lines: &[&str]) -> Result<(), Fail> {
+    for (name, _) in &COMMANDS {
+        assert_refused_after(rt, alloc, name, lines)?;
+    }
+    Ok(())
+}
+
+// Looks at the text that a fault shows.
+fn assert_shows(
+    rt: &impl Abort,
+    alloc: Global,
+    fault: &JobFault,
+    wanted: &str,
+) -> Result<(), Fail> {
+    let text = fault.to_string(alloc)?;
+    assert!(rt; text.as_str() == wanted, "{text}");
+    Ok(())
 }
 
 #[test]
 fn a_command_alone_has_the_defaults(rt: HostRuntime) -> Result<(), Fail> {
-    for (name, command) in COMMANDS {
-        assert!(rt; asks_for(rt.alloc(), name, plain_job(command))?, "{name}");
+    for (name, command) in &COMMANDS {
+        assert_asks(&rt, rt.alloc(), name, *command, &[])?;
     }
     Ok(())
 }
 
 /// Options that ask for a strength.
-const STRENGTHS: [(&str, Strength); 10] = [
-    ("--strength|primary", Strength::Primary),
-    ("--strength=primary", Strength::Primary),
-    ("--strength|secondary", Strength::Secondary),
-    ("--strength=secondary", Strength::Secondary),
-    ("--strength|tertiary", Strength::Tertiary),
-    ("--strength=tertiary", Strength::Tertiary),
-    ("--strength|quaternary", Strength::Quaternary),
-    ("--strength=quaternary", Strength::Quaternary),
-    ("--strength|identical", Strength::Identical),
-    ("--strength=identical", Strength::Identical),
+static STRENGTHS: [(&str, Setting); 10] = [
+    ("--strength|primary", Setting::Strength(Strength::Primary)),
+    ("--strength=primary", Setting::Strength(Strength::Primary)),
+    (
+        "--strength|secondary",
+        Setting::Strength(Strength::Secondary),
+    ),
+    (
+        "--strength=secondary",
+        Setting::Strength(Strength::Secondary),
+    ),
+    ("--strength|tertiary", Setting::Strength(Strength::Tertiary)),
+    ("--strength=tertiary", Setting::Strength(Strength::Tertiary)),
+    (
+        "--strength|quaternary",
+        Setting::Strength(Strength::Quaternary),
+    ),
+    (
+        "--strength=quaternary",
+        Setting::Strength(Strength::Quaternary),
+    ),
+    (
+        "--strength|identical",
+        Setting::Strength(Strength::Identical),
+    ),
+    (
+        "--strength=identical",
+        Setting::Strength(Strength::Identical),
+    ),
 ];
 
 #[test]
 fn each_command_takes_each_strength(rt: HostRuntime) -> Result<(), Fail> {
-    for (name, command) in COMMANDS {
-        for (line, strength) in STRENGTHS {
-            let job = job_at(command, strength, Variable::NonIgnorable);
-            assert!(rt;
-                asks_for_after(rt.alloc(), name, line, job)?,
-                "{name} {line}"
-            );
-        }
-    }
-    Ok(())
+    assert_each_takes(&rt, rt.alloc(), &STRENGTHS)
 }
 
 /// Options that ask for a weighting of variable elements.
-const WEIGHTINGS: [(&str, Variable); 6] = [
-    ("--variable|non-ignorable", Variable::NonIgnorable),
-    ("--variable=non-ignorable", Variable::NonIgnorable),
-    ("--variable|blanked", Variable::Blanked),
-    ("--variable=blanked", Variable::Blanked),
-    ("--variable|shifted", Variable::Shifted),
-    ("--variable=shifted", Variable::Shifted),
+static WEIGHTINGS: [(&str, Setting); 6] = [
+    (
+        "--variable|non-ignorable",
+        Setting::Weighting(Variable::NonIgnorable),
+    ),
+    (
+        "--variable=non-ignorable",
+        Setting::Weighting(Variable::NonIgnorable),
+    ),
+    ("--variable|blanked", Setting::Weighting(Variable::Blanked)),
+    ("--variable=blanked", Setting::Weighting(Variable::Blanked)),
+    ("--variable|shifted", Setting::Weighting(Variable::Shifted)),
+    ("--variable=shifted", Setting::Weighting(Variable::Shifted)),
 ];
 
 #[test]
 fn each_command_takes_each_weighting(rt: HostRuntime) -> Result<(), Fail> {
-    for (name, command) in COMMANDS {
-        for (line, weighting) in WEIGHTINGS {
-            let job = job_at(command, Strength::Tertiary, weighting);
-            assert!(rt;
-                asks_for_after(rt.alloc(), name, line, job)?,
-                "{name} {line}"
-            );
-        }
-    }
-    Ok(())
-}
-
-// The job of a command with the table in the file of this name.
-fn job_with_table(alloc: Global, command: Task, path: &str) -> Result<Job, AllocError> {
-    let mut job = plain_job(command);
-    job.table = Some(String::from_str(alloc, path)?);
-    Ok(job)
-}
-
-// The job of a command with the rules in the file of this name.
-fn job_with_rules(alloc: Global, command: Task, path: &str) -> Result<Job, AllocError> {
-    let mut job = plain_job(command);
-    job.rules = Some(String::from_str(alloc, path)?);
-    Ok(job)
+    assert_each_takes(&rt, rt.alloc(), &WEIGHTINGS)
 }
 
 /// Options that ask for a table, and its path.
-const TABLES: [(&str, &str); 5] = [
-    ("--table|a b.txt", "a b.txt"),
-    ("--table=F", "F"),
-    ("--table|table", "table"),
-    ("--table=", ""),
+static TABLES: [(&str, Setting); 5] = [
+    ("--table|a b.txt", Setting::Table("a b.txt")),
+    ("--table=F", Setting::Table("F")),
+    ("--table|table", Setting::Table("table")),
+    ("--table=", Setting::Table("")),
     // A value may be spelled like a flag.
-    ("--table=--raw", "--raw"),
+    ("--table=--raw", Setting::Table("--raw")),
 ];
 
 #[test]
 fn each_command_has_the_path_of_its_table(rt: HostRuntime) -> Result<(), Fail> {
-    let alloc = rt.alloc();
-    for (name, command) in COMMANDS {
-        for (line, path) in TABLES {
-            let job = job_with_table(alloc, command, path)?;
-            assert!(rt; asks_for_after(alloc, name, line, job)?, "{name} {line}");
-        }
-    }
-    Ok(())
+    assert_each_takes(&rt, rt.alloc(), &TABLES)
 }
 
 /// Options that ask for rules, and their path.
-const RULES: [(&str, &str); 2] = [("--rules|a b.txt", "a b.txt"), ("--rules=F", "F")];
+static RULES: [(&str, Setting); 2] = [
+    ("--rules|a b.txt", Setting::Rules("a b.txt")),
+    ("--rules=F", Setting::Rules("F")),
+];
 
 #[test]
 fn each_command_has_the_path_of_its_rules(rt: HostRuntime) -> Result<(), Fail> {
-    let alloc = rt.alloc();
-    for (name, command) in COMMANDS {
-        for (line, path) in RULES {
-            let job = job_with_rules(alloc, command, path)?;
-            assert!(rt; asks_for_after(alloc, name, line, job)?, "{name} {line}");
-        }
-    }
-    Ok(())
+    assert_each_takes(&rt, rt.alloc(), &RULES)
 }
 
 /// Values of `--ideographs`, and the range that each spells.
-const RANGES: [(&str, (char, char)); 4] = [
-    ("--ideographs|323B0..33479", ('\u{323B0}', '\u{33479}')),
-    ("--ideographs|0061..10ffff", ('a', '\u{10FFFF}')),
+static RANGES: [(&str, Setting); 4] = [
+    (
+        "--ideographs|323B0..33479",
+        Setting::Ideographs('\u{323B0}', '\u{33479}'),
+    ),
+    (
+        "--ideographs|0061..10ffff",
+        Setting::Ideographs('a', '\u{10FFFF}'),
+    ),
     // Its ends may stand the wrong way round: the table refuses that.
-    ("--ideographs|4E01..04E00", ('\u{4E01}', '\u{4E00}')),
-    ("--ideographs|E000..D7FF", ('\u{E000}', '\u{D7FF}')),
+    (
+        "--ideographs|4E01..04E00",
+        Setting::Ideographs('\u{4E01}', '\u{4E00}'),
+    ),
+    (
+        "--ideographs|E000..D7FF",
+        Setting::Ideographs('\u{E000}', '\u{D7FF}'),
+    ),
 ];
 
 #[test]
 fn each_command_takes_a_range_of_ideographs(rt: HostRuntime) -> Result<(), Fail> {
-    for (name, command) in COMMANDS {
-        for (line, range) in RANGES {
-            let mut job = plain_job(command);
-            job.ideographs = Some(range);
-            assert!(rt;
-                asks_for_after(rt.alloc(), name, line, job)?,
-                "{name} {line}"
-            );
-        }
-    }
-    Ok(())
+    assert_each_takes(&rt, rt.alloc(), &RANGES)
 }
 
 /// Values of `--ideographs` that spell no range.
-const NO_RANGES: [&str; 19] = [
+static NO_RANGES: [&str; 19] = [
     "",
     "..",
     "323B0",
@@ -248,62 +342,80 @@ const NO_RANGES: [&str; 19] = [
     "0061,.0062",
 ];
 
+// Looks at whether a value of `--ideographs` is refused.
+fn assert_no_range(rt: &impl Abort, alloc: Global, value: &str) {
+    let answer = job_again(alloc, &["key", "--ideographs", value]);
+    assert!(rt; matches!(answer, Err(JobFault::BadIdeographs)), "{value:?}");
+}
+
 #[test]
 fn a_value_that_spells_no_range_is_refused(rt: HostRuntime) -> Result<(), Fail> {
     let alloc = rt.alloc();
-    for value in NO_RANGES {
-        let fault = job_again(alloc, &["key", "--ideographs", value]);
-        assert!(rt; fault == Err(JobFault::BadIdeographs), "{value:?}");
+    for value in &NO_RANGES {
+        assert_no_range(&rt, alloc, value);
     }
-    let text = JobFault::BadIdeographs.to_string(alloc)?;
-    assert_eq!(rt; text.as_str(), "uca: --ideographs: BadIdeographs");
-    Ok(())
+    assert_shows(
+        &rt,
+        alloc,
+        &JobFault::BadIdeographs,
+        "uca: --ideographs: BadIdeographs",
+    )
 }
+
+/// Words with a value that spells no range, or with none, and with another mistake.
+static OTHER_MISTAKES: [&str; 3] = [
+    "key|--ideographs|x|--strength|third",
+    "key|--ideographs|0061..0062|--ideographs|0061..0062",
+    "key|--ideographs",
+];
 
 #[test]
 fn other_mistakes_come_before_a_value_that_spells_no_range(rt: HostRuntime) -> Result<(), Fail> {
-    let alloc = rt.alloc();
-    assert!(rt; is_refused(alloc, "key|--ideographs|x|--strength|third")?);
-    assert!(rt; is_refused(alloc, "key|--ideographs|0061..0062|--ideographs|0061..0062")?);
-    assert!(rt; is_refused(alloc, "key|--ideographs")?);
-    Ok(())
+    assert_refused(&rt, rt.alloc(), &OTHER_MISTAKES)
 }
 
 /// The words of one job in several orders.
-const ORDERS: [&str; 3] = [
+static ORDERS: [&str; 3] = [
     "key|--variable|shifted|--strength|quaternary",
     "key|--strength|quaternary|--variable|shifted",
     "key|--strength=quaternary|--variable=shifted|--",
 ];
 
+/// What they ask for.
+static ORDERED: [Setting; 2] = [
+    Setting::Strength(Strength::Quaternary),
+    Setting::Weighting(Variable::Shifted),
+];
+
 #[test]
 fn options_come_in_any_order(rt: HostRuntime) -> Result<(), Fail> {
-    for line in ORDERS {
-        let job = job_at(Task::Key, Strength::Quaternary, Variable::Shifted);
-        assert!(rt; asks_for(rt.alloc(), line, job)?, "{line}");
+    for line in &ORDERS {
+        assert_asks(&rt, rt.alloc(), line, Task::Key, &ORDERED)?;
     }
     Ok(())
 }
 
+/// A strength, a weighting, a table and rules.
+static ALL_AT_ONCE: [Setting; 4] = [
+    Setting::Strength(Strength::Primary),
+    Setting::Weighting(Variable::Blanked),
+    Setting::Table("F"),
+    Setting::Rules("G"),
+];
+
 #[test]
 fn a_job_has_all_options_at_once(rt: HostRuntime) -> Result<(), Fail> {
-    let alloc = rt.alloc();
-    let mut job = job_at(Task::Elements, Strength::Primary, Variable::Blanked);
-    job.table = Some(String::from_str(alloc, "F")?);
-    job.rules = Some(String::from_str(alloc, "G")?);
     let line = "elements|--rules=G|--variable=blanked|--table=F|--strength=primary";
-    assert!(rt; asks_for(alloc, line, job)?);
-    Ok(())
+    assert_asks(&rt, rt.alloc(), line, Task::Elements, &ALL_AT_ONCE)
 }
 
 #[test]
 fn clap_takes_a_lone_double_dash(rt: HostRuntime) -> Result<(), Fail> {
-    assert!(rt; asks_for(rt.alloc(), "key|--", plain_job(Task::Key))?);
-    Ok(())
+    assert_asks(&rt, rt.alloc(), "key|--", Task::Key, &[])
 }
 
 /// Words without a command, or with a command after an option.
-const NO_COMMANDS: [&str; 11] = [
+static NO_COMMANDS: [&str; 11] = [
     "",
     "sort",
     "sort|--strength|primary",
@@ -321,14 +433,11 @@ const NO_COMMANDS: [&str; 11] = [
 fn words_without_a_command_are_refused(rt: HostRuntime) -> Result<(), Fail> {
     let alloc = rt.alloc();
     assert!(rt; is_refusal(job_again(alloc, &[])));
-    for line in NO_COMMANDS {
-        assert!(rt; is_refused(alloc, line)?, "{line}");
-    }
-    Ok(())
+    assert_refused(&rt, alloc, &NO_COMMANDS)
 }
 
 /// Words that ask for help.
-const HELP: [&str; 10] = [
+static HELP: [&str; 10] = [
     "--help",
     "-h",
     "help",
@@ -343,14 +452,11 @@ const HELP: [&str; 10] = [
 
 #[test]
 fn requests_for_help_are_refused(rt: HostRuntime) -> Result<(), Fail> {
-    for line in HELP {
-        assert!(rt; is_refused(rt.alloc(), line)?, "{line}");
-    }
-    Ok(())
+    assert_refused(&rt, rt.alloc(), &HELP)
 }
 
 /// Options with values that no option has.
-const OTHER_VALUES: [&str; 11] = [
+static OTHER_VALUES: [&str; 11] = [
     "--strength|third",
     "--strength|Primary",
     "--strength|",
@@ -365,7 +471,7 @@ const OTHER_VALUES: [&str; 11] = [
 ];
 
 /// Words that no command takes.
-const OTHER_WORDS: [&str; 18] = [
+static OTHER_WORDS: [&str; 18] = [
     "extra",
     "key",
     "--|extra",
@@ -388,26 +494,16 @@ const OTHER_WORDS: [&str; 18] = [
 
 #[test]
 fn other_values_are_refused(rt: HostRuntime) -> Result<(), Fail> {
-    for (name, _) in COMMANDS {
-        for line in OTHER_VALUES {
-            assert!(rt; is_refused_after(rt.alloc(), name, line)?, "{name} {line}");
-        }
-    }
-    Ok(())
+    assert_each_refuses(&rt, rt.alloc(), &OTHER_VALUES)
 }
 
 #[test]
 fn other_words_after_a_command_are_refused(rt: HostRuntime) -> Result<(), Fail> {
-    for (name, _) in COMMANDS {
-        for line in OTHER_WORDS {
-            assert!(rt; is_refused_after(rt.alloc(), name, line)?, "{name} {line}");
-        }
-    }
-    Ok(())
+    assert_each_refuses(&rt, rt.alloc(), &OTHER_WORDS)
 }
 
 /// Words with the flag `--raw` at which no command has it, or not so.
-const OTHER_FLAGS: [&str; 10] = [
+static OTHER_FLAGS: [&str; 10] = [
     "key|--raw|--raw",
     "key|--raw|true",
     "key|--raw=",
@@ -420,25 +516,26 @@ const OTHER_FLAGS: [&str; 10] = [
     "table|--raw",
 ];
 
+/// Words that ask for the key as its bytes.
+static RAW_KEYS: [&str; 2] = [
+    "key|--raw|--strength|primary",
+    "key|--strength=primary|--raw",
+];
+
+/// What they ask for.
+static RAW: [Setting; 2] = [Setting::Strength(Strength::Primary), Setting::Raw];
+
 #[test]
 fn the_key_may_be_asked_for_as_its_bytes(rt: HostRuntime) -> Result<(), Fail> {
     let alloc = rt.alloc();
-    for line in [
-        "key|--raw|--strength|primary",
-        "key|--strength=primary|--raw",
-    ] {
-        let mut job = job_at(Task::Key, Strength::Primary, Variable::NonIgnorable);
-        job.raw = true;
-        assert!(rt; asks_for(alloc, line, job)?, "{line}");
+    for line in &RAW_KEYS {
+        assert_asks(&rt, alloc, line, Task::Key, &RAW)?;
     }
-    for line in OTHER_FLAGS {
-        assert!(rt; is_refused(alloc, line)?, "{line}");
-    }
-    Ok(())
+    assert_refused(&rt, alloc, &OTHER_FLAGS)
 }
 
 /// Words for a test where each growth is refused in turn: the answer after a refusal is the same too.
-const ANY_WORDS: [&str; 8] = [
+static ANY_WORDS: [&str; 8] = [
     "key",
     "order|--strength|primary",
     "lint|--rules=F",
@@ -449,55 +546,61 @@ const ANY_WORDS: [&str; 8] = [
     "--help",
 ];
 
+// Whether words have the same answer twice.
+fn is_same_twice(alloc: Global, words: &[&str]) -> bool {
+    job_again(alloc, words) == job_again(alloc, words)
+}
+
 #[test]
 fn a_refused_growth_changes_no_answer(rt: HostRuntime) -> Result<(), Fail> {
-    let alloc = rt.alloc();
-    for line in ANY_WORDS {
-        let words = words_of(alloc, line)?;
-        assert!(rt;
-            job_again(alloc, &words) == job_again(alloc, &words),
-            "{line}"
-        );
+    for line in &ANY_WORDS {
+        let words = words_of(rt.alloc(), line)?;
+        assert!(rt; is_same_twice(rt.alloc(), &words), "{line}");
     }
     Ok(())
 }
 
-// What the refusal of the words shows.
-fn shown(alloc: Global, line: &str) -> Result<String, Fail> {
+// Looks at the text that the refusal of a line of words shows.
+fn assert_refused_with(
+    rt: &impl Abort,
+    alloc: Global,
+    line: &str,
+    wanted: &str,
+) -> Result<(), Fail> {
     match job_by(alloc, line)? {
-        Ok(_) => Ok(String::new(alloc)),
-        Err(fault) => Ok(fault.to_string(alloc)?),
+        Ok(_) => assert!(rt; false, "{line}"),
+        Err(fault) => assert_shows(rt, alloc, &fault, wanted)?,
     }
+    Ok(())
 }
 
 #[test]
 fn a_refusal_shows_the_text_of_clap(rt: HostRuntime) -> Result<(), Fail> {
-    let text = shown(rt.alloc(), "key|extra")?;
-    assert_eq!(rt;
-        text.as_str(),
-        "error: unexpected argument 'extra' found\n\nUsage: uca key [OPTIONS]\n\nFor more information, try '--help'."
-    );
-    Ok(())
+    assert_refused_with(
+        &rt,
+        rt.alloc(),
+        "key|extra",
+        "error: unexpected argument 'extra' found\n\nUsage: uca key [OPTIONS]\n\nFor more information, try '--help'.",
+    )
 }
 
 #[test]
 fn a_refused_value_shows_the_allowed_names(rt: HostRuntime) -> Result<(), Fail> {
-    let text = shown(rt.alloc(), "key|--strength|0")?;
-    assert_eq!(rt;
-        text.as_str(),
-        "error: invalid value '0' for '--strength <S>'\n  [possible values: primary, secondary, tertiary, quaternary, identical]\n\nFor more information, try '--help'."
-    );
-    let text = shown(rt.alloc(), "table|--variable=0")?;
-    assert_eq!(rt;
-        text.as_str(),
-        "error: invalid value '0' for '--variable <V>'\n  [possible values: non-ignorable, blanked, shifted]\n\nFor more information, try '--help'."
-    );
-    Ok(())
+    assert_refused_with(
+        &rt,
+        rt.alloc(),
+        "key|--strength|0",
+        "error: invalid value '0' for '--strength <S>'\n  [possible values: primary, secondary, tertiary, quaternary, identical]\n\nFor more information, try '--help'.",
+    )?;
+    assert_refused_with(
+        &rt,
+        rt.alloc(),
+        "table|--variable=0",
+        "error: invalid value '0' for '--variable <V>'\n  [possible values: non-ignorable, blanked, shifted]\n\nFor more information, try '--help'.",
+    )
 }
 
 #[test]
 fn an_allocation_failure_shows_its_name(rt: HostRuntime) -> Result<(), Fail> {
-    let shown = JobFault::OutOfMemory.to_string(rt.alloc())?;
-    assert_eq!(rt; shown.as_str(), "uca: OutOfMemory");
-    Ok(())
+    assert_shows(&rt, rt.alloc(), &JobFault::OutOfMemory, "uca: OutOfMemory")
 }

@@ -8,40 +8,14 @@ use std::process::Abort;
 use std::test::Fail;
 use uca_levels::{Points, Weights, compare, compare_sources};
 use uca_match::Elements;
-use uca_table::{InsertFault, Table, TableBuilder};
-use uca_testing::{SMALL_TABLE, element};
-use uca_weights::{Element, Settings, Strength, Variable};
+use uca_table::Table;
+use uca_testing::{small_table, table_from};
+use uca_weights::{Settings, Strength, Variable};
 use uca_window::{Passage, PassageSource, Source, Window};
-
-/// Inserts an entry, once more where memory was refused.
-fn insert(rt: &impl Abort, builder: &mut TableBuilder, key: &[char], elements: &[Element]) {
-    let inserted = match builder.insert(key, elements) {
-        Err(InsertFault::OutOfMemory) => builder.insert(key, elements),
-        answer => answer,
-    };
-    assert!(rt; inserted == Ok(()));
-}
-
-/// A builder that has the entries of the small table.
-fn builder(rt: &impl Abort, alloc: Global) -> TableBuilder {
-    let mut builder = TableBuilder::new(alloc);
-    for (key, starred, weights) in SMALL_TABLE {
-        insert(rt, &mut builder, key, &[element(starred, weights)]);
-    }
-    builder
-}
-
-/// Makes the table, once more where memory was refused.
-fn finish(rt: &impl Abort, builder: TableBuilder) -> Table {
-    match builder.finish() {
-        Ok(table) => table,
-        Err(fault) => fault.builder.finish().ok().expect(rt, "a table"),
-    }
-}
 
 /// The small table.
 fn table(rt: &impl Abort, alloc: Global) -> Table {
-    finish(rt, builder(rt, alloc))
+    small_table(alloc).ok().expect(rt, "a table")
 }
 
 /// The characters of a passage, with the calls counted.
@@ -97,61 +71,93 @@ fn settings(strength: Strength, weighting: Variable) -> Settings {
     }
 }
 
+/// Two texts, a strength, and their order at it.
+type OrderRow = (&'static str, &'static str, Strength, Ordering);
+
+/// Stops a test where two texts have another order under a table.
+fn assert_order(rt: &impl Abort, t: &Table, (a, b, strength, wanted): &OrderRow) {
+    let s = settings(*strength, Variable::NonIgnorable);
+    let order = compare(t, s, &passage(rt, a), &passage(rt, b));
+    assert!(rt; order == *wanted, "{a:?} {b:?}");
+}
+
+#[rattlefmt::skip]
+const ORDERS: [OrderRow; 17] = [
+    ("a", "A", Strength::Tertiary, Ordering::Less),
+    ("A", "a", Strength::Tertiary, Ordering::Greater),
+    ("a", "A", Strength::Secondary, Ordering::Equal),
+    ("A", "b", Strength::Tertiary, Ordering::Less),
+    ("A", "b", Strength::Secondary, Ordering::Less),
+    ("ch", "cz", Strength::Primary, Ordering::Greater),
+    ("ch", "cz", Strength::Tertiary, Ordering::Greater),
+    ("", "", Strength::Identical, Ordering::Equal),
+    ("", "a", Strength::Primary, Ordering::Less),
+    ("", "\u{1}", Strength::Quaternary, Ordering::Equal),
+    ("", "\u{1}", Strength::Identical, Ordering::Less),
+    ("\u{1EA1}", "a\u{323}", Strength::Identical, Ordering::Equal),
+    ("\u{E9}", "e", Strength::Primary, Ordering::Equal),
+    ("\u{E9}", "e", Strength::Secondary, Ordering::Greater),
+    ("\u{E9}", "e", Strength::Tertiary, Ordering::Greater),
+    ("\u{E9}", "e", Strength::Quaternary, Ordering::Greater),
+    ("\u{E9}", "e", Strength::Identical, Ordering::Greater),
+];
+
 #[test]
 fn texts_are_in_the_order_of_their_keys(rt: HostRuntime) {
     let t = table(&rt, rt.alloc());
-    let cases = [
-        ("a", "A", Strength::Tertiary, Ordering::Less),
-        ("A", "a", Strength::Tertiary, Ordering::Greater),
-        ("a", "A", Strength::Secondary, Ordering::Equal),
-        ("A", "b", Strength::Tertiary, Ordering::Less),
-        ("A", "b", Strength::Secondary, Ordering::Less),
-        ("ch", "cz", Strength::Primary, Ordering::Greater),
-        ("ch", "cz", Strength::Tertiary, Ordering::Greater),
-        ("", "", Strength::Identical, Ordering::Equal),
-        ("", "a", Strength::Primary, Ordering::Less),
-        ("", "\u{1}", Strength::Quaternary, Ordering::Equal),
-        ("", "\u{1}", Strength::Identical, Ordering::Less),
-        ("\u{1EA1}", "a\u{323}", Strength::Identical, Ordering::Equal),
-        ("\u{E9}", "e", Strength::Primary, Ordering::Equal),
-        ("\u{E9}", "e", Strength::Secondary, Ordering::Greater),
-        ("\u{E9}", "e", Strength::Tertiary, Ordering::Greater),
-        ("\u{E9}", "e", Strength::Quaternary, Ordering::Greater),
-        ("\u{E9}", "e", Strength::Identical, Ordering::Greater),
-    ];
-    for (a, b, strength, wanted) in cases {
-        let order = compare(
-            &t,
-            settings(strength, Variable::NonIgnorable),
-            &passage(&rt, a),
-            &passage(&rt, b),
-        );
-        assert!(rt; order == wanted, "{a:?} {b:?}");
+    assert_orders(&rt, &t, &ORDERS);
+}
+
+fn assert_orders(rt: &impl Abort, t: &Table, rows: &[OrderRow]) {
+    for row in rows {
+        assert_order(rt, t, row);
+    }
+}
+
+/// How often two sources were asked, and how often they went back, in a comparison.
+#[derive(Drop)]
+struct Calls {
+    reads: [usize; 2],
+    rewinds: [usize; 2],
+}
+
+/// Stops a test where two texts have another order, and counts the calls of their comparison.
+fn calls_of(rt: &impl Abort, t: &Table, s: Settings, [a, b]: [&str; 2], wanted: Ordering) -> Calls {
+    let (p, q) = (passage(rt, a), passage(rt, b));
+    let (mut left, mut right) = (source_of(&p), source_of(&q));
+    let order = compare_sources(t, s, &mut left, &mut right);
+    assert!(rt; order == wanted, "{a:?} {b:?}");
+    Calls {
+        reads: [left.reads, right.reads],
+        rewinds: [left.rewinds, right.rewinds],
+    }
+}
+
+/// Two texts, their order at all strengths, and how often each is read and gone back in at most.
+const READS: [(&'static str, &'static str, Ordering, usize, usize); 4] = [
+    ("a", "a", Ordering::Equal, 10, 5),
+    ("a", "b", Ordering::Less, 2, 1),
+    ("a", "A", Ordering::Less, 6, 3),
+    ("", "", Ordering::Equal, 5, 5),
+];
+
+fn is_at_most([left, right]: [usize; 2], most: usize) -> bool {
+    left <= most && right <= most
+}
+
+fn assert_reads(rt: &impl Abort, t: &Table) {
+    let s = settings(Strength::Identical, Variable::NonIgnorable);
+    for (a, b, wanted, reads, rewinds) in &READS {
+        let calls = calls_of(rt, t, s, [*a, *b], *wanted);
+        assert!(rt; is_at_most(calls.reads, *reads), "{a:?} {b:?}");
+        assert!(rt; is_at_most(calls.rewinds, *rewinds), "{a:?} {b:?}");
     }
 }
 
 #[test]
 fn a_text_is_read_once_for_each_level(rt: HostRuntime) {
     let t = table(&rt, rt.alloc());
-    // How often a source is asked, and how often it goes back.
-    let cases = [
-        ("a", "a", Ordering::Equal, [10, 5]),
-        ("a", "b", Ordering::Less, [2, 1]),
-        ("a", "A", Ordering::Less, [6, 3]),
-        ("", "", Ordering::Equal, [5, 5]),
-    ];
-    let s = settings(Strength::Identical, Variable::NonIgnorable);
-    for (a, b, wanted, [reads, rewinds]) in cases {
-        let (p, q) = (passage(&rt, a), passage(&rt, b));
-        let (mut left, mut right) = (source_of(&p), source_of(&q));
-        let order = compare_sources(&t, s, &mut left, &mut right);
-        assert!(rt; order == wanted, "{a:?} {b:?}");
-        assert!(rt; left.reads <= reads && right.reads <= reads, "{a:?} {b:?}");
-        assert!(rt;
-            left.rewinds <= rewinds && right.rewinds <= rewinds,
-            "{a:?} {b:?}"
-        );
-    }
+    assert_reads(&rt, &t);
 }
 
 #[test]
@@ -188,60 +194,79 @@ fn weights_in_turn<S: Source>(
     Ok(all)
 }
 
+/// A text, a weighting, and the weights that are not zero of each level but the fifth.
+type WeightRow = (&'static str, Variable, [&'static [u16]; 4]);
+
+const WEIGHTS: [WeightRow; 4] = [
+    (
+        "a-b",
+        Variable::Shifted,
+        [
+            &[0x1000, 0x1001],
+            &[0x20, 0x20],
+            &[2, 2],
+            &[0xFFFF, 0x202, 0xFFFF],
+        ],
+    ),
+    (
+        "-\u{1}\u{300}",
+        Variable::Shifted,
+        [&[], &[], &[], &[0x202]],
+    ),
+    ("-\u{300}", Variable::Blanked, [&[], &[], &[], &[]]),
+    (
+        "\u{1EA1}\u{301}",
+        Variable::NonIgnorable,
+        [&[0x1008], &[0x20, 0x24], &[2, 2], &[]],
+    ),
+];
+
+/// Stops a test where a text has other weights at a level.
+fn assert_weights(rt: &impl Abort, alloc: Global, t: &Table, row: &WeightRow, level: u8)
+    requires first { 1 ≤ level }
+    requires last { level ≤ 4 }
+{
+    let (text, v, wanted) = row;
+    let p = passage(rt, text);
+    let weights = match weights_in_turn(alloc, t, *v, level, &mut source_of(&p)) {
+        Ok(weights) => weights,
+        Err(_) => weights_in_turn(alloc, t, *v, level, &mut source_of(&p)).expect(rt, "weights"),
+    };
+    assert!(rt;
+        weights.as_slice() == wanted[level as usize - 1],
+        "{text:?} {level}"
+    );
+}
+
 #[test]
 fn weights_of_a_level_are_those_that_are_not_zero(rt: HostRuntime) {
     let t = table(&rt, rt.alloc());
-    let cases: [(&str, Variable, [&[u16]; 4]); 4] = [
-        (
-            "a-b",
-            Variable::Shifted,
-            [
-                &[0x1000, 0x1001],
-                &[0x20, 0x20],
-                &[2, 2],
-                &[0xFFFF, 0x202, 0xFFFF],
-            ],
-        ),
-        (
-            "-\u{1}\u{300}",
-            Variable::Shifted,
-            [&[], &[], &[], &[0x202]],
-        ),
-        ("-\u{300}", Variable::Blanked, [&[], &[], &[], &[]]),
-        (
-            "\u{1EA1}\u{301}",
-            Variable::NonIgnorable,
-            [&[0x1008], &[0x20, 0x24], &[2, 2], &[]],
-        ),
-    ];
-    for (text, v, wanted) in cases {
-        let p = passage(&rt, text);
+    assert_all_weights(&rt, rt.alloc(), &t, &WEIGHTS);
+}
+
+fn assert_all_weights(rt: &impl Abort, alloc: Global, t: &Table, rows: &[WeightRow]) {
+    for row in rows {
         for level in 1..5u8 {
-            let weights = match weights_in_turn(rt.alloc(), &t, v, level, &mut source_of(&p)) {
-                Ok(weights) => weights,
-                Err(_) => weights_in_turn(rt.alloc(), &t, v, level, &mut source_of(&p)).expect(
-                    &rt, "weights",
-                ),
-            };
-            assert!(rt;
-                weights.as_slice() == wanted[level as usize - 1],
-                "{text:?} {level}"
-            );
+            assert_weights(rt, alloc, t, row, level);
         }
     }
+}
+
+/// Stops a test where the text `ab` has other weights at the first level, or more.
+fn assert_no_later_weight(rt: &impl Abort, t: &Table, p: &Passage) {
+    let mut source = source_of(p);
+    let mut weights = Weights::new(t, Variable::NonIgnorable, 1);
+    for wanted in &[Some(0x1000), Some(0x1001), None, None] {
+        assert!(rt; weights.next(&mut source) == *wanted);
+    }
+    assert!(rt; source.reads == 3);
+    assert!(rt; source.rewinds == 0);
 }
 
 #[test]
 fn no_weight_comes_after_the_end(rt: HostRuntime) {
     let t = table(&rt, rt.alloc());
-    let p = passage(&rt, "ab");
-    let mut source = source_of(&p);
-    let mut weights = Weights::new(&t, Variable::NonIgnorable, 1);
-    assert!(rt; weights.next(&mut source) == Some(0x1000));
-    assert!(rt; weights.next(&mut source) == Some(0x1001));
-    assert!(rt; weights.next(&mut source) == None);
-    assert!(rt; weights.next(&mut source) == None);
-    assert!(rt; (source.reads, source.rewinds) == (3, 0));
+    assert_no_later_weight(&rt, &t, &passage(&rt, "ab"));
 }
 
 #[test]
@@ -256,11 +281,8 @@ fn what_reads_a_text_is_small(rt: HostRuntime) {
 fn later_levels_begin_at_the_cut(rt: HostRuntime) {
     let t = table(&rt, rt.alloc());
     let s = settings(Strength::Tertiary, Variable::NonIgnorable);
-    let (p, q) = (passage(&rt, "zzza"), passage(&rt, "zzzA"));
-    let (mut left, mut right) = (source_of(&p), source_of(&q));
-    let order = compare_sources(&t, s, &mut left, &mut right);
-    assert!(rt; order == Ordering::Less);
-    assert!(rt; left.reads <= 11 && right.reads <= 11);
+    let calls = calls_of(&rt, &t, s, ["zzza", "zzzA"], Ordering::Less);
+    assert!(rt; is_at_most(calls.reads, 11));
 }
 
 #[test]
@@ -275,23 +297,27 @@ fn an_older_mark_is_not_gone_back_to(rt: HostRuntime) {
     assert!(rt; order == Ordering::Greater);
 }
 
+/// A table under which a text with a cut before `h` would have `hx`, where it has `ch` and `x`.
+const CUT_TABLE: &[u8] = b"\
+0061 ; [.1000.0020.0002]
+0063 ; [.1002.0020.0002]
+0063 0068 ; [.1007.0020.0002]
+0068 ; [.1005.0020.0002]
+0068 0078 ; [.1005.0020.0002][.1010.0030.0002]
+0078 ; [.1010.0020.0002]
+0079 ; [.1010.0021.0002]
+";
+
 #[test]
 fn a_text_is_not_cut_before_the_end_of_a_contraction(rt: HostRuntime) {
-    // With a cut before h a later level would find `h x`, where the text has `ch` and x.
-    let mut builder = builder(&rt, rt.alloc());
-    let x = element(false, [0x1010, 0x20, 2]);
-    let y = element(false, [0x1010, 0x21, 2]);
-    let hx = [
-        element(false, [0x1005, 0x20, 2]),
-        element(false, [0x1010, 0x30, 2]),
-    ];
-    insert(&rt, &mut builder, &['x'], &[x]);
-    insert(&rt, &mut builder, &['y'], &[y]);
-    insert(&rt, &mut builder, &['h', 'x'], &hx);
-    let t = finish(&rt, builder);
-    let s = settings(Strength::Secondary, Variable::NonIgnorable);
-    let order = compare(&t, s, &passage(&rt, "chx"), &passage(&rt, "chy"));
-    assert!(rt; order == Ordering::Less);
+    let t = table_from(rt.alloc(), CUT_TABLE)
+        .ok()
+        .expect(&rt, "a table");
+    assert_order(
+        &rt,
+        &t,
+        &("chx", "chy", Strength::Secondary, Ordering::Less),
+    );
 }
 
 #[test]
@@ -299,55 +325,61 @@ fn a_text_is_read_up_to_the_difference_that_decides(rt: HostRuntime) {
     let mut t = table(&rt, rt.alloc());
     // Where memory was refused to what quick look-ups use, the table has none of it, and more is read. It is made anew here.
     let _made = t.prepare(rt.alloc());
+    assert_reads_up_to(&rt, &t);
+}
+
+/// Two texts, and their order, which their third characters decide.
+const DECIDED: [(&'static str, &'static str, Ordering); 3] = [
+    ("zzAzzz", "zzezzz", Ordering::Less),
+    ("zzzzz", "zz\u{E9}zz", Ordering::Greater),
+    ("zz", "zzezz", Ordering::Less),
+];
+
+fn assert_reads_up_to(rt: &impl Abort, t: &Table) {
     let s = settings(Strength::Tertiary, Variable::NonIgnorable);
-    let cases = [
-        ("zzAzzz", "zzezzz", Ordering::Less),
-        ("zzzzz", "zz\u{E9}zz", Ordering::Greater),
-        ("zz", "zzezz", Ordering::Less),
-    ];
-    for (a, b, wanted) in cases {
-        let (p, q) = (passage(&rt, a), passage(&rt, b));
-        let (mut left, mut right) = (source_of(&p), source_of(&q));
-        let order = compare_sources(&t, s, &mut left, &mut right);
-        assert!(rt; order == wanted, "{a:?} {b:?}");
-        assert!(rt; (left.reads, right.reads) == (3, 3), "{a:?} {b:?}");
+    for (a, b, wanted) in &DECIDED {
+        let calls = calls_of(rt, t, s, [*a, *b], *wanted);
+        assert!(rt; calls.reads == [3, 3], "{a:?} {b:?}");
     }
 }
 
 #[test]
 fn a_variable_character_decides_no_first_level_that_leaves_it_out(rt: HostRuntime) {
     let t = table(&rt, rt.alloc());
-    let (p, q) = (passage(&rt, "z-e"), passage(&rt, "zA"));
-    let cases = [
-        (Variable::NonIgnorable, Ordering::Less),
-        (Variable::Blanked, Ordering::Greater),
-        (Variable::Shifted, Ordering::Greater),
-    ];
-    for (v, wanted) in cases {
-        let (mut left, mut right) = (source_of(&p), source_of(&q));
-        let s = settings(Strength::Primary, v);
-        let order = compare_sources(&t, s, &mut left, &mut right);
-        assert!(rt; order == wanted, "{v:?}");
+    assert_decided(&rt, &t, Variable::NonIgnorable, Ordering::Less);
+    assert_decided(&rt, &t, Variable::Blanked, Ordering::Greater);
+    assert_decided(&rt, &t, Variable::Shifted, Ordering::Greater);
+}
+
+/// Stops a test where these two texts have another order at the first level.
+fn assert_decided(rt: &impl Abort, t: &Table, v: Variable, wanted: Ordering) {
+    calls_of(rt, t, settings(Strength::Primary, v), ["z-e", "zA"], wanted);
+}
+
+/// So many acute accents.
+fn accents(alloc: Global, count: usize) -> Result<String, AllocError> {
+    let mut text = String::new(alloc);
+    for _ in 0..count {
+        text.push('\u{301}')?;
     }
+    Ok(text)
 }
 
 #[test]
 fn marks_alone_decide_at_the_second_level(rt: HostRuntime) -> Result<(), Fail> {
     let t = table(&rt, rt.alloc());
-    let mut text = String::new(rt.alloc());
-    for _ in 0..60 {
-        text.push('\u{301}')?;
-    }
+    let text = accents(rt.alloc(), 60)?;
     let (p, q) = (passage(&rt, &text), passage(&rt, ""));
-    let cases = [
-        (Strength::Primary, Ordering::Equal),
-        (Strength::Secondary, Ordering::Greater),
-    ];
-    for (strength, wanted) in cases {
-        let s = settings(strength, Variable::NonIgnorable);
-        assert!(rt; compare(&t, s, &p, &q) == wanted, "{strength:?}");
-    }
-    text.push('\u{301}')?;
+    let primary = settings(Strength::Primary, Variable::NonIgnorable);
+    assert!(rt; compare(&t, primary, &p, &q) == Ordering::Equal);
+    let secondary = settings(Strength::Secondary, Variable::NonIgnorable);
+    assert!(rt; compare(&t, secondary, &p, &q) == Ordering::Greater);
+    Ok(())
+}
+
+#[test]
+fn more_than_sixty_marks_are_refused(rt: HostRuntime) -> Result<(), Fail> {
+    let text = accents(rt.alloc(), 61)?;
     let run = Passage::check(&text).err().expect(&rt, "a long run");
     assert!(rt; run.at == 120);
     Ok(())

@@ -1,48 +1,34 @@
-ghost use Rattle.std.specs.Prelude.{◌≤◌};
-
 mod ideographs;
 mod laws;
 mod parsing;
 
-use std::alloc::Global;
+use std::alloc::{AllocError, Global};
 use std::process::Abort;
 use uca_table::{Element, InsertFault, Table, TableBuilder};
 use uca_tailor::{RuleCause, Rules, TailorCause, TailorFault, parse, tailor};
 use uca_testing::{Entry, SMALL_TABLE};
 
-fn element([l1, l2, l3]: [u16; 3]) -> Element {
-    Element {
-        starred: false,
-        l1,
-        l2,
-        l3,
-    }
+/// An element with the mark `.` and these weights.
+fn element(weights: [u16; 3]) -> Element {
+    uca_testing::element(false, weights)
 }
 
-/// An element as often as an entry may have it.
-fn copies(starred: bool, [l1, l2, l3]: [u16; 3]) -> [Element; 64] {
-    let e = Element {
-        starred,
-        l1,
-        l2,
-        l3,
-    };
-    [e; 64]
-}
-
-/// Makes a table whose entries have their element so often, each step once more where memory was refused.
-fn table(rt: &impl Abort, alloc: Global, entries: &[Entry], count: usize) -> Table
-    requires { count ≤ 64 }
-{
+/// Makes a table whose entries have one element each, each step once more where memory was refused.
+fn table(rt: &impl Abort, alloc: Global, entries: &[Entry]) -> Table {
     let mut builder = TableBuilder::new(alloc);
     for (key, starred, weights) in entries {
-        let elements = &copies(*starred, *weights)[..count];
-        let inserted = match builder.insert(key, elements) {
-            Err(InsertFault::OutOfMemory) => builder.insert(key, elements),
+        let elements = [uca_testing::element(*starred, *weights)];
+        let inserted = match builder.insert(key, &elements) {
+            Err(InsertFault::OutOfMemory) => builder.insert(key, &elements),
             answer => answer,
         };
         assert!(rt; inserted == Ok(()));
     }
+    finished(rt, builder)
+}
+
+/// The table of a builder, once more where memory was refused.
+fn finished(rt: &impl Abort, builder: TableBuilder) -> Table {
     match builder.finish() {
         Ok(table) => table,
         Err(fault) => fault.builder.finish().ok().expect(rt, "a table"),
@@ -50,7 +36,7 @@ fn table(rt: &impl Abort, alloc: Global, entries: &[Entry], count: usize) -> Tab
 }
 
 fn small_table(rt: &impl Abort, alloc: Global) -> Table {
-    table(rt, alloc, &SMALL_TABLE, 1)
+    uca_testing::small_table(alloc).ok().expect(rt, "a table")
 }
 
 /// Reads rules, once more where memory was refused.
@@ -81,35 +67,50 @@ fn tailored_table(rt: &impl Abort, alloc: Global, t: &Table, text: &str) -> Tabl
         .expect(rt, "a tailored table")
 }
 
-/// Why rules can't be applied to a table, where they can't.
-fn fault_of(rt: &impl Abort, alloc: Global, t: &Table, text: &str) -> Option<TailorFault> {
-    tailored(rt, alloc, t, text).err()
+/// Stops a test where the elements of a key are not exactly these, with the mark `.`.
+fn assert_weights(rt: &impl Abort, t: &Table, key: &[char], weights: &[[u16; 3]]) {
+    let elements = t.get(key).expect(rt, "an entry");
+    assert!(rt; elements.len() == weights.len(), "{key:?}");
+    for (e, w) in elements.iter().zip(weights) {
+        assert!(rt; *e == element(*w), "{key:?}");
+    }
 }
 
-/// Stops a test whose table has other entries than these, each with its element so often.
-fn assert_stands(rt: &impl Abort, t: &Table, entries: &[Entry], count: usize)
-    requires { count ≤ 64 }
-{
+/// Stops a test where a key has other elements than one with these weights.
+fn assert_entry(rt: &impl Abort, t: &Table, key: &[char], starred: bool, weights: [u16; 3]) {
+    let elements = t.get(key).expect(rt, "an entry");
+    assert!(rt; elements.len() == 1, "{key:?}");
+    assert!(rt;
+        elements[0] == uca_testing::element(starred, weights),
+        "{key:?}"
+    );
+}
+
+/// Stops a test whose table has other entries than these.
+fn assert_stands(rt: &impl Abort, t: &Table, entries: &[Entry]) {
     assert!(rt; t.entries().count() == entries.len());
     for (key, starred, weights) in entries {
-        let elements = &copies(*starred, *weights)[..count];
-        assert!(rt; t.get(key) == Some(elements), "{key:?}");
+        assert_entry(rt, t, key, *starred, *weights);
+    }
+}
+
+/// Keys, each with the weights of its elements.
+type Weights = &'static [(&'static [char], &'static [[u16; 3]])];
+
+/// Stops a test where one of these keys has other elements.
+fn assert_all_weights(rt: &impl Abort, t: &Table, wanted: Weights) {
+    for (key, weights) in wanted {
+        assert_weights(rt, t, key, weights);
     }
 }
 
 /// Tailors the small table, and compares the elements of some keys.
-fn assert_elements(rt: &impl Abort, alloc: Global, text: &str, wanted: &[(&[char], &[[u16; 3]])]) {
+fn assert_elements(rt: &impl Abort, alloc: Global, text: &str, wanted: Weights) {
     let t = small_table(rt, alloc);
     let u = tailored_table(rt, alloc, &t, text);
-    for (key, weights) in wanted {
-        let elements = u.get(key).expect(rt, "an entry");
-        assert!(rt; elements.len() == weights.len(), "{key:?}");
-        for (e, w) in elements.iter().zip(*weights) {
-            assert!(rt; [e.l1, e.l2, e.l3] == *w, "{key:?}");
-        }
-    }
+    assert_all_weights(rt, &u, wanted);
     // The borrowed table stays as it is.
-    assert_stands(rt, &t, &SMALL_TABLE, 1);
+    assert_stands(rt, &t, &SMALL_TABLE);
 }
 
 #[test]
@@ -219,17 +220,21 @@ fn an_equal_item_has_the_elements_of_its_anchor(rt: HostRuntime) {
     );
 }
 
+/// Stops a test whose table has not these entries, except the one of `a`.
+fn assert_others_stand(rt: &impl Abort, t: &Table, entries: &[Entry]) {
+    assert!(rt; t.entries().count() == entries.len());
+    for (key, starred, weights) in entries {
+        if *key != ['a'].as_slice() {
+            assert_entry(rt, t, key, *starred, *weights);
+        }
+    }
+}
+
 #[test]
 fn an_equal_item_leaves_all_other_entries(rt: HostRuntime) {
     let t = small_table(&rt, rt.alloc());
     let u = tailored_table(&rt, rt.alloc(), &t, "&ab=a");
-    assert!(rt; u.entries().count() == SMALL_TABLE.len());
-    for (key, starred, weights) in SMALL_TABLE {
-        if key != ['a'].as_slice() {
-            let element = copies(starred, weights)[0];
-            assert!(rt; u.get(key) == Some([element].as_slice()), "{key:?}");
-        }
-    }
+    assert_others_stand(&rt, &u, &SMALL_TABLE);
 }
 
 #[test]
@@ -276,8 +281,20 @@ fn chains_without_relations_have_no_effect(rt: HostRuntime) {
     assert_elements(&rt, rt.alloc(), "", &[(&['b'], &[[0x1001, 0x20, 2]])]);
 }
 
-fn fault(relation: u64, cause: TailorCause) -> Option<TailorFault> {
-    Some(TailorFault { relation, cause })
+/// Stops a test where rules can be applied to a table, or another fault is met first.
+fn assert_fault(
+    rt: &impl Abort,
+    alloc: Global,
+    t: &Table,
+    text: &str,
+    relation: u64,
+    cause: TailorCause,
+) {
+    let wanted = TailorFault { relation, cause };
+    assert!(rt;
+        tailored(rt, alloc, t, text).err() == Some(wanted),
+        "{text}"
+    );
 }
 
 const FAULTY: [(&'static str, TailorCause, u64); 5] = [
@@ -292,14 +309,37 @@ const FAULTY: [(&'static str, TailorCause, u64); 5] = [
     ),
 ];
 
+/// Stops a test where one of these rules has another fault under a table, or none.
+fn assert_faults(
+    rt: &impl Abort,
+    alloc: Global,
+    t: &Table,
+    rows: &[(&'static str, TailorCause, u64)],
+) {
+    for (text, cause, relation) in rows {
+        assert_fault(rt, alloc, t, text, *relation, *cause);
+    }
+}
+
 #[test]
 fn the_first_relation_at_fault_is_reported(rt: HostRuntime) {
     let t = small_table(&rt, rt.alloc());
-    for (text, cause, relation) in FAULTY {
-        let answer = fault_of(&rt, rt.alloc(), &t, text);
-        assert!(rt; answer == fault(relation, cause));
-    }
-    assert_stands(&rt, &t, &SMALL_TABLE, 1);
+    assert_faults(&rt, rt.alloc(), &t, &FAULTY);
+    assert_stands(&rt, &t, &SMALL_TABLE);
+}
+
+/// Stops a test where rules can be applied to the table of these entries, which stays as it is.
+fn assert_fault_of(
+    rt: &impl Abort,
+    alloc: Global,
+    entries: &[Entry],
+    text: &str,
+    relation: u64,
+    cause: TailorCause,
+) {
+    let t = table(rt, alloc, entries);
+    assert_fault(rt, alloc, &t, text, relation, cause);
+    assert_stands(rt, &t, entries);
 }
 
 const FULL: [(&'static [Entry], &'static str, u8, u64); 6] = [
@@ -351,12 +391,31 @@ const FULL: [(&'static [Entry], &'static str, u8, u64); 6] = [
 
 #[test]
 fn a_level_without_room_is_full(rt: HostRuntime) {
-    for (entries, text, level, relation) in FULL {
-        let t = table(&rt, rt.alloc(), entries, 1);
-        let answer = fault_of(&rt, rt.alloc(), &t, text);
-        assert!(rt; answer == fault(relation, TailorCause::Full(level)));
-        assert_stands(&rt, &t, entries, 1);
+    for (entries, text, level, relation) in &FULL {
+        assert_fault_of(
+            &rt,
+            rt.alloc(),
+            entries,
+            text,
+            *relation,
+            TailorCause::Full(*level),
+        );
     }
+}
+
+/// Stops a test where rules give `c` other weights than these under the table of these entries, or `b`.
+fn assert_room(
+    rt: &impl Abort,
+    alloc: Global,
+    entries: &[Entry],
+    text: &str,
+    item: [u16; 3],
+    other: [u16; 3],
+) {
+    let t = table(rt, alloc, entries);
+    let u = tailored_table(rt, alloc, &t, text);
+    assert_entry(rt, &u, &['c'], false, item);
+    assert_entry(rt, &u, &['b'], false, other);
 }
 
 const ROOMY: [(&'static [Entry], &'static str, [u16; 3], [u16; 3]); 6] = [
@@ -420,44 +479,76 @@ const ROOMY: [(&'static [Entry], &'static str, [u16; 3], [u16; 3]); 6] = [
 
 #[test]
 fn the_last_room_is_used_and_implicit_weights_stay(rt: HostRuntime) {
-    for (entries, text, item, other) in ROOMY {
-        let t = table(&rt, rt.alloc(), entries, 1);
-        let u = tailored_table(&rt, rt.alloc(), &t, text);
-        assert!(rt; u.get(&['c']) == Some([element(item)].as_slice()));
-        assert!(rt; u.get(&['b']) == Some([element(other)].as_slice()));
+    for (entries, text, item, other) in &ROOMY {
+        assert_room(&rt, rt.alloc(), entries, text, *item, *other);
+    }
+}
+
+/// An element, so many times.
+fn copies(alloc: Global, e: Element, count: usize) -> Result<Vec<Element>, AllocError> {
+    let mut elements = Vec::new(alloc);
+    for _ in 0..count {
+        elements.push(e)?;
+    }
+    Ok(elements)
+}
+
+/// A table of `a` alone, with so many elements, each step once more where memory was refused.
+fn table_of_a(rt: &impl Abort, alloc: Global, count: usize) -> Table {
+    let e = element([0x1000, 0x20, 2]);
+    let elements = match copies(alloc, e, count) {
+        Err(_) => copies(alloc, e, count).expect(rt, "elements"),
+        Ok(elements) => elements,
+    };
+    let mut builder = TableBuilder::new(alloc);
+    let inserted = match builder.insert(&['a'], &elements) {
+        Err(InsertFault::OutOfMemory) => builder.insert(&['a'], &elements),
+        answer => answer,
+    };
+    assert!(rt; inserted == Ok(()));
+    finished(rt, builder)
+}
+
+/// Stops a test where the key is not tailored to sixty-four elements like that of `a`.
+fn assert_sixty_four(rt: &impl Abort, alloc: Global, t: &Table, text: &str) {
+    let u = tailored_table(rt, alloc, t, text);
+    let elements = u.get(&['b']).expect(rt, "an entry");
+    assert!(rt; elements.len() == 64, "{text}");
+    for e in elements {
+        assert!(rt; *e == element([0x1000, 0x20, 2]), "{text}");
     }
 }
 
 #[test]
 fn an_item_has_at_most_sixty_four_elements(rt: HostRuntime) {
-    let entries: [Entry; 1] = [(&['a'], false, [0x1000, 0x20, 2])];
-    for text in ["&a=b/a", "&aa=b"] {
-        let t = table(&rt, rt.alloc(), &entries, 33);
-        let answer = fault_of(&rt, rt.alloc(), &t, text);
-        assert!(rt; answer == fault(1, TailorCause::TooManyElements));
-        assert_stands(&rt, &t, &entries, 33);
-        let t = table(&rt, rt.alloc(), &entries, 32);
-        let u = tailored_table(&rt, rt.alloc(), &t, text);
-        let all = [element([0x1000, 0x20, 2]); 64];
-        assert!(rt; u.get(&['b']) == Some(all.as_slice()));
-    }
+    let t = table_of_a(&rt, rt.alloc(), 32);
+    assert_sixty_four(&rt, rt.alloc(), &t, "&a=b/a");
+    assert_sixty_four(&rt, rt.alloc(), &t, "&aa=b");
+}
+
+/// Stops a test where `a` with so many elements can be an anchor of these rules.
+fn assert_too_many(rt: &impl Abort, alloc: Global, count: usize, text: &str) {
+    let t = table_of_a(rt, alloc, count);
+    assert_fault(rt, alloc, &t, text, 1, TailorCause::TooManyElements);
+    // The borrowed table stays as it is.
+    assert!(rt; t.entries().count() == 1);
+    assert!(rt; t.get(&['a']).expect(rt, "an entry").len() == count);
+}
+
+#[test]
+fn more_than_sixty_four_elements_are_a_fault(rt: HostRuntime) {
+    assert_too_many(&rt, rt.alloc(), 33, "&a=b/a");
+    assert_too_many(&rt, rt.alloc(), 33, "&aa=b");
     // Five times thirteen are one too many.
-    for text in ["&aa=b/aaa", "&aaaaa=b"] {
-        let t = table(&rt, rt.alloc(), &entries, 13);
-        let answer = fault_of(&rt, rt.alloc(), &t, text);
-        assert!(rt; answer == fault(1, TailorCause::TooManyElements));
-    }
+    assert_too_many(&rt, rt.alloc(), 13, "&aa=b/aaa");
+    assert_too_many(&rt, rt.alloc(), 13, "&aaaaa=b");
 }
 
 #[test]
 fn an_item_after_a_variable_is_variable(rt: HostRuntime) {
     let t = small_table(&rt, rt.alloc());
     let u = tailored_table(&rt, rt.alloc(), &t, "&'-'<x");
-    let wanted = [Element {
-        starred: true,
-        ..element([0x203, 0x20, 2])
-    }];
-    assert!(rt; u.get(&['x']) == Some(wanted.as_slice()));
+    assert_entry(&rt, &u, &['x'], true, [0x203, 0x20, 2]);
 }
 
 #[test]
@@ -515,10 +606,7 @@ const SMALL_OR_HIGH: [(&'static [Entry], &'static str, TailorCause, u64); 4] = [
 
 #[test]
 fn the_anchor_is_tested_before_its_room(rt: HostRuntime) {
-    for (entries, text, cause, relation) in SMALL_OR_HIGH {
-        let t = table(&rt, rt.alloc(), entries, 1);
-        let answer = fault_of(&rt, rt.alloc(), &t, text);
-        assert!(rt; answer == fault(relation, cause));
-        assert_stands(&rt, &t, entries, 1);
+    for (entries, text, cause, relation) in &SMALL_OR_HIGH {
+        assert_fault_of(&rt, rt.alloc(), entries, text, *relation, *cause);
     }
 }

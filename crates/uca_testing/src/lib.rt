@@ -5,10 +5,12 @@
 
 pub mod entries;
 pub mod readers;
+pub mod tables;
 pub mod texts;
 pub mod writers;
 
 pub use entries::{Entry, SMALL_TABLE, SMALL_TEXT, TWO_RANGES, WRITTEN_BY_HAND, element, plain};
 pub use readers::{Pieces, Repeating};
+pub use tables::{small_table, table_from};
 pub use texts::{generated, repeated};
 pub use writers::Expecting;

@@ -1,8 +1,8 @@
-use super::with_room;
+use super::assert_written;
 use std::alloc::{AllocError, Global};
 use std::process::Abort;
 use std::test::Fail;
-use uca_allkeys::{ReadCause, ReadFault, read_table, write_table};
+use uca_allkeys::{ReadCause, ReadFault, read_table};
 use uca_table::Table;
 use uca_testing::SMALL_TEXT as CANONICAL_TEXT;
 use uca_weights::{MAX_INPUT, Range, Reader, Reading, Refused};
@@ -141,6 +141,19 @@ fn fault(answer: Result<Table, ReadFault>) -> Option<(u64, ReadCause)> {
     }
 }
 
+/// Stops a test where the element of a key is not this one.
+fn assert_element(rt: &impl Abort, table: &Table, key: &[char], starred: bool, l1: u16) {
+    let elements = table.get(key).expect(rt, "an entry");
+    assert!(rt; elements[0].starred == starred);
+    assert!(rt; elements[0].l1 == l1);
+}
+
+const FIRST_RANGE: Range = Range {
+    first: '\u{17000}',
+    last: '\u{18AFF}',
+    base: 0xFB00,
+};
+
 /// Looks at the table of the small text.
 fn assert_small(rt: &impl Abort, answer: Result<Table, ReadFault>) {
     let table = answer.expect(rt, "a table");
@@ -148,24 +161,10 @@ fn assert_small(rt: &impl Abort, answer: Result<Table, ReadFault>) {
     assert!(rt; table.entries().count() == 18);
     let ranges = table.ranges();
     assert!(rt; ranges.len() == 2);
-    let first = Range {
-        first: '\u{17000}',
-        last: '\u{18AFF}',
-        base: 0xFB00,
-    };
-    assert!(rt; ranges[0] == first);
-    let hyphen = table.get(&['-']).expect(rt, "a hyphen");
-    assert!(rt; hyphen[0].starred);
-    assert!(rt; hyphen[0].l1 == 0x202);
-    let long = table
-        .get(&['b', '\u{301}', '\u{308}'])
-        .expect(rt, "a key of three");
-    assert!(rt; long[0].l1 == 0x100A);
-    let mut writer = with_room(1024, true);
-    let count = CANONICAL_TEXT.len() as u128;
-    assert!(rt; write_table(&mut writer, &table) == Ok(count));
-    let taken = writer.into_inner().taken;
-    assert!(rt; taken.as_slice() == CANONICAL_TEXT);
+    assert!(rt; ranges[0] == FIRST_RANGE);
+    assert_element(rt, &table, &['-'], true, 0x202);
+    assert_element(rt, &table, &['b', '\u{301}', '\u{308}'], false, 0x100A);
+    assert_written(rt, &table, CANONICAL_TEXT);
 }
 
 /// The text with CR before each LF.
@@ -195,6 +194,15 @@ fn repeated(alloc: Global, pieces: &[(&str, usize)]) -> Result<Vec<u8>, AllocErr
 fn assert_answer(rt: &impl Abort, alloc: Global, text: &[u8], answer: Option<(u64, ReadCause)>) {
     assert!(rt; fault(read(alloc, text)) == answer);
     assert!(rt; fault(read_slowly(alloc, text, 1, false)) == answer);
+}
+
+/// A text, and what is wrong with it, if anything is.
+type Row = (&'static str, Option<(u64, ReadCause)>);
+
+fn assert_answers(rt: &impl Abort, alloc: Global, rows: &[Row]) {
+    for (text, answer) in rows {
+        assert_answer(rt, alloc, text.as_bytes(), *answer);
+    }
 }
 
 #[test]
@@ -233,18 +241,28 @@ fn front_of_lines(text: &[u8], lines: usize) -> usize {
     0
 }
 
+/// What is left of the thirteenth line, and what is wrong with it.
+const CUT_LINES: [(&'static str, ReadCause); 3] = [
+    ("0041  ; [.1000.", ReadCause::BadElement),
+    ("0041  ; ", ReadCause::NoElement),
+    ("0041", ReadCause::NoSemicolon),
+];
+
+/// Looks at the answer for the small text, cut after the beginning of its thirteenth line.
+fn assert_cut(rt: &impl Abort, alloc: Global, front: usize, left: &[u8], cause: ReadCause) {
+    let text = SMALL_TEXT.as_bytes();
+    let line = text.get(front..).expect(rt, "a line");
+    assert!(rt; line.starts_with(left));
+    let cut = text.len().min(front.saturating_add(left.len()));
+    assert_answer(rt, alloc, &text[..cut], Some((13, cause)));
+}
+
 #[test]
 fn a_text_is_cut_in_its_thirteenth_line(rt: HostRuntime) {
     let text = SMALL_TEXT.as_bytes();
     let front = text.len().min(front_of_lines(text, 12));
-    for (left, cause) in [
-        (b"0041  ; [.1000.".as_slice(), ReadCause::BadElement),
-        (b"0041  ; ", ReadCause::NoElement),
-        (b"0041", ReadCause::NoSemicolon),
-    ] {
-        assert!(rt; text[front..].starts_with(left));
-        let cut = text.len().min(front.saturating_add(left.len()));
-        assert_answer(&rt, rt.alloc(), &text[..cut], Some((13, cause)));
+    for (left, cause) in &CUT_LINES {
+        assert_cut(&rt, rt.alloc(), front, left.as_bytes(), *cause);
     }
 }
 
@@ -258,171 +276,176 @@ fn no_bytes_give_an_empty_table(rt: HostRuntime) {
 
 #[test]
 fn each_fault_of_an_entry_is_reported_at_its_line(rt: HostRuntime) {
-    for (text, answer) in [
-        (
-            "0061 ; [.1000.0020.0002]\n0062 ; [.1000.0020]",
-            Some((2, ReadCause::BadElement)),
-        ),
-        (
-            "0061 ; [.1000.0020.0002]\n0061 ; [.1001.0020.0002]",
-            Some((2, ReadCause::Repeated)),
-        ),
-        ("0061 ; [.1000.0020]", Some((1, ReadCause::BadElement))),
-        ("0061 ; # nothing", Some((1, ReadCause::NoElement))),
-        (
-            "0061 ; [.1000.0020.0002]\n0062 ;",
-            Some((2, ReadCause::NoElement)),
-        ),
-        (
-            "0061 ; [.1000.0020.0002]\n0062",
-            Some((2, ReadCause::NoSemicolon)),
-        ),
-        (
-            "0061 ; [.1000.0020.0002]\n00",
-            Some((2, ReadCause::BadCodePoint)),
-        ),
-        (
-            "0061 ; [.1000.0020.0002]\n0062 ; [.10",
-            Some((2, ReadCause::BadElement)),
-        ),
-        (
-            "\n# no key\n ; [.1000.0020.0002]",
-            Some((3, ReadCause::BadCodePoint)),
-        ),
-        (
-            "D800 ; [.1000.0020.0002]",
-            Some((1, ReadCause::BadCodePoint)),
-        ),
-        (
-            "110000 ; [.1000.0020.0002]",
-            Some((1, ReadCause::BadCodePoint)),
-        ),
-        (
-            "0000061 ; [.1000.0020.0002]",
-            Some((1, ReadCause::BadCodePoint)),
-        ),
-        (
-            "0061 006g ; [.1000.0020.0002]",
-            Some((1, ReadCause::BadCodePoint)),
-        ),
-        ("0061 ; [-1000.0020.0002]", Some((1, ReadCause::BadElement))),
-        (
-            "0061 ; [.1000.0020.0002.002]",
-            Some((1, ReadCause::BadElement)),
-        ),
-        (
-            "0061 ; [.1000.0020.0002.0020020]",
-            Some((1, ReadCause::BadElement)),
-        ),
-        (
-            "0061 ; [.1000.0020.0002 ]",
-            Some((1, ReadCause::BadElement)),
-        ),
-        (
-            "0061 ; [.1000.0020.0002] x",
-            Some((1, ReadCause::BadElement)),
-        ),
-        (
-            "0061 ; [.1000.0020.0002]\n0061 ; # nothing",
-            Some((2, ReadCause::NoElement)),
-        ),
-        (
-            "0061\t;\t[.1000.0020.0002.10FFFF][*abCD.0020.0002] \t # two\r\n",
-            None,
-        ),
-        ("10FFFF;[.1000.0020.0002] [.0000.0000.0002]", None),
-    ] {
-        assert_answer(&rt, rt.alloc(), text.as_bytes(), answer);
-    }
+    assert_answers(
+        &rt,
+        rt.alloc(),
+        &[
+            (
+                "0061 ; [.1000.0020.0002]\n0062 ; [.1000.0020]",
+                Some((2, ReadCause::BadElement)),
+            ),
+            (
+                "0061 ; [.1000.0020.0002]\n0061 ; [.1001.0020.0002]",
+                Some((2, ReadCause::Repeated)),
+            ),
+            ("0061 ; [.1000.0020]", Some((1, ReadCause::BadElement))),
+            ("0061 ; # nothing", Some((1, ReadCause::NoElement))),
+            (
+                "0061 ; [.1000.0020.0002]\n0062 ;",
+                Some((2, ReadCause::NoElement)),
+            ),
+            (
+                "0061 ; [.1000.0020.0002]\n0062",
+                Some((2, ReadCause::NoSemicolon)),
+            ),
+            (
+                "0061 ; [.1000.0020.0002]\n00",
+                Some((2, ReadCause::BadCodePoint)),
+            ),
+            (
+                "0061 ; [.1000.0020.0002]\n0062 ; [.10",
+                Some((2, ReadCause::BadElement)),
+            ),
+            (
+                "\n# no key\n ; [.1000.0020.0002]",
+                Some((3, ReadCause::BadCodePoint)),
+            ),
+            (
+                "D800 ; [.1000.0020.0002]",
+                Some((1, ReadCause::BadCodePoint)),
+            ),
+            (
+                "110000 ; [.1000.0020.0002]",
+                Some((1, ReadCause::BadCodePoint)),
+            ),
+            (
+                "0000061 ; [.1000.0020.0002]",
+                Some((1, ReadCause::BadCodePoint)),
+            ),
+            (
+                "0061 006g ; [.1000.0020.0002]",
+                Some((1, ReadCause::BadCodePoint)),
+            ),
+            ("0061 ; [-1000.0020.0002]", Some((1, ReadCause::BadElement))),
+            (
+                "0061 ; [.1000.0020.0002.002]",
+                Some((1, ReadCause::BadElement)),
+            ),
+            (
+                "0061 ; [.1000.0020.0002.0020020]",
+                Some((1, ReadCause::BadElement)),
+            ),
+            (
+                "0061 ; [.1000.0020.0002 ]",
+                Some((1, ReadCause::BadElement)),
+            ),
+            (
+                "0061 ; [.1000.0020.0002] x",
+                Some((1, ReadCause::BadElement)),
+            ),
+            (
+                "0061 ; [.1000.0020.0002]\n0061 ; # nothing",
+                Some((2, ReadCause::NoElement)),
+            ),
+            (
+                "0061\t;\t[.1000.0020.0002.10FFFF][*abCD.0020.0002] \t # two\r\n",
+                None,
+            ),
+            ("10FFFF;[.1000.0020.0002] [.0000.0000.0002]", None),
+        ],
+    );
 }
 
 #[test]
 fn each_fault_of_a_directive_is_reported_at_its_line(rt: HostRuntime) {
-    for (text, answer) in [
-        (
-            "0061 ; [.1000.0020.0002]\n@variable shifted",
-            Some((2, ReadCause::BadDirective)),
-        ),
-        ("\n@variable shifted", Some((2, ReadCause::BadDirective))),
-        (
-            "@version 1\n@version 1\n",
-            Some((2, ReadCause::BadDirective)),
-        ),
-        ("@version \t# 1", Some((1, ReadCause::BadDirective))),
-        ("@implicitweights", Some((1, ReadCause::BadDirective))),
-        (
-            "@implicitweights 17;000",
-            Some((1, ReadCause::BadCodePoint)),
-        ),
-        ("@implicitweights 17000", Some((1, ReadCause::BadDirective))),
-        (
-            "@implicitweights 17000. .17001; FB00",
-            Some((1, ReadCause::BadDirective)),
-        ),
-        (
-            "@implicitweights 17000..D800; FB00",
-            Some((1, ReadCause::BadCodePoint)),
-        ),
-        (
-            "@implicitweights 17000..17001, FB00",
-            Some((1, ReadCause::BadCodePoint)),
-        ),
-        (
-            "@implicitweights 17000..17001 FB00",
-            Some((1, ReadCause::BadDirective)),
-        ),
-        (
-            "@implicitweights 17000..17001; FB0",
-            Some((1, ReadCause::BadDirective)),
-        ),
-        (
-            "@implicitweights 17000..17001; FB00 x",
-            Some((1, ReadCause::BadDirective)),
-        ),
-        (
-            "@implicitweights 17001..17000; FB00",
-            Some((1, ReadCause::BadRange)),
-        ),
-        (
-            " @implicitweights\t17000 .. 17001 ;fb00 \n@version \u{e9}",
-            None,
-        ),
-    ] {
-        assert_answer(&rt, rt.alloc(), text.as_bytes(), answer);
-    }
+    assert_answers(
+        &rt,
+        rt.alloc(),
+        &[
+            (
+                "0061 ; [.1000.0020.0002]\n@variable shifted",
+                Some((2, ReadCause::BadDirective)),
+            ),
+            ("\n@variable shifted", Some((2, ReadCause::BadDirective))),
+            (
+                "@version 1\n@version 1\n",
+                Some((2, ReadCause::BadDirective)),
+            ),
+            ("@version \t# 1", Some((1, ReadCause::BadDirective))),
+            ("@implicitweights", Some((1, ReadCause::BadDirective))),
+            (
+                "@implicitweights 17;000",
+                Some((1, ReadCause::BadCodePoint)),
+            ),
+            ("@implicitweights 17000", Some((1, ReadCause::BadDirective))),
+            (
+                "@implicitweights 17000. .17001; FB00",
+                Some((1, ReadCause::BadDirective)),
+            ),
+            (
+                "@implicitweights 17000..D800; FB00",
+                Some((1, ReadCause::BadCodePoint)),
+            ),
+            (
+                "@implicitweights 17000..17001, FB00",
+                Some((1, ReadCause::BadCodePoint)),
+            ),
+            (
+                "@implicitweights 17000..17001 FB00",
+                Some((1, ReadCause::BadDirective)),
+            ),
+            (
+                "@implicitweights 17000..17001; FB0",
+                Some((1, ReadCause::BadDirective)),
+            ),
+            (
+                "@implicitweights 17000..17001; FB00 x",
+                Some((1, ReadCause::BadDirective)),
+            ),
+            (
+                "@implicitweights 17001..17000; FB00",
+                Some((1, ReadCause::BadRange)),
+            ),
+            (
+                " @implicitweights\t17000 .. 17001 ;fb00 \n@version \u{e9}",
+                None,
+            ),
+        ],
+    );
 }
 
 #[test]
 fn a_range_may_not_meet_those_before_it(rt: HostRuntime) -> Result<(), Fail> {
-    let bad = Some((2, ReadCause::BadRange));
-    for (text, answer) in [
-        (
-            "@implicitweights 17002..17003; FB01\n@implicitweights 17000..17002; FB00",
-            bad,
-        ),
-        (
-            "@implicitweights 17000..17000; FB00\n@implicitweights 1F000..1F000; FB00",
-            bad,
-        ),
-        (
-            "@implicitweights 17000..17002; FB00\n@implicitweights 17002..17003; FB01",
-            bad,
-        ),
-        (
-            "@implicitweights 20000..20000; FB00\n@implicitweights 17000..18000; FB00",
-            bad,
-        ),
-        (
-            "@implicitweights 17000..17000; FB00\n@implicitweights 1EFFF..1EFFF; FB00",
-            None,
-        ),
-        (
-            "@implicitweights 17000..17001; 7FFF",
-            Some((1, ReadCause::BadRange)),
-        ),
-    ] {
-        assert_answer(&rt, rt.alloc(), text.as_bytes(), answer);
-    }
+    assert_answers(
+        &rt,
+        rt.alloc(),
+        &[
+            (
+                "@implicitweights 17002..17003; FB01\n@implicitweights 17000..17002; FB00",
+                Some((2, ReadCause::BadRange)),
+            ),
+            (
+                "@implicitweights 17000..17000; FB00\n@implicitweights 1F000..1F000; FB00",
+                Some((2, ReadCause::BadRange)),
+            ),
+            (
+                "@implicitweights 17000..17002; FB00\n@implicitweights 17002..17003; FB01",
+                Some((2, ReadCause::BadRange)),
+            ),
+            (
+                "@implicitweights 20000..20000; FB00\n@implicitweights 17000..18000; FB00",
+                Some((2, ReadCause::BadRange)),
+            ),
+            (
+                "@implicitweights 17000..17000; FB00\n@implicitweights 1EFFF..1EFFF; FB00",
+                None,
+            ),
+            (
+                "@implicitweights 17000..17001; 7FFF",
+                Some((1, ReadCause::BadRange)),
+            ),
+        ],
+    );
     let text = repeated(
         rt.alloc(),
         &[(SMALL_TEXT, 1), ("@implicitweights 17500..17600; FB01", 1)],
@@ -431,59 +454,75 @@ fn a_range_may_not_meet_those_before_it(rt: HostRuntime) -> Result<(), Fail> {
     Ok(())
 }
 
-#[test]
-fn limits_hold_to_the_byte(rt: HostRuntime) -> Result<(), Fail> {
-    let cases: [(&[(&str, usize)], Option<(u64, ReadCause)>); 11] = [
-        (&[("#", 1), ("x", 4_095), ("\n", 1)], None),
-        (
-            &[("#", 1), ("x", 4_096), ("\n", 1)],
-            Some((1, ReadCause::LineTooLong)),
-        ),
-        (&[("#", 1), ("x", 4_095)], None),
-        (
-            &[("\n", 2), ("x", 4_097)],
-            Some((3, ReadCause::LineTooLong)),
-        ),
-        (&[("#", 1), ("x", 4_094), ("\r\n", 1)], None),
-        (
-            &[("#", 1), ("x", 4_095), ("\r\n", 1)],
-            Some((1, ReadCause::LineTooLong)),
-        ),
-        (&[("0061 ", 33)], Some((1, ReadCause::KeyTooLong))),
-        (&[("0061 ", 32), (";", 1), ("[.1000.0020.0002]", 64)], None),
-        (
-            &[("0061 ;", 1), ("[.1000.0020.0002]", 65), ("\n", 1)],
-            Some((1, ReadCause::TooManyElements)),
-        ),
-        (
-            &[("0061 ", 32), ("xyz", 1)],
-            Some((1, ReadCause::BadCodePoint)),
-        ),
-        (
-            &[("0061 ;", 1), ("[.1000.0020.0002]", 64), ("[]", 1)],
-            Some((1, ReadCause::BadElement)),
-        ),
-    ];
-    for (pieces, answer) in cases {
-        let text = repeated(rt.alloc(), pieces)?;
-        assert_answer(&rt, rt.alloc(), &text, answer);
-    }
+const LIMITS: [(&'static [(&'static str, usize)], Option<(u64, ReadCause)>); 11] = [
+    (&[("#", 1), ("x", 4_095), ("\n", 1)], None),
+    (
+        &[("#", 1), ("x", 4_096), ("\n", 1)],
+        Some((1, ReadCause::LineTooLong)),
+    ),
+    (&[("#", 1), ("x", 4_095)], None),
+    (
+        &[("\n", 2), ("x", 4_097)],
+        Some((3, ReadCause::LineTooLong)),
+    ),
+    (&[("#", 1), ("x", 4_094), ("\r\n", 1)], None),
+    (
+        &[("#", 1), ("x", 4_095), ("\r\n", 1)],
+        Some((1, ReadCause::LineTooLong)),
+    ),
+    (&[("0061 ", 33)], Some((1, ReadCause::KeyTooLong))),
+    (&[("0061 ", 32), (";", 1), ("[.1000.0020.0002]", 64)], None),
+    (
+        &[("0061 ;", 1), ("[.1000.0020.0002]", 65), ("\n", 1)],
+        Some((1, ReadCause::TooManyElements)),
+    ),
+    (
+        &[("0061 ", 32), ("xyz", 1)],
+        Some((1, ReadCause::BadCodePoint)),
+    ),
+    (
+        &[("0061 ;", 1), ("[.1000.0020.0002]", 64), ("[]", 1)],
+        Some((1, ReadCause::BadElement)),
+    ),
+];
+
+/// Looks at the answer for some pieces of text, each so many times.
+fn assert_pieces(
+    rt: &impl Abort,
+    alloc: Global,
+    pieces: &[(&str, usize)],
+    answer: Option<(u64, ReadCause)>,
+) -> Result<(), AllocError> {
+    let text = repeated(alloc, pieces)?;
+    assert_answer(rt, alloc, &text, answer);
     Ok(())
 }
 
 #[test]
+fn limits_hold_to_the_byte(rt: HostRuntime) -> Result<(), Fail> {
+    for (pieces, answer) in &LIMITS {
+        assert_pieces(&rt, rt.alloc(), pieces, *answer)?;
+    }
+    Ok(())
+}
+
+/// Texts before a failure of the reader, and the line and the cause of the fault.
+const FAILED_READS: [(&'static str, u64, ReadCause); 4] = [
+    ("0061 ; [.1000.0020.0002]\n", 2, ReadCause::Read),
+    ("", 1, ReadCause::Read),
+    ("0061 ; [.1000.0020.0002]\n0062", 2, ReadCause::Read),
+    (
+        "0061 ; [.1000.0020.0002]\n0062\n",
+        2,
+        ReadCause::NoSemicolon,
+    ),
+];
+
+#[test]
 fn a_failure_of_the_reader_is_reported_at_its_line(rt: HostRuntime) {
-    for (text, answer) in [
-        ("0061 ; [.1000.0020.0002]\n", (2, ReadCause::Read)),
-        ("", (1, ReadCause::Read)),
-        ("0061 ; [.1000.0020.0002]\n0062", (2, ReadCause::Read)),
-        (
-            "0061 ; [.1000.0020.0002]\n0062\n",
-            (2, ReadCause::NoSemicolon),
-        ),
-    ] {
+    for (text, line, cause) in &FAILED_READS {
         let found = fault(read_slowly(rt.alloc(), text.as_bytes(), 7, true));
-        assert!(rt; found == Some(answer));
+        assert!(rt; found == Some((*line, *cause)), "{text:?}");
     }
 }
 
@@ -495,41 +534,45 @@ fn a_line_without_end_is_refused(rt: HostRuntime) {
 
 #[test]
 fn lines_without_end_are_refused(rt: HostRuntime) {
-    for (width, line) in [(0, 67_108_865), (63, 1_048_577), (4_095, 16_385)] {
-        let found = fault(read_comments(rt.alloc(), width, usize::MAX));
-        assert!(rt; found == Some((line, ReadCause::TooLarge)));
+    for (width, line) in &[(0, 67_108_865), (63, 1_048_577), (4_095, 16_385)] {
+        let found = fault(read_comments(rt.alloc(), *width, usize::MAX));
+        assert!(rt; found == Some((*line, ReadCause::TooLarge)));
     }
 }
 
 #[test]
 fn the_limit_of_the_input_holds_to_the_byte(rt: HostRuntime) {
-    for (width, line) in [(4_095, 16_385), (4_096, 16_381)] {
-        let found = fault(read_comments(rt.alloc(), width, MAX_INPUT));
+    for (width, line) in &[(4_095, 16_385), (4_096, 16_381)] {
+        let found = fault(read_comments(rt.alloc(), *width, MAX_INPUT));
         assert!(rt; found == None);
-        let found = fault(read_comments(rt.alloc(), width, MAX_INPUT + 1));
-        assert!(rt; found == Some((line, ReadCause::TooLarge)));
+        let found = fault(read_comments(rt.alloc(), *width, MAX_INPUT + 1));
+        assert!(rt; found == Some((*line, ReadCause::TooLarge)));
     }
 }
+
+const EARLY_FAULTS: [(&'static str, u64, ReadCause); 6] = [
+    ("0041", 1, ReadCause::NoSemicolon),
+    ("0041 ;", 1, ReadCause::NoElement),
+    ("D800 ; [.1.1.1]", 1, ReadCause::BadCodePoint),
+    ("# none\n\n0041 ; [.1", 3, ReadCause::BadElement),
+    (
+        "@version 17.0.0\n@version 17.0.0\n",
+        2,
+        ReadCause::BadDirective,
+    ),
+    (
+        "@implicitweights 17000..17001; 7FFF",
+        1,
+        ReadCause::BadRange,
+    ),
+];
 
 #[test]
 fn a_fault_before_anything_was_added_takes_no_memory(rt: HostRuntime) {
     // Each is asked for once: where no growth is asked for, none can be refused.
-    for (text, answer) in [
-        ("0041", (1, ReadCause::NoSemicolon)),
-        ("0041 ;", (1, ReadCause::NoElement)),
-        ("D800 ; [.1.1.1]", (1, ReadCause::BadCodePoint)),
-        ("# none\n\n0041 ; [.1", (3, ReadCause::BadElement)),
-        (
-            "@version 17.0.0\n@version 17.0.0\n",
-            (2, ReadCause::BadDirective),
-        ),
-        (
-            "@implicitweights 17000..17001; 7FFF",
-            (1, ReadCause::BadRange),
-        ),
-    ] {
+    for (text, line, cause) in &EARLY_FAULTS {
         let found = fault(read_table(rt.alloc(), &mut Reading::new(text.as_bytes())));
-        assert!(rt; found == Some(answer), "{text:?}");
+        assert!(rt; found == Some((*line, *cause)), "{text:?}");
     }
     let mut failing = slow_reader(b"# none\n", 7, true);
     let found = fault(read_table(rt.alloc(), &mut failing));

@@ -18,22 +18,25 @@ fn table(rt: &impl Abort, alloc: Global) -> Table {
     }
 }
 
+/// Stops a test where a table has not the entries of the small one.
+fn assert_entries(rt: &impl Abort, t: &Table) {
+    for (key, starred, weights) in &SMALL_TABLE {
+        let want = [element(*starred, *weights)];
+        assert!(rt; t.get(key) == Some(want.as_slice()), "{key:?}");
+    }
+}
+
 #[test]
 fn the_built_in_table_has_eighteen_keys_and_two_ranges(rt: HostRuntime) {
     let t = table(&rt, rt.alloc());
     assert!(rt; t.longest() == 3);
     assert!(rt; t.entries().count() == 18);
     assert!(rt; t.ranges().len() == 2);
-    for (key, starred, weights) in SMALL_TABLE {
-        let want = [element(starred, weights)];
-        assert!(rt; t.get(key) == Some(want.as_slice()), "{key:?}");
-    }
+    assert_entries(&rt, &t);
     assert!(rt; t.get(&['d']).is_none());
-    let tangut = [
-        element(false, [0xFB00, 0x20, 2]),
-        element(false, [0x9D00, 0, 0]),
-    ];
-    assert!(rt; t.implicit('\u{18D00}') == tangut);
+    let [first, second] = t.implicit('\u{18D00}');
+    assert!(rt; first == element(false, [0xFB00, 0x20, 2]));
+    assert!(rt; second == element(false, [0x9D00, 0, 0]));
 }
 
 /// What the command `compare` has to write for an input, by the keys that `key` writes for its lines. Digits and blanks
@@ -63,26 +66,35 @@ const NEIGHBOURS: &str =
     "a\nA\na\u{301}\n\u{E1}\na\u{300}\na\u{1}\na\na-\n-a\na \nb\nch\ncz\nc\nch\n\n\u{1}\n\u{301}\n\
 \u{4E00}\n\u{18D00}\n\u{10FFFF}\na-b\na b\nab\nAB\naB\na\u{323}\u{301}\na\u{301}\u{323}\n\u{1EA1}\u{301}\n";
 
+/// Strengths at which no key is an empty text.
+const STRENGTHS: [Strength; 4] = [
+    Strength::Secondary,
+    Strength::Tertiary,
+    Strength::Quaternary,
+    Strength::Identical,
+];
+
+const WEIGHTINGS: [Variable; 3] = [Variable::NonIgnorable, Variable::Blanked, Variable::Shifted];
+
+/// Stops a test where `compare` says otherwise than the keys of `key` at these settings.
+fn assert_agreement(rt: &impl Abort, alloc: Global, settings: Settings) -> Result<(), AllocError> {
+    let input = whole(NEIGHBOURS.as_bytes());
+    let keys = Given::new(Task::Key, input).at(settings).output(rt, alloc);
+    let want = orders_by_keys(alloc, &keys)?;
+    let compared = Given::new(Task::Compare, input).at(settings);
+    assert!(rt; compared.writes(rt, alloc, &want), "{settings:?}");
+    Ok(())
+}
+
 #[test]
 fn neighbours_are_in_the_order_of_their_keys(rt: HostRuntime) -> Result<(), Fail> {
-    let alloc = rt.alloc();
-    let strengths = [
-        Strength::Secondary,
-        Strength::Tertiary,
-        Strength::Quaternary,
-        Strength::Identical,
-    ];
-    for strength in strengths {
-        for weighting in [Variable::NonIgnorable, Variable::Blanked, Variable::Shifted] {
+    for strength in &STRENGTHS {
+        for weighting in &WEIGHTINGS {
             let settings = Settings {
-                strength,
-                weighting,
+                strength: *strength,
+                weighting: *weighting,
             };
-            let input = whole(NEIGHBOURS.as_bytes());
-            let keys = Given::new(Task::Key, input).at(settings).output(&rt, alloc);
-            let want = orders_by_keys(alloc, &keys)?;
-            let compared = Given::new(Task::Compare, input).at(settings);
-            assert!(rt; compared.writes(&rt, alloc, &want), "{settings:?}");
+            assert_agreement(&rt, rt.alloc(), settings)?;
         }
     }
     Ok(())

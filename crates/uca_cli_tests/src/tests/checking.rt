@@ -3,7 +3,6 @@ use super::given::{Given, whole};
 use std::test::Fail;
 use uca_cli::{CliFault, ConformCause, ConformFault, Task};
 use uca_testing::Pieces;
-use uca_weights::WriteCause;
 
 /// A file whose last line is below the first one.
 const FAILING: &[u8] = b"0062\nD800\n0061;x\n";
@@ -20,19 +19,23 @@ fn file_refused(line: u64, cause: ConformCause) -> CliFault {
     CliFault::Conform(ConformFault { line, cause })
 }
 
+/// Files, and the status and the report of each.
+const FILES: [(&'static [u8], u8, &'static [u8]); 3] = [
+    (FAILING, 1, REPORT),
+    (
+        b"0061\n# x\n\n0062",
+        0,
+        b"lines 2\nskipped 0\nfirst failure none\n",
+    ),
+    (b"", 0, b"lines 0\nskipped 0\nfirst failure none\n"),
+];
+
 #[test]
 fn a_failing_line_is_reported_and_the_status_is_one(rt: HostRuntime) {
-    let none: &[u8] = b"lines 2\nskipped 0\nfirst failure none\n";
-    let empty: &[u8] = b"lines 0\nskipped 0\nfirst failure none\n";
-    let cases: [(&[u8], u8, &[u8]); 3] = [
-        (FAILING, 1, REPORT),
-        (b"0061\n# x\n\n0062", 0, none),
-        (b"", 0, empty),
-    ];
-    for (file, status, want) in cases {
+    for (file, status, want) in &FILES {
         let given = check(whole(file));
         assert!(rt;
-            given.comes_to(&rt, rt.alloc(), Ok(status), want),
+            given.comes_to(&rt, rt.alloc(), Ok(*status), want),
             "{file:?}"
         );
     }
@@ -50,28 +53,23 @@ fn a_faulty_file_is_reported_and_nothing_is_written(rt: HostRuntime) {
 
 #[test]
 fn a_writer_that_stops_gets_the_front_of_the_report(rt: HostRuntime) {
-    for cause in [WriteCause::Failed, WriteCause::Zero] {
-        for room in 0..REPORT.len() {
-            assert!(rt;
-                check(whole(FAILING)).stops_at(&rt, rt.alloc(), REPORT, room, cause),
-                "{room} bytes"
-            );
-        }
-    }
+    check(whole(FAILING)).assert_front(&rt, rt.alloc(), REPORT);
 }
+
+/// Causes, and their texts.
+const TEXTS: [(ConformCause, &'static str); 4] = [
+    (ConformCause::LineTooLong, "uca: input line 7: LineTooLong"),
+    (ConformCause::BadLine, "uca: input line 7: BadLine"),
+    (ConformCause::TooLarge, "uca: input line 7: TooLarge"),
+    (ConformCause::Read, "uca: input line 7: Read"),
+];
 
 #[test]
 fn faults_of_a_test_file_have_their_texts(rt: HostRuntime) -> Result<(), Fail> {
-    let texts = [
-        (ConformCause::LineTooLong, "uca: input line 7: LineTooLong"),
-        (ConformCause::BadLine, "uca: input line 7: BadLine"),
-        (ConformCause::TooLarge, "uca: input line 7: TooLarge"),
-        (ConformCause::Read, "uca: input line 7: Read"),
-    ];
-    for (cause, want) in texts {
-        let fault = CliFault::Conform(ConformFault { line: 7, cause });
+    for (cause, want) in &TEXTS {
+        let fault = file_refused(7, *cause);
         let text = format!(in rt.alloc(); "{fault}")?;
-        assert!(rt; text.as_str() == want);
+        assert!(rt; text.as_str() == *want);
     }
     Ok(())
 }

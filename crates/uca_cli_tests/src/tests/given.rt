@@ -161,6 +161,21 @@ impl<'b> Given<'b> {
             && output.len() - left.min(output.len()) == room
     }
 
+    /// Stops a test where a writer with room for less than the output, which fails or takes none, gets other bytes than its front.
+    pub(super) fn assert_stop(&self, rt: &impl Abort, alloc: Global, output: &[u8], room: usize) {
+        let fails = self.stops_at(rt, alloc, output, room, WriteCause::Failed);
+        assert!(rt; fails, "{:?} {room} bytes", self.command);
+        let takes_none = self.stops_at(rt, alloc, output, room, WriteCause::Zero);
+        assert!(rt; takes_none, "{:?} {room} bytes", self.command);
+    }
+
+    /// The same, after each byte of the output.
+    pub(super) fn assert_front(&self, rt: &impl Abort, alloc: Global, output: &[u8]) {
+        for room in 0..output.len() {
+            self.assert_stop(rt, alloc, output, room);
+        }
+    }
+
     /// What the job writes to memory. It succeeds.
     pub(super) fn output(&self, rt: &impl Abort, alloc: Global) -> Vec<u8> {
         let mut writer = Writing::new(Vec::new(alloc));

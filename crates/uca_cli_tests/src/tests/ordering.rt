@@ -74,42 +74,46 @@ fn comes_to<I: Reader + Copy>(
     answer == want && writer.left() == Some(0)
 }
 
+const SHIFTED: Settings = Settings {
+    strength: Strength::Tertiary,
+    weighting: Variable::Shifted,
+};
+
+const IDENTICAL: Settings = Settings {
+    strength: Strength::Identical,
+    weighting: Variable::NonIgnorable,
+};
+
+/// Settings, an input, how many lines it has, and the lines in their order.
+const ORDERED_LINES: [(Settings, &'static [u8], u64, &'static [u8]); 11] = [
+    (PLAIN, LINES, 5, ORDERED),
+    // `A` and `a` have one key at the first level, and stay as they stood.
+    (PRIMARY, LINES, 5, b"A\na\nb\ncz\nch\n"),
+    (PRIMARY, b"a\nA\na\n", 3, b"a\nA\na\n"),
+    // U+0001 has no weight, and counts at the fifth level alone.
+    (PLAIN, b"a\n\na\x01\n\x01\na", 5, b"\n\x01\na\na\x01\na\n"),
+    (
+        IDENTICAL,
+        b"a\n\na\x01\n\x01\na",
+        5,
+        b"\n\x01\na\na\na\x01\n",
+    ),
+    (PLAIN, b"", 0, b""),
+    (PLAIN, b"\n", 1, b"\n"),
+    // A key that is the front of another one comes first.
+    (PLAIN, b"ab\n\na", 3, b"\na\nab\n"),
+    // One CR before LF is not part of the line, and another one is.
+    (PLAIN, b"b\r\na\r", 2, b"a\nb\n"),
+    (PLAIN, b"\r\r\na\n", 2, b"a\n\r\n"),
+    // The signs of a line go out, also where its key has none of them.
+    (SHIFTED, b"-b\nc\n a\n", 3, b" a\n-b\nc\n"),
+];
+
 #[test]
 fn lines_come_in_the_order_of_their_keys(rt: HostRuntime) {
-    let shifted = Settings {
-        strength: Strength::Tertiary,
-        weighting: Variable::Shifted,
-    };
-    let identical = Settings {
-        strength: Strength::Identical,
-        weighting: Variable::NonIgnorable,
-    };
-    let cases: [(Settings, &[u8], u64, &[u8]); 11] = [
-        (PLAIN, LINES, 5, ORDERED),
-        // `A` and `a` have one key at the first level, and stay as they stood.
-        (PRIMARY, LINES, 5, b"A\na\nb\ncz\nch\n"),
-        (PRIMARY, b"a\nA\na\n", 3, b"a\nA\na\n"),
-        // U+0001 has no weight, and counts at the fifth level alone.
-        (PLAIN, b"a\n\na\x01\n\x01\na", 5, b"\n\x01\na\na\x01\na\n"),
-        (
-            identical,
-            b"a\n\na\x01\n\x01\na",
-            5,
-            b"\n\x01\na\na\na\x01\n",
-        ),
-        (PLAIN, b"", 0, b""),
-        (PLAIN, b"\n", 1, b"\n"),
-        // A key that is the front of another one comes first.
-        (PLAIN, b"ab\n\na", 3, b"\na\nab\n"),
-        // One CR before LF is not part of the line, and another one is.
-        (PLAIN, b"b\r\na\r", 2, b"a\nb\n"),
-        (PLAIN, b"\r\r\na\n", 2, b"a\n\r\n"),
-        // The signs of a line go out, also where its key has none of them.
-        (shifted, b"-b\nc\n a\n", 3, b" a\n-b\nc\n"),
-    ];
-    for (settings, input, count, output) in cases {
+    for (settings, input, count, output) in &ORDERED_LINES {
         assert!(rt;
-            comes_to(&rt, rt.alloc(), settings, whole(input), Ok(count), output),
+            comes_to(&rt, rt.alloc(), *settings, whole(input), Ok(*count), output),
             "{input:?}"
         );
     }
@@ -153,11 +157,11 @@ fn stops(
 
 #[test]
 fn a_writer_that_stops_gets_the_front(rt: HostRuntime) {
-    for cause in [WriteCause::Failed, WriteCause::Zero] {
-        for room in 0..ORDERED.len() + 2 {
-            let holds = stops(&rt, rt.alloc(), LINES, ORDERED, room, cause);
-            assert!(rt; holds, "{room} bytes, {cause:?}");
-        }
+    for room in 0..ORDERED.len() + 2 {
+        let holds = stops(&rt, rt.alloc(), LINES, ORDERED, room, WriteCause::Failed);
+        assert!(rt; holds, "{room} bytes, after which the writer fails");
+        let holds = stops(&rt, rt.alloc(), LINES, ORDERED, room, WriteCause::Zero);
+        assert!(rt; holds, "{room} bytes, after which the writer takes none");
     }
 }
 
@@ -171,22 +175,22 @@ fn long_lines(alloc: Global, count: usize) -> Result<(Vec<u8>, Vec<u8>), AllocEr
     Ok((input, output))
 }
 
+/// Stops a test where a line of so many characters does not go out whole, or its front to a writer that takes no more.
+fn assert_long(rt: &impl Abort, alloc: Global, count: usize) -> Result<(), AllocError> {
+    let (input, output) = long_lines(alloc, count)?;
+    let all = output.len();
+    let holds = stops(rt, alloc, &input, &output, all, WriteCause::Failed);
+    assert!(rt; holds, "{count} characters");
+    let holds = stops(rt, alloc, &input, &output, count, WriteCause::Zero);
+    assert!(rt; holds, "a front of {count} characters");
+    Ok(())
+}
+
 #[test]
 fn long_lines_go_out_whole(rt: HostRuntime) -> Result<(), Fail> {
     let alloc = rt.alloc();
-    for count in [8_191, 8_192, 8_193, 16_384, 16_385, 30_000] {
-        let (input, output) = long_lines(alloc, count)?;
-        let holds = stops(
-            &rt,
-            alloc,
-            &input,
-            &output,
-            output.len(),
-            WriteCause::Failed,
-        );
-        assert!(rt; holds, "{count} characters");
-        let holds = stops(&rt, alloc, &input, &output, count, WriteCause::Zero);
-        assert!(rt; holds, "a front of {count} characters");
+    for count in &[8_191, 8_192, 8_193, 16_384, 16_385, 30_000] {
+        assert_long(&rt, alloc, *count)?;
     }
     Ok(())
 }

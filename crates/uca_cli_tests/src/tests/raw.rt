@@ -32,30 +32,28 @@ fn raw_key(input: &[u8]) -> Given<'_> {
     raw(Task::Key, whole(input))
 }
 
+/// Inputs of one line, settings, and the key.
+const RAW_KEYS: [(&'static [u8], Settings, &'static [u8]); 9] = [
+    (b"a\n", PLAIN, KEY),
+    (b"a", PLAIN, KEY),
+    (b"a\r\n", PLAIN, KEY),
+    (b"a\r", PLAIN, KEY),
+    // An empty line is a line.
+    (b"\n", PLAIN, &[0; 4]),
+    (b"\r", PLAIN, &[0; 4]),
+    (b"\n", PRIMARY, &[]),
+    (
+        b"a",
+        IDENTICAL,
+        &[0x10, 0, 0, 0, 0, 0x20, 0, 0, 0, 2, 0, 0, 0, 0, 0, 0, 0x61],
+    ),
+    (b"ch\xE4\xB8\x80", PRIMARY, &[0x10, 7, 0xFB, 0x40, 0xCE, 0]),
+];
+
 #[test]
 fn the_key_of_the_one_line_is_written_as_its_bytes(rt: HostRuntime) {
-    let cases: [(&[u8], Settings, &[u8]); 9] = [
-        (b"a\n", PLAIN, KEY),
-        (b"a", PLAIN, KEY),
-        (b"a\r\n", PLAIN, KEY),
-        (b"a\r", PLAIN, KEY),
-        // An empty line is a line.
-        (b"\n", PLAIN, &[0; 4]),
-        (b"\r", PLAIN, &[0; 4]),
-        (b"\n", PRIMARY, &[]),
-        (
-            b"a",
-            IDENTICAL,
-            &[0x10, 0, 0, 0, 0, 0x20, 0, 0, 0, 2, 0, 0, 0, 0, 0, 0, 0x61],
-        ),
-        (
-            "ch\u{4E00}".as_bytes(),
-            PRIMARY,
-            &[0x10, 7, 0xFB, 0x40, 0xCE, 0],
-        ),
-    ];
-    for (input, settings, want) in cases {
-        let given = raw_key(input).at(settings);
+    for (input, settings, want) in &RAW_KEYS {
+        let given = raw_key(input).at(*settings);
         assert!(rt; given.writes(&rt, rt.alloc(), want), "{input:?}");
     }
 }
@@ -74,10 +72,11 @@ fn a_raw_key_is_that_of_the_settings(rt: HostRuntime) {
     assert!(rt; given.writes(&rt, rt.alloc(), want));
 }
 
+const NOT_ONE_LINE: [&'static [u8]; 6] = [b"", b"a\nab\n", b"a\nab", b"\n\n", b"\n\r", b"a\n\n"];
+
 #[test]
 fn an_input_that_is_not_one_line_is_refused(rt: HostRuntime) {
-    let cases: [&[u8]; 6] = [b"", b"a\nab\n", b"a\nab", b"\n\n", b"\n\r", b"a\n\n"];
-    for input in cases {
+    for input in &NOT_ONE_LINE {
         let fault = input_refused(0, 0, InputCause::NotOneLine);
         assert!(rt;
             raw_key(input).is_refused(&rt, rt.alloc(), fault),
@@ -123,27 +122,19 @@ fn an_input_past_the_limit_is_too_large_and_not_many_lines(rt: HostRuntime) {
 
 #[test]
 fn a_writer_that_stops_gets_the_front_of_a_raw_key(rt: HostRuntime) {
-    for cause in [WriteCause::Failed, WriteCause::Zero] {
-        for room in 0..KEY.len() {
-            assert!(rt;
-                raw_key(b"a\n").stops_at(&rt, rt.alloc(), KEY, room, cause),
-                "{room} bytes"
-            );
-        }
-    }
+    raw_key(b"a\n").assert_front(&rt, rt.alloc(), KEY);
 }
+
+/// Commands that take no notice of the flag, and what they write.
+const OTHER_COMMANDS: [(Task, &'static [u8]); 2] = [
+    (Task::Elements, b"[.1000.0020.0002]\n[.1001.0020.0002]\n"),
+    (Task::Compare, b"less\n"),
+];
 
 #[test]
 fn the_flag_is_one_of_keys_alone(rt: HostRuntime) {
-    let cases: [(Task, &[u8]); 2] = [
-        (
-            Task::Elements,
-            b"[.1000.0020.0002]\n[.1001.0020.0002]\n".as_slice(),
-        ),
-        (Task::Compare, b"less\n".as_slice()),
-    ];
-    for (command, want) in cases {
-        let given = raw(command, whole(b"a\nb\n"));
+    for (command, want) in &OTHER_COMMANDS {
+        let given = raw(*command, whole(b"a\nb\n"));
         assert!(rt; given.writes(&rt, rt.alloc(), want), "{command:?}");
     }
 }

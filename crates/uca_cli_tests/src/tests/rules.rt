@@ -1,10 +1,10 @@
 //! The rules of a job: what comes of their reader, and the table that they tailor.
 use super::given::{Given, failing, output_refused, whole};
-use super::{PLAIN, input_refused, plain_job, wants_memory};
+use super::{PLAIN, assert_text, input_refused, plain_job, wants_memory};
 use std::alloc::Global;
 use std::test::Fail;
 use uca_allkeys::{ReadCause, ReadFault};
-use uca_cli::{CliFault, InputCause, RulesTextCause, Task, perform, status_of};
+use uca_cli::{CliFault, InputCause, RulesTextCause, Task, perform};
 use uca_tailor::{RuleCause, RuleFault, TailorCause, TailorFault};
 use uca_testing::{Expecting, Pieces, Repeating};
 use uca_weights::{Reader, WriteCause};
@@ -44,47 +44,49 @@ fn no_text(at: usize, cause: RulesTextCause) -> CliFault {
     CliFault::RulesText { at, cause }
 }
 
+/// Commands, rules, an input and the output.
+const TAILORED: [(Task, &'static str, &'static str, &'static [u8]); 8] = [
+    (
+        Task::Key,
+        "&c<<\u{E7}",
+        "\u{E7}",
+        b"10 02 00 00 00 21 00 00 00 02\n",
+    ),
+    // An implicit weight is the same before and after.
+    (
+        Task::Key,
+        "",
+        "\u{4E00}",
+        b"FB 40 CE 00 00 00 00 20 00 00 00 02\n",
+    ),
+    (
+        Task::Key,
+        "&c<<\u{E7}",
+        "\u{4E00}",
+        b"FB 40 CE 00 00 00 00 20 00 00 00 02\n",
+    ),
+    (Task::Key, "", "a", b"10 00 00 00 00 20 00 00 00 02\n"),
+    (
+        Task::Key,
+        "# nothing",
+        "a",
+        b"10 00 00 00 00 20 00 00 00 02\n",
+    ),
+    (
+        Task::Elements,
+        "&a<b &a<c",
+        "abc",
+        b"[.1000.0020.0002][.1002.0020.0002][.1001.0020.0002]\n",
+    ),
+    (Task::Compare, "&z<a", "z\na\nb", b"less\ngreater\n"),
+    (Task::Compare, "", "z\na\nb", b"greater\nless\n"),
+];
+
 #[test]
 fn rules_tailor_the_table_of_each_command(rt: HostRuntime) {
     let alloc = rt.alloc();
-    let cases: [(Task, &str, &str, &[u8]); 8] = [
-        (
-            Task::Key,
-            "&c<<\u{E7}",
-            "\u{E7}",
-            b"10 02 00 00 00 21 00 00 00 02\n",
-        ),
-        // An implicit weight is the same before and after.
-        (
-            Task::Key,
-            "",
-            "\u{4E00}",
-            b"FB 40 CE 00 00 00 00 20 00 00 00 02\n",
-        ),
-        (
-            Task::Key,
-            "&c<<\u{E7}",
-            "\u{4E00}",
-            b"FB 40 CE 00 00 00 00 20 00 00 00 02\n",
-        ),
-        (Task::Key, "", "a", b"10 00 00 00 00 20 00 00 00 02\n"),
-        (
-            Task::Key,
-            "# nothing",
-            "a",
-            b"10 00 00 00 00 20 00 00 00 02\n",
-        ),
-        (
-            Task::Elements,
-            "&a<b &a<c",
-            "abc",
-            b"[.1000.0020.0002][.1002.0020.0002][.1001.0020.0002]\n",
-        ),
-        (Task::Compare, "&z<a", "z\na\nb", b"less\ngreater\n"),
-        (Task::Compare, "", "z\na\nb", b"greater\nless\n"),
-    ];
-    for (command, rules, input, want) in cases {
-        let given = Given::new(command, whole(input.as_bytes())).by(whole(rules.as_bytes()));
+    for (command, rules, input, want) in &TAILORED {
+        let given = Given::new(*command, whole(input.as_bytes())).by(whole(rules.as_bytes()));
         assert!(rt; given.writes(&rt, alloc, want), "{command:?} {rules}");
     }
 }
@@ -143,27 +145,37 @@ fn rules_past_the_limit_are_refused(rt: HostRuntime) {
     assert!(rt; answer_of(alloc, Pieces::new(b"&a<b", 1, 3)) == failed);
 }
 
+/// Rules, and the cause and the byte of their first fault.
+const FAULTY_RULES: [(&'static str, RuleCause, usize); 3] = [
+    ("&a<", RuleCause::EmptyString, 3),
+    ("&[before 1]a<x", RuleCause::LeftOut, 1),
+    ("<a", RuleCause::Syntax, 0),
+];
+
+/// Rules that cannot be applied, and the cause and the number of the first relation that cannot.
+const FAULTY_RELATIONS: [(&'static str, TailorCause, u64); 3] = [
+    ("&\\u0001<x", TailorCause::SmallWeight, 1),
+    ("&\u{4E00}<x", TailorCause::HighReset, 1),
+    ("&a<b &\u{4E00}<x", TailorCause::HighReset, 2),
+];
+
 #[test]
 fn the_first_fault_of_the_rules_is_reported_before_the_input_is_read(rt: HostRuntime) {
     let alloc = rt.alloc();
-    let cases: [(&str, RuleCause, usize); 3] = [
-        ("&a<", RuleCause::EmptyString, 3),
-        ("&[before 1]a<x", RuleCause::LeftOut, 1),
-        ("<a", RuleCause::Syntax, 0),
-    ];
-    for (rules, cause, at) in cases {
+    for (rules, cause, at) in &FAULTY_RULES {
         let given = ruled(Task::Key, rules.as_bytes());
-        let fault = CliFault::Rules(RuleFault { at, cause });
+        let fault = CliFault::Rules(RuleFault {
+            at: *at,
+            cause: *cause,
+        });
         assert!(rt; given.is_refused(&rt, alloc, fault), "{rules}");
     }
-    let cases: [(&str, TailorCause, u64); 3] = [
-        ("&\\u0001<x", TailorCause::SmallWeight, 1),
-        ("&\u{4E00}<x", TailorCause::HighReset, 1),
-        ("&a<b &\u{4E00}<x", TailorCause::HighReset, 2),
-    ];
-    for (rules, cause, relation) in cases {
+    for (rules, cause, relation) in &FAULTY_RELATIONS {
         let given = ruled(Task::Key, rules.as_bytes());
-        let fault = CliFault::Tailor(TailorFault { relation, cause });
+        let fault = CliFault::Tailor(TailorFault {
+            relation: *relation,
+            cause: *cause,
+        });
         assert!(rt; given.is_refused(&rt, alloc, fault), "{rules}");
     }
 }
@@ -194,55 +206,69 @@ fn faults_after_the_rules_are_reported(rt: HostRuntime) {
 
 #[test]
 fn faults_of_the_rules_have_their_texts(rt: HostRuntime) -> Result<(), Fail> {
-    let cases = [
-        (
-            no_text(2, RulesTextCause::NotUtf8),
-            "uca: rules byte 2: NotUtf8",
-        ),
-        (
-            no_text(1_048_576, RulesTextCause::TooLarge),
-            "uca: rules byte 1048576: TooLarge",
-        ),
-        (no_text(0, RulesTextCause::Read), "uca: rules byte 0: Read"),
-        (
-            CliFault::Rules(RuleFault {
-                at: 3,
-                cause: RuleCause::EmptyString,
-            }),
-            "uca: rules byte 3: EmptyString",
-        ),
-        (
-            CliFault::Rules(RuleFault {
-                at: 0,
-                cause: RuleCause::OutOfMemory,
-            }),
-            "uca: OutOfMemory",
-        ),
-        (
-            CliFault::Tailor(TailorFault {
-                relation: 1,
-                cause: TailorCause::HighReset,
-            }),
-            "uca: rules relation 1: HighReset",
-        ),
-        (
-            CliFault::Tailor(TailorFault {
-                relation: 20_000,
-                cause: TailorCause::Full(3),
-            }),
-            "uca: rules relation 20000: Full 3",
-        ),
-        (
-            CliFault::Tailor(TailorFault {
-                relation: 0,
-                cause: TailorCause::OutOfMemory,
-            }),
-            "uca: OutOfMemory",
-        ),
-    ];
-    for (fault, want) in cases {
-        assert!(rt; status_of(&fault) == 3, "{fault:?}");
-        assert!(rt; fault.to_string(rt.alloc())?.as_str() == want);
-    }
+    let alloc = rt.alloc();
+    assert_text(
+        &rt,
+        alloc,
+        no_text(2, RulesTextCause::NotUtf8),
+        "uca: rules byte 2: NotUtf8",
+    )?;
+    assert_text(
+        &rt,
+        alloc,
+        no_text(1_048_576, RulesTextCause::TooLarge),
+        "uca: rules byte 1048576: TooLarge",
+    )?;
+    assert_text(
+        &rt,
+        alloc,
+        no_text(0, RulesTextCause::Read),
+        "uca: rules byte 0: Read",
+    )?;
+    assert_text(
+        &rt,
+        alloc,
+        CliFault::Rules(RuleFault {
+            at: 3,
+            cause: RuleCause::EmptyString,
+        }),
+        "uca: rules byte 3: EmptyString",
+    )?;
+    assert_text(
+        &rt,
+        alloc,
+        CliFault::Rules(RuleFault {
+            at: 0,
+            cause: RuleCause::OutOfMemory,
+        }),
+        "uca: OutOfMemory",
+    )?;
+    assert_text(
+        &rt,
+        alloc,
+        CliFault::Tailor(TailorFault {
+            relation: 1,
+            cause: TailorCause::HighReset,
+        }),
+        "uca: rules relation 1: HighReset",
+    )?;
+    assert_text(
+        &rt,
+        alloc,
+        CliFault::Tailor(TailorFault {
+            relation: 20_000,
+            cause: TailorCause::Full(3),
+        }),
+        "uca: rules relation 20000: Full 3",
+    )?;
+    assert_text(
+        &rt,
+        alloc,
+        CliFault::Tailor(TailorFault {
+            relation: 0,
+            cause: TailorCause::OutOfMemory,
+        }),
+        "uca: OutOfMemory",
+    )?;
     Ok(())
 }

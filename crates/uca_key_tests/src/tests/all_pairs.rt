@@ -5,72 +5,62 @@ use std::process::Abort;
 use std::test::Fail;
 use uca_key::{key_of, packed_key_of};
 use uca_levels::compare;
-use uca_table::{InsertFault, RangeFault, Table, TableBuilder};
-use uca_testing::{Entry, element};
+use uca_table::Table;
+use uca_testing::table_from;
 use uca_weights::{Settings, Strength, Variable};
 use uca_window::Passage;
 
-/// Keys of one element, whose mark is `*` where the flag is true: ignorable code points, variable elements, marks, one of
-/// which counts at the third level alone, letters of both cases, Hangul letters, contractions, and weights whose bytes
-/// look like separators.
-#[rattlefmt::skip]
-const KEYS: [Entry; 41] = [
-    (&['\u{1}'], false, [0, 0, 0]),
-    (&['\u{AD}'], false, [0, 0, 0]),
-    (&['\u{34F}'], false, [0, 0, 0]),
-    (&[' '], true, [0x201, 0x20, 2]),
-    (&['-'], true, [0x202, 0x20, 2]),
-    (&['-', '-'], true, [0x203, 0x20, 2]),
-    (&['-', '\u{308}'], true, [0x204, 0x20, 2]),
-    (&['+'], true, [0xFFFF, 0x20, 2]),
-    (&['\u{300}'], false, [0, 0x21, 2]),
-    (&['\u{301}'], false, [0, 0x22, 2]),
-    (&['\u{308}'], false, [0, 0x23, 2]),
-    (&['\u{323}'], false, [0, 0x24, 2]),
-    (&['\u{335}'], false, [0, 0, 9]),
-    (&['\u{308}', '\u{301}'], false, [0, 0x25, 2]),
-    (&['a'], false, [0x1000, 0x20, 2]),
-    (&['A'], false, [0x1000, 0x20, 8]),
-    (&['b'], false, [0x1001, 0x20, 2]),
-    (&['B'], false, [0x1001, 0x20, 8]),
-    (&['c'], false, [0x1002, 0x20, 2]),
-    (&['C'], false, [0x1002, 0x20, 8]),
-    (&['e'], false, [0x1004, 0x20, 2]),
-    (&['E'], false, [0x1004, 0x20, 8]),
-    (&['h'], false, [0x1005, 0x20, 2]),
-    (&['H'], false, [0x1005, 0x20, 8]),
-    (&['z'], false, [0x1006, 0x20, 2]),
-    (&['c', 'h'], false, [0x1007, 0x20, 2]),
-    (&['C', 'h'], false, [0x1007, 0x20, 7]),
-    (&['C', 'H'], false, [0x1007, 0x20, 8]),
-    (&['a', '\u{301}'], false, [0x1008, 0x20, 2]),
-    (&['b', '\u{301}'], false, [0x1009, 0x20, 2]),
-    (&['b', '\u{301}', '\u{308}'], false, [0x100A, 0x20, 2]),
-    (&['e', '\u{323}', '\u{300}'], false, [0x100B, 0x20, 2]),
-    (&['\u{1100}'], false, [0x2000, 0x20, 2]),
-    (&['\u{1161}'], false, [0x2001, 0x20, 2]),
-    (&['\u{11A8}'], false, [0x2002, 0x20, 2]),
-    (&['\u{1100}', '\u{1161}', '\u{11A8}'], false, [0x2003, 0x20, 2]),
-    (&['p'], false, [1, 1, 1]),
-    (&['q'], false, [0x100, 0x100, 0x100]),
-    (&['r'], false, [0xFF, 0xFF, 0xFF]),
-    (&['s'], false, [0xFFFF, 0xFFFF, 0xFFFF]),
-    (&['t'], false, [0x1000, 0x100, 1]),
-];
-
-/// Keys of several elements, all of them with the mark `.`.
-#[rattlefmt::skip]
-const EXPANSIONS: [(char, [[u16; 3]; 3]); 3] = [
-    ('\u{E6}', [[0x1000, 0x20, 4], [0, 0x26, 4], [0x1004, 0x20, 4]]),
-    ('\u{C6}', [[0x1000, 0x20, 0xA], [0, 0x26, 4], [0x1004, 0x20, 0xA]]),
-    ('\u{152}', [[0x1000, 0x20, 2], [0x1004, 0x20, 2], [0x1000, 0x20, 2]]),
-];
-
-const RANGES: [(char, char, u16); 3] = [
-    ('\u{17000}', '\u{18AFF}', 0xFB00),
-    ('\u{18D00}', '\u{18D8F}', 0xFB00),
-    ('\u{1B170}', '\u{1B2FF}', 0xFB01),
-];
+/// Ignorable code points, variable elements, marks, one of which counts at the third level alone, letters of both cases,
+/// Hangul letters, contractions, weights whose bytes look like separators, and keys of several elements.
+const TABLE: &[u8] = b"\
+@implicitweights 17000..18AFF; FB00
+@implicitweights 18D00..18D8F; FB00
+@implicitweights 1B170..1B2FF; FB01
+0001 ; [.0000.0000.0000]
+00AD ; [.0000.0000.0000]
+034F ; [.0000.0000.0000]
+0020 ; [*0201.0020.0002]
+002D ; [*0202.0020.0002]
+002D 002D ; [*0203.0020.0002]
+002D 0308 ; [*0204.0020.0002]
+002B ; [*FFFF.0020.0002]
+0300 ; [.0000.0021.0002]
+0301 ; [.0000.0022.0002]
+0308 ; [.0000.0023.0002]
+0323 ; [.0000.0024.0002]
+0335 ; [.0000.0000.0009]
+0308 0301 ; [.0000.0025.0002]
+0061 ; [.1000.0020.0002]
+0041 ; [.1000.0020.0008]
+0062 ; [.1001.0020.0002]
+0042 ; [.1001.0020.0008]
+0063 ; [.1002.0020.0002]
+0043 ; [.1002.0020.0008]
+0065 ; [.1004.0020.0002]
+0045 ; [.1004.0020.0008]
+0068 ; [.1005.0020.0002]
+0048 ; [.1005.0020.0008]
+007A ; [.1006.0020.0002]
+0063 0068 ; [.1007.0020.0002]
+0043 0068 ; [.1007.0020.0007]
+0043 0048 ; [.1007.0020.0008]
+0061 0301 ; [.1008.0020.0002]
+0062 0301 ; [.1009.0020.0002]
+0062 0301 0308 ; [.100A.0020.0002]
+0065 0323 0300 ; [.100B.0020.0002]
+1100 ; [.2000.0020.0002]
+1161 ; [.2001.0020.0002]
+11A8 ; [.2002.0020.0002]
+1100 1161 11A8 ; [.2003.0020.0002]
+0070 ; [.0001.0001.0001]
+0071 ; [.0100.0100.0100]
+0072 ; [.00FF.00FF.00FF]
+0073 ; [.FFFF.FFFF.FFFF]
+0074 ; [.1000.0100.0001]
+00E6 ; [.1000.0020.0004][.0000.0026.0004][.1004.0020.0004]
+00C6 ; [.1000.0020.000A][.0000.0026.0004][.1004.0020.000A]
+0152 ; [.1000.0020.0002][.1004.0020.0002][.1000.0020.0002]
+";
 
 /// The empty text, ignorable code points, beginnings of one another, and texts that are canonically equivalent.
 #[rattlefmt::skip]
@@ -123,69 +113,50 @@ const HANGUL_AND_EDGES: [&str; 15] = [
     "\u{AC00}\u{300}\u{11A8}", "\u{AC00}\u{1}\u{11A8}", "p", "pp", "q", "s", "s\u{300}", "pq", "p\u{300}",
 ];
 
-/// Makes the table, each step once more where memory was refused.
-fn table(rt: &impl Abort, alloc: Global) -> Table {
-    let mut builder = TableBuilder::new(alloc);
-    for (key, starred, weights) in KEYS {
-        let elements = [element(starred, weights)];
-        let inserted = match builder.insert(key, &elements) {
-            Err(InsertFault::OutOfMemory) => builder.insert(key, &elements),
-            answer => answer,
-        };
-        assert!(rt; inserted == Ok(()));
-    }
-    for (c, [first, second, third]) in EXPANSIONS {
-        let elements = [
-            element(false, first),
-            element(false, second),
-            element(false, third),
-        ];
-        let inserted = match builder.insert(&[c], &elements) {
-            Err(InsertFault::OutOfMemory) => builder.insert(&[c], &elements),
-            answer => answer,
-        };
-        assert!(rt; inserted == Ok(()));
-    }
-    for (first, last, base) in RANGES {
-        let added = match builder.add_implicit(first, last, base) {
-            Err(RangeFault::OutOfMemory) => builder.add_implicit(first, last, base),
-            answer => answer,
-        };
-        assert!(rt; added == Ok(()));
-    }
-    match builder.finish() {
-        Ok(table) => table,
-        Err(fault) => fault.builder.finish().ok().expect(rt, "a table"),
-    }
-}
-
 /// A long front that ends in the beginning of a contraction, and so after a place to cut.
 const OPEN_FRONT: &str = "zechzaz-zech-c";
 
 /// A long front that ends in a letter with a mark that a contraction passes over, after a variable element.
 const MARKED_FRONT: &str = "zechza\u{301}z-b\u{323}";
 
+const GROUPS: [&'static [&'static str]; 7] = [
+    &SAME_OR_PREFIX,
+    &ACCENTS,
+    &CASES,
+    &VARIABLES,
+    &CONTRACTIONS,
+    &IMPLICIT,
+    &HANGUL_AND_EDGES,
+];
+
+/// A text after a front.
+fn text_after(alloc: Global, front: &str, text: &str) -> Result<String, AllocError> {
+    let mut whole = String::new(alloc);
+    whole.push_str(front)?;
+    whole.push_str(text)?;
+    Ok(whole)
+}
+
+/// Adds texts, each after a front.
+fn add_after(
+    alloc: Global,
+    all: &mut Vec<String>,
+    front: &str,
+    texts: &[&str],
+) -> Result<(), AllocError> {
+    for text in texts {
+        all.push(text_after(alloc, front, text)?)?;
+    }
+    Ok(())
+}
+
 /// All texts, each after a front.
 fn texts_after(alloc: Global, front: &str) -> Result<Vec<String>, AllocError> {
-    let groups: [&[&str]; 7] = [
-        &SAME_OR_PREFIX,
-        &ACCENTS,
-        &CASES,
-        &VARIABLES,
-        &CONTRACTIONS,
-        &IMPLICIT,
-        &HANGUL_AND_EDGES,
-    ];
-    let mut texts = Vec::new(alloc);
-    for group in groups {
-        for text in group {
-            let mut whole = String::new(alloc);
-            whole.push_str(front)?;
-            whole.push_str(*text)?;
-            texts.push(whole)?;
-        }
+    let mut all = Vec::new(alloc);
+    for texts in &GROUPS {
+        add_after(alloc, &mut all, front, texts)?;
     }
-    Ok(texts)
+    Ok(all)
 }
 
 /// A text and its keys.
@@ -194,6 +165,24 @@ struct Keyed<'t> {
     passage: Passage<'t>,
     key: Vec<u8>,
     packed: Vec<u8>,
+}
+
+/// A text with its keys at these settings.
+fn keyed_text<'t>(
+    rt: &impl Abort,
+    alloc: Global,
+    t: &Table,
+    s: Settings,
+    text: &'t str,
+) -> Result<Keyed<'t>, AllocError> {
+    let passage = Passage::check(text).ok().expect(rt, "a safe text");
+    let key = key_of(alloc, t, s, &passage)?;
+    let packed = packed_key_of(alloc, t, s, &passage)?;
+    Ok(Keyed {
+        passage,
+        key,
+        packed,
+    })
 }
 
 /// These texts with their keys at these settings.
@@ -206,65 +195,96 @@ fn keyed_texts<'t>(
 ) -> Result<Vec<Keyed<'t>>, AllocError> {
     let mut keyed = Vec::new(alloc);
     for text in texts {
-        let passage = Passage::check(text.as_str()).ok().expect(rt, "a safe text");
-        let key = key_of(alloc, t, s, &passage)?;
-        let packed = packed_key_of(alloc, t, s, &passage)?;
-        keyed.push(Keyed {
-            passage,
-            key,
-            packed,
-        })?;
+        keyed.push(keyed_text(rt, alloc, t, s, text)?)?;
     }
     Ok(keyed)
+}
+
+/// The order of two texts, if they compare as their keys and their packed keys do.
+fn order_of(t: &Table, s: Settings, left: &Keyed, right: &Keyed) -> Option<Ordering> {
+    let order = left.key.as_slice().cmp(right.key.as_slice());
+    let is_same = compare(t, s, &left.passage, &right.passage) == order
+        && left.packed.as_slice().cmp(right.packed.as_slice()) == order;
+    is_same.then_some(order)
+}
+
+/// Compares a text with these, and returns how many of them have an equal key.
+fn count_equal_to(
+    rt: &impl Abort,
+    t: &Table,
+    s: Settings,
+    left: &Keyed,
+    others: &[Keyed],
+) -> usize {
+    let mut equal = 0usize;
+    for right in others {
+        let order = order_of(t, s, left, right);
+        let (x, y) = (left.passage.as_str(), right.passage.as_str());
+        assert!(rt; order.is_some(), "{x:?} {y:?} {s:?}");
+        if order == Some(Ordering::Equal) {
+            equal = equal.saturating_add(1);
+        }
+    }
+    equal
 }
 
 /// Compares each text with itself and those after it, and returns how many of these pairs have equal keys.
 fn count_equal(rt: &impl Abort, t: &Table, s: Settings, keyed: &[Keyed]) -> usize {
     let mut equal = 0usize;
     for (at, left) in keyed.iter().enumerate() {
-        for right in &keyed[at..] {
-            let order = left.key.as_slice().cmp(right.key.as_slice());
-            assert!(rt;
-                compare(t, s, &left.passage, &right.passage) == order,
-                "{:?} {:?} {s:?}",
-                left.passage.as_str(),
-                right.passage.as_str()
-            );
-            let packed_order = left.packed.as_slice().cmp(right.packed.as_slice());
-            assert!(rt; packed_order == order);
-            if order == Ordering::Equal {
-                equal = equal.saturating_add(1);
-            }
-        }
+        equal = equal.saturating_add(count_equal_to(rt, t, s, left, &keyed[at..]));
     }
     equal
 }
 
-/// At each strength every two texts after a front compare as their keys and packed keys do, and some differ first at this strength's own
+/// Compares every two of these texts at these settings, and returns how many pairs have equal keys.
+fn count_equal_texts(
+    rt: &impl Abort,
+    alloc: Global,
+    t: &Table,
+    s: Settings,
+    texts: &[String],
+) -> Result<usize, AllocError> {
+    let keyed = keyed_texts(rt, alloc, t, s, texts)?;
+    Ok(count_equal(rt, t, s, &keyed))
+}
+
+/// At each strength every two of these texts compare as their keys and packed keys do, and some differ first at this strength's own
 /// level.
+fn check_texts(
+    rt: &impl Abort,
+    alloc: Global,
+    t: &Table,
+    weighting: Variable,
+    texts: &[String],
+) -> Result<(), AllocError> {
+    let mut before = usize::MAX;
+    for strength in &STRENGTHS {
+        let s = Settings {
+            strength: *strength,
+            weighting,
+        };
+        let equal = count_equal_texts(rt, alloc, t, s, texts)?;
+        // The fourth level says nothing under options other than Shifted.
+        let is_empty_level = *strength == Strength::Quaternary && weighting != Variable::Shifted;
+        assert!(rt; (equal < before) == !is_empty_level, "{s:?} {equal}");
+        // Texts that are canonically equivalent never differ.
+        assert!(rt; texts.len() < equal, "{s:?} {equal}");
+        before = equal;
+    }
+    Ok(())
+}
+
+/// Checks every two texts after a front.
 fn check_all_pairs(
     rt: &impl Abort,
     alloc: Global,
     weighting: Variable,
     front: &str,
 ) -> Result<(), Fail> {
-    let t = table(rt, alloc);
+    let t = table_from(alloc, TABLE).ok().expect(rt, "a table");
     let texts = texts_after(alloc, front)?;
-    let mut before = usize::MAX;
-    for strength in STRENGTHS {
-        let s = Settings {
-            strength,
-            weighting,
-        };
-        let keyed = keyed_texts(rt, alloc, &t, s, &texts)?;
-        let equal = count_equal(rt, &t, s, &keyed);
-        // The fourth level says nothing under options other than Shifted.
-        let is_empty_level = strength == Strength::Quaternary && weighting != Variable::Shifted;
-        assert!(rt; (equal < before) == !is_empty_level, "{s:?} {equal}");
-        // Texts that are canonically equivalent never differ.
-        assert!(rt; keyed.len() < equal, "{s:?} {equal}");
-        before = equal;
-    }
+    check_texts(rt, alloc, &t, weighting, &texts)?;
     Ok(())
 }
 

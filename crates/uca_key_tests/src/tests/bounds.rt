@@ -2,8 +2,8 @@ use super::table;
 use std::alloc::Global;
 use std::process::Abort;
 use uca_key::{PrefixBounds, PrefixFault, prefix_bounds};
-use uca_table::{InsertFault, Table, TableBuilder};
-use uca_testing::element;
+use uca_table::Table;
+use uca_testing::table_from;
 use uca_weights::Variable;
 use uca_window::Passage;
 
@@ -37,24 +37,25 @@ fn assert_ends(
     }
 }
 
+const BOUNDS: [(&'static str, Variable, &'static [u8], Option<&'static [u8]>); 5] = [
+    ("", Variable::NonIgnorable, &[], None),
+    ("ch", Variable::NonIgnorable, &[0x10, 7], Some(&[0x10, 8])),
+    (
+        "h\u{301}ch",
+        Variable::Shifted,
+        &[0x10, 5, 0x10, 7],
+        Some(&[0x10, 5, 0x10, 8]),
+    ),
+    ("-", Variable::NonIgnorable, &[2, 2], Some(&[2, 3])),
+    ("-", Variable::Shifted, &[], None),
+];
+
 #[test]
 fn complete_texts_have_bounds(rt: HostRuntime) {
     let t = table(&rt, rt.alloc());
-    let cases: [(&str, Variable, &[u8], Option<&[u8]>); 5] = [
-        ("", Variable::NonIgnorable, &[], None),
-        ("ch", Variable::NonIgnorable, &[0x10, 7], Some(&[0x10, 8])),
-        (
-            "h\u{301}ch",
-            Variable::Shifted,
-            &[0x10, 5, 0x10, 7],
-            Some(&[0x10, 5, 0x10, 8]),
-        ),
-        ("-", Variable::NonIgnorable, &[2, 2], Some(&[2, 3])),
-        ("-", Variable::Shifted, &[], None),
-    ];
-    for (text, v, lower, upper) in cases {
-        let found = bounds_again(&rt, rt.alloc(), &t, v, text);
-        assert_ends(&rt, found, lower, upper);
+    for (text, v, lower, upper) in &BOUNDS {
+        let found = bounds_again(&rt, rt.alloc(), &t, *v, text);
+        assert_ends(&rt, found, lower, *upper);
     }
 }
 
@@ -69,17 +70,9 @@ fn a_text_that_may_be_joined_has_no_bounds(rt: HostRuntime) {
 
 #[test]
 fn an_end_is_raised_before_its_last_bytes_of_ff(rt: HostRuntime) {
-    let mut builder = TableBuilder::new(rt.alloc());
-    let weights = [element(false, [0x10FF, 0x20, 2])];
-    let inserted = match builder.insert(&['k'], &weights) {
-        Err(InsertFault::OutOfMemory) => builder.insert(&['k'], &weights),
-        answer => answer,
-    };
-    assert!(rt; inserted == Ok(()));
-    let t = match builder.finish() {
-        Ok(table) => table,
-        Err(fault) => fault.builder.finish().ok().expect(&rt, "a table"),
-    };
+    let t = table_from(rt.alloc(), b"006B ; [.10FF.0020.0002]")
+        .ok()
+        .expect(&rt, "a table");
     let found = bounds_again(&rt, rt.alloc(), &t, Variable::NonIgnorable, "kk");
     assert_ends(
         &rt,

@@ -1,10 +1,10 @@
-use super::table;
-use std::alloc::Global;
+use super::{KeyRow, table};
+use std::alloc::{AllocError, Global};
 use std::process::Abort;
 use std::test::Fail;
 use uca_key::packed_key_of;
-use uca_table::{InsertFault, Table, TableBuilder};
-use uca_testing::{Entry, element, repeated};
+use uca_table::Table;
+use uca_testing::table_from;
 use uca_weights::{Settings, Strength, Variable};
 use uca_window::Passage;
 
@@ -28,136 +28,158 @@ fn packed_again(
     }
 }
 
+/// Stops a test where the packed key of a text is not this one.
+fn assert_packed(rt: &impl Abort, alloc: Global, t: &Table, (text, strength, v, wanted): &KeyRow) {
+    let key = packed_again(rt, alloc, t, *strength, *v, text);
+    assert!(rt; key.as_slice() == *wanted, "{text:?} {strength:?} {v:?}");
+}
+
+const COMMON_RUNS: [KeyRow; 9] = [
+    ("", Strength::Primary, Variable::NonIgnorable, &[]),
+    ("", Strength::Secondary, Variable::NonIgnorable, &[0, 0, 1]),
+    (
+        "",
+        Strength::Identical,
+        Variable::NonIgnorable,
+        &[0, 0, 1, 1, 1],
+    ),
+    (
+        "ab",
+        Strength::Primary,
+        Variable::NonIgnorable,
+        &[0x10, 0, 0x10, 1],
+    ),
+    (
+        "ab",
+        Strength::Secondary,
+        Variable::NonIgnorable,
+        &[0x10, 0, 0x10, 1, 0, 0, 5],
+    ),
+    (
+        "ab",
+        Strength::Tertiary,
+        Variable::NonIgnorable,
+        &[0x10, 0, 0x10, 1, 0, 0, 5, 5],
+    ),
+    (
+        "aAb",
+        Strength::Tertiary,
+        Variable::NonIgnorable,
+        &[0x10, 0, 0x10, 0, 0x10, 1, 0, 0, 7, 0xFE, 8, 3],
+    ),
+    (
+        "\u{E0}",
+        Strength::Identical,
+        Variable::NonIgnorable,
+        &[0x10, 0, 0, 0, 0xFE, 0x21, 1, 5, 1, 0, 0, 0x61, 0, 3, 0],
+    ),
+    (
+        "\u{4E00}",
+        Strength::Tertiary,
+        Variable::NonIgnorable,
+        &[0xFB, 0x40, 0xCE, 0, 0, 0, 3, 3],
+    ),
+];
+
 #[test]
 fn runs_of_common_weights_take_a_byte(rt: HostRuntime) {
     let t = table(&rt, rt.alloc());
-    let option = Variable::NonIgnorable;
-    let cases: [(&str, Strength, &[u8]); 9] = [
-        ("", Strength::Primary, &[]),
-        ("", Strength::Secondary, &[0, 0, 1]),
-        ("", Strength::Identical, &[0, 0, 1, 1, 1]),
-        ("ab", Strength::Primary, &[0x10, 0, 0x10, 1]),
-        ("ab", Strength::Secondary, &[0x10, 0, 0x10, 1, 0, 0, 5]),
-        ("ab", Strength::Tertiary, &[0x10, 0, 0x10, 1, 0, 0, 5, 5]),
-        (
-            "aAb",
-            Strength::Tertiary,
-            &[0x10, 0, 0x10, 0, 0x10, 1, 0, 0, 7, 0xFE, 8, 3],
-        ),
-        (
-            "\u{E0}",
-            Strength::Identical,
-            &[0x10, 0, 0, 0, 0xFE, 0x21, 1, 5, 1, 0, 0, 0x61, 0, 3, 0],
-        ),
-        (
-            "\u{4E00}",
-            Strength::Tertiary,
-            &[0xFB, 0x40, 0xCE, 0, 0, 0, 3, 3],
-        ),
-    ];
-    for (text, strength, wanted) in cases {
-        let key = packed_again(&rt, rt.alloc(), &t, strength, option, text);
-        assert!(rt; key.as_slice() == wanted, "{text:?}");
+    for row in &COMMON_RUNS {
+        assert_packed(&rt, rt.alloc(), &t, row);
     }
 }
+
+const VARIABLE_WEIGHTS: [KeyRow; 4] = [
+    (
+        "a-b",
+        Strength::Quaternary,
+        Variable::Shifted,
+        &[0x10, 0, 0x10, 1, 0, 0, 5, 5, 4, 0xFE, 2, 2, 3],
+    ),
+    (
+        "-\u{1}\u{300}",
+        Strength::Quaternary,
+        Variable::Shifted,
+        &[0, 0, 1, 1, 2, 0xFE, 2, 2, 1],
+    ),
+    (
+        "-\u{300}",
+        Strength::Tertiary,
+        Variable::Blanked,
+        &[0, 0, 1, 1],
+    ),
+    (
+        "-\u{300}",
+        Strength::Tertiary,
+        Variable::NonIgnorable,
+        &[2, 2, 0, 0, 0xFE, 0x21, 1, 5],
+    ),
+];
 
 #[test]
 fn variable_weights_stand_between_runs(rt: HostRuntime) {
     let t = table(&rt, rt.alloc());
-    let cases: [(&str, Strength, Variable, &[u8]); 4] = [
-        (
-            "a-b",
-            Strength::Quaternary,
-            Variable::Shifted,
-            &[0x10, 0, 0x10, 1, 0, 0, 5, 5, 4, 0xFE, 2, 2, 3],
-        ),
-        (
-            "-\u{1}\u{300}",
-            Strength::Quaternary,
-            Variable::Shifted,
-            &[0, 0, 1, 1, 2, 0xFE, 2, 2, 1],
-        ),
-        (
-            "-\u{300}",
-            Strength::Tertiary,
-            Variable::Blanked,
-            &[0, 0, 1, 1],
-        ),
-        (
-            "-\u{300}",
-            Strength::Tertiary,
-            Variable::NonIgnorable,
-            &[2, 2, 0, 0, 0xFE, 0x21, 1, 5],
-        ),
-    ];
-    for (text, strength, weighting, wanted) in cases {
-        let key = packed_again(&rt, rt.alloc(), &t, strength, weighting, text);
-        assert!(rt; key.as_slice() == wanted, "{text:?} {weighting:?}");
+    for row in &VARIABLE_WEIGHTS {
+        assert_packed(&rt, rt.alloc(), &t, row);
     }
 }
 
 /// Weights below and above the common ones, up to the last of one byte and past it.
-const WEIGHTS: [Entry; 5] = [
-    (&['a'], false, [1, 0x20, 2]),
-    (&['b'], false, [1, 0x1F, 1]),
-    (&['c'], false, [1, 0x21, 3]),
-    (&['d'], false, [1, 0xFD, 0xFE]),
-    (&['e'], false, [1, 0xFFFF, 0x101]),
-];
+const WEIGHTS: &[u8] = b"\
+0061 ; [.0001.0020.0002]
+0062 ; [.0001.001F.0001]
+0063 ; [.0001.0021.0003]
+0064 ; [.0001.00FD.00FE]
+0065 ; [.0001.FFFF.0101]
+";
 
-/// The table of those weights, each step once more where memory was refused.
-fn table_of_weights(rt: &impl Abort, alloc: Global) -> Table {
-    let mut builder = TableBuilder::new(alloc);
-    for (key, starred, weights) in WEIGHTS {
-        let elements = [element(starred, weights)];
-        let inserted = match builder.insert(key, &elements) {
-            Err(InsertFault::OutOfMemory) => builder.insert(key, &elements),
-            answer => answer,
-        };
-        assert!(rt; inserted == Ok(()));
-    }
-    match builder.finish() {
-        Ok(table) => table,
-        Err(fault) => fault.builder.finish().ok().expect(rt, "a table"),
-    }
-}
+/// Texts, how long the first level and what ends it are, and what comes after that.
+const ENDED_RUNS: [(&'static str, usize, &'static [u8]); 5] = [
+    ("aab", 8, &[6, 0x1F, 1, 6, 1, 1]),
+    ("bb", 6, &[2, 0x1F, 2, 0x1F, 1, 2, 1, 2, 1, 1]),
+    ("aaca", 10, &[0xFD, 0x21, 3, 0xFD, 3, 3]),
+    ("d", 4, &[0xFF, 0xFD, 1, 0xFF, 0xFE, 0, 0xFE, 1]),
+    ("e", 4, &[0xFF, 0xFE, 0xFF, 0xFF, 1, 0xFF, 0xFE, 1, 1, 1]),
+];
 
 #[test]
 fn other_weights_end_a_run(rt: HostRuntime) {
-    let t = table_of_weights(&rt, rt.alloc());
+    let t = table_from(rt.alloc(), WEIGHTS).ok().expect(&rt, "a table");
     let option = Variable::NonIgnorable;
-    let cases: [(&str, usize, &[u8]); 5] = [
-        ("aab", 8, &[6, 0x1F, 1, 6, 1, 1]),
-        ("bb", 6, &[2, 0x1F, 2, 0x1F, 1, 2, 1, 2, 1, 1]),
-        ("aaca", 10, &[0xFD, 0x21, 3, 0xFD, 3, 3]),
-        ("d", 4, &[0xFF, 0xFD, 1, 0xFF, 0xFE, 0, 0xFE, 1]),
-        ("e", 4, &[0xFF, 0xFE, 0xFF, 0xFF, 1, 0xFF, 0xFE, 1, 1, 1]),
-    ];
-    for (text, first, wanted) in cases {
+    for (text, first, wanted) in &ENDED_RUNS {
         let key = packed_again(&rt, rt.alloc(), &t, Strength::Tertiary, option, text);
-        let later = key.get(first..);
-        assert!(rt; later == Some(wanted), "{text:?}");
+        assert!(rt; key.get(*first..) == Some(*wanted), "{text:?}");
     }
+}
+
+/// How many `a` stand before an end, how long the first level and what ends it are, and what comes after that.
+const LONG_RUNS: [(usize, &'static str, usize, &'static [u8]); 6] = [
+    (82, "", 166, &[0xA5]),
+    (83, "", 168, &[0xA7]),
+    (84, "", 170, &[0xA9, 1]),
+    (85, "", 172, &[0xA9, 3]),
+    (82, "\u{E0}", 168, &[0xAC, 0x21, 1]),
+    (83, "\u{E0}", 170, &[0xA9, 0xFF, 0x21, 1]),
+];
+
+/// So many `a` before an end.
+fn letters_before(alloc: Global, times: usize, end: &str) -> Result<String, AllocError> {
+    let mut text = String::new(alloc);
+    for _ in 0..times {
+        text.push('a')?;
+    }
+    text.push_str(end)?;
+    Ok(text)
 }
 
 #[test]
 fn eighty_four_common_weights_are_one_byte(rt: HostRuntime) -> Result<(), Fail> {
     let t = table(&rt, rt.alloc());
-    let cases: [(usize, &[u8], usize, &[u8]); 6] = [
-        (82, b"", 166, &[0xA5]),
-        (83, b"", 168, &[0xA7]),
-        (84, b"", 170, &[0xA9, 1]),
-        (85, b"", 172, &[0xA9, 3]),
-        (82, "\u{E0}".as_bytes(), 168, &[0xAC, 0x21, 1]),
-        (83, "\u{E0}".as_bytes(), 170, &[0xA9, 0xFF, 0x21, 1]),
-    ];
-    for (times, end, first, wanted) in cases {
-        let mut text = repeated(rt.alloc(), b"a", times)?;
-        text.extend_from_slice(end)?;
-        let text = str::from_utf8(text.as_slice()).ok().expect(&rt, "a text");
+    for (times, end, first, wanted) in &LONG_RUNS {
+        let text = letters_before(rt.alloc(), *times, end)?;
         let option = Variable::NonIgnorable;
-        let key = packed_again(&rt, rt.alloc(), &t, Strength::Secondary, option, text);
-        assert!(rt; key.get(first..) == Some(wanted), "{times}");
+        let key = packed_again(&rt, rt.alloc(), &t, Strength::Secondary, option, &text);
+        assert!(rt; key.get(*first..) == Some(*wanted), "{times}");
     }
     Ok(())
 }

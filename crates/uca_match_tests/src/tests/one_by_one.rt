@@ -2,14 +2,18 @@ ghost use Rattle.std.specs.Prelude.{◌≡◌, IfOk};
 ghost use Rattle.unicode_normalization.specs.Forms.{nfd};
 ghost use Rattle.uca_model.specs.SafeText.{IsSafe};
 ghost use Rattle.uca_model.specs.Source.{unread};
+ghost use Rattle.uca_model.specs.Window.{Fits};
 ghost use Rattle.uca_model.specs.CollationElements.{elements};
 
-use super::{CHARACTERS, KEYS_WITH_GAPS, elements_again, table};
+use super::{
+    FAR_MARKS, FAR_MARKS_ELEMENTS, KEYS_WITH_GAPS, Weights, assert_weights, elements_again,
+    generated_again, table,
+};
 use std::alloc::{AllocError, Global};
 use std::process::Abort;
 use uca_match::Elements;
 use uca_table::Table;
-use uca_testing::{Entry, element, generated, plain};
+use uca_testing::plain;
 use uca_weights::{Element, MAX_KEY};
 use uca_window::{Passage, PassageSource, Source};
 
@@ -80,98 +84,154 @@ fn in_turn_again(rt: &impl Abort, alloc: Global, t: &Table, text: &str) -> Vec<E
     }
 }
 
+/// Checks the elements of a text one by one.
+fn assert_in_turn(rt: &impl Abort, alloc: Global, t: &Table, text: &str, wanted: &[Weights]) {
+    let elements = in_turn_again(rt, alloc, t, text);
+    assert_weights(rt, text, &elements, wanted);
+}
+
+static IN_THE_WINDOW: [(&str, &[Weights]); 6] = [
+    ("", &[]),
+    (
+        "cch",
+        &[(false, [0x1002, 0x20, 2]), (false, [0x1007, 0x20, 2])],
+    ),
+    // The mark below, of another class, is passed over.
+    (
+        "\u{1EA1}\u{301}",
+        &[(false, [0x1008, 0x20, 2]), (false, [0, 0x24, 2])],
+    ),
+    // A mark of the same class blocks.
+    (
+        "a\u{300}\u{301}",
+        &[
+            (false, [0x1000, 0x20, 2]),
+            (false, [0, 0x21, 2]),
+            (false, [0, 0x22, 2]),
+        ],
+    ),
+    (FAR_MARKS, &FAR_MARKS_ELEMENTS),
+    (
+        "\u{4E00}-",
+        &[
+            (false, [0xFB40, 0x20, 2]),
+            (false, [0xCE00, 0, 0]),
+            (true, [0x202, 0x20, 2]),
+        ],
+    ),
+];
+
 #[test]
 fn contractions_are_matched_in_the_window(rt: HostRuntime) {
-    let t = table(&rt, rt.alloc(), &[]);
-    let far =
-        "b\u{323}\u{323}\u{323}\u{323}\u{323}\u{323}\u{323}\u{323}\u{323}\u{323}\u{323}\u{323}\u{323}\u{323}\u{301}\u{308}";
-    let mut marks_far_away = [plain(0, 0x24); 15];
-    marks_far_away[0] = plain(0x100A, 0x20);
-    let cases: [(&str, &[Element]); 6] = [
-        ("", &[]),
-        ("cch", &[plain(0x1002, 0x20), plain(0x1007, 0x20)]),
-        // The mark below, of another class, is passed over.
-        ("\u{1EA1}\u{301}", &[plain(0x1008, 0x20), plain(0, 0x24)]),
-        // A mark of the same class blocks.
-        (
-            "a\u{300}\u{301}",
-            &[plain(0x1000, 0x20), plain(0, 0x21), plain(0, 0x22)],
-        ),
-        (far, marks_far_away.as_slice()),
-        (
-            "\u{4E00}-",
-            &[
-                plain(0xFB40, 0x20),
-                element(false, [0xCE00, 0, 0]),
-                element(true, [0x202, 0x20, 2]),
-            ],
-        ),
-    ];
-    for (text, wanted) in cases {
-        let elements = in_turn_again(&rt, rt.alloc(), &t, text);
-        assert!(rt; elements.as_slice() == wanted, "{text:?}");
+    let t = table(&rt, rt.alloc(), b"");
+    for (text, wanted) in &IN_THE_WINDOW {
+        assert_in_turn(&rt, rt.alloc(), &t, text, wanted);
     }
+}
+
+/// Checks which element is the next.
+fn assert_next<S: Source>(
+    rt: &impl Abort,
+    elements: &mut Elements,
+    source: &mut S,
+    wanted: Option<Element>,
+)
+    requires { Fits elements.old.window (unread (S.state source.old)) }
+    ensures { Fits elements.new.window (unread (S.state source.new)) }
+{
+    assert!(rt; elements.next(source) == wanted);
+}
+
+/// Checks that a character is wanted, and which is read.
+fn assert_reads<S: Source>(
+    rt: &impl Abort,
+    elements: &mut Elements,
+    source: &mut S,
+    wanted: Option<char>,
+)
+    requires { Fits elements.old.window (unread (S.state source.old)) }
+    ensures { Fits elements.new.window (unread (S.state source.new)) }
+{
+    assert!(rt; elements.wants());
+    assert!(rt; elements.read(source) == wanted);
+}
+
+/// Checks that a source is read to its end once.
+fn assert_asked_once(rt: &impl Abort, t: &Table) {
+    let p = Passage::check("\u{1EA1}\u{301}")
+        .ok()
+        .expect(rt, "a safe text");
+    let mut source = source_of(&p);
+    let mut elements = Elements::new(t);
+    assert_next(rt, &mut elements, &mut source, Some(plain(0x1008, 0x20)));
+    assert_next(rt, &mut elements, &mut source, Some(plain(0, 0x24)));
+    assert_next(rt, &mut elements, &mut source, None);
+    assert_next(rt, &mut elements, &mut source, None);
+    assert!(rt; source.reads == 3);
+    assert!(rt; source.rewinds == 0);
 }
 
 #[test]
 fn a_source_is_asked_once_for_each_character_and_for_the_end(rt: HostRuntime) {
-    let t = table(&rt, rt.alloc(), &[]);
-    let p = Passage::check("\u{1EA1}\u{301}")
-        .ok()
-        .expect(&rt, "a safe text");
+    let t = table(&rt, rt.alloc(), b"");
+    assert_asked_once(&rt, &t);
+}
+
+/// Checks that characters can be read before the elements are asked for.
+fn assert_read_first(rt: &impl Abort, t: &Table) {
+    let p = Passage::check("ch").ok().expect(rt, "a safe text");
     let mut source = source_of(&p);
-    let mut elements = Elements::new(&t);
-    assert!(rt; elements.next(&mut source) == Some(plain(0x1008, 0x20)));
-    assert!(rt; elements.next(&mut source) == Some(plain(0, 0x24)));
-    assert!(rt; elements.next(&mut source) == None);
-    assert!(rt; elements.next(&mut source) == None);
-    assert!(rt; (source.reads, source.rewinds) == (3, 0));
+    let mut elements = Elements::new(t);
+    assert_reads(rt, &mut elements, &mut source, Some('c'));
+    assert_reads(rt, &mut elements, &mut source, Some('h'));
+    assert_reads(rt, &mut elements, &mut source, None);
+    assert!(rt; !elements.wants());
+    assert_next(rt, &mut elements, &mut source, Some(plain(0x1007, 0x20)));
+    assert_next(rt, &mut elements, &mut source, None);
+    assert!(rt; source.reads == 3);
+    assert!(rt; source.rewinds == 0);
 }
 
 #[test]
 fn characters_are_read_while_some_are_wanted(rt: HostRuntime) {
-    let t = table(&rt, rt.alloc(), &[]);
-    let p = Passage::check("ch").ok().expect(&rt, "a safe text");
-    let mut source = source_of(&p);
-    let mut elements = Elements::new(&t);
-    assert!(rt; elements.wants());
-    assert!(rt; elements.read(&mut source) == Some('c'));
-    assert!(rt; elements.wants());
-    assert!(rt; elements.read(&mut source) == Some('h'));
-    assert!(rt; elements.wants());
-    assert!(rt; elements.read(&mut source) == None);
-    assert!(rt; !elements.wants());
-    assert!(rt; elements.next(&mut source) == Some(plain(0x1007, 0x20)));
-    assert!(rt; elements.next(&mut source) == None);
-    assert!(rt; (source.reads, source.rewinds) == (3, 0));
+    let t = table(&rt, rt.alloc(), b"");
+    assert_read_first(&rt, &t);
+}
+
+/// The elements of a text, which are also those one by one.
+fn checked_elements(rt: &impl Abort, alloc: Global, t: &Table, text: &str) -> Vec<Element> {
+    let wanted = elements_again(rt, alloc, t, text);
+    let elements = in_turn_again(rt, alloc, t, text);
+    assert!(rt; elements.as_slice() == wanted.as_slice(), "{text:?}");
+    wanted
+}
+
+/// Checks that the elements one by one are the elements, of many texts by the small table with more entries.
+fn assert_texts_in_turn(rt: &impl Abort, alloc: Global, entries: &[u8]) {
+    let t = table(rt, alloc, entries);
+    for number in 0..3000 {
+        let text = generated_again(rt, alloc, number);
+        checked_elements(rt, alloc, &t, &text);
+    }
 }
 
 #[test]
 fn elements_in_turn_are_the_elements(rt: HostRuntime) {
-    let small = table(&rt, rt.alloc(), &[]);
-    let gaps = table(&rt, rt.alloc(), &KEYS_WITH_GAPS);
-    for number in 0..3000 {
-        let Ok(text) = generated(rt.alloc(), &CHARACTERS, number) else {
-            return;
-        };
-        for t in [&small, &gaps] {
-            let wanted = elements_again(&rt, rt.alloc(), t, &text);
-            let elements = in_turn_again(&rt, rt.alloc(), t, &text);
-            assert!(rt; elements.as_slice() == wanted.as_slice(), "{text:?}");
-        }
-    }
+    assert_texts_in_turn(&rt, rt.alloc(), b"");
+    assert_texts_in_turn(&rt, rt.alloc(), KEYS_WITH_GAPS);
 }
 
-const A: char = 'a';
-
 /// Keys as long as they may be, and one code point shorter.
-#[rattlefmt::skip]
-const LONG_KEYS: [Entry; 4] = [
-    (&[A, A, A, A, A, A, A, A, A, A, A, A, A, A, A, A, A, A, A, A, A, A, A, A, A, A, A, A, A, A, A, A], false, [0x1020, 0x20, 2]),
-    (&[A, A, A, A, A, A, A, A, A, A, A, A, A, A, A, A, A, A, A, A, A, A, A, A, A, A, A, A, A, A, A, '\u{301}'], false, [0x1021, 0x20, 2]),
-    (&[A, A, A, A, A, A, A, A, A, A, A, A, A, A, A, A, A, A, A, A, A, A, A, A, A, A, A, A, A, A, '\u{323}'], false, [0x1022, 0x20, 2]),
-    (&[A, A, A, A, A, A, A, A, A, A, A, A, A, A, A, A, A, A, A, A, A, A, A, A, A, A, A, A, A, A, '\u{323}', '\u{301}'], false, [0x1023, 0x20, 2]),
-];
+const LONG_KEYS: &[u8] = b"\
+0061 0061 0061 0061 0061 0061 0061 0061 0061 0061 0061 0061 0061 0061 0061 0061 \
+0061 0061 0061 0061 0061 0061 0061 0061 0061 0061 0061 0061 0061 0061 0061 0061 ; [.1020.0020.0002]
+0061 0061 0061 0061 0061 0061 0061 0061 0061 0061 0061 0061 0061 0061 0061 0061 \
+0061 0061 0061 0061 0061 0061 0061 0061 0061 0061 0061 0061 0061 0061 0061 0301 ; [.1021.0020.0002]
+0061 0061 0061 0061 0061 0061 0061 0061 0061 0061 0061 0061 0061 0061 0061 0061 \
+0061 0061 0061 0061 0061 0061 0061 0061 0061 0061 0061 0061 0061 0061 0323 ; [.1022.0020.0002]
+0061 0061 0061 0061 0061 0061 0061 0061 0061 0061 0061 0061 0061 0061 0061 0061 \
+0061 0061 0061 0061 0061 0061 0061 0061 0061 0061 0061 0061 0061 0061 0323 0301 ; [.1023.0020.0002]
+";
 
 /// A text in which long runs of one letter stand, by a number.
 fn generated_runs(alloc: Global, number: u32) -> Result<String, AllocError> {
@@ -194,23 +254,39 @@ fn generated_runs(alloc: Global, number: u32) -> Result<String, AllocError> {
     Ok(text)
 }
 
-#[test]
-fn keys_of_full_length_are_matched(rt: HostRuntime) {
-    let t = table(&rt, rt.alloc(), &LONG_KEYS);
-    assert!(rt; t.longest() == MAX_KEY);
-    let mut long_matches = 0u32;
-    for number in 0..2000 {
-        let Ok(text) = generated_runs(rt.alloc(), number) else {
-            return;
-        };
-        let wanted = elements_again(&rt, rt.alloc(), &t, &text);
-        let elements = in_turn_again(&rt, rt.alloc(), &t, &text);
-        assert!(rt; elements.as_slice() == wanted.as_slice(), "{text:?}");
-        for element in &elements {
-            if element.l1 >= 0x1020 {
-                long_matches = long_matches.saturating_add(1);
-            }
+/// That text, made once more where memory was refused.
+fn runs_again(rt: &impl Abort, alloc: Global, number: u32) -> String {
+    match generated_runs(alloc, number) {
+        Ok(text) => text,
+        Err(_) => generated_runs(alloc, number).expect(rt, "a text"),
+    }
+}
+
+/// How many elements of a text are those of a long key. They are checked one by one too.
+fn long_matches(rt: &impl Abort, alloc: Global, t: &Table, text: &str) -> u32 {
+    let mut count = 0u32;
+    for element in &checked_elements(rt, alloc, t, text) {
+        if element.l1 >= 0x1020 {
+            count = count.saturating_add(1);
         }
     }
-    assert!(rt; long_matches > 500, "{long_matches}");
+    count
+}
+
+/// How many elements of long keys the texts with long runs have.
+fn long_matches_of_all(rt: &impl Abort, alloc: Global, t: &Table) -> u32 {
+    let mut count = 0u32;
+    for number in 0..2000 {
+        let text = runs_again(rt, alloc, number);
+        count = count.saturating_add(long_matches(rt, alloc, t, &text));
+    }
+    count
+}
+
+#[test]
+fn keys_of_full_length_are_matched(rt: HostRuntime) {
+    let t = table(&rt, rt.alloc(), LONG_KEYS);
+    assert!(rt; t.longest() == MAX_KEY);
+    let count = long_matches_of_all(&rt, rt.alloc(), &t);
+    assert!(rt; count > 500, "{count}");
 }

@@ -32,23 +32,24 @@ fn a_table_without_entries_is_well_formed(rt: HostRuntime) {
     assert!(rt; broken.len() == 0);
 }
 
+const ALL_BROKEN: [Entry; 4] = [
+    (&['a'], false, [0x1000, 0x20, 2]),
+    (&['-'], true, [0x1000, 0x20, 2]),
+    (&['\u{300}'], true, [0, 0x20, 0]),
+    (&['b', '\u{301}', '\u{308}'], false, [0x1001, 0x20, 2]),
+];
+
+const ALL: [WellFormed; 5] = [
+    WellFormed::WF1,
+    WellFormed::WF2,
+    WellFormed::WF3,
+    WellFormed::WF4,
+    WellFormed::WF5,
+];
+
 #[test]
 fn one_table_breaks_all_conditions(rt: HostRuntime) {
-    let entries: [Entry; 4] = [
-        (&['a'], false, [0x1000, 0x20, 2]),
-        (&['-'], true, [0x1000, 0x20, 2]),
-        (&['\u{300}'], true, [0, 0x20, 0]),
-        (&['b', '\u{301}', '\u{308}'], false, [0x1001, 0x20, 2]),
-    ];
-    let broken = lint(&table_of(&rt, rt.alloc(), &entries));
-    let all = [
-        WellFormed::WF1,
-        WellFormed::WF2,
-        WellFormed::WF3,
-        WellFormed::WF4,
-        WellFormed::WF5,
-    ];
-    assert!(rt; broken.as_slice() == all.as_slice());
+    assert_broken(&rt, rt.alloc(), &ALL_BROKEN, &ALL);
 }
 
 /// Stops a test whose entries break other conditions.
@@ -60,22 +61,35 @@ fn assert_broken(rt: &impl Abort, alloc: Global, entries: &[Entry], wanted: &[We
 #[test]
 fn weights_are_skipped_below_8000_alone(rt: HostRuntime) {
     let alloc = rt.alloc();
-    let broken = [WellFormed::WF1];
-    assert_broken(&rt, alloc, &[(&['a'], false, [0x7FFF, 0, 2])], &broken);
-    assert_broken(&rt, alloc, &[(&['a'], false, [0x7FFF, 0x20, 0])], &broken);
-    assert_broken(&rt, alloc, &[(&['a'], false, [0, 0x21, 0])], &broken);
+    assert_broken(
+        &rt,
+        alloc,
+        &[(&['a'], false, [0x7FFF, 0, 2])],
+        &[WellFormed::WF1],
+    );
+    assert_broken(
+        &rt,
+        alloc,
+        &[(&['a'], false, [0x7FFF, 0x20, 0])],
+        &[WellFormed::WF1],
+    );
+    assert_broken(
+        &rt,
+        alloc,
+        &[(&['a'], false, [0, 0x21, 0])],
+        &[WellFormed::WF1],
+    );
     assert_broken(&rt, alloc, &[(&['a'], false, [0x8000, 0, 2])], &[]);
 }
 
 #[test]
 fn weights_of_marks_are_above_those_of_letters(rt: HostRuntime) {
     let alloc = rt.alloc();
-    let broken = [WellFormed::WF2];
     assert_broken(
         &rt,
         alloc,
         &[LETTER, (&['\u{301}'], false, [0, 0x20, 2])],
-        &broken,
+        &[WellFormed::WF2],
     );
     assert_broken(
         &rt,
@@ -87,7 +101,7 @@ fn weights_of_marks_are_above_those_of_letters(rt: HostRuntime) {
         &rt,
         alloc,
         &[LETTER, (&['\u{301}'], false, [0, 0, 2])],
-        &broken,
+        &[WellFormed::WF2],
     );
     assert_broken(&rt, alloc, &[LETTER, (&['\u{301}'], false, [0, 0, 3])], &[]);
 }
@@ -95,19 +109,18 @@ fn weights_of_marks_are_above_those_of_letters(rt: HostRuntime) {
 #[test]
 fn variable_elements_stand_together_and_have_primary_weights(rt: HostRuntime) {
     let alloc = rt.alloc();
-    let broken = [WellFormed::WF4];
     assert_broken(&rt, alloc, &[(&['b'], true, [0, 0, 0])], &[WellFormed::WF3]);
     assert_broken(
         &rt,
         alloc,
         &[LOW, HIGH, (&['b'], false, [0x201, 0x20, 2])],
-        &broken,
+        &[WellFormed::WF4],
     );
     assert_broken(
         &rt,
         alloc,
         &[LOW, HIGH, (&['b'], false, [0x202, 0x20, 2])],
-        &broken,
+        &[WellFormed::WF4],
     );
     assert_broken(
         &rt,

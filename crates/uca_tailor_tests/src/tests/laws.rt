@@ -1,12 +1,12 @@
 ghost use Rattle.std.specs.Prelude.{◌≤◌};
 
-use super::{element, small_table, table, tailored_table};
+use super::{assert_entry, small_table, table, tailored_table};
 use std::alloc::{AllocError, Global};
 use std::cmp::Ordering;
 use std::process::Abort;
 use uca_match::elements_of_points;
-use uca_table::{Element, InsertFault, Table, TableBuilder};
-use uca_testing::Entry;
+use uca_table::Table;
+use uca_testing::{Entry, table_from};
 
 /// The weights of a text in NFD at a level, zeros left out: its list where variable elements are not ignored.
 fn weights_of(alloc: Global, t: &Table, text: &[char], level: u8) -> Result<Vec<u16>, AllocError>
@@ -46,20 +46,6 @@ fn order(rt: &impl Abort, alloc: Global, t: &Table, texts: [&[char]; 2], level: 
     x.as_slice().cmp(y.as_slice())
 }
 
-/// A table of one key, once more where memory was refused.
-fn table_of(rt: &impl Abort, alloc: Global, key: &[char], elements: &[Element]) -> Table {
-    let mut builder = TableBuilder::new(alloc);
-    let inserted = match builder.insert(key, elements) {
-        Err(InsertFault::OutOfMemory) => builder.insert(key, elements),
-        answer => answer,
-    };
-    assert!(rt; inserted == Ok(()));
-    match builder.finish() {
-        Ok(table) => table,
-        Err(fault) => fault.builder.finish().ok().expect(rt, "a table"),
-    }
-}
-
 /// Texts that `&a<b<<x` does not touch under the small table.
 const UNTOUCHED: [&'static [char]; 9] = [
     &['a'],
@@ -73,19 +59,31 @@ const UNTOUCHED: [&'static [char]; 9] = [
     &['z', '-', 'z'],
 ];
 
+/// Stops a test where two texts have another order under the second table than under the first.
+fn assert_same_order(rt: &impl Abort, alloc: Global, [t, u]: [&Table; 2], texts: [&[char]; 2]) {
+    for level in 1..4 {
+        let was = order(rt, alloc, t, texts, level);
+        assert!(rt;
+            order(rt, alloc, u, texts, level) == was,
+            "{texts:?} {level}"
+        );
+    }
+}
+
+/// Stops a test where two of these texts have another order under the second table than under the first.
+fn assert_same_orders(rt: &impl Abort, alloc: Global, tables: [&Table; 2], texts: &[&[char]]) {
+    for x in texts {
+        for y in texts {
+            assert_same_order(rt, alloc, tables, [*x, *y]);
+        }
+    }
+}
+
 #[test]
 fn untouched_texts_keep_their_order(rt: HostRuntime) {
     let t = small_table(&rt, rt.alloc());
     let u = tailored_table(&rt, rt.alloc(), &t, "&a<b<<x");
-    for x in UNTOUCHED {
-        for y in UNTOUCHED {
-            for level in 1..4 {
-                let was = order(&rt, rt.alloc(), &t, [x, y], level);
-                let is = order(&rt, rt.alloc(), &u, [x, y], level);
-                assert!(rt; is == was, "{x:?} {y:?} {level}");
-            }
-        }
-    }
+    assert_same_orders(&rt, rt.alloc(), [&t, &u], &UNTOUCHED);
 }
 
 /// Texts below `a`, then some between `a` and an item that is next to it, and then some above the item.
@@ -100,18 +98,21 @@ const NEIGHBOURS: [&'static [char]; 8] = [
     &['c', 'h'],
 ];
 
+/// Stops a test where one of these texts is not above the one before it, the first one above a blank.
+fn assert_ascending(rt: &impl Abort, alloc: Global, t: &Table, texts: &[&[char]]) {
+    let mut below: &[char] = &[' '];
+    for text in texts {
+        let order = order(rt, alloc, t, [below, *text], 1);
+        assert!(rt; order == Ordering::Less, "{text:?}");
+        below = *text;
+    }
+}
+
 #[test]
 fn an_item_is_next_to_its_anchor(rt: HostRuntime) {
     let t = small_table(&rt, rt.alloc());
     let u = tailored_table(&rt, rt.alloc(), &t, "&a<x");
-    let mut below: &[char] = &[' '];
-    for text in NEIGHBOURS {
-        assert!(rt;
-            order(&rt, rt.alloc(), &u, [below, text], 1) == Ordering::Less,
-            "{text:?}"
-        );
-        below = text;
-    }
+    assert_ascending(&rt, rt.alloc(), &u, &NEIGHBOURS);
 }
 
 #[test]
@@ -123,28 +124,33 @@ fn an_item_of_a_second_difference_is_equal_at_the_first_level(rt: HostRuntime) {
     assert!(rt; order(&rt, rt.alloc(), &u, texts, 2) == Ordering::Less);
 }
 
-#[test]
-fn an_anchor_that_is_not_well_formed_is_not_next_to_its_item(rt: HostRuntime) {
-    let elements = [element([0x1000, 0x20, 2]), element([0x2000, 0, 0])];
-    let t = table_of(&rt, rt.alloc(), &['a'], &elements);
-    let u = tailored_table(&rt, rt.alloc(), &t, "&a<<c");
-    assert!(rt; u.get(&['c']) == Some([element([0x1000, 0x21, 2])].as_slice()));
-    let first = list(&rt, rt.alloc(), &u, &['a'], 1);
-    let item_first = list(&rt, rt.alloc(), &u, &['c'], 1);
-    assert!(rt; first.as_slice() == [0x1000, 0x2000].as_slice());
-    assert!(rt; item_first.as_slice() == [0x1000].as_slice());
+/// Stops a test where a character has other weights at the first level.
+fn assert_list(rt: &impl Abort, alloc: Global, t: &Table, text: char, weights: &[u16]) {
+    assert!(rt;
+        list(rt, alloc, t, &[text], 1).as_slice() == weights,
+        "{text:?}"
+    );
 }
 
 #[test]
+fn an_anchor_that_is_not_well_formed_is_not_next_to_its_item(rt: HostRuntime) {
+    let text = b"0061 ; [.1000.0020.0002][.2000.0000.0000]";
+    let t = table_from(rt.alloc(), text).ok().expect(&rt, "a table");
+    let u = tailored_table(&rt, rt.alloc(), &t, "&a<<c");
+    assert_entry(&rt, &u, &['c'], false, [0x1000, 0x21, 2]);
+    assert_list(&rt, rt.alloc(), &u, 'a', &[0x1000, 0x2000]);
+    assert_list(&rt, rt.alloc(), &u, 'c', &[0x1000]);
+}
+
+const TWO_LETTERS: [Entry; 2] = [
+    (&['a'], false, [0x1000, 0x20, 2]),
+    (&['b'], false, [0x1001, 0x20, 2]),
+];
+
+#[test]
 fn an_item_with_an_expansion_is_not_next_to_its_anchor(rt: HostRuntime) {
-    let entries: [Entry; 2] = [
-        (&['a'], false, [0x1000, 0x20, 2]),
-        (&['b'], false, [0x1001, 0x20, 2]),
-    ];
-    let t = table(&rt, rt.alloc(), &entries, 1);
+    let t = table(&rt, rt.alloc(), &TWO_LETTERS);
     let u = tailored_table(&rt, rt.alloc(), &t, "&a<<c/b");
-    let first = list(&rt, rt.alloc(), &u, &['a'], 1);
-    let item_first = list(&rt, rt.alloc(), &u, &['c'], 1);
-    assert!(rt; first.as_slice() == [0x1000].as_slice());
-    assert!(rt; item_first.as_slice() == [0x1000, 0x1001].as_slice());
+    assert_list(&rt, rt.alloc(), &u, 'a', &[0x1000]);
+    assert_list(&rt, rt.alloc(), &u, 'c', &[0x1000, 0x1001]);
 }

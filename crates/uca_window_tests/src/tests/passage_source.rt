@@ -1,4 +1,10 @@
+use std::process::Abort;
 use uca_window::{Passage, PassageSource, Source};
+
+/// Checks which character a source gives next.
+fn assert_next(rt: &impl Abort, source: &mut PassageSource, want: Option<char>) {
+    assert!(rt; source.next() == want);
+}
 
 #[test]
 fn gives_the_characters_again_after_a_restart(rt: HostRuntime) {
@@ -7,8 +13,8 @@ fn gives_the_characters_again_after_a_restart(rt: HostRuntime) {
     };
     let mut source = PassageSource::new(&p);
     for _ in 0..2 {
-        for want in [Some('a'), Some('\u{E9}'), Some('\u{301}'), None, None] {
-            assert!(rt; source.next() == want);
+        for want in &[Some('a'), Some('\u{E9}'), Some('\u{301}'), None, None] {
+            assert_next(&rt, &mut source, *want);
         }
         source.restart();
     }
@@ -20,21 +26,21 @@ fn goes_back_to_its_mark(rt: HostRuntime) {
         return;
     };
     let mut source = PassageSource::new(&p);
-    assert!(rt; source.next() == Some('a'));
+    assert_next(&rt, &mut source, Some('a'));
     // Where none was set, to the start.
     source.rewind();
-    assert!(rt; source.next() == Some('a'));
+    assert_next(&rt, &mut source, Some('a'));
     let Some(c) = source.next() else {
         return;
     };
     source.mark();
     assert!(rt; c == '\u{E9}');
-    assert!(rt; source.next() == Some('b'));
-    assert!(rt; source.next() == None);
+    assert_next(&rt, &mut source, Some('b'));
+    assert_next(&rt, &mut source, None);
     source.rewind();
-    assert!(rt; source.next() == Some('\u{E9}'));
+    assert_next(&rt, &mut source, Some('\u{E9}'));
     source.restart();
-    assert!(rt; source.next() == Some('a'));
+    assert_next(&rt, &mut source, Some('a'));
     source.rewind();
-    assert!(rt; source.next() == Some('\u{E9}'));
+    assert_next(&rt, &mut source, Some('\u{E9}'));
 }

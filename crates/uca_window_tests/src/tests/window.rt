@@ -3,10 +3,12 @@ ghost use Rattle.unicode_normalization.specs.Forms.{nfd};
 ghost use Rattle.uca_weights.specs.declared.limits.TheConstants.{MAX_KEY};
 ghost use Rattle.uca_model.specs.SafeText.{IsSafe};
 ghost use Rattle.uca_model.specs.Source.{unread};
+ghost use Rattle.uca_model.specs.Window.{Fits};
 
 use std::alloc::{AllocError, Global};
 use std::process::Abort;
 use std::test::Fail;
+use uca_weights::MAX_KEY;
 use uca_window::{Passage, PassageSource, Source, Window, nfd_of};
 use unicode_normalization::char::canonical_combining_class;
 
@@ -99,38 +101,64 @@ fn safe_chars(rt: &impl Abort, alloc: Global, text: &str) -> Vec<char>
     }
 }
 
+/// Checks how many points a window has, how many of them are closed, and how often `next` of its source was called.
+fn assert_held(
+    rt: &impl Abort,
+    text: &str,
+    window: &Window,
+    source: &CharsSource,
+    [points, closed, reads]: [usize; 3],
+) {
+    assert!(rt; window.points().len() == points, "{text:?}");
+    assert!(rt; window.closed() == closed, "{text:?}");
+    assert!(rt; source.reads == reads as u128, "{text:?}");
+    assert!(rt; source.rewinds == 0, "{text:?}");
+}
+
+/// Checks what the first fill of a window for keys of that length reads of a text.
+fn assert_first_fill(
+    rt: &impl Abort,
+    alloc: Global,
+    text: &str,
+    longest: usize,
+    counts: [usize; 3],
+) {
+    assert!(rt; longest >= 1 && longest <= MAX_KEY);
+    let chars = safe_chars(rt, alloc, text);
+    let mut source = source_of(&chars);
+    let mut window = Window::new(longest);
+    window.fill(&mut source);
+    assert_held(rt, text, &window, &source, counts);
+}
+
+/// The parts of a text, the length of the longest key, and what `assert_held` wants after one fill.
+static FIRST_FILLS: [(&str, char, usize, &str, usize, [usize; 3]); 8] = [
+    ("", 'a', 0, "", 1, [0, 0, 1]),
+    ("abc", '\u{301}', 0, "", 3, [3, 3, 4]),
+    ("abc", '\u{301}', 0, "", 2, [3, 2, 3]),
+    ("b", '\u{323}', 14, "\u{301}\u{308}a", 3, [18, 17, 18]),
+    // A run as long as it may be, and a character of four code points.
+    ("a", '\u{301}', 60, "\u{1F82}", 1, [65, 61, 62]),
+    // Marks at the start of a text are a segment.
+    ("", '\u{344}', 1, "a", 1, [3, 2, 2]),
+    // U+0F73 is a starter, but decomposes to marks.
+    ("a", '\u{F73}', 1, "b", 1, [4, 3, 3]),
+    ("b\u{301}", '\u{323}', 1, "a", 3, [4, 3, 4]),
+];
+
 #[test]
 fn a_fill_reads_no_more_than_it_must(rt: HostRuntime) -> Result<(), Fail> {
-    // How many points there are then, how many of them are closed, and how often `next` was called.
-    let rows: [(&str, char, usize, &str, usize, [usize; 3]); 8] = [
-        ("", 'a', 0, "", 1, [0, 0, 1]),
-        ("abc", '\u{301}', 0, "", 3, [3, 3, 4]),
-        ("abc", '\u{301}', 0, "", 2, [3, 2, 3]),
-        ("b", '\u{323}', 14, "\u{301}\u{308}a", 3, [18, 17, 18]),
-        // A run as long as it may be, and a character of four code points.
-        ("a", '\u{301}', 60, "\u{1F82}", 1, [65, 61, 62]),
-        // Marks at the start of a text are a segment.
-        ("", '\u{344}', 1, "a", 1, [3, 2, 2]),
-        // U+0F73 is a starter, but decomposes to marks.
-        ("a", '\u{F73}', 1, "b", 1, [4, 3, 3]),
-        ("b\u{301}", '\u{323}', 1, "a", 3, [4, 3, 4]),
-    ];
-    for (start, mark, times, end, longest, [points, closed, reads]) in rows {
-        let text = text_of(rt.alloc(), start, mark, times, end)?;
-        let chars = safe_chars(&rt, rt.alloc(), &text);
-        let mut source = source_of(&chars);
-        let mut window = Window::new(longest);
-        window.fill(&mut source);
-        assert!(rt;
-            (window.points().len(), window.closed()) == (points, closed),
-            "{text:?}"
-        );
-        assert!(rt;
-            (source.reads, source.rewinds) == (reads as u128, 0),
-            "{text:?}"
-        );
+    for (start, mark, times, end, longest, counts) in &FIRST_FILLS {
+        let text = text_of(rt.alloc(), start, *mark, *times, end)?;
+        assert_first_fill(&rt, rt.alloc(), &text, *longest, *counts);
     }
     Ok(())
+}
+
+/// Checks the points of a window, and how many of them are closed.
+fn assert_points(rt: &impl Abort, window: &Window, points: &[char], closed: usize) {
+    assert!(rt; window.points() == points);
+    assert!(rt; window.closed() == closed);
 }
 
 #[test]
@@ -139,18 +167,15 @@ fn marks_are_put_in_order_and_taken_out(rt: HostRuntime) {
     let mut source = source_of(&chars);
     let mut window = Window::new(3);
     window.fill(&mut source);
-    assert!(rt; window.points() == ['b', '\u{323}', '\u{301}', 'a'].as_slice());
-    assert!(rt; window.closed() == 3);
+    assert_points(&rt, &window, &['b', '\u{323}', '\u{301}', 'a'], 3);
     if window.closed() > 0 {
         window.drop_front(1);
     }
-    assert!(rt; window.points() == ['\u{323}', '\u{301}', 'a'].as_slice());
-    assert!(rt; window.closed() == 2);
+    assert_points(&rt, &window, &['\u{323}', '\u{301}', 'a'], 2);
     if window.closed() > 1 && canonical_combining_class(window.points()[1]) > 0 {
         window.remove(1);
     }
-    assert!(rt; window.points() == ['\u{323}', 'a'].as_slice());
-    assert!(rt; window.closed() == 1);
+    assert_points(&rt, &window, &['\u{323}', 'a'], 1);
 }
 
 #[test]
@@ -159,8 +184,7 @@ fn marks_of_one_character_at_the_start_are_shown(rt: HostRuntime) {
     let mut source = source_of(&chars);
     let mut window = Window::new(1);
     window.fill(&mut source);
-    assert!(rt; window.points() == ['\u{308}', '\u{301}', 'a'].as_slice());
-    assert!(rt; window.closed() == 2);
+    assert_points(&rt, &window, &['\u{308}', '\u{301}', 'a'], 2);
 }
 
 #[test]
@@ -170,11 +194,20 @@ fn a_window_that_was_given_the_end_asks_no_more(rt: HostRuntime) {
     let mut window = Window::new(5);
     window.fill(&mut source);
     window.fill(&mut source);
-    assert!(rt; (window.closed(), source.reads) == (2, 3));
+    assert_held(&rt, "ab", &window, &source, [2, 2, 3]);
     let n = window.closed();
     window.drop_front(n);
     window.fill(&mut source);
-    assert!(rt; (window.points().len(), window.closed(), source.reads) == (0, 0, 3));
+    assert_held(&rt, "ab", &window, &source, [0, 0, 3]);
+}
+
+/// Checks that a window wants a character, and which it reads.
+fn assert_reads<S: Source>(rt: &impl Abort, window: &mut Window, source: &mut S, wanted: char)
+    requires { Fits window.old (unread (S.state source.old)) }
+    ensures { Fits window.new (unread (S.state source.new)) }
+{
+    assert!(rt; window.wants());
+    assert!(rt; window.read(source) == Some(wanted));
 }
 
 #[test]
@@ -182,14 +215,11 @@ fn a_window_wants_characters_until_enough_points_are_closed(rt: HostRuntime) {
     let chars = safe_chars(&rt, rt.alloc(), "a\u{301}b");
     let mut source = source_of(&chars);
     let mut window = Window::new(1);
-    assert!(rt; window.wants());
-    assert!(rt; window.read(&mut source) == Some('a'));
-    assert!(rt; window.wants());
-    assert!(rt; window.read(&mut source) == Some('\u{301}'));
-    assert!(rt; window.wants());
-    assert!(rt; window.read(&mut source) == Some('b'));
+    assert_reads(&rt, &mut window, &mut source, 'a');
+    assert_reads(&rt, &mut window, &mut source, '\u{301}');
+    assert_reads(&rt, &mut window, &mut source, 'b');
     assert!(rt; !window.wants());
-    assert!(rt; (window.points().len(), window.closed()) == (3, 2));
+    assert_held(&rt, "a\u{301}b", &window, &source, [3, 2, 3]);
 }
 
 /// The NFD of what a source has not given yet, window after window.
@@ -215,22 +245,33 @@ fn nfd_by_window<S: Source>(
     Ok(all)
 }
 
+/// Checks that windows for keys of that length give the NFD of a text.
+fn assert_nfd_by_window(
+    rt: &impl Abort,
+    alloc: Global,
+    text: &str,
+    longest: usize,
+) -> Result<(), AllocError> {
+    assert!(rt; longest >= 1 && longest <= MAX_KEY);
+    let p = Passage::check(text).ok().expect(rt, "a safe text");
+    let want = nfd_of(alloc, &p)?;
+    let all = nfd_by_window(alloc, &mut PassageSource::new(&p), longest)?;
+    assert!(rt; all.as_slice() == want.as_slice(), "{text:?}, {longest}");
+    Ok(())
+}
+
 #[test]
 fn the_windows_of_a_text_are_its_nfd(rt: HostRuntime) -> Result<(), Fail> {
-    let texts = [
+    for text in &[
         "",
         "plain text, \u{E9}t\u{E9}",
         "\u{344}\u{301}",
         "\u{1EA1}\u{301}",
         "a\u{F73}\u{301}\u{316}b",
         "\u{AC01}\u{1F82}\u{301}\u{345}\u{323}x",
-    ];
-    for text in texts {
-        let p = Passage::check(text).ok().expect(&rt, "a safe text");
-        let want = nfd_of(rt.alloc(), &p)?;
-        for longest in [1, 3, 32] {
-            let all = nfd_by_window(rt.alloc(), &mut PassageSource::new(&p), longest)?;
-            assert!(rt; all.as_slice() == want.as_slice(), "{text:?}, {longest}");
+    ] {
+        for longest in &[1, 3, 32] {
+            assert_nfd_by_window(&rt, rt.alloc(), text, *longest)?;
         }
     }
     Ok(())

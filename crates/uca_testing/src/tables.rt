@@ -1,0 +1,18 @@
+use crate::entries::SMALL_TEXT;
+use std::alloc::Global;
+use uca_allkeys::{ReadFault, read_table};
+use uca_table::Table;
+use uca_weights::Reading;
+
+/// Reads the table of a text in the format of `allkeys.txt`, once more where memory was refused.
+pub fn table_from(alloc: Global, text: &[u8]) -> Result<Table, ReadFault> {
+    match read_table(alloc, &mut Reading::new(text)) {
+        Err(_) => read_table(alloc, &mut Reading::new(text)),
+        answer => answer,
+    }
+}
+
+/// The small table, with its ranges.
+pub fn small_table(alloc: Global) -> Result<Table, ReadFault> {
+    table_from(alloc, SMALL_TEXT)
+}
