@@ -4,7 +4,7 @@ use std::alloc::{AllocError, Global};
 use std::process::Abort;
 use std::test::Fail;
 use uca_conform::{ConformCause, ConformFault, Conformance, conform};
-use uca_table::Table;
+use uca_table::{Table, TableBuilder};
 use uca_testing::table_from;
 use uca_weights::{MAX_INPUT, Reader, Refused, Settings, Strength, Variable};
 
@@ -122,9 +122,13 @@ fn table(rt: &impl Abort, alloc: Global) -> Table {
     table_from(alloc, TABLE).ok().expect(rt, "a table")
 }
 
-/// A table without entries.
+/// The table without entries, made once more where memory was refused. A builder asks for little memory: the tests of large inputs are run
+/// again for each growth.
 fn empty_table(rt: &impl Abort, alloc: Global) -> Table {
-    table_from(alloc, b"").ok().expect(rt, "a table")
+    match TableBuilder::new(alloc).finish() {
+        Ok(table) => table,
+        Err(fault) => fault.builder.finish().ok().expect(rt, "a table"),
+    }
 }
 
 /// `0061`, a line that begins with so many bytes, and the rest.
