@@ -56,7 +56,7 @@ pub struct ReadFault {
 }
 
 /// Why a line is refused, whatever stands before it.
-#[derive(Clone, Copy, Debug, PartialEq, Eq)]
+#[derive(Clone, Copy)]
 pub(crate) enum LineFault {
     BadDirective,
     BadCodePoint,

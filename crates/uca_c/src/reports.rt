@@ -12,7 +12,7 @@ use uca_tailor::{RuleCause, TailorCause};
 
 /// Where a fault is, and of what kind.
 #[repr(C)]
-#[derive(Clone, Copy, Debug, PartialEq, Eq)]
+#[derive(Clone, Copy)]
 pub struct Fault {
     /// The kind of a fault of the table, the rules or the tailoring, and else 0.
     pub kind: u32,
@@ -24,13 +24,13 @@ pub struct Fault {
 
 /// A SHA-256 digest.
 #[repr(C)]
-#[derive(Clone, Copy, Debug, PartialEq, Eq)]
+#[derive(Clone, Copy)]
 pub struct Digest {
     pub bytes: [u8; 32],
 }
 
 /// What a call reports.
-#[derive(Clone, Copy, Debug, PartialEq, Eq)]
+#[derive(Clone, Copy)]
 pub(crate) struct Report {
     pub status: u32,
     pub fault: Fault,

@@ -5,7 +5,7 @@ use uca_weights::{Settings, Strength, Variable};
 
 /// Settings by their numbers, with room for others, which have to be 0.
 #[repr(C)]
-#[derive(Clone, Copy, Debug)]
+#[derive(Clone, Copy)]
 pub struct RawSettings {
     pub strength: u32,
     pub variable: u32,

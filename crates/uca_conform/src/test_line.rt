@@ -14,7 +14,7 @@ use uca_io::words::{is_blank, skip_blanks};
 const MAX_DIGITS: usize = 6;
 
 /// Hexadecimal digits at the front of some bytes, six of them at most.
-#[derive(Clone, Copy, Debug)]
+#[derive(Clone, Copy)]
 struct Digits<'l> {
     value: u32,
     len: usize,

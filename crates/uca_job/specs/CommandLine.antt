@@ -1,6 +1,6 @@
 -- The command line of the program: which job the words after the program's name ask for, by clap's own definition of
 -- what a command takes and finds.
-use Rattle.std.specs.Prelude.{◌≡◌, ◌≢◌, ⊤, ℕ, Bool, true, false, List, [], ◌∷◌, ◌==◌, Option, Some, None, IsSomeAnd, codes, if◌then◌else◌, map, option_and_then, option_map, string_bytes, unwrap_or}
+use Rattle.std.specs.Prelude.{◌≡◌, ◌≢◌, ⊤, ℕ, Bool, true, false, List, [], ◌∷◌, ◌==◌, Option, Some, None, IsSomeAnd, codes, fold, if◌then◌else◌, map, option_and_then, option_map, string_bytes, unwrap_or}
 use Rattle.std.specs.List.{after_first, before_first}
 use Rattle.std.specs.Option.{option_map_or}
 use Rattle.std.specs.Borrow.{Bor}
@@ -14,6 +14,7 @@ use Rattle.uca_weights.specs.declared.settings.Strength.{Strength}
 use Rattle.uca_weights.specs.declared.settings.Strength.TheVariants.{Primary, Secondary, Tertiary, Quaternary, Identical}
 use Rattle.uca_weights.specs.declared.settings.Variable.{Variable}
 use Rattle.uca_weights.specs.declared.settings.Variable.TheVariants.{NonIgnorable, Blanked, Shifted}
+use Rattle.uca_job.specs.declared.job.Choices as declared
 use Rattle.uca_job.specs.declared.job.Job.{Job}
 use Rattle.uca_job.specs.declared.job.JobFault.{JobFault}
 use Rattle.uca_job.specs.declared.job.JobFault.TheVariants.{Usage, OutOfMemory, BadIdeographs}
@@ -42,6 +43,10 @@ weighting_named name =
 pub record Choices : Type 0 where
   pub strengths : Bor (List (Bor Text))
   pub weightings : Bor (List (Bor Text))
+
+-- the lists that the code has
+abbrev pub choices_of : declared.Choices → Choices
+choices_of c = record { strengths = c.strengths; weightings = c.weightings }
 
 -- the lists have exactly the names that mean something
 pub record AreChoices (choices : Choices) : Type 0 where
@@ -78,40 +83,45 @@ variable_option names =
 abbrev pub ideographs_option : Rule
 ideographs_option = option_of (codes "ideographs")
 
--- a command with the options that name files and settings
-abbrev pub with_settings : Choices → Text → App
-with_settings choices name =
-    with_rule (with_rule (with_rule (with_rule (new_app name) table_option) rules_option)
-    (strength_option choices.strengths)) (variable_option choices.weightings)
-
--- a command: each takes all options
-abbrev pub command_with : Choices → Text → App
-command_with choices name = with_rule (with_settings choices name) ideographs_option
-
 -- the flag `--raw`
 abbrev pub raw_flag : Rule
 raw_flag = record (new_rule (codes "raw")) { long = Some (codes "raw"); action = Some SetTrue }
 
--- `key`, which has a flag besides
-abbrev pub key_command : Choices → App
-key_command choices = with_rule (command_with choices (codes "key")) raw_flag
+-- a command with the options that name files
+abbrev pub with_files : Text → App
+with_files name = with_rule (with_rule (new_app name) table_option) rules_option
+
+-- a command with the options that name files and settings
+abbrev pub with_settings : Choices → Text → App
+with_settings choices name =
+    with_rule (with_rule (with_files name) (strength_option choices.strengths)) (variable_option choices.weightings)
+
+-- a command with the options that each takes
+abbrev pub with_options : Choices → Text → App
+with_options choices name = with_rule (with_settings choices name) ideographs_option
+
+-- a command: `key` has a flag besides
+abbrev pub command_with : Choices → Text → App
+command_with choices name =
+    if bytes_eq name (codes "key") then with_rule (with_options choices name) raw_flag else with_options choices name
 
 -- the program without its commands: its own name is not among the words, and they have to name a command
 abbrev pub bare_program : App
 bare_program =
     on_top (λ s. record s { no_binary_name = true; subcommand_required = true }) (new_app (codes "uca"))
 
--- the program with its commands that read lines
-abbrev pub with_line_commands : Choices → App
-with_line_commands choices =
-    with_subcommand (with_subcommand (with_subcommand (with_subcommand bare_program (command_with choices (codes "elements")).top)
-    (key_command choices).top) (command_with choices (codes "compare")).top) (command_with choices (codes "order")).top
+-- a program with one more command
+abbrev pub with_command : Choices → App → Text → App
+with_command choices program name = with_subcommand program (command_with choices name).top
+
+-- the names of the commands, in their order
+abbrev pub command_names : List Text
+command_names =
+    codes "elements" ∷ codes "key" ∷ codes "compare" ∷ codes "order" ∷ codes "check" ∷ codes "lint" ∷ codes "table" ∷ []
 
 -- the program
 abbrev pub uca_with : Choices → App
-uca_with choices =
-    with_subcommand (with_subcommand (with_subcommand (with_line_commands choices) (command_with choices (codes "check")).top)
-    (command_with choices (codes "lint")).top) (command_with choices (codes "table")).top
+uca_with choices = fold (with_command choices) bare_program command_names
 
 -- the task of the command of this name
 abbrev pub task_named : Text → Option Task

@@ -1,10 +1,10 @@
 //! The words of the command line, and the job that they ask for.
-ghost use Rattle.std.specs.Prelude.{◌≡◌, ◌≢◌, ◌⊎◌, IfErr, IfOk, IsSome, IsSomeAnd, MatchResult, codes, false, map, option_map, string_bytes};
+ghost use Rattle.std.specs.Prelude.{◌≡◌, ◌≢◌, ◌⊎◌, IfErr, IfOk, IsSome, IsSomeAnd, MatchResult, codes, false, fold, map, option_map, string_bytes};
 ghost use Rattle.clap.specs.declared.builder.command.Command.TheViews.{out-Command};
-ghost use Rattle.clap.specs.Words.{app_of, first_of, found_of, kind_of, rows_of, rule_of, subcommand_rows_of, with_subcommand};
+ghost use Rattle.clap.specs.Words.{app_of, first_of, found_of, kind_of, rows_of, rule_of, subcommand_rows_of};
 ghost use Rattle.uca_job.specs.declared.job.JobFault.TheVariants.{OutOfMemory};
 ghost use Rattle.uca_job.specs.CommandLine.{IsJobFrom, IsJobOf, IsRefused, IsUsage, IsWithoutRange, LacksRange};
-ghost use Rattle.uca_job.specs.CommandLine.{bare_program, command_with, ideographs_option, key_command, range_spelled, raw_flag, raw_in, rules_option, strength_option, table_option, uca_with, variable_option, with_line_commands, with_settings};
+ghost use Rattle.uca_job.specs.CommandLine.{bare_program, choices_of, command_with, ideographs_option, range_spelled, raw_flag, raw_in, rules_option, strength_option, table_option, uca_with, variable_option, with_command, with_files, with_options, with_settings};
 ghost use Rattle.uca_job.specs.CommandLine.{strength_in, strength_named, task_named, weighting_in, weighting_named};
 
 use clap::error::ErrorKind;
@@ -13,6 +13,42 @@ use std::alloc::{AllocError, Global};
 use thiserror::Error;
 use uca_io::digits::code_point;
 use uca_weights::{Strength, Variable};
+
+/// The names that the options `--strength` and `--variable` take. `clap` borrows them.
+#[derive(Clone, Copy)]
+struct Choices<'a> {
+    strengths: &'a [&'a str],
+    weightings: &'a [&'a str],
+}
+
+/// The commands by their names, and what each does.
+static COMMANDS: [(&str, &str); 7] = [
+    (
+        "elements",
+        "Writes the collation elements of each line of the input",
+    ),
+    ("key", "Writes the sort key of each line of the input"),
+    (
+        "compare",
+        "Writes the order of each line of the input against the line before it",
+    ),
+    (
+        "order",
+        "Writes the lines of the input in the order of their sort keys",
+    ),
+    (
+        "check",
+        "Reads a CollationTest file as its input, and writes how many lines it has and which one fails first",
+    ),
+    (
+        "lint",
+        "Writes which conditions of well-formedness the table breaks; reads no input",
+    ),
+    (
+        "table",
+        "Writes the collation element table as text; reads no input",
+    ),
+];
 
 /// The names that the option `--strength` takes.
 static STRENGTHS: [&str; 5] = [
@@ -90,7 +126,11 @@ pub fn job_of(alloc: Global, words: &[&str]) -> Result<Job, JobFault>
     ensures usage { IfErr result (λ f. IsUsage f → IsRefused (map (λ w. w.now) words.now)) }
     ensures ideographs { IfErr result (λ f. f ≡ JobFault.BadIdeographs → IsWithoutRange (map (λ w. w.now) words.now)) }
 {
-    let command = uca_command(alloc, STRENGTHS.as_slice(), WEIGHTINGS.as_slice())?;
+    let choices = Choices {
+        strengths: STRENGTHS.as_slice(),
+        weightings: WEIGHTINGS.as_slice(),
+    };
+    let command = uca_command(alloc, choices)?;
     match command.try_get_matches_from(words) {
         Ok(matches) => job_from(alloc, &matches),
         Err(error) => Err(fault_from(alloc, &error)),
@@ -98,76 +138,29 @@ pub fn job_of(alloc: Global, words: &[&str]) -> Result<Job, JobFault>
 }
 
 // The program with its commands.
-fn uca_command<'a>(
-    alloc: Global,
-    strengths: &'a [&'a str],
-    weightings: &'a [&'a str],
-) -> Result<Command<'a>, AllocError>
+fn uca_command<'a>(alloc: Global, choices: Choices<'a>) -> Result<Command<'a>, AllocError>
     ensures { IfOk result (λ c. app_of c
-        ≡ uca_with (record { strengths = strengths.entry; weightings = weightings.entry })) }
-{
-    let program = line_commands(alloc, strengths, weightings)?;
-    let program = with_command(
-        alloc,
-        program,
-        "check",
-        "Reads a CollationTest file as its input, and writes how many lines it has and which one fails first",
-        strengths,
-        weightings,
-    )?;
-    let program = with_command(
-        alloc,
-        program,
-        "lint",
-        "Writes which conditions of well-formedness the table breaks; reads no input",
-        strengths,
-        weightings,
-    )?;
-    with_command(
-        alloc,
-        program,
-        "table",
-        "Writes the collation element table as text; reads no input",
-        strengths,
-        weightings,
-    )
-}
-
-// The program with its commands that read lines.
-fn line_commands<'a>(
-    alloc: Global,
-    strengths: &'a [&'a str],
-    weightings: &'a [&'a str],
-) -> Result<Command<'a>, AllocError>
-    ensures { IfOk result (λ c. app_of c
-        ≡ with_line_commands (record { strengths = strengths.entry; weightings = weightings.entry })) }
+        ≡ uca_with (choices_of choices.entry)) }
 {
     let program = bare_program(alloc)?;
-    let program = with_command(
-        alloc,
-        program,
-        "elements",
-        "Writes the collation elements of each line of the input",
-        strengths,
-        weightings,
-    )?;
-    let program = with_key_command(alloc, program, strengths, weightings)?;
-    let program = with_command(
-        alloc,
-        program,
-        "compare",
-        "Writes the order of each line of the input against the line before it",
-        strengths,
-        weightings,
-    )?;
-    with_command(
-        alloc,
-        program,
-        "order",
-        "Writes the lines of the input in the order of their sort keys",
-        strengths,
-        weightings,
-    )
+    with_commands(alloc, program, choices, COMMANDS.as_slice())
+}
+
+// A program with more commands, each by its name and by what it does.
+fn with_commands<'a>(
+    alloc: Global,
+    program: Command<'a>,
+    choices: Choices<'a>,
+    commands: &'a [(&'a str, &'a str)],
+) -> Result<Command<'a>, AllocError>
+    ensures { IfOk result (λ c. app_of c
+        ≡ fold (with_command (choices_of choices.entry)) (app_of program.entry) (map (λ row. row.0.now) commands.now)) }
+{
+    let mut extended = program;
+    for (name, about) in commands {
+        extended = with_command(alloc, extended, name, about, choices)?;
+    }
+    Ok(extended)
 }
 
 // The program without its commands. The words come without its name, so usage lines are given it.
@@ -188,44 +181,45 @@ fn with_command<'a>(
     program: Command<'a>,
     name: &'a str,
     about: &'a str,
-    strengths: &'a [&'a str],
-    weightings: &'a [&'a str],
+    choices: Choices<'a>,
 ) -> Result<Command<'a>, AllocError>
     ensures { IfOk result (λ c. app_of c
-        ≡ with_subcommand (app_of program.entry) (command_with (record { strengths = strengths.entry; weightings = weightings.entry }) name.entry.now).top) }
+        ≡ with_command (choices_of choices.entry) (app_of program.entry) name.entry.now) }
 {
-    let added = command(alloc, name, about, strengths, weightings)?;
+    let added = command(alloc, name, about, choices)?;
     program.subcommand(added)
 }
 
-// A program with the command `key`.
-fn with_key_command<'a>(
-    alloc: Global,
-    program: Command<'a>,
-    strengths: &'a [&'a str],
-    weightings: &'a [&'a str],
-) -> Result<Command<'a>, AllocError>
-    ensures { IfOk result (λ c. app_of c
-        ≡ with_subcommand (app_of program.entry) (key_command (record { strengths = strengths.entry; weightings = weightings.entry })).top) }
-{
-    let added = key_command(alloc, strengths, weightings)?;
-    program.subcommand(added)
-}
-
-// A command. Each takes all options, also those without meaning for it.
+// A command. Each takes all options, also those without meaning for it, and `key` a flag besides.
 fn command<'a>(
     alloc: Global,
     name: &'a str,
     about: &'a str,
-    strengths: &'a [&'a str],
-    weightings: &'a [&'a str],
+    choices: Choices<'a>,
 ) -> Result<Command<'a>, AllocError>
     ensures app { IfOk result (λ c. app_of c
-        ≡ command_with (record { strengths = strengths.entry; weightings = weightings.entry }) name.entry.now) }
+        ≡ command_with (choices_of choices.entry) name.entry.now) }
     ensures local { IfOk result (λ c. (out-Command c).has_globals ≡ false) }
 {
-    let with_settings = with_settings(alloc, name, about, strengths, weightings)?;
-    with_settings.arg(ideographs_option(alloc))
+    let plain = with_options(alloc, name, about, choices)?;
+    if name == "key" {
+        plain.arg(raw_flag(alloc))
+    } else {
+        Ok(plain)
+    }
+}
+
+// A command with the options that each takes.
+fn with_options<'a>(
+    alloc: Global,
+    name: &'a str,
+    about: &'a str,
+    choices: Choices<'a>,
+) -> Result<Command<'a>, AllocError>
+    ensures app { IfOk result (λ c. app_of c ≡ with_options (choices_of choices.entry) name.entry.now) }
+    ensures local { IfOk result (λ c. (out-Command c).has_globals ≡ false) }
+{
+    with_settings(alloc, name, about, choices)?.arg(ideographs_option(alloc))
 }
 
 // A command with the options that name files and settings.
@@ -233,39 +227,26 @@ fn with_settings<'a>(
     alloc: Global,
     name: &'a str,
     about: &'a str,
-    strengths: &'a [&'a str],
-    weightings: &'a [&'a str],
+    choices: Choices<'a>,
 ) -> Result<Command<'a>, AllocError>
     ensures app { IfOk result (λ c. app_of c
-        ≡ with_settings (record { strengths = strengths.entry; weightings = weightings.entry }) name.entry.now) }
+        ≡ with_settings (choices_of choices.entry) name.entry.now) }
+    ensures local { IfOk result (λ c. (out-Command c).has_globals ≡ false) }
+{
+    with_files(alloc, name, about)?
+        .arg(strength_option(alloc, choices.strengths))?
+        .arg(variable_option(alloc, choices.weightings))
+}
+
+// A command with the options that name files.
+fn with_files<'a>(alloc: Global, name: &'a str, about: &'a str) -> Result<Command<'a>, AllocError>
+    ensures app { IfOk result (λ c. app_of c ≡ with_files name.entry.now) }
     ensures local { IfOk result (λ c. (out-Command c).has_globals ≡ false) }
 {
     Command::new(alloc, name)
         .about(about)
         .arg(table_option(alloc))?
-        .arg(rules_option(alloc))?
-        .arg(strength_option(alloc, strengths))?
-        .arg(variable_option(alloc, weightings))
-}
-
-// The command `key`, which has a flag besides.
-fn key_command<'a>(
-    alloc: Global,
-    strengths: &'a [&'a str],
-    weightings: &'a [&'a str],
-) -> Result<Command<'a>, AllocError>
-    ensures app { IfOk result (λ c. app_of c
-        ≡ key_command (record { strengths = strengths.entry; weightings = weightings.entry })) }
-    ensures local { IfOk result (λ c. (out-Command c).has_globals ≡ false) }
-{
-    let plain = command(
-        alloc,
-        "key",
-        "Writes the sort key of each line of the input",
-        strengths,
-        weightings,
-    )?;
-    plain.arg(raw_flag(alloc))
+        .arg(rules_option(alloc))
 }
 
 // The flag `--raw`.

@@ -9,7 +9,7 @@ use uca_table::Table;
 use uca_weights::Element;
 
 /// The next element of a text depends on more than the next character.
-#[derive(Clone, Copy, Debug)]
+#[derive(Clone, Copy)]
 pub(crate) struct NotAlone;
 
 /// The collation elements of a text in memory one by one, for as long as its characters stand alone. It takes no memory.

@@ -13,7 +13,7 @@ use uca_window::{Source, Window};
 use unicode_normalization::char::canonical_combining_class;
 
 /// A match that was taken out of a window.
-#[derive(Clone, Copy, Debug)]
+#[derive(Clone, Copy)]
 pub(crate) struct WindowMatch<'t> {
     /// Its first code point.
     pub(crate) first: char,

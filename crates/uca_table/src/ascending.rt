@@ -14,7 +14,7 @@ use std::marker::Model;
 use uca_weights::{Element, MAX_ELEMENTS, MAX_KEY};
 
 /// Collects the entries of a table whose keys come in their order: by code points, a proper prefix first.
-#[derive(Debug, Drop)]
+#[derive(Drop)]
 pub struct AscendingEntries {
     entries: Flat,
     longest_key: usize,

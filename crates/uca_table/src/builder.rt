@@ -17,7 +17,7 @@ use std::marker::Model;
 use uca_weights::{Element, MAX_ELEMENTS, MAX_KEY, Range};
 
 /// Collects the entries of a table, one after the other.
-#[derive(Debug, Drop)]
+#[derive(Drop)]
 pub struct TableBuilder {
     entries: EntryMap,
     ranges: RangeMap,

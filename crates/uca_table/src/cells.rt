@@ -18,7 +18,7 @@ use unicode_normalization::{Form, slice};
 
 /// The elements of a character by itself, and whether they stay so within a text. Eight bytes, since a table has a cell
 /// for each of 65,536 characters and each character of a text is looked up.
-#[derive(Clone, Copy, Debug)]
+#[derive(Clone, Copy)]
 pub(crate) struct Cell {
     // Where its elements begin among those of all cells.
     start: u32,
@@ -51,7 +51,7 @@ const WITHOUT_KEY: Cell = Cell {
 };
 
 /// The cells of a block of characters, from a multiple of `BLOCK` on. Only a block with a key takes memory.
-#[derive(Clone, Copy, Debug)]
+#[derive(Clone, Copy)]
 pub(crate) enum Block {
     /// They lie by themselves from this place on.
     Own(u32),
@@ -68,7 +68,7 @@ const FEW_BLOCKS: usize = 64;
 const ENTRIES_OF_A_BLOCK: usize = 8;
 
 /// The elements of characters, each by itself, and whether they stand alone in a text.
-#[derive(Debug, Drop)]
+#[derive(Drop)]
 pub struct Cells {
     // Those of the characters below a limit.
     cells: Vec<Cell>,

@@ -6,7 +6,7 @@ use std::marker::Model;
 use uca_weights::{Element, MAX_KEY};
 
 /// The entries of a table by key order: each key with its elements.
-#[derive(Debug, Drop)]
+#[derive(Drop)]
 pub struct Entries<'t> {
     pub(crate) rest: Span<'t>,
 }

@@ -22,14 +22,14 @@ use uca_weights::{Element, MAX_KEY};
 type Key = (char, Vec<char>);
 
 /// Where the elements of an entry lie among those of all entries.
-#[derive(Clone, Copy, Debug)]
+#[derive(Clone, Copy)]
 pub(crate) struct Place {
     start: usize,
     count: usize,
 }
 
 /// The entries of a builder by key order, into which one more goes in logarithmic time.
-#[derive(Debug, Drop)]
+#[derive(Drop)]
 pub(crate) struct EntryMap {
     places: BTreeMap<Key, Place>,
     // Of all entries, one after the other as they came.

@@ -8,7 +8,7 @@ use std::collections::BTreeMap;
 use uca_weights::Range;
 
 /// The lowest first and the highest last code point of the ranges with one base.
-#[derive(Clone, Copy, Debug)]
+#[derive(Clone, Copy)]
 pub(crate) struct Extent {
     pub(crate) lowest: char,
     pub(crate) highest: char,

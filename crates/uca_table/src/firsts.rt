@@ -14,7 +14,7 @@ use std::alloc::{AllocError, Global};
 /// Where among entries in their order those begin whose keys begin with a code point or a higher one. It goes from the
 /// first code point to the last that has a cell, or that begins a key of two or more where that is higher; the entries
 /// beyond are searched.
-#[derive(Debug, Drop)]
+#[derive(Drop)]
 pub(crate) struct Firsts {
     starts: Vec<u32>,
 }

@@ -7,7 +7,7 @@ use std::marker::Model;
 use uca_weights::Element;
 
 /// Where the key and the elements of an entry lie among those of all entries.
-#[derive(Clone, Copy, Debug)]
+#[derive(Clone, Copy)]
 pub(crate) struct Slot {
     first_point: usize,
     first_element: usize,
@@ -17,7 +17,7 @@ pub(crate) struct Slot {
 
 /// Entries: keys with their collation elements. The code points of all keys lie in one vector, and all elements in
 /// another.
-#[derive(Debug, Drop)]
+#[derive(Drop)]
 pub(crate) struct Flat {
     slots: Vec<Slot>,
     points: Vec<char>,
@@ -25,7 +25,7 @@ pub(crate) struct Flat {
 }
 
 /// Some entries that stand side by side.
-#[derive(Clone, Copy, Debug)]
+#[derive(Clone, Copy)]
 pub(crate) struct Span<'t> {
     pub(crate) flat: &'t Flat,
     pub(crate) low: usize,

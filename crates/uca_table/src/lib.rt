@@ -11,6 +11,7 @@ pub mod ascending;
 pub mod builder;
 pub mod cells;
 pub mod collation;
+mod debug;
 pub mod entries;
 mod entry_map;
 mod extent;

@@ -97,7 +97,7 @@ fn extend(walk: &mut Walk<'_>, text: &mut [char], start: usize) -> usize
 }
 
 /// A match at the front of a text.
-#[derive(Clone, Copy, Debug)]
+#[derive(Clone, Copy)]
 pub struct Matched<'t> {
     /// How many code points it has.
     pub len: usize,

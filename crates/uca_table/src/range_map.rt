@@ -15,7 +15,7 @@ use std::marker::Model;
 use uca_weights::Range;
 
 /// The ranges of a builder, into which one more goes in logarithmic time.
-#[derive(Debug, Drop)]
+#[derive(Drop)]
 pub(crate) struct RangeMap {
     // By their last code points, which rise as the first ones do.
     by_last: BTreeMap<char, Range>,

@@ -11,7 +11,7 @@ use std::marker::Model;
 use uca_weights::Range;
 
 /// The ranges of a table, in which a code point is found in logarithmic time.
-#[derive(Debug, Drop)]
+#[derive(Drop)]
 pub(crate) struct Ranges {
     // By their first code points.
     pub(crate) by_first: Vec<Range>,

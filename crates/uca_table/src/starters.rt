@@ -15,7 +15,7 @@ const CODE_POINTS: usize = 0x11_0000;
 /// Of each code point, whether every key of a table leaves it apart: the code point stands in no key at the second
 /// place or later, and each key that begins with it has a first element with a primary weight. Without flags the keys
 /// are asked one by one.
-#[derive(Debug, Drop)]
+#[derive(Drop)]
 pub struct Starters {
     flags: Vec<bool>,
 }

@@ -15,7 +15,7 @@ use uca_weights::{Element, Ideographs, Range};
 
 /// A collation element table: a finite map from keys to their elements, with ranges of implicit weights and of
 /// ideographs.
-#[derive(Debug, Drop)]
+#[derive(Drop)]
 pub struct Stored {
     // By key order.
     pub(crate) entries: Flat,

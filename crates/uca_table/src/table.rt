@@ -15,7 +15,7 @@ use uca_weights::{Element, Ideographs, Range};
 
 /// A collation element table: a finite map from keys to their elements, with ranges of implicit weights and of
 /// ideographs.
-#[derive(Debug, Drop)]
+#[derive(Drop)]
 pub struct Table {
     stored: Stored,
     // The elements of single characters; none after ranges of ideographs were added.

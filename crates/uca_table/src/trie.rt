@@ -17,7 +17,7 @@ use std::alloc::{AllocError, Global};
 use uca_weights::MAX_KEY;
 
 /// The number of a node. Whether it is the node of some entries is seen from the node, which says where they lie.
-#[derive(Clone, Copy, Debug)]
+#[derive(Clone, Copy)]
 pub(crate) struct NodeNumber {
     number: u32,
 }
@@ -30,7 +30,7 @@ const ENTRIES_OF_A_NODE: usize = 8;
 pub(crate) const NO_NODE: NodeNumber = NodeNumber { number: u32::MAX };
 
 /// Where the entries lie whose keys go on with a code point.
-#[derive(Clone, Copy, Debug)]
+#[derive(Clone, Copy)]
 pub(crate) struct Child {
     pub(crate) point: char,
     pub(crate) low: usize,
@@ -40,7 +40,7 @@ pub(crate) struct Child {
 
 /// Entries whose keys begin with the same code points, so many of them, and the code points with which they go on, in
 /// their order.
-#[derive(Debug, Drop)]
+#[derive(Drop)]
 pub(crate) struct Node {
     pub(crate) low: usize,
     pub(crate) high: usize,
@@ -49,7 +49,7 @@ pub(crate) struct Node {
 }
 
 /// The nodes of entries in their order. Entries that have no node are searched.
-#[derive(Debug, Drop)]
+#[derive(Drop)]
 pub(crate) struct Trie {
     // By code point, the node of the keys that begin with it.
     leads: Vec<NodeNumber>,
@@ -57,7 +57,7 @@ pub(crate) struct Trie {
 }
 
 /// Entries that a step led to, and the number of their node.
-#[derive(Clone, Copy, Debug)]
+#[derive(Clone, Copy)]
 pub(crate) struct Reached<'t> {
     pub(crate) span: Span<'t>,
     pub(crate) node: NodeNumber,

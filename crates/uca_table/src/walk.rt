@@ -13,7 +13,7 @@ use uca_weights::Element;
 
 /// A walk along the keys of a table, code point after code point. It has a path, empty at first, which is the front of
 /// some key as soon as it was stepped.
-#[derive(Clone, Copy, Debug)]
+#[derive(Clone, Copy)]
 pub struct Walk<'t> {
     table: &'t Stored,
     // The entries whose keys begin with the path. They stand side by side.

@@ -69,7 +69,7 @@ fn is_broken(t: &Table, bounds: Bounds, condition: WellFormed) -> bool
 }
 
 /// The weights of a table's elements that its other elements have to keep apart from.
-#[derive(Clone, Copy, Debug, PartialEq, Eq)]
+#[derive(Clone, Copy)]
 struct Bounds {
     // The highest secondary weight of elements with a primary one.
     secondary: u16,

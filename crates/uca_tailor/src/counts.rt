@@ -11,7 +11,7 @@ use uca_table::{Element, Table};
 
 /// For each level how many elements of a table have each weight below the implicit ones, or nothing where that was not
 /// counted.
-#[derive(Debug, Drop)]
+#[derive(Drop)]
 pub(crate) struct Counts {
     pub(crate) first: Vec<u32>,
     pub(crate) second: Vec<u32>,

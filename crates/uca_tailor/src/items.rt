@@ -3,7 +3,7 @@ use crate::moves::Stamp;
 use uca_table::Element;
 
 /// The elements of an item, and after which rooms it got them.
-#[derive(Debug, Drop)]
+#[derive(Drop)]
 pub(crate) struct Item {
     pub(crate) elements: Vec<Element>,
     pub(crate) after: Stamp,

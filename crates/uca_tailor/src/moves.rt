@@ -7,7 +7,7 @@ use std::alloc::{AllocError, Global};
 use uca_table::Element;
 
 /// The rooms that were made at each level.
-#[derive(Debug, Drop)]
+#[derive(Drop)]
 pub(crate) struct Moves {
     pub(crate) first: Shifts,
     pub(crate) second: Shifts,
@@ -15,7 +15,7 @@ pub(crate) struct Moves {
 }
 
 /// How often room had been made at each level.
-#[derive(Clone, Copy, Debug)]
+#[derive(Clone, Copy)]
 pub(crate) struct Stamp {
     pub(crate) first: usize,
     pub(crate) second: usize,

@@ -10,7 +10,7 @@ use crate::rules::Op;
 use crate::scanner::Scanner;
 
 /// What ends a string and says what the next one is.
-#[derive(Clone, Copy, Debug, PartialEq, Eq)]
+#[derive(Clone, Copy)]
 pub(crate) enum Operator {
     /// `&`.
     Reset,
@@ -23,7 +23,7 @@ pub(crate) enum Operator {
 }
 
 /// A piece of the text of rules (UTS #35, Part 5, section 3, Rules).
-#[derive(Clone, Copy, Debug, PartialEq, Eq)]
+#[derive(Clone, Copy)]
 pub(crate) enum Piece {
     /// White space, or a comment.
     Skipped,

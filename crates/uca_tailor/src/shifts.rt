@@ -12,7 +12,7 @@ const SMALL: usize = 64;
 const LARGE: usize = 4096;
 
 /// The weights of one level above which room was made, in the order in which it was made.
-#[derive(Debug, Drop)]
+#[derive(Drop)]
 pub(crate) struct Shifts {
     made: Vec<u16>,
     // Of each room the greatest weight that it leaves, among those before all rooms; in rising order.

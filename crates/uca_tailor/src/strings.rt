@@ -15,7 +15,7 @@ use unicode_normalization::char::canonical_combining_class;
 use unicode_normalization::slice;
 
 /// An operator of the text, and its first byte.
-#[derive(Clone, Copy, Debug)]
+#[derive(Clone, Copy)]
 pub(crate) struct Found {
     pub(crate) operator: Operator,
     pub(crate) at: usize,

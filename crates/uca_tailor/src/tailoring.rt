@@ -143,6 +143,19 @@ fn relate_all(
     Ok(())
 }
 
+/// Applies the relations of all chains to a table. What the table has after a fault isn't said.
+fn relate_chains(alloc: Global, t: &mut Renumbered<'_>, r: &Rules) -> Result<(), TailorFault>
+    ensures { let meant = tailored t.old r.now in MatchResult result (λ _. meant ≡ Ok t.new) (RefusesRelation meant) }
+{
+    let mut count = 0;
+    for chain in r.chains() {
+        let reset = elements_of(alloc, t, &chain.reset)?;
+        relate_all(alloc, t, reset, &chain.relations, count)?;
+        count += chain.relations.len() as u64;
+    }
+    Ok(())
+}
+
 /// The table tailored by rules (a profile of UTS #35, Part 5, section 3.5, Orderings), or the fault of the first relation
 /// that has one. The relations are applied in the order of the text; how weights are assigned is this project's own.
 /// The entries are copied once, after the last relation.
@@ -150,11 +163,6 @@ pub fn tailor(alloc: Global, t: &Table, r: &Rules) -> Result<Table, TailorFault>
     ensures { MatchResult result (λ u. tailored t.now r.now ≡ Ok u) (RefusesRelation (tailored t.now r.now)) }
 {
     let mut tailored = Renumbered::new(alloc, t);
-    let mut count = 0;
-    for chain in r.chains() {
-        let reset = elements_of(alloc, &tailored, &chain.reset)?;
-        relate_all(alloc, &mut tailored, reset, &chain.relations, count)?;
-        count += chain.relations.len() as u64;
-    }
+    relate_chains(alloc, &mut tailored, r)?;
     Ok(tailored.to_table(alloc)?)
 }

@@ -11,7 +11,7 @@ use uca_table::room::any_has_no_room;
 use uca_table::{Element, Table};
 
 /// For each level a weight above which no weight of a table stands, but implicit ones.
-#[derive(Clone, Copy, Debug)]
+#[derive(Clone, Copy)]
 pub(crate) struct Tops {
     pub(crate) first: u16,
     pub(crate) second: u16,

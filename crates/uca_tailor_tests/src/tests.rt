@@ -509,6 +509,16 @@ fn table_of_a(rt: &impl Abort, alloc: Global, count: usize) -> Table {
     finished(rt, builder)
 }
 
+/// Stops a test where the table is not that of `a` alone, with so many elements.
+fn assert_table_of_a(rt: &impl Abort, t: &Table, count: usize) {
+    assert!(rt; t.entries().count() == 1);
+    let elements = t.get(&['a']).expect(rt, "an entry");
+    assert!(rt; elements.len() == count);
+    for e in elements {
+        assert!(rt; *e == element([0x1000, 0x20, 2]));
+    }
+}
+
 /// Stops a test where the key is not tailored to sixty-four elements like that of `a`.
 fn assert_sixty_four(rt: &impl Abort, alloc: Global, t: &Table, text: &str) {
     let u = tailored_table(rt, alloc, t, text);
@@ -531,8 +541,7 @@ fn assert_too_many(rt: &impl Abort, alloc: Global, count: usize, text: &str) {
     let t = table_of_a(rt, alloc, count);
     assert_fault(rt, alloc, &t, text, 1, TailorCause::TooManyElements);
     // The borrowed table stays as it is.
-    assert!(rt; t.entries().count() == 1);
-    assert!(rt; t.get(&['a']).expect(rt, "an entry").len() == count);
+    assert_table_of_a(rt, &t, count);
 }
 
 #[test]

@@ -8,7 +8,7 @@ use Rattle.uca_model.specs.Tailoring.{related_all, tailored_from}
 use Rattle.uca_tailor.specs.Chains.{relation_of, chain_of}
 use Rattle.uca_tailor.specs.Faults.{RefusesRelation}
 use Rattle.uca_tailor.proofs.RelationSteps.{chain_refused, chain_applied, chains_done, next_chain, valid_chain, items_left}
-use Rattle.uca_tailor.proofs.tailoring.tailor.Goals as goal
+use Rattle.uca_tailor.proofs.tailoring.relate_chains.Goals as goal
 
 pub relate_all-requires-clause-some : goal.relate_all-requires-clause-some
 relate_all-requires-clause-some c =
@@ -26,7 +26,7 @@ relate_all-requires-clause-valid c =
 
 pub returns-in_err-relate_all : goal.returns-in_err-relate_all
 returns-in_err-relate_all c =
-    let cs = c.chains-chain-items.result.now in let t = c.loop-chain.tailored in let n = c.loop-chain.count in let chain = c.chain-item.result in
+    let cs = c.chains-chain-items.result.now in let t = c.loop-chain.t in let n = c.loop-chain.count in let chain = c.chain-item.result in
     let reset : c.in_ok-reset.reset.items ≡ elements t chain.reset.items = c.in_ok-reset.ensures.value ∙ ap (elements t) c.deref.ensures.value in
     let says = subst (λ rs. RefusesRelation (related_all n t c.in_ok-reset.reset.items (map relation_of rs)) c.in_err-relate_all.field-0.0) c.deref-in-loop-chain.ensures.value c.in_err-relate_all.ensures in
     let p = err_from_is_err_and c.from_residual-in_err-relate_all.result c.from_residual-in_err-relate_all.ensures.1 in
@@ -35,7 +35,7 @@ returns-in_err-relate_all c =
 
 pub loop-chain-preserved : goal.loop-chain-preserved
 loop-chain-preserved c =
-    let cs = c.chains-chain-items.result.now in let t = c.loop-chain.tailored in let n = c.loop-chain.count in let chain = c.chain-item.result in
+    let cs = c.chains-chain-items.result.now in let t = c.loop-chain.t in let n = c.loop-chain.count in let chain = c.chain-item.result in
     let reset : c.in_ok-reset.reset.items ≡ elements t chain.reset.items = c.in_ok-reset.ensures.value ∙ ap (elements t) c.deref.ensures.value in
     let says = subst (λ rs. related_all n t c.in_ok-reset.reset.items (map relation_of rs) ≡ Ok c.relate_all.new.t) c.deref-in-loop-chain.ensures.value c.in_ok-relate_all.ensures in
     let k = chain.relations.ok.0 in
@@ -48,4 +48,4 @@ loop-chain-preserved c =
     }
 
 pub returns : goal.returns
-returns c = sym (ap (tailored_from 0 c.args.t.now) c.chains-chain-items.ensures.value) ∙ chains_done c.loop-chain.count c.loop-chain.tailored c.chains-chain-items.result.now c.loop-chain.chain-index _ c.loop-chain-test.false c.loop-chain.invariant.same ∙ ap Ok (sym c.in_ok-to_table.ensures)
+returns c = sym (ap (tailored_from 0 c.args.t.now) c.chains-chain-items.ensures.value) ∙ chains_done c.loop-chain.count c.loop-chain.t c.chains-chain-items.result.now c.loop-chain.chain-index _ c.loop-chain-test.false c.loop-chain.invariant.same
