@@ -10,7 +10,7 @@ install-library:
 	$(MAKE) -C bindings/c install PREFIX=$(PREFIX) DESTDIR=$(DESTDIR)
 
 install-program:
-	./uca key </dev/null
+	./uca --prove
 	$(INSTALL) -d $(DESTDIR)$(PREFIX)/bin $(DESTDIR)$(PREFIX)/share/man/man1 $(DESTDIR)$(PREFIX)/share/uca/rules \
 		$(DESTDIR)$(PREFIX)/share/bash-completion/completions
 	$(INSTALL) -m 755 crates/uca/out/uca $(DESTDIR)$(PREFIX)/bin/uca

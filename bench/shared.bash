@@ -6,7 +6,7 @@ cd "$(dirname "${BASH_SOURCE[0]}")/.." || exit 2
 script=bench/$(basename "$0")
 work=$(mktemp -d) || exit 2
 trap 'rm -rf "$work"' EXIT
-[ -n "${uca:-}" ] || { ./uca table >/dev/null </dev/null && uca=crates/uca/out/uca; } || exit 1
+[ -n "${uca:-}" ] || { ./uca --prove && uca=crates/uca/out/uca; } || exit 1
 gcc -O2 -o "$work/measured" bench/measured.c || { echo "$script: no C compiler, so nothing can be measured"; exit 1; }
 perl -MUnicode::Collate -e1 || { echo "$script: perl has no Unicode::Collate"; exit 1; }
 

@@ -25,7 +25,7 @@ runs() {
 
 # is_built: ends the script where the program cannot be built
 is_built() {
-    ./uca table >/dev/null </dev/null || { echo "$script: the program could not be built"; exit 1; }
+    ./uca --prove || { echo "$script: the program could not be built"; exit 1; }
 }
 
 # published_table: the path of the table that Debian's perl ships, empty where it is not there

@@ -1,4 +1,4 @@
-use Rattle.std.proofs.Common.{◌≡◌, ℕ, ◌-◌, length, take, drop, arith, ◌∙◌, ap, ne_eqb, nat_lt, ◌&&◌}
+use Rattle.std.proofs.Common.{◌≡◌, ℕ, ◌-◌, length, take, drop, arith, ◌∙◌, ap, ne_eqb, nat_lt, ◌&&◌, rules}
 use Rattle.uca_io.specs.Counts.{counted}
 use Rattle.std.proofs.lemmas.List.{take_all, length-drop}
 use Rattle.uca_io.proofs.WriteLemmas.{Appends-next}
@@ -15,3 +15,6 @@ loop-at-preserved g c =
       failures = c.in-Ok.ensures.failures ∙ c.loop-at.invariant.failures;
       zeros = c.in-Ok.ensures.zeros ∙ ap (λ b. counted (b && nat_lt 0 (length (take (length bs - at) (drop at bs)))) (g.W.Writer.state c.loop-at.w).zeros) (ne_eqb c.in-Ok.n 0 c.in-Ok.n-test.1) ∙ c.loop-at.invariant.zeros;
     }
+
+pub returns-in-Err : goal.returns-in-Err
+returns-in-Err g c = search rules

@@ -25,3 +25,6 @@ returns-then-is_empty-clause-value c =
     let text : text_of c.args.p.now ≡ [] = ap chars (sym c.as_str.ensures.text ∙ nil_from_length _ none) ∙ chars-nil in
     let one : levels c.args.s.strength ≡ 1 = omega (arith, c.levels.ensures, c.if-levels-eq1.true) in
     c.new.ensures.items ∙ sym (ap (sort_key c.args.t.now c.args.s) text ∙ no_key c.args.t.now c.args.s one)
+
+pub returns-then-is_empty-clause-empty : goal.returns-then-is_empty-clause-empty
+returns-then-is_empty-clause-empty c = search rules

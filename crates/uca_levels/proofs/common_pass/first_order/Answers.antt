@@ -1,4 +1,4 @@
-use Rattle.std.proofs.Common.{ℕ, List, arith}
+use Rattle.std.proofs.Common.{ℕ, List, arith, rules}
 use Rattle.uca_model.specs.SafeCut.{cut_of}
 use Rattle.uca_model.specs.Source.{SourceState}
 use Rattle.uca_levels.specs.InCommon.{Parted}
@@ -110,3 +110,6 @@ returns-in-Some-clause-reads_b g c =
     let xs : List ℕ = remaining_with_zeros (new_weights c.args.t.now c.args.v 1) was.text in
     let ys : List ℕ = remaining_with_zeros (new_weights c.args.t.now c.args.v 1) wus.text in
     ReadsOnce-now wus (g.T.Source.state c.goes_on.new.b) c.goes_on.new.right.elements.window (c.goes_on.ensures.parts was wus xs ys c.loop.invariant c.loop-test.false).reads_b
+
+pub loop-init : goal.loop-init
+loop-init g c = search rules

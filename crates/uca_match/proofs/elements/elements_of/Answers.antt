@@ -14,3 +14,6 @@ returns-then-is_empty-clause-value c =
     let none : length c.as_str.result.now ≡ 0 = search (arith, rules, c.is_empty.ensures, c.if-is_empty.true) in
     let text : text_of c.args.p.now ≡ [] = ap chars (sym c.as_str.ensures.text ∙ nil_from_length _ none) ∙ chars-nil in
     c.new.ensures.items ∙ sym (ap (λ t. elements c.args.t.now (nfd t)) text ∙ ap (elements c.args.t.now) (normalize-nil Nfd))
+
+pub returns-then-is_empty-clause-empty : goal.returns-then-is_empty-clause-empty
+returns-then-is_empty-clause-empty c = search rules

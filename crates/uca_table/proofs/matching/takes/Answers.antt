@@ -1,4 +1,4 @@
-use Rattle.std.proofs.Common.{◌≡◌, ◌++◌, ◌∷◌, [], ◌&&◌, Bool, nat_lt, true, false, sym, ap, ◌∙◌, refl}
+use Rattle.std.proofs.Common.{◌≡◌, ◌++◌, ◌∷◌, [], ◌&&◌, Bool, nat_lt, true, false, sym, ap, ◌∙◌, refl, rules}
 use Rattle.unicode.specs.CanonicalCombiningClass.{canonical_combining_class}
 use Rattle.uca_table.specs.Walk.{path_of, table_of_walk}
 use Rattle.uca_table.proofs.WalkLemmas.{no_key-there}
@@ -13,3 +13,6 @@ returns-then-not-step-clause-value c =
     let t = table_of_walk c.args.walk.now in let p = path_of c.args.walk.now ++ c.args.nonstarter ∷ [] in
     let above = nat_lt c.args.high (canonical_combining_class c.args.nonstarter) in
     sym (ap (λ b. above && b) (no_key-there t p (sym c.step.ensures.answers ∙ c.if-not-step.true)) ∙ and_false above)
+
+pub returns-clause-value : goal.returns-clause-value
+returns-clause-value c = search rules

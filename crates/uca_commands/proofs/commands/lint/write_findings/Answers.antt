@@ -1,4 +1,4 @@
-use Rattle.std.proofs.Common.{◌≡◌, ℕ, List, length, flat_map, map, ap, subst, ◌∙◌, arith}
+use Rattle.std.proofs.Common.{◌≡◌, ℕ, List, length, flat_map, map, ap, subst, ◌∙◌, arith, rules}
 use Rattle.std.proofs.lemmas.Result.{err_from_is_err_and}
 use Rattle.uca_io.specs.Writer.{WritesFront}
 use Rattle.uca_io.proofs.SendLemmas.{stopped_last}
@@ -19,3 +19,6 @@ returns-in_err-flush-clause-writes g c =
     let p = err_from_is_err_and c.from_residual-in_err-flush.result c.from_residual-in_err-flush.ensures.1 in
     rw (p.1, p.2) (subst (λ (text : List ℕ). WritesFront (g.W.Writer.state c.args.w.now) (g.W.Writer.state c.flush.new.w) text c.in_err-flush.field-0.0) all
     (stopped_last _ _ _ c.new-out.result c.send_findings.new.out _ _ c.new-out.ensures.waiting c.new-out.ensures.written c.in_ok-send_findings.ensures.sends c.in_err-flush.ensures.all))
+
+pub returns-clause-status : goal.returns-clause-status
+returns-clause-status g c = search rules

@@ -1,4 +1,4 @@
-use Rattle.std.proofs.Common.{ap, ◌∙◌}
+use Rattle.std.proofs.Common.{ap, ◌∙◌, rules}
 use Rattle.std.specs.Prelude.{Some, option_map}
 use Rattle.std.specs.Arc.{arc_value}
 use Rattle.uca_handle.proofs.collator.Collator.load.Goals as goal
@@ -9,3 +9,6 @@ returns c = record {
   has = ap (option_map arc_value) c.fill.ensures ∙ ap Some c.in_ok-opened.ensures;
   says = c.in_ok-table_of.ensures;
 }
+
+pub returns-in_err-table_of : goal.returns-in_err-table_of
+returns-in_err-table_of c = search rules

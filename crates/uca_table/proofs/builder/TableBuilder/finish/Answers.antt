@@ -1,4 +1,4 @@
-use Rattle.std.proofs.Common.{T, sym, subst, ◌∙◌}
+use Rattle.std.proofs.Common.{T, sym, subst, ◌∙◌, rules}
 use Rattle.std.specs.FinMap.{is_sorted}
 use Rattle.uca_model.specs.Table.{key_cmp}
 use Rattle.uca_table.specs.Span.{entries_in}
@@ -11,3 +11,6 @@ of-firsts-requires c = firsts_rise (entries_in c.all-all.result) (subst (λ es. 
 
 pub of-trie-requires-clause-path : goal.of-trie-requires-clause-path
 of-trie-requires-clause-path c = HasPath-all _ _ _ c.all-all.ensures.flat c.all-all.ensures.entries (subst (λ es. T (is_sorted key_cmp es)) (sym c.in-Ok.ensures) c.self.invariant.sorted)
+
+pub returns-clause-made : goal.returns-clause-made
+returns-clause-made c = search rules

@@ -1,4 +1,4 @@
-use Rattle.std.proofs.Common.{◌≡◌, ◌+◌, ◌++◌, ◌∷◌, [], ◌<◌, ◌≤◌, not, length, ap, sym, ◌∙◌, arith}
+use Rattle.std.proofs.Common.{◌≡◌, ◌+◌, ◌++◌, ◌∷◌, [], ◌<◌, ◌≤◌, not, length, ap, sym, ◌∙◌, arith, rules}
 use Rattle.std.proofs.lemmas.List.{length_push}
 use Rattle.uca_weights.specs.declared.limits.TheConstants.{MAX_KEY}
 use Rattle.uca_table.specs.Fronts.{entries_from, first_path}
@@ -36,3 +36,6 @@ returns-clause-path c =
     let some : 0 < length es = some_of es (sym c.is_empty.ensures ∙ c.if-is_empty.false) in
     let size : length (path_of w ++ c.args.c ∷ []) ≡ w.depth + 1 = length_push (path_of w) c.args.c ∙ ap (λ n. n + 1) w.long in
     first_path-is (table_of_walk w) (path_of w ++ c.args.c ∷ []) es (w.depth + 1) c.entries_beyond-next.ensures.path some size
+
+pub returns-then-is_empty-clause-path : goal.returns-then-is_empty-clause-path
+returns-then-is_empty-clause-path c = search rules

@@ -1,0 +1,5 @@
+use Rattle.std.proofs.Common.{rules}
+use Rattle.uca_c.proofs.uca_check.Goals as goal
+
+pub returns : goal.returns
+returns c = search rules
