@@ -1,5 +1,5 @@
 -- The words of a test line, from its front on.
-use Rattle.std.specs.Prelude.{◌≡◌, ℕ, ◌+◌, ◌≤◌, Bool, true, false, ◌||◌, ◌⊎◌, List, [], ◌∷◌, ◌++◌, length, Option, Some, None}
+use Rattle.std.specs.Prelude.{◌≡◌, ℕ, ◌+◌, ◌≤◌, Bool, true, false, ◌||◌, ◌⊎◌, List, [], ◌∷◌, ◌++◌, length, Some, None}
 use Rattle.std.specs.Char.{is_digit}
 use Rattle.std.specs.List.{before_first}
 use Rattle.uca_model.specs.TableText.{is_blank, number, words}

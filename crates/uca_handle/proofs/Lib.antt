@@ -1,4 +1,4 @@
-mod BoundsLemmas
+mod UpperEndLemmas
 mod HandleValues
 mod OpeningLemmas
 mod PlacingLemmas

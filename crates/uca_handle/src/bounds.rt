@@ -20,7 +20,7 @@ pub struct BoundsSize {
 
 /// Puts the two ends of the keys of all texts that begin with a text into the fronts of two buffers, or as many of their
 /// bytes as fit.
-#[tactic(auto, using(crate::proofs::BoundsLemmas::end_has_a_byte))]
+#[tactic(auto, using(crate::proofs::UpperEndLemmas::end_has_a_byte))]
 pub(crate) fn put_bounds(
     alloc: Global,
     t: &Table,

@@ -1,7 +1,7 @@
 -- The bytes that two texts have in common, block by block.
 use Rattle.std.proofs.Common.{◌≡◌, ℕ, suc, ◌+◌, ◌%◌, ◌^◌, ◌≤◌, Bool, true, false, not, cond, eqb, List, [], ◌∷◌, ◌++◌, map, length, take, drop, w8, refl, sym, ap, ap₂, subst, ◌∙◌, arith, inl, inr, take-add}
 use Rattle.std.proofs.lemmas.Bool.{cases_Bool, eqb-true}
-use Rattle.std.proofs.lemmas.Simd.{tops_compared, first_set_mask_l, length-zip2, mask_l-mod, length-chunk}
+use Rattle.std.proofs.lemmas.Simd.{tops_compared, first_set_mask_l, length-zip2, mask_l-mod}
 use Rattle.std.specs.List.{prefix_len}
 use lib.Count.{count_trailing_zeros}
 use lib.Lanes.{zip2, mask_l, top, chunk}

@@ -1,5 +1,5 @@
 -- The primary weights of a text in memory, element after element and character after character.
-use Rattle.std.proofs.Common.{◌≡◌, ℕ, Bool, false, not, ◌==◌, List, [], ◌∷◌, ◌++◌, slice_index, chars, Option, Some, None, IsUtf8, encode_utf8, refl, sym, ap, ap₂, ◌∙◌, arith, inl, inr, append_assoc, ne_eqb}
+use Rattle.std.proofs.Common.{◌≡◌, ℕ, false, not, ◌==◌, List, [], ◌∷◌, ◌++◌, slice_index, chars, Option, Some, None, IsUtf8, encode_utf8, refl, sym, ap, ap₂, ◌∙◌, arith, inl, inr, append_assoc, ne_eqb}
 use Rattle.std.proofs.lemmas.Bool.{cond-true, cond-false}
 use Rattle.std.proofs.lemmas.Str.{chars_past_char}
 use Rattle.std.specs.Option.{IfNone, is_some}

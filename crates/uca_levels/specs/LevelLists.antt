@@ -1,5 +1,5 @@
 -- The weights of a text at the four levels of weights, as lists.
-use Rattle.std.specs.Prelude.{◌≡◌, ℕ, true, ◌==◌, List, [], ◌∷◌, ◌++◌, if◌then◌else◌}
+use Rattle.std.specs.Prelude.{◌≡◌, ℕ, true, ◌==◌, List, [], ◌++◌, if◌then◌else◌}
 use Rattle.uca_weights.specs.declared.settings.Variable.{Variable}
 use Rattle.uca_model.specs.Table.{ElementTable}
 use Rattle.uca_model.specs.LevelWeights.{level_list, level_weights}

@@ -5,7 +5,7 @@ use Rattle.std.proofs.lemmas.Bool.{cond-true, cond-false}
 use Rattle.std.proofs.lemmas.List.{take_all}
 use Rattle.std.proofs.lemmas.List.Sums.{suffix_len_is}
 use Rattle.std.specs.List.{AllByRecursion, position_or_len, before_first, after_first, suffix_len}
-use Rattle.uca_model.specs.TableText.{is_blank, skip_blanks, trim_end, from_first}
+use Rattle.uca_model.specs.TableText.{is_blank, trim_end, from_first}
 
 module _ (p : ℕ → Bool) where
   pub none-append : (xs ys : List ℕ) → AllByRecursion (λ b. p b ≡ false) xs → AllByRecursion (λ b. p b ≡ false) ys → AllByRecursion (λ b. p b ≡ false) (xs ++ ys)

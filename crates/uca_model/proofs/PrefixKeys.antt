@@ -1,5 +1,5 @@
 -- Keys of texts that begin with a complete one, and the byte strings that begin with a key.
-use Rattle.std.proofs.Common.{◌⊎◌, ◌≡◌, ◌≢◌, ◌↔◌, ℕ, ◌+◌, ◌/◌, ◌%◌, ◌≤◌, ◌<◌, Bool, true, false, cond, ◌==◌, nat_le, List, [], ◌∷◌, ◌++◌, map, flat_map, take, Option, Some, None, MatchOption, refl, sym, ap, ap₂, subst, ◌∙◌, arith, inl, inr, append_assoc, append-nil, eqb-true}
+use Rattle.std.proofs.Common.{◌⊎◌, ◌≡◌, ◌≢◌, ℕ, ◌+◌, ◌/◌, ◌%◌, ◌≤◌, ◌<◌, Bool, true, false, cond, ◌==◌, nat_le, List, [], ◌∷◌, ◌++◌, flat_map, Option, Some, None, MatchOption, refl, sym, ap, ap₂, subst, ◌∙◌, arith, inl, inr, append_assoc, append-nil, eqb-true}
 use Rattle.std.proofs.lemmas.Bool.{cases_Bool, eqb-false, leb-true, leb-false}
 use Rattle.std.proofs.lemmas.List.Concat.{flat_map-append}
 use Rattle.std.specs.Option.{option_map_or}
@@ -8,7 +8,6 @@ use Rattle.std.specs.declared.cmp.Ordering.TheVariants.{Less, Equal, Greater}
 use Rattle.std.specs.Ordering.{nat_cmp, ordering_then}
 use Rattle.std.specs.Cmp.{nat_cmp_is}
 use Rattle.unicode_normalization.specs.Forms.{nfd}
-use Rattle.uca_weights.specs.declared.settings.Settings.{Settings}
 use Rattle.uca_weights.specs.declared.settings.Strength.{Strength}
 use Rattle.uca_weights.specs.declared.settings.Strength.TheVariants.{Primary, Secondary, Tertiary, Quaternary, Identical}
 use Rattle.uca_weights.specs.declared.settings.Variable.{Variable}
@@ -17,8 +16,8 @@ use Rattle.uca_weights.specs.VariableWeighting.{weighted}
 use Rattle.uca_model.specs.Table.{ElementTable}
 use Rattle.uca_model.specs.CollationElements.{elements}
 use Rattle.uca_model.specs.LevelWeights.{level_weights, level_list}
-use Rattle.uca_model.specs.SortKey.{weight_bytes, level_bytes, key_order, sort_key}
-use Rattle.uca_model.specs.Prefix.{is_complete, primary_key, end_of_prefix, IsBetween}
+use Rattle.uca_model.specs.SortKey.{weight_bytes, key_order, sort_key}
+use Rattle.uca_model.specs.Prefix.{primary_key, end_of_prefix, IsBetween}
 use Rattle.uca_model.specs.Laws.{BeginsWith, AreBytes, AreWeights, KeysBeginWithCompleteTexts, PrefixesAreRanges, KeysBeginWithPrimaryWeights}
 use Rattle.uca_model.proofs.GrowingLemmas.{keys-grow}
 use Rattle.uca_model.proofs.PrefixLemmas.{complete-begins}

@@ -1,6 +1,6 @@
 -- One step in what a line of a table's text says.
 use Rattle.std.proofs.Common.{◌≡◌, ap}
-use Rattle.std.specs.Prelude.{Result, Ok, Err}
+use Rattle.std.specs.Prelude.{Result, Ok}
 use Rattle.uca_model.specs.TableText.{◌>>=◌, Cause}
 
 -- what follows a step without fault

@@ -1,7 +1,7 @@
 -- The text of a collation element table, as in `allkeys.txt` (UTS #10, Allkeys File Format): the table that it says, or its first faulty line.
-use Rattle.std.specs.Prelude.{ℕ, ◌+◌, ◌-◌, ◌*◌, Bool, true, false, not, ◌&&◌, ◌||◌, ◌==◌, nat_le, nat_lt, List, [], ◌∷◌, ◌++◌, length, take, drop, filter, Option, Some, None, Result, Ok, Err, if◌then◌else◌}
+use Rattle.std.specs.Prelude.{ℕ, ◌+◌, Bool, true, false, ◌&&◌, ◌||◌, ◌==◌, nat_lt, List, [], ◌∷◌, ◌++◌, length, take, drop, Option, None, Result, Ok, Err, if◌then◌else◌}
 use Rattle.std.specs.List.{position_or_len, before_first, after_first, slice_split}
-use Rattle.std.specs.Option.{ok_or, is_some, option_and_then}
+use Rattle.std.specs.Option.{ok_or, is_some}
 use Rattle.std.specs.FinMap.{insert, empty}
 use Rattle.std.specs.Str.{bytes_eq}
 pub use Rattle.uca_io.specs.Digits.{number_after, number, is_four_to_six, only_scalar}

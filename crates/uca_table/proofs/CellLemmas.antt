@@ -2,7 +2,7 @@
 use Rattle.std.proofs.Common.{◌≡◌, ℕ, zero, suc, ◌+◌, ◌-◌, ◌*◌, ◌/◌, ◌%◌, ◌≤◌, ◌<◌, Bool, true, false, not, ◌||◌, ◌&&◌, cond, List, [], ◌∷◌, ◌++◌, length, take, drop, get_or, refl, sym, ap, ap₂, subst, ◌∙◌, arith, inl, inr, append_assoc, append-nil, length-append}
 use Rattle.std.proofs.lemmas.Bool.{le-leb, cases_lt}
 use Rattle.std.proofs.lemmas.Nat.{div-add-mod'}
-use Rattle.std.specs.List.{list_any, list_all}
+use Rattle.std.specs.List.{list_any}
 use Rattle.std.specs.FinMap.{entries}
 use Rattle.std.proofs.lemmas.List.{get_or_append_left, get_or-append-add, take-append-le, drop-append-le, length-drop, take-append-drop, drop_more, drop-drop, drop_all, drop_at}
 use Rattle.std.specs.Prelude.{Result, Ok, Err}
@@ -14,7 +14,7 @@ use Rattle.uca_weights.specs.declared.element.Element.{Element}
 use Rattle.uca_model.specs.Table.{ElementTable}
 use Rattle.uca_model.specs.CollationElements.{elements}
 use Rattle.uca_model.specs.ImplicitWeights.{implicit}
-use Rattle.uca_model.specs.StandAlone.{is_first, is_longer_from, begins, leads, ends_in_starter, bearing_of, stands_alone, joining, bearing}
+use Rattle.uca_model.specs.StandAlone.{is_first, is_longer_from, begins, leads, bearing_of, stands_alone, joining, bearing}
 use Rattle.uca_model.proofs.StandAloneLemmas.{apart-alone, apart-before, apart-end, elements_none, elements-unknown, nfd-single, joining-most}
 use Rattle.uca_table.specs.declared.cells.Block.{Block}
 use Rattle.uca_table.specs.declared.cells.Block.TheVariants.{Own, WithoutKey, Unknown}

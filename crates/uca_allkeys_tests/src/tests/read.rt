@@ -4,32 +4,8 @@ use std::process::Abort;
 use std::test::Fail;
 use uca_allkeys::{ReadCause, ReadFault, read_table};
 use uca_table::Table;
-use uca_testing::SMALL_TEXT as CANONICAL_TEXT;
+use uca_testing::{SMALL_TEXT, WRITTEN_BY_HAND};
 use uca_weights::{MAX_INPUT, Range, Reader, Reading, Refused};
-
-const SMALL_TEXT: &str = "@version 15.1.0
-@implicitweights 18D00..18D8F; FB00 # second range, the same base
-@implicitweights 17000..18AFF; FB00 # first range
-
-0001  ; [.0000.0000.0000] # completely ignorable
-0020  ; [*0201.0020.0002] # SPACE
-002D  ; [*0202.0020.0002.002D] # HYPHEN-MINUS, an old fourth weight
-0300  ; [.0000.0021.0002]
-0301  ; [.0000.0022.0002]
-0308  ; [.0000.0023.0002]
-0323  ; [.0000.0024.0002]
-0061  ; [.1000.0020.0002]
-0041  ; [.1000.0020.0008]
-0062  ; [.1001.0020.0002]
-0063  ; [.1002.0020.0002]
-0065  ; [.1004.0020.0002]
-0068  ; [.1005.0020.0002]
-007a  ; [.1006.0020.0002]
-0063 0068 ; [.1007.0020.0002]
-0061 0301 ; [.1008.0020.0002]
-0062 0301 ; [.1009.0020.0002]
-0062 0301 0308 ; [.100a.0020.0002]
-";
 
 /// Gives so many bytes a call at most, and fails at the end if it is asked to.
 #[derive(Drop)]
@@ -164,7 +140,7 @@ fn assert_small(rt: &impl Abort, answer: Result<Table, ReadFault>) {
     assert!(rt; ranges[0] == FIRST_RANGE);
     assert_element(rt, &table, &['-'], true, 0x202);
     assert_element(rt, &table, &['b', '\u{301}', '\u{308}'], false, 0x100A);
-    assert_written(rt, &table, CANONICAL_TEXT);
+    assert_written(rt, &table, SMALL_TEXT);
 }
 
 /// The text with CR before each LF.
@@ -207,11 +183,11 @@ fn assert_answers(rt: &impl Abort, alloc: Global, rows: &[Row]) {
 
 #[test]
 fn a_text_gives_its_table(rt: HostRuntime) -> Result<(), Fail> {
-    let text = SMALL_TEXT.as_bytes();
+    let text = WRITTEN_BY_HAND;
     assert_small(&rt, read(rt.alloc(), text));
     assert_small(&rt, read_slowly(rt.alloc(), text, 1, false));
     assert_small(&rt, read_slowly(rt.alloc(), text, 100, false));
-    assert_small(&rt, read(rt.alloc(), CANONICAL_TEXT));
+    assert_small(&rt, read(rt.alloc(), SMALL_TEXT));
     let lines = with_returns(rt.alloc(), text)?;
     assert_small(&rt, read(rt.alloc(), &lines));
     Ok(())
@@ -219,7 +195,7 @@ fn a_text_gives_its_table(rt: HostRuntime) -> Result<(), Fail> {
 
 #[test]
 fn a_cut_text_says_the_same_at_once_and_in_pieces(rt: HostRuntime) {
-    let text = SMALL_TEXT.as_bytes();
+    let text = WRITTEN_BY_HAND;
     for end in 0..text.len() {
         let at_once = fault(read(rt.alloc(), &text[..end]));
         let slowly = fault(read_slowly(rt.alloc(), &text[..end], 1, false));
@@ -250,7 +226,7 @@ const CUT_LINES: [(&'static str, ReadCause); 3] = [
 
 /// Looks at the answer for the small text, cut after the beginning of its thirteenth line.
 fn assert_cut(rt: &impl Abort, alloc: Global, front: usize, left: &[u8], cause: ReadCause) {
-    let text = SMALL_TEXT.as_bytes();
+    let text = WRITTEN_BY_HAND;
     let line = text.get(front..).expect(rt, "a line");
     assert!(rt; line.starts_with(left));
     let cut = text.len().min(front.saturating_add(left.len()));
@@ -259,7 +235,7 @@ fn assert_cut(rt: &impl Abort, alloc: Global, front: usize, left: &[u8], cause: 
 
 #[test]
 fn a_text_is_cut_in_its_thirteenth_line(rt: HostRuntime) {
-    let text = SMALL_TEXT.as_bytes();
+    let text = WRITTEN_BY_HAND;
     let front = text.len().min(front_of_lines(text, 12));
     for (left, cause) in &CUT_LINES {
         assert_cut(&rt, rt.alloc(), front, left.as_bytes(), *cause);
@@ -446,10 +422,9 @@ fn a_range_may_not_meet_those_before_it(rt: HostRuntime) -> Result<(), Fail> {
             ),
         ],
     );
-    let text = repeated(
-        rt.alloc(),
-        &[(SMALL_TEXT, 1), ("@implicitweights 17500..17600; FB01", 1)],
-    )?;
+    let mut text = Vec::new(rt.alloc());
+    text.extend_from_slice(WRITTEN_BY_HAND)?;
+    text.extend_from_slice(b"@implicitweights 17500..17600; FB01")?;
     assert_answer(&rt, rt.alloc(), &text, Some((23, ReadCause::BadRange)));
     Ok(())
 }

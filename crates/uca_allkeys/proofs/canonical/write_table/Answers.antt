@@ -1,4 +1,3 @@
-use Rattle.std.proofs.Common.{rules}
 use Rattle.std.proofs.lemmas.Result.{err_from_is_err_and}
 use Rattle.uca_io.proofs.SendLemmas.{stopped_last}
 use Rattle.uca_allkeys.proofs.canonical.write_table.Goals as goal

@@ -1,4 +1,4 @@
-use Rattle.std.proofs.Common.{arith, rules}
+use Rattle.std.proofs.Common.{arith}
 use Rattle.uca_io.proofs.DigitLemmas.{five_digits}
 use Rattle.uca_io.proofs.digits.number.Goals as goal
 

@@ -1,4 +1,4 @@
-use Rattle.std.proofs.Common.{ℕ, ◌++◌, take, arith, rules}
+use Rattle.std.proofs.Common.{ℕ, ◌++◌, take, arith}
 use Rattle.std.proofs.lemmas.List.{length-take}
 use Rattle.uca_io.proofs.ReaderLemmas.{Gives-more}
 use Rattle.uca_io.proofs.WholeLemmas.{some_within, too_many}

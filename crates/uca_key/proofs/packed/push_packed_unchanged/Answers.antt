@@ -5,7 +5,7 @@ use Rattle.uca_weights.specs.declared.settings.Variable.TheVariants.{NonIgnorabl
 use Rattle.uca_weights.specs.VariableWeighting.{weighted}
 use Rattle.uca_model.specs.LevelWeights.{level_weights}
 use Rattle.uca_key.specs.PackedKey.{common_weight, packed_after}
-use Rattle.uca_key.proofs.LevelLemmas.{level_weights-both}
+use Rattle.uca_key.proofs.UnchangedLevels.{level_weights-both}
 use Rattle.uca_key.proofs.packed.push_packed_unchanged.Goals as goal
 
 pub loop-left-preserved : goal.loop-left-preserved

@@ -1,4 +1,4 @@
-use Rattle.std.proofs.Common.{subst, rules}
+use Rattle.std.proofs.Common.{subst}
 use Rattle.uca_io.specs.Writer.{WritesFront}
 use Rattle.uca_model.specs.Source.{SourceState}
 use Rattle.uca_model.specs.SortKey.{sort_key}

@@ -1,4 +1,4 @@
-use Rattle.std.proofs.Common.{refl, rules}
+use Rattle.std.proofs.Common.{refl}
 use Rattle.uca_levels.specs.WithoutFront.{MayFollow}
 use Rattle.uca_levels.proofs.WithoutFront.{left-at, same-before}
 use Rattle.uca_levels.proofs.cut.without_front.Goals as goal

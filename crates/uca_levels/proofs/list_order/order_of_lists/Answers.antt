@@ -1,4 +1,4 @@
-use Rattle.std.proofs.Common.{◌≡◌, ◌≤◌, sym, ◌∙◌, arith}
+use Rattle.std.proofs.Common.{◌≤◌, sym, ◌∙◌, arith}
 use Rattle.uca_weights.specs.Settings.{levels}
 use Rattle.uca_model.proofs.LevelLemmas.{levels-within}
 use Rattle.uca_levels.specs.LevelLists.{kept}

@@ -1,4 +1,4 @@
-use Rattle.std.proofs.Common.{◌≡◌, length, arith, rules}
+use Rattle.std.proofs.Common.{◌≡◌, length, arith}
 use Rattle.std.proofs.lemmas.Bool.Decides.{nat_tests}
 use Rattle.uca_lines.proofs.LinesLemmas.{HasFineFront-more, HasFineFront-end}
 use Rattle.uca_lines.proofs.lines.check_lines.Goals as goal

@@ -1,4 +1,4 @@
-use Rattle.std.proofs.Common.{◌<◌, length, arith, rules}
+use Rattle.std.proofs.Common.{◌<◌, length, arith}
 use Rattle.std.proofs.lemmas.Bool.Decides.{nat_tests}
 use Rattle.uca_lines.proofs.LinesLemmas.{other_lines}
 use Rattle.uca_lines.proofs.lines.is_one_line.Goals as goal

@@ -1,7 +1,6 @@
-use Rattle.std.proofs.Common.{◌≡◌, ℕ, length, get_or}
+use Rattle.std.proofs.Common.{◌≡◌, get_or}
 use Rattle.std.proofs.lemmas.List.{get_or_read}
 use Rattle.uca_model.specs.CollationElements.{elements}
-use Rattle.unicode_normalization.specs.Forms.{nfd}
 use Rattle.uca_table.proofs.CellLemmas.{one-further, run-further}
 use Rattle.uca_table.proofs.cells.push_others.Goals as goal
 

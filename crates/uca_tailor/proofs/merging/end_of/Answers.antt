@@ -1,4 +1,4 @@
-use Rattle.std.proofs.Common.{◌<◌, length, ap, ◌∙◌, sym, arith, is_le, rules}
+use Rattle.std.proofs.Common.{◌<◌, length, ap, ◌∙◌, sym, arith, is_le}
 use Rattle.uca_model.specs.Table.{key_cmp}
 use Rattle.uca_tailor.proofs.CopyLemmas.{one_up_to, none_up_to}
 use Rattle.uca_tailor.proofs.merging.end_of.Goals as goal

@@ -1,4 +1,4 @@
-use Rattle.std.proofs.Common.{◌≡◌, ℕ, List, chars, encode_utf8_all, refl, sym, ap, subst, ◌∙◌, arith, rules}
+use Rattle.std.proofs.Common.{◌≡◌, ℕ, List, chars, encode_utf8_all, refl, sym, ap, subst, ◌∙◌, arith}
 use Rattle.uca_model.specs.SafeText.{IsSafe}
 use Rattle.uca_conform.proofs.TestLineLemmas.{chars_written, is_safe-from, is_safe-not, short-safe}
 use Rattle.uca_conform.proofs.test_text.TestText.is_safe.Goals as goal

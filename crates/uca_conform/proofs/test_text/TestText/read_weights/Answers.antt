@@ -1,6 +1,5 @@
 use Rattle.std.proofs.Common.{◌≡◌, ℕ, List, chars, encode_utf8_all, ap, subst, ◌∙◌}
 use Rattle.uca_levels.specs.LevelLists.{AreOf}
-use Rattle.uca_window.specs.Passage.{bytes_of}
 use Rattle.uca_conform.proofs.TestLineLemmas.{chars_written, compared-parts, written-safe}
 use Rattle.uca_conform.proofs.test_text.TestText.read_weights.Goals as goal
 

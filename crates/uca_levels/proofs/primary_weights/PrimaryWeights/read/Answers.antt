@@ -1,8 +1,7 @@
-use Rattle.std.proofs.Common.{rules, ◌≡◌, List, ℕ, [], ◌++◌, ◌∷◌, chars, IsUtf8, encode_utf8, sym, ap, ap₂, ◌∙◌}
+use Rattle.std.proofs.Common.{rules, ◌≡◌, List, ℕ, [], ◌++◌, chars, IsUtf8, encode_utf8, sym, ap, ap₂, ◌∙◌}
 use Rattle.std.proofs.lemmas.List.{nil_from_length}
 use Rattle.std.proofs.lemmas.Str.{chars-nil}
 use Rattle.std.specs.Str.Iter.{chars_rest}
-use Rattle.unicode_normalization.specs.Forms.{nfd}
 use Rattle.uca_model.specs.CollationElements.{elements}
 use Rattle.uca_model.specs.LevelWeights.{level_list}
 use Rattle.uca_levels.specs.PrimaryWeights.{primaries}

@@ -1,4 +1,4 @@
-use Rattle.std.proofs.Common.{◌≡◌, [], Some, length, refl, sym, subst, ◌∙◌, eqb-true, rules}
+use Rattle.std.proofs.Common.{◌≡◌, [], Some, length, refl, sym, subst, ◌∙◌, eqb-true}
 use Rattle.uca_match.specs.Found.{points_of}
 use Rattle.uca_match.specs.Yields.{Yields}
 use Rattle.uca_match.specs.RemainingElements.{ElementsState, remaining_elements, window_of, waiting_of}

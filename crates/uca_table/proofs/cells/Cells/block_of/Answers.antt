@@ -1,4 +1,4 @@
-use Rattle.std.proofs.Common.{◌+◌, ◌*◌, ◌/◌, arith}
+use Rattle.std.proofs.Common.{◌+◌, ◌*◌, arith}
 use Rattle.uca_table.proofs.cells.Cells.block_of.Goals as goal
 
 pub returns-then-not-holds-clause-block : goal.returns-then-not-holds-clause-block

@@ -1,4 +1,4 @@
-use Rattle.std.proofs.Common.{◌+◌, ◌*◌, ◌/◌, ◌%◌, ◌≤◌, sym, subst, arith}
+use Rattle.std.proofs.Common.{◌*◌, ◌/◌, sym, subst, arith}
 use Rattle.uca_table.specs.Cells.{IsCell, IsOwn}
 use Rattle.uca_table.proofs.CellLemmas.{own-cell}
 use Rattle.uca_table.proofs.cells.Cells.cell_in_block.Goals as goal

@@ -1,4 +1,4 @@
-use Rattle.std.proofs.Common.{rules, ◌≡◌, ℕ, ◌++◌, List, length, sym, ap, subst, ◌∙◌}
+use Rattle.std.proofs.Common.{rules, ◌≡◌, ◌++◌, List, length, sym, ap, subst, ◌∙◌}
 use Rattle.uca_weights.specs.declared.element.Element.{Element}
 use Rattle.uca_table.specs.declared.cells.Cell.{Cell}
 use Rattle.uca_table.specs.Cells.{AreBlocks, IsOwn}

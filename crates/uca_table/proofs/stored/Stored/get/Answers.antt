@@ -1,4 +1,4 @@
-use Rattle.std.proofs.Common.{◌<◌, ◌≤◌, length, sym, ap, ◌∙◌, rules}
+use Rattle.std.proofs.Common.{◌<◌, ◌≤◌, length, sym, ap, ◌∙◌}
 use Rattle.std.specs.List.{All}
 use Rattle.uca_weights.specs.declared.limits.TheConstants.{MAX_ELEMENTS}
 use Rattle.uca_model.specs.Table.{IsElement, elements_at}
