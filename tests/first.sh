@@ -31,6 +31,7 @@ try)
     echo "$SAYS" >&2
     ;;
 run)
+    [ -z "${FAILS-}" ] || exit 1
     mkdir -p out
     printf '#!/bin/sh\necho "built: $*"; cat\n' >out/uca
     chmod +x out/uca
@@ -39,7 +40,7 @@ esac
 RT
 chmod +x "$work/kit/rt"
 PATH=$work/kit:$PATH
-export ASKED=$work/asked SAYS
+export ASKED=$work/asked SAYS FAILS=
 
 # anew SAYS: a copy in which nothing was built, with this as what `rt try` writes beside the answer
 anew() {
@@ -71,6 +72,12 @@ is "the program that was built is run" "built: order"$'\n'"b||0" "$(cat "$work/o
 anew "run=none runners=0 proved=no"
 at_terminal "$work/new" "printf 'b\n' | ./uca key"
 is "where there is no such answer it builds" "built: key"$'\n'"b|uca: rt try|$building" "$(cat "$work/out")|$(asked)"
+
+FAILS=yes
+anew "run=none runners=0 proved=no"
+at_terminal "$work/new" "printf 'b\n' | ./uca key"
+is "where there is no program either it says so" "|uca: the program could not be built|3" "$(cat "$work/out")|$(cat "$work/err")|$status"
+FAILS=
 
 anew ""
 printf 'b\n' | (cd "$work/new" && ./uca key) >"$work/out" 2>"$work/err"
