@@ -6,3 +6,4 @@ pub mod UnchangedLevels
 pub mod PackedBytes
 pub mod PackedOrder
 pub mod PackedPrefixes
+pub mod PackedTexts

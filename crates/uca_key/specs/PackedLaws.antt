@@ -1,15 +1,17 @@
 -- Laws of packed sort keys, which public functions with no body have as their contracts.
-use Rattle.std.specs.Prelude.{◌≡◌, ◌↔◌, ℕ, true, ◌≤◌, List, ◌++◌, All}
+use Rattle.std.specs.Prelude.{◌≡◌, ◌↔◌, ℕ, Bool, true, ◌≤◌, List, ◌++◌, All}
 use Rattle.std.specs.Char.{IsScalar}
 use Rattle.uca_weights.specs.declared.settings.Settings.{Settings}
 use Rattle.uca_weights.specs.declared.settings.Strength.{Strength}
 use Rattle.uca_weights.specs.declared.settings.Variable.{Variable}
 use Rattle.uca_weights.specs.Settings.{levels}
+use Rattle.unicode_normalization.specs.Forms.{nfd}
 use Rattle.uca_model.specs.Table.{ElementTable, IsTable}
 use Rattle.uca_model.specs.LevelWeights.{level_list}
 use Rattle.uca_model.specs.Laws.{BeginsWith}
 use Rattle.uca_model.specs.Prefix.{is_complete, primary_key}
 use Rattle.uca_model.specs.SortKey.{key_order, sort_key}
+use Rattle.uca_model.specs.TextLaws.{AgreeOutside, AreEquivalent, IsWithout}
 use Rattle.uca_key.specs.PackedKey.{packed_key}
 
 -- under every table, packed keys are in the byte order of the sort keys
@@ -35,3 +37,11 @@ PackedKeysBeginWithCompleteTexts = (t : ElementTable) (s : Settings) (p x : List
 abbrev pub PackedKeysBeginWithPrimaryWeights : Type 0
 PackedKeysBeginWithPrimaryWeights = (t : ElementTable) (s : Settings) (p x : List ℕ) → IsTable t → All IsScalar p → All IsScalar x
     → BeginsWith (packed_key t s x) (primary_key t s.weighting p) → BeginsWith (level_list t s.weighting x 1) (level_list t s.weighting p 1)
+
+-- C1: canonically equivalent texts have one packed key, under every table and all settings
+abbrev pub EquivalentTextsHaveOnePackedKey : Type 0
+EquivalentTextsHaveOnePackedKey = (t : ElementTable) (s : Settings) (a b : List ℕ) → AreEquivalent a b → packed_key t s a ≡ packed_key t s b
+
+-- a text whose NFD has no code point of a set has the same packed key under two tables that agree outside it
+abbrev pub PackedKeysOutliveTables : Type 0
+PackedKeysOutliveTables = (changed : ℕ → Bool) (t u : ElementTable) (s : Settings) (text : List ℕ) → AgreeOutside changed t u → IsWithout changed (nfd text) → packed_key t s text ≡ packed_key u s text

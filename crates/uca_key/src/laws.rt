@@ -1,5 +1,5 @@
 //! Laws of packed sort keys: the contracts of functions that do nothing.
-ghost use Rattle.uca_key.specs.PackedLaws.{PackedKeysFollowKeys, PackedKeysTellTextsApart, PackedKeysGrowByLevels, PackedKeysBeginWithCompleteTexts, PackedKeysBeginWithPrimaryWeights};
+ghost use Rattle.uca_key.specs.PackedLaws.{PackedKeysFollowKeys, PackedKeysTellTextsApart, PackedKeysGrowByLevels, PackedKeysBeginWithCompleteTexts, PackedKeysBeginWithPrimaryWeights, EquivalentTextsHaveOnePackedKey, PackedKeysOutliveTables};
 
 /// Under every table, packed keys are in the byte order of the sort keys. So an index by either has its rows in the same
 /// order.
@@ -27,4 +27,14 @@ pub fn packed_keys_begin_with_complete_texts()
 /// begin with those of the other. So between the two ends stand no packed keys of other texts.
 pub fn packed_keys_begin_with_primary_weights()
     ensures { PackedKeysBeginWithPrimaryWeights }
+{}
+
+/// Canonically equivalent texts (UAX #15) have one packed key, under every table and all settings.
+pub fn equivalent_texts_have_one_packed_key()
+    ensures { EquivalentTextsHaveOnePackedKey }
+{}
+
+/// Two tables that agree outside a set of code points give one packed key to each text whose NFD has none of them.
+pub fn packed_keys_outlive_tables()
+    ensures { PackedKeysOutliveTables }
 {}

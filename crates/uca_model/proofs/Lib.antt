@@ -33,3 +33,5 @@ pub mod RuleTextLemmas
 pub mod SafeCutLemmas
 pub mod PrefixLemmas
 pub mod PrefixKeys
+pub mod AgreeingTables
+pub mod EquivalenceLemmas

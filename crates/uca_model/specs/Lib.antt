@@ -33,3 +33,4 @@ pub mod WellFormed
 pub mod OrderOutput
 pub mod TestFile
 pub mod Laws
+pub mod TextLaws

@@ -1,5 +1,6 @@
 ghost use Rattle.uca_model.specs.Laws.{KeysFollowLevels, KeyOrderIsDecided, CanonicalTextIsReadBack, KeysGrowByLevels, TextsAreCutApart, KeysBeginWithCompleteTexts, PrefixesAreRanges, KeysBeginWithPrimaryWeights};
 ghost use Rattle.uca_model.specs.AnchorLaws.{AnchorsEndInAWeight, ItemsStandInTheRoom};
+ghost use Rattle.uca_model.specs.TextLaws.{EquivalentTextsHaveOneKey, IdenticalKeysTellTextsApart, KeysOutliveTables, StrengthsRefine};
 
 /// Keys of weights are in the byte order in which their level lists are (UTS #10, section 7.4).
 pub fn keys_follow_levels()
@@ -59,4 +60,28 @@ pub fn anchors_end_in_a_weight()
 /// raised by one. That is no weight that stood before: the room was made for it.
 pub fn items_stand_in_the_room()
     ensures { ItemsStandInTheRoom }
+{}
+
+/// Canonically equivalent texts (UAX #15) have one sort key, under every table and all settings (UTS #10, section 3.1,
+/// requirement C1). So a stored key need not say how its text was spelled.
+pub fn equivalent_texts_have_one_key()
+    ensures { EquivalentTextsHaveOneKey }
+{}
+
+/// At the strength `Identical` two sort keys are equal exactly where the texts are canonically equivalent (UTS #10, section
+/// 7.3, step S3.10). So a unique index by such keys refuses a text only where it holds another spelling of it.
+pub fn identical_keys_tell_texts_apart()
+    ensures { IdenticalKeysTellTextsApart }
+{}
+
+/// The order at a strength refines the order at each lower one: what is less there is less here, and what is equal here is
+/// equal there (UTS #10, section 1.1).
+pub fn strengths_refine()
+    ensures { StrengthsRefine }
+{}
+
+/// Two tables that agree outside a set of code points give one sort key to each text whose NFD has none of them. So after
+/// an update of a table only the keys of texts with such a code point have to be made again.
+pub fn keys_outlive_tables()
+    ensures { KeysOutliveTables }
 {}
