@@ -3,3 +3,4 @@ mod HandleValues
 mod OpeningLemmas
 mod PlacingLemmas
 mod Values
+pub mod FingerprintLemmas

@@ -5,3 +5,4 @@ pub mod Held
 pub mod Opening
 pub mod Placing
 pub mod Texts
+pub mod FingerprintLaws

@@ -14,6 +14,7 @@ mod digest;
 pub mod faults;
 pub mod handle;
 mod keys;
+pub mod laws;
 mod loose;
 mod opening;
 mod placing;

@@ -6,16 +6,16 @@ use Rattle.std.specs.Cmp.Lexicographic.{nat_list_cmp_total}
 use Rattle.std.specs.FinMap.{FinMap, empty, entries, entries_sorted, entries-insert, get-entries, insert, is_sorted, same_entries_map}
 use Rattle.std.specs.List.{AllByRecursion}
 use Rattle.std.specs.Option.{is_some}
-use Rattle.std.specs.Prelude.{T, Ok, Option}
-use Rattle.uca_io.specs.LineFold.{map_ok, with_bytes, with_lines}
+use Rattle.std.specs.Prelude.{T, Ok, Option, Result}
+use Rattle.uca_io.specs.LineFold.{FaultAt, map_ok, with_bytes, with_lines}
 use Rattle.uca_io.proofs.FoldLemmas.{lines-added, text-within}
 use Rattle.uca_weights.specs.declared.element.Element.{Element}
 use Rattle.uca_weights.specs.declared.range.Range.{Range}
-use Rattle.uca_model.specs.Table.{ElementTable, key_cmp, is_key, IsEntry, IsRange, IsTable, AreRanges}
+use Rattle.uca_model.specs.Table.{ElementTable, key_cmp, is_key, with_ideographs, IsEntry, IsRange, IsTable, AreRanges}
 use Rattle.uca_model.specs.Ranges.{AreByFirst}
-use Rattle.uca_model.specs.TableText.{TextState, ends, no_lines, add_statement, add_line, table_fold, table_part}
+use Rattle.uca_model.specs.TableText.{Cause, TextState, ends, no_lines, add_statement, add_line, table_fold, table_part}
 use Rattle.uca_model.specs.CanonicalText.{canonical}
-use Rattle.uca_model.specs.Laws.{CanonicalTextIsReadBack}
+use Rattle.uca_model.specs.Laws.{CanonicalTextIsReadBack, CanonicalTextsTellTablesApart}
 use Rattle.uca_model.proofs.CanonicalLemmas.{no_entries}
 use Rattle.uca_model.proofs.CanonicalLines.{entry_said, range_said, length-entry, length-range, lines_of_canonical}
 use Rattle.uca_model.proofs.CanonicalEntries.{statement-entry}
@@ -66,3 +66,11 @@ module _ (t : ElementTable) (table : IsTable t) where
 
 pub canonical-read_back : CanonicalTextIsReadBack
 canonical-read_back t table by_first few = ap (map_ok table_part) (text-within table_fold ends no_lines (canonical t) few ∙ lines_added t table by_first)
+
+-- what all lines of a canonical text say is said by no other table's
+pub canonical-apart : CanonicalTextsTellTablesApart
+canonical-apart t u of_t of_u by_t by_u same =
+    let said : Result ElementTable (FaultAt Cause) = Ok (with_ideographs t []) in
+    let other : Result ElementTable (FaultAt Cause) = Ok (with_ideographs u []) in
+    let one : said ≡ other = ap (map_ok table_part) (sym (lines_added t of_t by_t) ∙ ap (with_bytes table_fold ends 1 no_lines) same ∙ lines_added u of_u by_u) in
+    cc

@@ -43,6 +43,10 @@ KeyOrderIsDecided = (t : ElementTable) (s : Settings) (a b : List ℕ) → IsTab
 abbrev pub CanonicalTextIsReadBack : Type 0
 CanonicalTextIsReadBack = (t : ElementTable) → IsTable t → AreByFirst t.ranges → length (canonical t) ≤ MAX_INPUT → table_of_text ends (canonical t) ≡ Ok (with_ideographs t [])
 
+-- tables of one canonical text are one table, but for their further ideographs
+abbrev pub CanonicalTextsTellTablesApart : Type 0
+CanonicalTextsTellTablesApart = (t u : ElementTable) → IsTable t → IsTable u → AreByFirst t.ranges → AreByFirst u.ranges → canonical t ≡ canonical u → with_ideographs t [] ≡ with_ideographs u []
+
 -- a list begins with another
 pub record BeginsWith (whole front : List ℕ) : Type 0 where
   pub rest : List ℕ

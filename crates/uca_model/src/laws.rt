@@ -1,4 +1,4 @@
-ghost use Rattle.uca_model.specs.Laws.{KeysFollowLevels, KeyOrderIsDecided, CanonicalTextIsReadBack, KeysGrowByLevels, TextsAreCutApart, KeysBeginWithCompleteTexts, PrefixesAreRanges, KeysBeginWithPrimaryWeights};
+ghost use Rattle.uca_model.specs.Laws.{KeysFollowLevels, KeyOrderIsDecided, CanonicalTextIsReadBack, CanonicalTextsTellTablesApart, KeysGrowByLevels, TextsAreCutApart, KeysBeginWithCompleteTexts, PrefixesAreRanges, KeysBeginWithPrimaryWeights};
 ghost use Rattle.uca_model.specs.AnchorLaws.{AnchorsEndInAWeight, ItemsStandInTheRoom};
 ghost use Rattle.uca_model.specs.TextLaws.{EquivalentTextsHaveOneKey, IdenticalKeysTellTextsApart, KeysOutliveTables, StrengthsRefine};
 
@@ -23,6 +23,12 @@ pub fn keys_grow_by_levels()
 /// Allkeys File Format) without its further ideographs. So what is written of a table says all else of it.
 pub fn canonical_text_is_read_back()
     ensures { CanonicalTextIsReadBack }
+{}
+
+/// Two tables that have one canonical text have the same entries and the same ranges of implicit weights, however long that
+/// text is. So a digest of the text is one of the table, but for its further ideographs.
+pub fn canonical_texts_tell_tables_apart()
+    ensures { CanonicalTextsTellTablesApart }
 {}
 
 /// Up to their safe cut two texts agree, and there each falls into two parts that have their collation elements and
