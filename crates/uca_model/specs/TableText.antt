@@ -1,5 +1,5 @@
 -- The text of a collation element table, as in `allkeys.txt` (UTS #10, Allkeys File Format): the table that it says, or its first faulty line.
-use Rattle.std.specs.Prelude.{ℕ, ◌+◌, Bool, true, false, ◌&&◌, ◌||◌, ◌==◌, nat_lt, List, [], ◌∷◌, ◌++◌, length, take, drop, Option, None, Result, Ok, Err, if◌then◌else◌}
+use Rattle.std.specs.Prelude.{ℕ, Bool, true, false, ◌&&◌, ◌||◌, ◌==◌, nat_lt, List, [], ◌∷◌, ◌++◌, length, take, drop, Option, None, Result, Ok, Err, if◌then◌else◌}
 use Rattle.std.specs.List.{position_or_len, before_first, after_first, slice_split}
 use Rattle.std.specs.Option.{ok_or, is_some}
 use Rattle.std.specs.FinMap.{insert, empty}
