@@ -1,10 +1,10 @@
 -- What the words of a test line say, and the text that is made of them.
-use Rattle.std.proofs.Common.{◌≡◌, ℕ, ◌+◌, ◌*◌, ◌≤◌, Bool, true, false, not, ◌&&◌, ◌==◌, List, [], ◌∷◌, ◌++◌, length, flat_map, get_or, All, Option, encode_utf8_all, length-append, refl, sym, subst, ap, ap₂, ◌∙◌, arith, inl, inr, ne_eqb}
+use Rattle.std.proofs.Common.{◌≡◌, ℕ, ◌+◌, ◌*◌, ◌≤◌, Bool, true, false, not, ◌&&◌, ◌==◌, List, [], ◌∷◌, ◌++◌, length, flat_map, get_or, Option, IsUtf8, encode_utf8, encode_utf8_all, append-nil, length-append, refl, sym, subst, ap, ap₂, ◌∙◌, arith, inl, inr, ne_eqb}
 use Rattle.std.proofs.lemmas.Bool.{and_from, and_parts, cases_Bool, cond-true, cond-false, le-leb, leb-true}
 use Rattle.std.proofs.lemmas.List.Folds.{list_all-append}
 use Rattle.std.proofs.lemmas.List.Sums.{AllPass-from_list_all, list_all-from_AllPass}
-use Rattle.std.proofs.lemmas.Str.{chars_from_encodes}
-use Rattle.std.specs.Char.{IsScalar}
+use Rattle.std.proofs.lemmas.List.Concat.{flat_map-append}
+use Rattle.std.proofs.lemmas.Str.{chars_from_encodes, encodes-chars, length-encode, len_utf8_bounds}
 use Rattle.std.specs.List.{list_all}
 use Rattle.std.specs.Option.{ok_or, option_and_then}
 use Rattle.std.specs.Prelude.{Result, Ok, Err, nat_le}
@@ -56,19 +56,12 @@ chars_of_points : (points : List ℕ) → list_all scalar points ≡ true → ch
 chars_of_points points all = sym (chars_from_encodes points (encode_utf8_all points) (points, (scalars-list_all points ∙ all, refl)) refl)
 
 -- the bytes of a text are that text
-pub chars_written : (points bytes : List ℕ) → bytes ≡ encode_utf8_all points → list_all scalar points ≡ true → chars bytes ≡ points
+chars_written : (points bytes : List ℕ) → bytes ≡ encode_utf8_all points → list_all scalar points ≡ true → chars bytes ≡ points
 chars_written points bytes is all = ap chars is ∙ chars_of_points points all
 
 -- a text that can be compared has scalar values, and is safe
 pub compared-parts : (points : List ℕ) → can_compare points ≡ true → (list_all scalar points ≡ true) × IsSafe points
 compared-parts points is = let parts = and_parts (list_all scalar points) (is_safe points) is in (parts.0, safe_from points parts.1)
-
-pub compared-scalars : (points : List ℕ) → can_compare points ≡ true → All IsScalar points
-compared-scalars points is = λ k d low. AllPass-from_list_all scalar points (compared-parts points is).0 k d low
-
--- the bytes of a text that can be compared are safe
-pub written-safe : (points bytes : List ℕ) → bytes ≡ encode_utf8_all points → can_compare points ≡ true → IsSafe (chars bytes)
-written-safe points bytes is can = let parts = compared-parts points can in subst IsSafe (sym (chars_written points bytes is parts.0)) parts.1
 
 -- ---- short texts
 
@@ -90,33 +83,48 @@ short-safe text few = record {
   short = λ k d low. omega (arith, length-nfd_one (get_or text k d), decompose-short (get_or text k d));
 }
 
+-- a character has a byte at least
+chars-fewer : (bytes : List ℕ) → IsUtf8 bytes → length (chars bytes) ≤ length bytes
+chars-fewer bytes utf8 = subst (λ (b : List ℕ). length (chars bytes) ≤ length b) (encodes-chars bytes utf8) (written-longer (chars bytes))
+  where
+    written-longer : (cs : List ℕ) → length cs ≤ length (encode_utf8_all cs)
+    written-longer [] = omega arith
+    written-longer (c ∷ cs) = omega (arith, length-append (encode_utf8 c) (encode_utf8_all cs), length-encode c, (len_utf8_bounds c).0, written-longer cs)
+
+-- and so is one of at most fifteen bytes
+pub bytes-safe : (bytes : List ℕ) → IsUtf8 bytes → length bytes ≤ 15 → IsSafe (chars bytes)
+bytes-safe bytes utf8 few = short-safe (chars bytes) (omega (arith, chars-fewer bytes utf8))
+
 -- before the first word
-pub points-none : (bytes text : List ℕ) → text ≡ [] → HasPoints bytes bytes text false true
-points-none bytes text is = record {
+pub points-none : (line bytes : List ℕ) → bytes ≡ [] → HasPoints line line bytes false true
+points-none line bytes is = record {
   points = [];
   same = refl;
   some = refl;
   scalars = refl;
   kept = λ _. is;
-  room = omega (arith, ap (length {A = ℕ}) is);
+  fits = omega (arith, ap (length {A = ℕ}) is);
 }
 
 -- with the code point of one more word
-pub points-push : (line rest others text new : List ℕ) (point : ℕ) (is_some is_text is_scalar : Bool) → HasPoints line rest text is_some is_text → IsNextPoint rest point others
-    → is_scalar ≡ scalar point → (is_scalar ≡ true → new ≡ text ++ point ∷ []) → length new ≤ length text + 1 → HasPoints line others new true (is_text && is_scalar)
-points-push line rest others text new point is_some is_text is_scalar has next scalar_is added room =
+pub points-push : (line rest others bytes new : List ℕ) (point : ℕ) (is_some is_text is_scalar : Bool) → HasPoints line rest bytes is_some is_text → IsNextPoint rest point others
+    → is_scalar ≡ scalar point → (is_scalar ≡ true → new ≡ bytes ++ encode_utf8 point) → length new ≤ length bytes + 4 → HasPoints line others new true (is_text && is_scalar)
+points-push line rest others bytes new point is_some is_text is_scalar has next scalar_is added fits =
     let points : List ℕ = has.points in record {
       points = points ++ point ∷ [];
       same = has.same ∙ ap (points_after points) next.split ∙ ap (option_and_then (λ c. points_after (points ++ c ∷ []) (said_words others))) (sym next.said);
       some = sym (ap not (ne_eqb (length (points ++ point ∷ [])) 0 (λ none. omega (arith, length-append points (point ∷ [])))));
       scalars = ap₂ (λ (a b : Bool). a && b) has.scalars (scalar_is ∙ sym (and_true (scalar point))) ∙ sym (list_all-append scalar points (point ∷ []));
-      kept = λ both. (let parts = and_parts is_text is_scalar both in added parts.1 ∙ ap (λ (xs : List ℕ). xs ++ point ∷ []) (has.kept parts.0));
-      room = omega (arith, has.room, next.shorter, room);
+      kept = λ both. (let parts = and_parts is_text is_scalar both in added parts.1 ∙ ap (λ (xs : List ℕ). xs ++ encode_utf8 point) (has.kept parts.0) ∙ sym (written-push points point));
+      fits = omega (arith, has.fits, next.shorter, fits);
     }
   where
     and_true : (b : Bool) → (b && true) ≡ b
     and_true true = refl
     and_true false = refl
+
+    written-push : (cs : List ℕ) (c : ℕ) → encode_utf8_all (cs ++ c ∷ []) ≡ encode_utf8_all cs ++ encode_utf8 c
+    written-push cs c = flat_map-append encode_utf8 cs (c ∷ []) ∙ ap (λ (l : List ℕ). encode_utf8_all cs ++ l) (append-nil (encode_utf8 c))
 
 -- a word that is no code point
 pub points-fault : (line rest text : List ℕ) (is_some is_text : Bool) → HasPoints line rest text is_some is_text → HasBadWord rest
@@ -152,24 +160,23 @@ known bytes rest text is_some is_text has none some =
     ∙ ap (λ (o : Option (List ℕ)). ok_or o bad_line) (cond-false _ _ _ (not-true (length has.points == 0) (sym has.some ∙ some)))
 
 -- after the last word, a line with a surrogate, or whose text was looked at
-pub points-read : (bytes rest text : List ℕ) (is_some is_text is_compared : Bool) → HasPoints bytes rest text is_some is_text → said_words rest ≡ [] → is_some ≡ true
-    → (is_text ≡ false → is_compared ≡ false) → (is_text ≡ true → is_compared ≡ is_safe text) → SaysPoints (says bytes) is_compared text
-points-read bytes rest text is_some is_text is_compared has none some not_text is_read = record {
+pub points-read : (line rest bytes : List ℕ) (is_some is_text is_compared : Bool) → HasPoints line rest bytes is_some is_text → said_words rest ≡ [] → is_some ≡ true
+    → (is_text ≡ false → is_compared ≡ false) → (is_text ≡ true → is_compared ≡ is_safe (chars bytes)) → SaysPoints (says line) is_compared (chars bytes)
+points-read line rest bytes is_some is_text is_compared has none some not_text is_read = record {
   points = has.points;
-  known = known bytes rest text is_some is_text has none some;
+  known = known line rest bytes is_some is_text has none some;
   compared = elim (cases_Bool is_text) [
-    | inl e ↦ ap₂ (λ (x y : Bool). x && y) (sym has.scalars ∙ e) (ap is_safe (sym (has.kept e)) ∙ sym (is_read e))
+    | inl e ↦ ap₂ (λ (x y : Bool). x && y) (sym has.scalars ∙ e) (ap is_safe (sym (text-kept e)) ∙ sym (is_read e))
     | inr e ↦ ap (λ (b : Bool). b && is_safe has.points) (sym has.scalars ∙ e) ∙ sym (not_text e)
   ];
   same = λ is. elim (cases_Bool is_text) [
-    | inl e ↦ has.kept e
+    | inl e ↦ text-kept e
     | inr e ↦ (let other : true ≡ false = sym is ∙ not_text e in cc)
   ];
 }
-
--- the code points are scalar values where they are a text
-pub points-scalars : (bytes rest text : List ℕ) (is_some is_text : Bool) → HasPoints bytes rest text is_some is_text → is_text ≡ true → list_all scalar text ≡ true
-points-scalars bytes rest text is_some is_text has is = ap (list_all scalar) (has.kept is) ∙ sym has.scalars ∙ is
+  where
+    text-kept : is_text ≡ true → chars bytes ≡ has.points
+    text-kept e = chars_written has.points bytes (has.kept e) (sym has.scalars ∙ e)
 
 -- the text of a line that is compared
 pub compared-text : (said : Result (List ℕ) TestCause) (is_compared : Bool) (text : List ℕ) → SaysPoints said is_compared text → is_compared ≡ true → can_compare text ≡ true

@@ -1,19 +1,16 @@
 ghost use Rattle.std.specs.Prelude.{◌≡◌, ◌≤◌, ◌<◌, ◌+◌, ◌^◌, true, false, length, Err, IfErr, IfOk};
 ghost use Rattle.uca_weights.specs.declared.limits.TheConstants.{MAX_LINE};
 ghost use Rattle.uca_io.specs.LineReader.{Leads};
-ghost use Rattle.uca_model.specs.Table.{ElementTable};
 ghost use Rattle.uca_model.specs.TestFile.{points_of};
 ghost use Rattle.uca_conform.specs.Comparing.{can_compare, is_below, none_compared, with_line, with_skipped, with_text};
-ghost use Rattle.uca_weights.specs.declared.settings.Settings.{Settings};
-ghost use Rattle.uca_levels.specs.LevelLists.{AreOf};
-ghost use Rattle.uca_conform.specs.TestReading.{fault_of, next_of, next_weights, state_of, test_cause, IsCounted, IsLastRead, IsOfFile, SaysPoints};
+ghost use Rattle.uca_conform.specs.TestReading.{fault_of, next_of, state_of, test_cause, CanCompareLast, IsCounted, IsOfFile, SaysPoints};
 
 use crate::conforming::{ConformCause, Conformance};
 use crate::test_line::{is_test, text_of_test};
 use crate::test_text::{TestText, order_of_texts};
 use uca_io::lines::without_return;
 use uca_table::Table;
-use uca_weights::{MAX_LINE, Settings, Variable};
+use uca_weights::{MAX_LINE, Settings};
 
 /// What the test lines so far amount to. Their texts lie in two rooms by turns, since a copy of a room would take longer
 /// than most comparisons do.
@@ -56,7 +53,7 @@ fn read_next(comparison: &mut Comparison, line: &[u8]) -> Result<bool, ConformCa
     ensures of_file { IfErr result IsOfFile }
     ensures state { state_of comparison.new ≡ state_of comparison.old }
     ensures report { comparison.new.report ≡ comparison.old.report }
-    ensures last { (t : ElementTable) (s : Settings) → IsLastRead t s comparison.old → IsLastRead t s comparison.new }
+    ensures last { CanCompareLast comparison.old → CanCompareLast comparison.new }
 {
     if comparison.is_one {
         text_of_test(line, &mut comparison.other)
@@ -65,27 +62,10 @@ fn read_next(comparison: &mut Comparison, line: &[u8]) -> Result<bool, ConformCa
     }
 }
 
-/// Reads the weights of the text that was read.
-fn read_weights(comparison: &mut Comparison, t: &Table, v: Variable)
-    requires next { can_compare (next_of comparison.old) ≡ true }
-    ensures weights { AreOf t.now v (next_of comparison.new) (next_weights comparison.new) }
-    ensures next { next_of comparison.new ≡ next_of comparison.old }
-    ensures state { state_of comparison.new ≡ state_of comparison.old }
-    ensures last { (s : Settings) → IsLastRead t.now s comparison.old → IsLastRead t.now s comparison.new }
-    ensures report { comparison.new.report ≡ comparison.old.report }
-{
-    if comparison.is_one {
-        comparison.other.read_weights(t, v);
-    } else {
-        comparison.one.read_weights(t, v);
-    }
-}
-
 /// Whether the text that was read is below the one that was compared before it.
 fn is_below(comparison: &Comparison, t: &Table, s: Settings) -> bool
-    requires last { IsLastRead t.now s comparison.now }
+    requires last { CanCompareLast comparison.now }
     requires next { can_compare (next_of comparison.now) ≡ true }
-    requires weights { AreOf t.now s.weighting (next_of comparison.now) (next_weights comparison.now) }
     ensures { result ≡ is_below t.now s (state_of comparison.now).last (next_of comparison.now) }
 {
     if !comparison.is_some {
@@ -102,12 +82,11 @@ fn is_below(comparison: &Comparison, t: &Table, s: Settings) -> bool
 /// Adds the test line that was read, which is compared.
 fn add_text(comparison: &mut Comparison, t: &Table, s: Settings, number: u64)
     requires lines { comparison.old.report.lines + 1 < 2 ^ 64 }
-    requires last { IsLastRead t.now s comparison.old }
+    requires last { CanCompareLast comparison.old }
     requires next { can_compare (next_of comparison.old) ≡ true }
     ensures sum { state_of comparison.new ≡ with_text t.now s number (state_of comparison.old) (next_of comparison.old) }
-    ensures last { IsLastRead t.now s comparison.new }
+    ensures last { CanCompareLast comparison.new }
 {
-    read_weights(comparison, t, s.weighting);
     if comparison.report.first_failure.is_none() && is_below(comparison, t, s) {
         comparison.report.first_failure = Some(number);
     }
@@ -121,7 +100,7 @@ fn add_skipped(comparison: &mut Comparison)
     requires lines { comparison.old.report.lines + 1 < 2 ^ 64 }
     requires skipped { comparison.old.report.skipped ≤ comparison.old.report.lines }
     ensures sum { state_of comparison.new ≡ with_skipped (state_of comparison.old) }
-    ensures last { (t : ElementTable) (s : Settings) → IsLastRead t s comparison.old → IsLastRead t s comparison.new }
+    ensures last { CanCompareLast comparison.old → CanCompareLast comparison.new }
 {
     comparison.report.lines += 1;
     comparison.report.skipped += 1;
@@ -136,9 +115,9 @@ pub(crate) fn add_line(
     line: &[u8],
 ) -> Result<(), ConformCause>
     requires short { length line.now ≤ MAX_LINE }
-    requires counted { IsCounted t.now s comparison.old number }
+    requires counted { IsCounted comparison.old number }
     ensures adds { Leads fault_of (with_line t.now s number (state_of comparison.old) line.now) (state_of comparison.new) result }
-    ensures counted { IsCounted t.now s comparison.new (number + 1) }
+    ensures counted { IsCounted comparison.new (number + 1) }
     ensures of_file { IfErr result IsOfFile }
 {
     let line = without_return(line);

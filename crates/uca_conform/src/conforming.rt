@@ -75,7 +75,7 @@ impl<'t> LineSink for TestLines<'t> {
 
     ghost possible = { IsOfFile };
 
-    ghost ready = { λ lines n. IsCounted lines.table.now lines.settings lines.comparison n };
+    ghost ready = { λ lines n. IsCounted lines.comparison n };
 
     fn add(&mut self, number: u64, line: &[u8]) -> Result<(), ConformCause> {
         add_line(
@@ -101,7 +101,7 @@ fn cause_of_lines(cause: LineCause<ConformCause>) -> ConformCause
 }
 
 /// What a table makes of a test file: each of its test lines is compared with the one before it that was not skipped.
-/// It takes no memory. At most one byte past `MAX_INPUT` is taken from a reader that states its bytes, and at most
+/// It does not allocate. At most one byte past `MAX_INPUT` is taken from a reader that states its bytes, and at most
 /// `MAX_INPUT` + 1 calls are made of one that counts its calls. What the reader still holds after a fault isn't said.
 pub fn conform<R: Reader>(t: &Table, s: Settings, r: &mut R) -> Result<Conformance, ConformFault>
     ensures reads { MatchResult result

@@ -4,7 +4,7 @@ ghost use Rattle.uca_weights.specs.declared.limits.TheConstants.{MAX_LINE};
 ghost use Rattle.uca_model.specs.TableText.{skip_blanks};
 ghost use Rattle.uca_model.specs.TestFile.{is_test, points_of, test_point};
 ghost use Rattle.uca_conform.specs.TestWords.{ends_at, ends_word, said_words, AreDigits, BeginsWithDigits, HasBadWord, IsNextPoint};
-ghost use Rattle.uca_conform.specs.TestReading.{test_cause, IsBadLine, IsOfFile, SaysPoints};
+ghost use Rattle.uca_conform.specs.TestReading.{test_cause, text_in, IsBadLine, IsOfFile, SaysPoints};
 
 use crate::conforming::ConformCause;
 use crate::test_text::TestText;
@@ -115,7 +115,7 @@ fn next_point(line: &[u8]) -> Result<Option<(u32, &[u8])>, ConformCause>
 #[tactic(auto, unfolding(uca_model::specs::TestFile::points_of))]
 pub(crate) fn text_of_test(line: &[u8], text: &mut TestText) -> Result<bool, ConformCause>
     requires { length line.now ≤ MAX_LINE }
-    ensures points { IfOk result (λ is_compared. SaysPoints (points_of line.now) is_compared text.new.points.items) }
+    ensures points { IfOk result (λ is_compared. SaysPoints (points_of line.now) is_compared (text_in text.new)) }
     ensures fault { IfErr result (λ cause. points_of line.now ≡ Err (test_cause cause)) }
     ensures of_file { IfErr result IsOfFile }
 {

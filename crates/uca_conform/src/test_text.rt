@@ -1,72 +1,53 @@
-ghost use Rattle.std.specs.Prelude.{◌≡◌, ◌≤◌, ◌+◌, ◌*◌, ◌++◌, ◌∷◌, true, [], length, encode_utf8_all};
-ghost use Rattle.std.specs.List.{list_all};
+ghost use Rattle.std.specs.Prelude.{◌≡◌, ◌≤◌, ◌+◌, ◌++◌, true, [], length, encode_utf8};
 ghost use lib.Utf8.{scalar};
 ghost use Rattle.uca_weights.specs.declared.limits.TheConstants.{MAX_LINE};
 ghost use Rattle.uca_model.specs.SafeText.{is_safe};
 ghost use Rattle.uca_model.specs.SortKey.{key_order, sort_key};
-ghost use Rattle.uca_levels.specs.LevelLists.{AreOf};
+ghost use Rattle.uca_window.specs.Passage.{text_of};
 ghost use Rattle.uca_conform.specs.Comparing.{can_compare};
+ghost use Rattle.uca_conform.specs.TestReading.{text_in};
 
-use arrayvec::{ArrayString, ArrayVec};
+use arrayvec::ArrayString;
 use std::cmp::Ordering;
-use uca_levels::{LevelLists, compare, order_of_lists};
+use uca_levels::compare;
 use uca_table::Table;
-use uca_weights::{MAX_DECOMPOSITION, MAX_LINE, MAX_RUN, Settings, Variable};
+use uca_weights::{MAX_DECOMPOSITION, MAX_LINE, MAX_RUN, Settings};
 use uca_window::Passage;
 
-/// How many code points a test line has at most: each takes four digits.
-const MAX_POINTS: usize = MAX_LINE / 4;
-
-/// A text of so many characters is safe, whatever they are.
+/// A text of so many bytes is safe, whatever its characters are.
 const SHORT: usize = MAX_RUN / MAX_DECOMPOSITION;
 
-/// The text of a test line, and its weights.
+/// The text of a test line, which has no more bytes than the line.
 #[derive(Drop)]
 pub(crate) struct TestText {
-    points: ArrayVec<char, MAX_POINTS>,
-    weights: LevelLists,
-    // Room for its bytes, which few texts are asked for.
-    bytes: ArrayString<MAX_LINE>,
-}
-
-// Writes the bytes of a text.
-fn write_bytes(points: &[char], bytes: &mut ArrayString<MAX_LINE>)
-    requires { 4 * length points.now ≤ MAX_LINE }
-    ensures { bytes.new.bytes ≡ encode_utf8_all points.now }
-{
-    bytes.clear();
-    for c in points {
-        bytes.push(*c);
-    }
+    text: ArrayString<MAX_LINE>,
 }
 
 impl TestText {
     /// No text.
     pub(crate) fn new() -> TestText {
         TestText {
-            points: ArrayVec::new(),
-            weights: LevelLists::new(),
-            bytes: ArrayString::new(),
+            text: ArrayString::new(),
         }
     }
 
-    /// Drops all code points.
+    /// Drops all characters.
     pub(crate) fn clear(&mut self)
-        ensures { self.new.points.items ≡ [] }
+        ensures { self.new.text.bytes ≡ [] }
     {
-        self.points.clear();
+        self.text.clear();
     }
 
-    /// Adds a code point, and returns whether it is a scalar value.
+    /// Adds a code point, if it is a scalar value, and returns whether it is.
     pub(crate) fn push(&mut self, point: u32) -> bool
-        requires { 4 * length self.old.points.items + 4 ≤ MAX_LINE }
+        requires { length self.old.text.bytes + 4 ≤ MAX_LINE }
         ensures is_scalar { result ≡ scalar point }
-        ensures adds { result ≡ true → self.new.points.items ≡ self.old.points.items ++ point ∷ [] }
-        ensures room { length self.new.points.items ≤ length self.old.points.items + 1 }
+        ensures adds { result ≡ true → self.new.text.bytes ≡ self.old.text.bytes ++ encode_utf8 point }
+        ensures fits { length self.new.text.bytes ≤ length self.old.text.bytes + 4 }
     {
         match char::from_u32(point) {
             Some(c) => {
-                self.points.push(c);
+                self.text.push(c);
                 true
             }
             None => false,
@@ -74,64 +55,33 @@ impl TestText {
     }
 
     /// Whether the text is safe.
-    pub(crate) fn is_safe(&mut self) -> bool
-        requires { list_all scalar self.old.points.items ≡ true }
-        ensures safe { result ≡ is_safe self.old.points.items }
-        ensures points { self.new.points ≡ self.old.points }
+    pub(crate) fn is_safe(&self) -> bool
+        ensures { result ≡ is_safe (text_in self.now) }
     {
-        if self.points.len() <= SHORT {
+        let text = self.text.as_str();
+        if text.len() <= SHORT {
             return true;
         }
-        write_bytes(self.points.as_slice(), &mut self.bytes);
-        match Passage::check(self.bytes.as_str()) {
+        match Passage::check(text) {
             Ok(_) => true,
             Err(_) => false,
         }
     }
 
-    /// Reads the weights of the text.
-    pub(crate) fn read_weights(&mut self, t: &Table, v: Variable)
-        requires { can_compare self.old.points.items ≡ true }
-        ensures weights { AreOf t.now v self.old.points.items self.new.weights }
-        ensures points { self.new.points ≡ self.old.points }
+    // The text, which was found safe.
+    fn passage(&self) -> Passage<'_>
+        requires { can_compare (text_in self.now) ≡ true }
+        ensures { text_of result ≡ text_in self.now }
     {
-        if self.weights.read_points(t, v, self.points.as_slice()) {
-            return;
-        }
-        write_bytes(self.points.as_slice(), &mut self.bytes);
-        let passage = Passage::of_safe(self.bytes.as_str());
-        self.weights.read(t, v, &passage);
+        Passage::of_safe(self.text.as_str())
     }
 }
 
-// The order of two texts by their bytes.
-fn order_of_bytes(t: &Table, s: Settings, a: &TestText, b: &TestText) -> Ordering
-    requires text_a { can_compare a.now.points.items ≡ true }
-    requires text_b { can_compare b.now.points.items ≡ true }
-    ensures { result ≡ key_order (sort_key t.now s a.now.points.items) (sort_key t.now s b.now.points.items) }
-{
-    let mut first = ArrayString::new();
-    let mut second = ArrayString::new();
-    write_bytes(a.points.as_slice(), &mut first);
-    write_bytes(b.points.as_slice(), &mut second);
-    compare(
-        t,
-        s,
-        &Passage::of_safe(first.as_str()),
-        &Passage::of_safe(second.as_str()),
-    )
-}
-
-/// The order of two texts whose weights were read.
+/// The order of two texts that can be compared.
 pub(crate) fn order_of_texts(t: &Table, s: Settings, a: &TestText, b: &TestText) -> Ordering
-    requires text_a { can_compare a.now.points.items ≡ true }
-    requires text_b { can_compare b.now.points.items ≡ true }
-    requires weights_a { AreOf t.now s.weighting a.now.points.items a.now.weights }
-    requires weights_b { AreOf t.now s.weighting b.now.points.items b.now.weights }
-    ensures { result ≡ key_order (sort_key t.now s a.now.points.items) (sort_key t.now s b.now.points.items) }
+    requires text_a { can_compare (text_in a.now) ≡ true }
+    requires text_b { can_compare (text_in b.now) ≡ true }
+    ensures { result ≡ key_order (sort_key t.now s (text_in a.now)) (sort_key t.now s (text_in b.now)) }
 {
-    match order_of_lists(t, s, &a.weights, &b.weights) {
-        Some(order) => order,
-        None => order_of_bytes(t, s, a, b),
-    }
+    compare(t, s, &a.passage(), &b.passage())
 }

@@ -7,4 +7,3 @@ pub mod TextLemmas
 pub mod CommonFront
 pub mod FirstWeight
 pub mod PrimaryLemmas
-pub mod ListLemmas

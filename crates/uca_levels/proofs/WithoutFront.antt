@@ -1,22 +1,31 @@
 -- Two texts without a common front have the order of the whole texts.
-use Rattle.std.proofs.Common.{◌≡◌, ℕ, zero, suc, ◌-◌, ◌≤◌, ◌==◌, List, [], ◌∷◌, ◌++◌, take, drop, chars, IsUtf8, refl, sym, ap, subst, ◌∙◌, arith, inl, inr, append-nil}
-use Rattle.std.proofs.lemmas.Bool.{cases_Bool, cond-true, cond-false}
+use Rattle.std.proofs.Common.{◌≡◌, ℕ, zero, suc, ◌+◌, ◌-◌, ◌≤◌, Bool, ◌&&◌, ◌==◌, List, [], ◌∷◌, ◌++◌, All, length, take, drop, chars, IsUtf8, refl, sym, ap, ap₂, subst, ◌∙◌, arith, inl, inr, append-nil}
+use Rattle.std.proofs.lemmas.Bool.{cases_Bool, cases_lt, cond-true, cond-false}
 use Rattle.std.proofs.lemmas.List.{take-append-drop}
-use Rattle.std.proofs.lemmas.Str.{chars-append, IsUtf8-take}
+use Rattle.std.proofs.lemmas.List.Sums.{AllPass-from_list_all}
+use Rattle.std.proofs.lemmas.Str.{chars-append, scalars-chars, IsUtf8-take}
+use Rattle.std.proofs.lemmas.List.Elements.{All-drop}
+use Rattle.std.proofs.Math.Seq.{drop-append_seam}
+use Rattle.std.specs.Char.{IsScalar}
+use Rattle.std.specs.List.{list_all}
 use Rattle.std.specs.Str.{IsCharBoundary}
 use Rattle.std.specs.Ordering.{nat_cmp, ordering_then}
 use Rattle.std.specs.declared.cmp.Ordering.{Ordering}
 use Rattle.std.specs.declared.cmp.Ordering.TheVariants.{Equal}
+use lib.Utf8.{scalar, scalars}
 use Rattle.unicode_normalization.proofs.OrderLemmas.{canonical_order-nil}
+use Rattle.unicode_normalization.specs.Forms.{nfd}
 use Rattle.uca_weights.specs.declared.settings.Settings.{Settings}
 use Rattle.uca_weights.specs.declared.settings.Variable.{Variable}
+use Rattle.uca_weights.specs.Settings.{levels}
 use Rattle.uca_weights.specs.VariableWeighting.{weighted}
 use Rattle.uca_model.specs.Table.{ElementTable, IsTable}
 use Rattle.uca_model.specs.LevelWeights.{level_weights, level_list}
-use Rattle.uca_model.specs.DecidingLevel.{OrdersLevel}
+use Rattle.uca_model.specs.DecidingLevel.{OrdersLevel, key_from, list_order}
 use Rattle.uca_model.specs.SafeText.{IsSafe}
 use Rattle.uca_model.specs.SortKey.{key_order, sort_key}
-use Rattle.uca_model.proofs.LevelLemmas.{OrdersLevel-front}
+use Rattle.uca_model.proofs.LevelLemmas.{OrdersLevel-front, OrdersLevel-points, OrdersLevel-weights, levels-within, sort_key-levels}
+use Rattle.uca_model.proofs.WeightLemmas.{HasWeights-IsTable}
 use Rattle.uca_model.proofs.SafeLemmas.{nfd-is, safe_none}
 use Rattle.uca_model.proofs.StandAloneLemmas.{elements_none}
 use Rattle.uca_model.proofs.SafeCutLemmas.{IsCut-from, level_list-cut, IsSafe-back}
@@ -58,6 +67,62 @@ orders-left t v a b x y level o valid h orders =
           (subst (λ l. OrdersLevel level (f ++ level_list t v x level) l o) (sym of_b)
           (OrdersLevel-front level f (level_list t v x level) (level_list t v y level) o orders))
     ]
+
+-- ---- keys
+
+-- the characters of a text are scalar values
+pub scalars-text : (bytes : List ℕ) → IsUtf8 bytes → All IsScalar (chars bytes)
+scalars-text bytes utf8 = λ k d low. AllPass-from_list_all scalar (chars bytes) (as_list_all (chars bytes) ∙ scalars-chars bytes utf8) k d low
+  where
+    as_list_all : (cs : List ℕ) → list_all scalar cs ≡ scalars cs
+    as_list_all [] = refl
+    as_list_all (c ∷ cs) = ap (λ (b : Bool). scalar c && b) (as_list_all cs)
+
+-- a later text of scalar values
+scalars-after : (front left text : List ℕ) → text ≡ front ++ left → All IsScalar text → All IsScalar left
+scalars-after front left text e scalars =
+    subst (All IsScalar) (drop-append_seam front left) (All-drop IsScalar (length front) (front ++ left) (subst (All IsScalar) e scalars))
+
+-- texts of scalar values are ordered at each level
+level-orders : (t : ElementTable) (s : Settings) (x y : List ℕ) → IsTable t → All IsScalar x → All IsScalar y → (level : ℕ) → 1 ≤ level → level ≤ 5
+    → OrdersLevel level (level_list t s.weighting x level) (level_list t s.weighting y level) (list_order (level_list t s.weighting x level) (level_list t s.weighting y level))
+level-orders t s x y valid of_x of_y level low top =
+    let p = HasWeights-IsTable t s x valid of_x in
+    let q = HasWeights-IsTable t s y valid of_y in
+    elim (cases_lt level 5) [
+      | inl weights ↦ OrdersLevel-weights level _ _ weights (p.weights level low weights) (q.weights level low weights)
+      | inr points ↦
+          let last : 5 ≡ level = omega arith in
+          subst (λ l. OrdersLevel l (level_list t s.weighting x l) (level_list t s.weighting y l) (list_order (level_list t s.weighting x l) (level_list t s.weighting y l))) last (OrdersLevel-points (nfd x) (nfd y) p.points q.points)
+    ]
+
+-- keys whose levels are in the same order
+same-keys : (n level : ℕ) (la lb lx ly : ℕ → List ℕ) → level + n ≤ 5
+    → ((k : ℕ) → level ≤ k → k ≤ level + n → OrdersLevel k (lx k) (ly k) (list_order (lx k) (ly k)) × OrdersLevel k (la k) (lb k) (list_order (lx k) (ly k)))
+    → key_order (key_from n level lx) (key_from n level ly) ≡ key_order (key_from n level la) (key_from n level lb)
+same-keys zero level la lb lx ly inside orders =
+    let here = orders level (omega arith) (omega arith) in
+    here.0.last ∙ sym here.1.last
+same-keys (suc n) level la lb lx ly inside orders =
+    let here = orders level (omega arith) (omega arith) in
+    here.0.next (omega arith) (key_from n (level + 1) lx) (key_from n (level + 1) ly)
+    ∙ ap (ordering_then (list_order (lx level) (ly level))) (same-keys n (level + 1) la lb lx ly (omega arith) (λ k low top. orders k (omega arith) (omega arith)))
+    ∙ sym (here.1.next (omega arith) (key_from n (level + 1) la) (key_from n (level + 1) lb))
+
+-- what is left of the texts has the order of their keys
+pub keys-left : (t : ElementTable) (s : Settings) (a b x y : List ℕ) → IsTable t → All IsScalar a → All IsScalar b → AreWithoutFront t a b x y
+    → key_order (sort_key t s x) (sort_key t s y) ≡ key_order (sort_key t s a) (sort_key t s b)
+keys-left t s a b x y valid of_a of_b h =
+    let v = s.weighting in
+    let n : ℕ = levels s.strength - 1 in
+    let some : 1 ≤ levels s.strength = (levels-within s.strength).0 in
+    let few : levels s.strength ≤ 5 = (levels-within s.strength).1 in
+    ap₂ key_order (sort_key-levels t s x) (sort_key-levels t s y)
+    ∙ same-keys n 1 (level_list t v a) (level_list t v b) (level_list t v x) (level_list t v y) (omega arith)
+    (λ k low top. (
+    let here = level-orders t s x y valid (scalars-after h.front x a h.first of_a) (scalars-after h.front y b h.second of_b) k low (omega arith) in
+    (here, orders-left t v a b x y k _ valid h here)))
+    ∙ sym (ap₂ key_order (sort_key-levels t s a) (sort_key-levels t s b))
 
 -- ---- safe texts
 

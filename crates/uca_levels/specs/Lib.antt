@@ -6,4 +6,3 @@ pub mod WithoutFront
 pub mod TextWeights
 pub mod PrimaryWeights
 pub mod FirstWeight
-pub mod LevelLists

@@ -1,6 +1,6 @@
 -- The keys of a table as a set, and prefixes that are longer than every key.
-use Rattle.std.proofs.Common.{◌≡◌, ℕ, ◌-◌, ◌+◌, ◌≤◌, ◌<◌, max, Bool, true, false, ◌||◌, List, [], ◌∷◌, length, take, fold, map, Some, None, is_some, refl, sym, ap, subst, ◌∙◌, arith, lit≤, inl, inr}
-use Rattle.std.proofs.lemmas.Bool.{cases_Bool, cases_lt, cond-false}
+use Rattle.std.proofs.Common.{◌≡◌, ℕ, ◌-◌, ◌+◌, ◌≤◌, ◌<◌, max, Bool, true, false, ◌||◌, List, [], ◌∷◌, length, take, fold, map, Some, None, Option, is_some, refl, sym, ap, subst, ◌∙◌, arith, lit≤, inl, inr}
+use Rattle.std.proofs.lemmas.Bool.{cases_Bool, cases_lt}
 use Rattle.std.proofs.lemmas.List.Elements.{recursion_from_All}
 use Rattle.std.proofs.lemmas.List.{length-take-le}
 use Rattle.std.specs.Prelude.{◌⊎◌}
@@ -8,15 +8,16 @@ use Rattle.std.specs.List.{AllByRecursion, list_any}
 use Rattle.std.specs.Ordering.{eq_by_cmp}
 use Rattle.std.proofs.lemmas.Cmp.{eq_by_cmp_equiv}
 use Rattle.std.specs.Cmp.Lexicographic.{nat_list_cmp_total}
-use Rattle.std.specs.FinMap.{keys, entries, find, get-entries, contains_key-keys}
+use Rattle.std.specs.FinMap.{keys, entries, contains_key-keys}
 use Rattle.std.specs.FinSet.{FinSet, contains, contains-from_list}
 use Rattle.uca_model.specs.Match.{greatest, longest_match_len}
 use Rattle.uca_weights.specs.declared.element.Element.{Element}
 use Rattle.uca_weights.specs.declared.limits.TheConstants.{MAX_KEY}
-use Rattle.uca_model.specs.Table.{ElementTable, key_cmp, is_key, longest, IsEntry, IsTable}
+use Rattle.uca_model.specs.Table.{ElementTable, key_cmp, elements_at, is_key, longest, IsEntry, IsTable}
 use Rattle.uca_model.proofs.LongestKey.{longest-covers, longest-some}
+use Rattle.uca_model.proofs.TableLemmas.{IsEntry-elements_at}
 use Rattle.uca_table.proofs.MatchLemmas.{greatest-below}
-use Rattle.uca_match.specs.Keys.{HasLongest, key_set}
+use Rattle.uca_match.specs.Keys.{AreKeys, HasLongest, key_set}
 
 -- a key of the set is a key of the table
 pub contains-key_set : (t : ElementTable) (key : List ℕ) → contains (key_set t) key ≡ is_key t key
@@ -29,6 +30,12 @@ longer_than_keys keys m key has long = elim (cases_Bool (contains keys key)) [
   | inr fails ↦ fails
 ]
 
+-- a number that fails is not the greatest that passes
+pub greatest-fails : (p : ℕ → Bool) (n : ℕ) → 0 < n → p n ≡ false → greatest p (n - 1) ≡ greatest p n
+greatest-fails p n some fails =
+    let whole : n - 1 + 1 ≡ n = omega arith in
+    sym (greatest-below p (n - 1) 1 (λ k above upto. let same : k ≡ n = omega arith in ap p same ∙ fails)) ∙ ap (greatest p) whole
+
 -- it is enough to look up what is no longer than the longest key
 pub longest_match_len-short : (keys : FinSet key_cmp) (m : ℕ) (text : List ℕ) (n : ℕ) → HasLongest keys m → n ≤ length text → (n < length text → m ≤ n) → greatest (λ k. contains keys (take k text)) n ≡ longest_match_len (contains keys) text
 longest_match_len-short keys m text n has within short =
@@ -38,6 +45,17 @@ longest_match_len-short keys m text n has within short =
     let last : m ≤ n = short (omega arith) in
     longer_than_keys keys m (take k text) has (omega arith)))
     ∙ ap (greatest (λ k. contains keys (take k text))) whole
+
+-- each key of a table is one
+some_from : {A : Type 0} (o : Option A) → is_some o ≡ true → (x : A) × (o ≡ Some x)
+some_from None h = absurd (cc)
+some_from (Some x) h = (x, refl)
+
+pub AreKeys-table : (t : ElementTable) → IsTable t → AreKeys (key_set t)
+AreKeys-table t valid = λ key has.
+    let found = some_from (elements_at t key) (sym (contains-key_set t key) ∙ has) in
+    let entry = IsEntry-elements_at t key found.0 valid found.1 in
+    record { some = entry.some_points; few = entry.few_points; scalars = entry.points }
 
 -- some key of a list has the greatest length, or it is the least that was allowed
 or_right : (a b : Bool) → b ≡ true → (a || b) ≡ true
@@ -72,15 +90,7 @@ fold-reached n (k ∷ ks) = elim (cases_lt (length k) n) [
       ]
 ]
 
--- no key of a table is without a code point
-no_empty : (es : List (List ℕ × List Element)) → AllByRecursion IsEntry es → find key_cmp [] es ≡ None
-no_empty [] all = refl
-no_empty (e ∷ es) all = cond-false (eq_by_cmp key_cmp [] e.0) (Some e.1) (find key_cmp [] es) (not_empty e.0 all.0.some_points) ∙ no_empty es all.1 where
-  not_empty : (k : List ℕ) → 1 ≤ length k → eq_by_cmp key_cmp [] k ≡ false
-  not_empty [] h = absurd (omega arith)
-  not_empty (x ∷ k) h = refl
-
--- and each has at most 32
+-- no key of a table has more than 32 code points
 few_points : (n : ℕ) (es : List (List ℕ × List Element)) → n ≤ MAX_KEY → AllByRecursion IsEntry es → fold (λ m k. max m (length k)) n (map (λ e. e.0) es) ≤ MAX_KEY
 few_points n [] h all = h
 few_points n (e ∷ es) h all = let few : length e.0 ≤ MAX_KEY = all.0.few_points in few_points (max n (length e.0)) es (omega arith) all.1
@@ -90,7 +100,7 @@ pub HasLongest-table : (t : ElementTable) → IsTable t → HasLongest (key_set 
 HasLongest-table t valid =
     let entries_fit = recursion_from_All IsEntry (entries t.entries) valid.entries in
     record {
-      nonempty = contains-key_set t [] ∙ ap is_some (get-entries t.entries [] ∙ no_empty (entries t.entries) entries_fit);
+      are_keys = AreKeys-table t valid;
       each = λ key has. longest-covers t key (sym (contains-key_set t key) ∙ has);
       some = longest-some t;
       few = few_points 1 (entries t.entries) (lit≤ tt) entries_fit;

@@ -1,7 +1,7 @@
 ghost use Rattle.std.specs.Prelude.{◌≡◌};
 ghost use Rattle.std.specs.FinSet.{FinSet, contains};
 ghost use Rattle.uca_model.specs.Table.{key_cmp};
-ghost use Rattle.uca_match.specs.Keys.{HasLongest, key_set};
+ghost use Rattle.uca_match.specs.Keys.{AreKeys, HasLongest, key_set};
 
 use uca_table::Table;
 
@@ -10,9 +10,10 @@ pub trait Keys {
     /// The keys.
     ghost keys: { Self → FinSet key_cmp };
 
-    /// Whether the code points are a key.
+    /// Whether the code points are a key. A key has 1 to `MAX_KEY` of them.
     fn has(&self, key: &[char]) -> bool
-        ensures { result ≡ contains (keys self.now) key.now };
+        ensures value { result ≡ contains (keys self.now) key.now }
+        ensures keys { AreKeys (keys self.now) };
 
     /// The length of the longest key in code points, or 1 where there is no key.
     fn longest(&self) -> usize
@@ -23,6 +24,8 @@ impl Keys for Table {
     ghost keys = { key_set };
 
     fn has(&self, key: &[char]) -> bool {
+        // Shows that each key of the table is one.
+        let _longest = self.longest();
         self.get(key).is_some()
     }
 

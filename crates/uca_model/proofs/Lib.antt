@@ -8,6 +8,7 @@ pub mod LongestKey
 pub mod FirstLines
 pub mod OutputLemmas
 pub mod SafeLemmas
+pub mod SafeForms
 pub mod CharacterLemmas
 pub mod TableLemmas
 pub mod WeightLemmas

@@ -5,9 +5,9 @@ use Rattle.std.specs.Char.{digit_value, is_digit}
 use Rattle.std.specs.List.{list_any}
 use Rattle.std.specs.Option.{option_map, option_map_or}
 use Rattle.unicode_normalization.specs.Forms.{nfd}
-use Rattle.uca_weights.specs.declared.limits.TheConstants.{MAX_RUN, MAX_KEY, MAX_RELATIONS}
+use Rattle.uca_weights.specs.declared.limits.TheConstants.{MAX_KEY, MAX_RELATIONS}
 use lib.Utf8.{scalar}
-use Rattle.uca_model.specs.SafeText.{longest_run}
+use Rattle.uca_model.specs.SafeText.{is_safe}
 use Rattle.uca_model.specs.Rules.{Operator, first, second, third, same, Relation, Chain}
 
 -- why a text is refused
@@ -274,10 +274,11 @@ leading_kind_faults at expands = []
 abbrev pub leading_faults : Part → List RuleFault
 leading_faults p = leading_kind_faults p.at p.kind
 
--- at the end of a string, with the byte after its operator: it is empty, or its NFD has a long run or too many code points
+-- at the end of a string, with the byte after its operator: it is empty, or its NFD is not safe or has too many code points. An NFD
+-- is not safe only where it has a long run, since none of its code points decomposes further: `is_safe-nfd` in `proofs/SafeForms`
 abbrev pub end_faults : ℕ → List ℕ → List RuleFault
 end_faults at [] = fault empty_string at
-end_faults at (c ∷ cs) = fault_if (nat_lt MAX_RUN (longest_run (nfd (c ∷ cs)))) long_run at ++ fault_if (nat_lt MAX_KEY (length (nfd (c ∷ cs)))) key_too_long at
+end_faults at (c ∷ cs) = fault_if (not (is_safe (nfd (c ∷ cs)))) long_run at ++ fault_if (nat_lt MAX_KEY (length (nfd (c ∷ cs)))) key_too_long at
 
 -- what stands before an operator: nothing, the string of a reset or an expansion, or an item
 pub data Before : Type 0 where

@@ -1,5 +1,6 @@
 -- The rules of a tailoring (UTS #35, Part 5, Collation, 3, Rules): chains of relations, each chain after a reset.
 use Rattle.std.specs.Prelude.{ℕ, ◌≤◌, List, length, map, flat_map, All}
+use Rattle.std.specs.Char.{IsScalar}
 use Rattle.uca_weights.specs.declared.limits.TheConstants.{MAX_KEY, MAX_RELATIONS}
 
 -- the operators of relations (UTS #35, 3.5, Orderings): a difference at the first, second or third level, or none
@@ -24,14 +25,17 @@ pub record Chain : Type 0 where
 abbrev pub items : List Chain → List (List ℕ)
 items cs = flat_map (λ c. map (λ r. r.item) c.relations) cs
 
--- a reset or an item: 1 to 32 code points
+-- a reset or an item: 1 to 32 code points, which are scalar values
 pub record IsString (string : List ℕ) : Type 0 where
   pub some : 1 ≤ length string
   pub few : length string ≤ MAX_KEY
+  pub scalars : All IsScalar string
 
+-- an item, and what may follow its `/`: at most 32 code points
 pub record IsRelation (r : Relation) : Type 0 where
   pub item : IsString r.item
   pub expansion : length r.expansion ≤ MAX_KEY
+  pub scalars : All IsScalar r.expansion
 
 pub record IsChain (c : Chain) : Type 0 where
   pub reset : IsString c.reset

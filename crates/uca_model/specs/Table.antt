@@ -49,6 +49,12 @@ pub record IsElement (e : Element) : Type 0 where
   pub l2 : e.l2 < 2 ^ 16
   pub l3 : e.l3 < 2 ^ 16
 
+-- 1 to 32 code points, which are scalar values
+pub record IsKey (key : List ℕ) : Type 0 where
+  pub some : 1 ≤ length key
+  pub few : length key ≤ MAX_KEY
+  pub scalars : All IsScalar key
+
 -- 1 to 32 code points, with 1 to 64 elements
 pub record IsEntry (entry : List ℕ × List Element) : Type 0 where
   pub some_points : 1 ≤ length entry.0

@@ -193,6 +193,11 @@ any_filter p (x ∷ xs) n size = elim (cases_Bool (p x)) [
 pub begins_key-entries : (t : ElementTable) (p : List ℕ) (es : List (List ℕ × List Element)) → es ≡ entries_from t p → begins_key t p ≡ not (eqb (length es) 0)
 begins_key-entries t p es same = any_filter (λ e. is_front p e.0) (entries t.entries) (length es) (ap length (sym same))
 
+-- where a path has a code point, some entry was reached
+pub reached_some : (es : List (List ℕ × List Element)) (n : ℕ) → 0 < length (first_path es n) → eqb (length es) 0 ≡ false
+reached_some [] n some = absurd (omega arith)
+reached_some (e ∷ es) n some = ne_eqb (length (e ∷ es)) 0 (omega arith)
+
 -- the path of some entries is what their first key begins with
 pub first_path-is : (t : ElementTable) (p : List ℕ) (es : List (List ℕ × List Element)) (n : ℕ) → es ≡ entries_from t p → 0 < length es → length p ≡ n → first_path es n ≡ p
 first_path-is t p [] n same some size = absurd (omega arith)

@@ -1,4 +1,4 @@
-ghost use Rattle.std.specs.Prelude.{◌≡◌, ◌++◌, ◌∷◌, [], ◌<◌, ◌≤◌, cond, length, All, option_copied, IfSome};
+ghost use Rattle.std.specs.Prelude.{◌≡◌, ◌++◌, ◌∷◌, [], ◌<◌, ◌≤◌, cond, true, length, All, option_copied, IfSome};
 ghost use Rattle.std.specs.Coded.{Coded-set};
 ghost use Rattle.std.specs.FinMap.{entries};
 ghost use Rattle.uca_model.specs.Table.{IsTable};
@@ -85,9 +85,10 @@ impl<'t> Walk<'t> {
         true
     }
 
-    /// How many code points were stepped.
+    /// How many code points were stepped. If there are some, a key begins with them, whoever stepped.
     pub fn len(&self) -> usize
-        ensures { result ≡ length (path_of self.now) }
+        ensures value { result ≡ length (path_of self.now) }
+        ensures begins { 0 < result → begins_key (table_of_walk self.now) (path_of self.now) ≡ true }
     {
         self.depth
     }

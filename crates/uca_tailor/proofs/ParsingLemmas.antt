@@ -4,6 +4,7 @@ use Rattle.std.proofs.lemmas.List.{map-append, length-map}
 use Rattle.std.proofs.lemmas.Bool.Decides.{nat_tests}
 use Rattle.std.proofs.lemmas.List.Concat.{flat_map-append}
 use Rattle.std.proofs.lemmas.List.Elements.{All-push}
+use Rattle.std.specs.Char.{IsScalar}
 use Rattle.unicode_normalization.specs.Forms.{nfd}
 use Rattle.uca_weights.specs.declared.limits.TheConstants.{MAX_RELATIONS}
 use Rattle.uca_model.specs.Rules as rules
@@ -126,7 +127,7 @@ relation-same o i j e g same_item same_expansion = ap₂ (λ x y. let r : rules.
 -- a relation without an expansion
 pub relation_alone : (s t : ScanState) (op : Op) (r : Relation) (found : Option Found) → ReadsString s r.item.items found t → is_expansion found ≡ false → r.op ≡ op → r.expansion.items ≡ [] → ReadsRelation s op r found t
 relation_alone s t op r found reads alone same_op none = record {
-  is_relation = record { item = reads.is_string; expansion = omega (arith, ap length none) };
+  is_relation = record { item = reads.is_string; expansion = omega (arith, ap length none); scalars = subst (λ cs. All IsScalar cs) (sym none) (λ k d low. absurd (omega arith)) };
   faults = λ n. string-after s t r.item.items found reads (relates (operator_of op)) n ∙ same_before found t (n + 1) alone;
   says = λ at other.
       ap (λ g. with_segment (relates (operator_of op)) (nfd (string_of (left_of s).leading)) (grouped g)) reads.rest
@@ -139,7 +140,7 @@ relation_alone s t op r found reads alone same_op none = record {
 -- a relation with one
 pub relation_expanded : (s t u : ScanState) (op : Op) (r : Relation) (found next : Option Found) → ReadsString s r.item.items found t → is_expansion found ≡ true → ReadsString t r.expansion.items next u → r.op ≡ op → ReadsRelation s op r next u
 relation_expanded s t u op r found next reads expanded more same_op = record {
-  is_relation = record { item = reads.is_string; expansion = more.is_string.few };
+  is_relation = record { item = reads.is_string; expansion = more.is_string.few; scalars = more.is_string.scalars };
   faults = λ n.
       string-after s t r.item.items found reads (relates (operator_of op)) n ∙ expansion_next found t (n + 1) expanded
       ∙ string-after t u r.expansion.items next more expands (n + 1)

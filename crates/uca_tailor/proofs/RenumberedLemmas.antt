@@ -20,7 +20,7 @@ use Rattle.uca_weights.specs.declared.element.Element.{Element}
 use Rattle.uca_weights.specs.declared.limits.TheConstants.{MAX_KEY}
 use Rattle.uca_weights.specs.Element.{weight}
 use Rattle.uca_model.specs.Room.{moves, weight_with_room, with_room, entry_with_room, table_with_room, has_no_room}
-use Rattle.uca_model.specs.Table.{ElementTable, key_cmp, elements_at, is_key, with_entry, with_ideographs, longest, IsElement, IsTable}
+use Rattle.uca_model.specs.Table.{ElementTable, key_cmp, elements_at, is_key, with_entry, with_ideographs, longest, IsElement, IsKey, IsTable}
 use Rattle.uca_model.specs.CollationElements.{step, matches, matches_within, elements, elements_or_implicit}
 use Rattle.uca_model.specs.ImplicitWeights.{implicit}
 use Rattle.uca_model.specs.Match as model
@@ -298,15 +298,14 @@ or_true : (a b : Bool) → b ≡ true → (a || b) ≡ true
 or_true true b e = refl
 or_true false b e = e
 
-not_empty : (k : List ℕ) → 1 ≤ length k → eq_by_cmp key_cmp [] k ≡ false
-not_empty [] h = absurd (omega arith)
-not_empty (x ∷ k) h = refl
-
-pub keys-put : (t : ElementTable) (k : List ℕ) (v : List Element) (longest : ℕ) → 1 ≤ length k → length k ≤ MAX_KEY → HasLongest (key_set t) longest → HasLongest (key_set (with_entry t k v)) (max longest (length k))
-keys-put t k v longest some few has =
-    let s = has.some in let f = has.few in
+pub keys-put : (t : ElementTable) (k : List ℕ) (v : List Element) (longest : ℕ) → IsKey k → HasLongest (key_set t) longest → HasLongest (key_set (with_entry t k v)) (max longest (length k))
+keys-put t k v longest is has =
+    let s = has.some in let f = has.few in let some : 1 ≤ length k = is.some in let few : length k ≤ MAX_KEY = is.few in
     record {
-      nonempty = contains-put t k v [] ∙ both_false _ _ (not_empty k some) has.nonempty;
+      are_keys = λ q in_it. elim (cases_Bool (eq_by_cmp key_cmp q k)) [
+        | inl same ↦ subst IsKey (sym (slice_cmp-IsAntisymmetric nat_cmp-IsAntisymmetric q k (tied q k same))) is
+        | inr other ↦ has.are_keys q (sym (ap (λ b. b || contains (key_set t) q) other) ∙ sym (contains-put t k v q) ∙ in_it)
+      ];
       each = λ q in_it. elim (cases_Bool (eq_by_cmp key_cmp q k)) [
         | inl same ↦
             let e : q ≡ k = slice_cmp-IsAntisymmetric nat_cmp-IsAntisymmetric q k (tied q k same) in
@@ -331,16 +330,16 @@ keys-put t k v longest some few has =
         | inr above ↦ let e : m ≡ both = omega arith in inr (record { key = old.key; has = contains-put t k v old.key ∙ or_true _ _ old.has; size = old.size ∙ e })
       ]
 
-pub IsRenumbered-put : {Y : Type 0} (m : Moves) (items : List (Vec ℕ Y × Item)) (t : ElementTable) (tops next : Tops) (old new : Counts) (longest : ℕ) (k : Vec ℕ Y) (i : Item) → i.after ≡ now_of m → IsItem m i → AllByRecursion IsElement i.elements.items → 1 ≤ length k.items → length k.items ≤ MAX_KEY
+pub IsRenumbered-put : {Y : Type 0} (m : Moves) (items : List (Vec ℕ Y × Item)) (t : ElementTable) (tops next : Tops) (old new : Counts) (longest : ℕ) (k : Vec ℕ Y) (i : Item) → i.after ≡ now_of m → IsItem m i → AllByRecursion IsElement i.elements.items → IsKey k.items
     → HoldsElements next i.elements.items → IsAtMost tops next → (HaveCounts old (renumbered m items t) → HaveCounts new (with_entry (renumbered m items t) k.items i.elements.items)) → IsRenumbered m items t tops old longest → IsRenumbered m (insert_entry vec_cmp items k i) t next new (max longest (length k.items))
-IsRenumbered-put m items t tops next old new longest k i now item fit some few holds more exchanges is =
+IsRenumbered-put m items t tops next old new longest k i now item fit key holds more exchanges is =
     let same = sym (renumbered-put m items t k i now) in
     record {
       entered = entered-put m items k i item is.entered;
       fits = subst Fits same (record { ranges = is.fits.ranges; entries = found-put (AllByRecursion IsElement) (renumbered m items t) k.items i.elements.items fit is.fits.entries });
       below = subst (HaveTops next) same (tops-put (renumbered m items t) k.items i.elements.items tops next holds more is.below);
       counted = subst (HaveCounts new) same (exchanges is.counted);
-      keys = subst (λ u. HasLongest (key_set u) (max longest (length k.items))) same (keys-put (renumbered m items t) k.items i.elements.items longest some few is.keys);
+      keys = subst (λ u. HasLongest (key_set u) (max longest (length k.items))) same (keys-put (renumbered m items t) k.items i.elements.items longest key is.keys);
     }
 
 -- ## Sixteen bits

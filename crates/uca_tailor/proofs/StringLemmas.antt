@@ -1,15 +1,16 @@
 -- How a string is read, piece by piece.
-use Rattle.std.proofs.Common.{◌≡◌, ◌≢◌, ℕ, ◌<◌, ◌≤◌, true, false, List, [], ◌∷◌, ◌++◌, length, drop, flat_map, Option, Some, None, Ok, Err, MatchOption, append-nil, append_assoc, refl, sym, ap, ap₂, subst, ◌∙◌, arith, length-drop, length-append}
-use Rattle.std.proofs.lemmas.Bool.{cond-true, cond-false, le-ltb}
+use Rattle.std.proofs.Common.{◌≡◌, ◌≢◌, ℕ, ◌<◌, ◌≤◌, true, false, not, List, [], ◌∷◌, ◌++◌, length, drop, flat_map, Option, Some, None, Ok, Err, MatchOption, append-nil, append_assoc, refl, sym, ap, ap₂, subst, ◌∙◌, arith, length-drop, length-append}
+use Rattle.std.proofs.lemmas.Bool.{cond-true, cond-false, le-leb, le-ltb}
 use Rattle.std.proofs.lemmas.Bool.Decides.{nat_tests}
-use Rattle.std.specs.Prelude.{nat_lt}
+use Rattle.std.specs.Prelude.{nat_le, nat_lt}
 use Rattle.unicode_normalization.specs.Forms.{nfd, Nfd}
 use Rattle.unicode_normalization.specs.Decompose.{decompose_canonical}
 use Rattle.unicode_normalization.proofs.DecomposeLemmas.{length-from_decompose}
 use Rattle.unicode_normalization.proofs.OrderLemmas.{length-canonical_order}
+use Rattle.uca_model.proofs.SafeForms.{is_safe-nfd}
 use Rattle.uca_model.proofs.SafeLemmas.{nfd-is}
 use Rattle.uca_weights.specs.declared.limits.TheConstants.{MAX_RUN, MAX_KEY}
-use Rattle.uca_model.specs.SafeText.{longest_run}
+use Rattle.uca_model.specs.SafeText.{is_safe, longest_run}
 use Rattle.uca_model.specs.Rules.{IsString}
 use Rattle.std.proofs.lemmas.List.Concat.{flat_map-cons}
 use Rattle.uca_model.specs.RuleText as text
@@ -284,11 +285,18 @@ pub ends_long : (xs : List ℕ) → 0 < length xs → MAX_RUN < longest_run (nfd
 ends_long [] some long at = absurd (omega arith)
 ends_long (c ∷ cs) some long at =
     let too_long : List RuleFault = fault_if (nat_lt MAX_KEY (length (nfd (c ∷ cs)))) text.key_too_long at in
-    (too_long, ap (λ b. fault_if b text.long_run at ++ too_long) (let h : nat_lt MAX_RUN (longest_run (nfd (c ∷ cs))) ≡ true = grind (arith, nat_tests) in h))
+    (too_long, ap (λ b. fault_if b text.long_run at ++ too_long) (ap not (is_safe-nfd (c ∷ cs) ∙ (let h : nat_le (longest_run (nfd (c ∷ cs))) MAX_RUN ≡ false = grind (arith, nat_tests) in h))))
+
+short_runs : (xs : List ℕ) → longest_run (nfd xs) ≤ MAX_RUN → not (is_safe (nfd xs)) ≡ false
+short_runs xs short = ap not (is_safe-nfd xs ∙ le-leb (longest_run (nfd xs)) MAX_RUN short)
+
+pub ends_many : (xs : List ℕ) → 0 < length xs → longest_run (nfd xs) ≤ MAX_RUN → MAX_KEY < length (nfd xs) → (at : ℕ) → (rest : List RuleFault) × (end_faults at xs ≡ record { at = at; cause = text.key_too_long } ∷ rest)
+ends_many [] some short many at = absurd (omega arith)
+ends_many (c ∷ cs) some short many at = ([], ap₂ (λ a b. fault_if a text.long_run at ++ fault_if b text.key_too_long at) (short_runs (c ∷ cs) short) (let h : nat_lt MAX_KEY (length (nfd (c ∷ cs))) ≡ true = grind (arith, nat_tests) in h))
 
 pub ends_fine : (xs : List ℕ) → 0 < length xs → longest_run (nfd xs) ≤ MAX_RUN → length (nfd xs) ≤ MAX_KEY → (at : ℕ) → end_faults at xs ≡ []
 ends_fine [] some short few at = absurd (omega arith)
-ends_fine (c ∷ cs) some short few at = ap₂ (λ a b. fault_if a text.long_run at ++ fault_if b text.key_too_long at) (le-ltb MAX_RUN (longest_run (nfd (c ∷ cs))) short) (le-ltb MAX_KEY (length (nfd (c ∷ cs))) few)
+ends_fine (c ∷ cs) some short few at = ap₂ (λ a b. fault_if a text.long_run at ++ fault_if b text.key_too_long at) (short_runs (c ∷ cs) short) (le-ltb MAX_KEY (length (nfd (c ∷ cs))) few)
 
 -- a fault at the place where a piece begins
 pub same_place : (f_at at n : ℕ) (cause : RuleCause) → at ≡ n → MatchOption (reported_text_cause cause) (f_at ≡ 0) (λ _. f_at ≡ at) → MatchOption (reported_text_cause cause) (f_at ≡ 0) (λ _. f_at ≡ n)

@@ -2,10 +2,9 @@
 ghost use Rattle.std.specs.Prelude.{◌≡◌, ◌≤◌, ◌<◌, ◌++◌, false, is_some, length, IfOk, IsTrue, OnOk};
 ghost use Rattle.std.specs.FinMap.{values};
 ghost use Rattle.std.specs.List.{list_any, AllByRecursion};
-ghost use Rattle.uca_weights.specs.declared.limits.TheConstants.{MAX_KEY};
 ghost use Rattle.uca_model.specs.CollationElements.{elements, elements_or_implicit};
 ghost use Rattle.uca_model.specs.Room.{has_no_room, table_with_room};
-ghost use Rattle.uca_model.specs.Table.{elements_at, with_entry, IsElement};
+ghost use Rattle.uca_model.specs.Table.{elements_at, with_entry, IsElement, IsKey};
 ghost use Rattle.uca_match.specs.Keys.{key_set};
 ghost use Rattle.uca_tailor.specs.Counts.{elements_or_none};
 
@@ -101,8 +100,7 @@ impl<'t> Renumbered<'t> {
         key: &[char],
         elements: &[Element],
     ) -> Result<(), AllocError>
-        requires some_points { 1 ≤ length key.now }
-        requires few_points { length key.now ≤ MAX_KEY }
+        requires key { IsKey key.now }
         requires some_elements { 1 ≤ length elements.now }
         ensures { OnOk result (self.new ≡ with_entry self.old key.now elements.now) }
     {

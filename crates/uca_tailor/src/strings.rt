@@ -1,4 +1,5 @@
-ghost use Rattle.std.specs.Prelude.{◌≡◌, ◌≢◌, ◌++◌, [], ℕ, flat_map, IfErr, OnOk, MatchOption, MatchResult};
+ghost use Rattle.std.specs.Prelude.{◌≡◌, ◌≢◌, ◌++◌, [], ℕ, flat_map, All, IfErr, OnOk, MatchOption, MatchResult};
+ghost use Rattle.std.specs.Char.{IsScalar};
 ghost use Rattle.unicode_normalization.specs.Forms.{nfd};
 ghost use Rattle.uca_model.specs.Rules.{IsString};
 ghost use Rattle.uca_model.specs.SafeText.{longest_run};
@@ -80,9 +81,10 @@ fn next_operator(
     }
 }
 
-/// The length of the longest run of nonstarters.
+/// The length of the longest run of nonstarters. It shows, too, that the code points are scalar values.
 fn longest_run(points: &[char]) -> usize
-    ensures { result ≡ longest_run points.now }
+    ensures value { result ≡ longest_run points.now }
+    ensures scalars { All IsScalar points.now }
 {
     let mut longest = 0;
     let mut run = 0;

@@ -36,7 +36,7 @@ returns-in-Err-clause-adds c =
     line-fault c.args.t.now c.args.s c.args.number (state_of c.args.comparison.now) c.args.line.now c.without_return-line.result.now (test_cause c.in-Err.cause) c.without_return-line.ensures c.if-not-is_test.ensures c.in-Err.ensures.fault
 
 pub add_text-requires-clause-last : goal.add_text-requires-clause-last
-add_text-requires-clause-last c = c.in-Ok.ensures.last c.args.t.now c.args.s c.requires.counted.last
+add_text-requires-clause-last c = c.in-Ok.ensures.last c.requires.counted.last
 
 pub returns-else-is_compared-clause-counted : goal.returns-else-is_compared-clause-counted
 returns-else-is_compared-clause-counted c =
@@ -47,7 +47,7 @@ returns-else-is_compared-clause-counted c =
     record {
       lines = omega (arith, lines, before.lines);
       skipped = omega (arith, lines, skipped, before.skipped);
-      last = c.add_skipped.ensures.last c.args.t.now c.args.s (c.in-Ok.ensures.last c.args.t.now c.args.s before.last);
+      last = c.add_skipped.ensures.last (c.in-Ok.ensures.last before.last);
     }
 
 pub returns-in-Err-clause-counted : goal.returns-in-Err-clause-counted
@@ -58,5 +58,5 @@ returns-in-Err-clause-counted c =
     record {
       lines = omega (arith, lines, before.lines);
       skipped = omega (arith, lines, skipped, before.skipped);
-      last = c.in-Err.ensures.last c.args.t.now c.args.s before.last;
+      last = c.in-Err.ensures.last before.last;
     }

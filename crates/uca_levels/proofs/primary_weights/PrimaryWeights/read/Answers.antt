@@ -2,7 +2,6 @@ use Rattle.std.proofs.Common.{rules, ◌≡◌, List, ℕ, [], ◌++◌, chars, 
 use Rattle.std.proofs.lemmas.List.{nil_from_length}
 use Rattle.std.proofs.lemmas.Str.{chars-nil}
 use Rattle.std.specs.Str.Iter.{chars_rest}
-use Rattle.uca_model.specs.CollationElements.{elements}
 use Rattle.uca_model.specs.LevelWeights.{level_list}
 use Rattle.uca_levels.specs.PrimaryWeights.{primaries}
 use Rattle.uca_levels.proofs.WithoutFront.{no_list}

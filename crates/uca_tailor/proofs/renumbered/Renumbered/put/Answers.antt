@@ -1,6 +1,6 @@
 use Rattle.std.proofs.Common.{◌≡◌, ◌++◌, max, length, subst, sym, ap, ap₂, ◌∙◌, rules, arith}
 use Rattle.std.specs.List.{AllByRecursion}
-use Rattle.uca_model.specs.Table.{with_entry, IsElement}
+use Rattle.uca_model.specs.Table.{with_entry, IsElement, IsKey}
 use Rattle.std.specs.BTreeMap.{insert_entry}
 use Rattle.uca_tailor.specs.Counts.{HaveCounts, elements_or_none}
 use Rattle.uca_tailor.specs.declared.items.Item.{Item}
@@ -33,7 +33,7 @@ invariant_of-self-2 c =
     subst (λ x. IsRenumbered m x t c.over-self-inside.result c.exchange.new.self c.max-self-inside.result) (sym c.in_ok-insert.ensures.entries)
     (subst (λ n. IsRenumbered m (insert_entry vec_cmp items k i) t c.over-self-inside.result c.exchange.new.self n) (sym now)
     (IsRenumbered-put m items t c.self.inside.tops c.over-self-inside.result c.self.inside.counts c.exchange.new.self c.self.inside.longest_key k i c.now.ensures item (subst (AllByRecursion IsElement) (sym es) c.read_elements.ensures)
-    (omega (arith, size, c.requires.some_points)) (omega (arith, size, c.requires.few_points)) (subst (HoldsElements c.over-self-inside.result) (sym es) c.over-self-inside.ensures.elements) c.over-self-inside.ensures.more exchanges c.self.invariant))
+    (subst IsKey (sym key) c.requires.key) (subst (HoldsElements c.over-self-inside.result) (sym es) c.over-self-inside.ensures.elements) c.over-self-inside.ensures.more exchanges c.self.invariant))
 
 pub returns : goal.returns
 returns c =

@@ -1,67 +1,60 @@
-use Rattle.std.proofs.Common.{◌≤◌, sym, ◌∙◌, arith}
+use Rattle.std.proofs.Common.{◌≤◌, chars, sym, ◌∙◌, arith}
 use Rattle.std.specs.declared.cmp.Ordering.{Ordering}
 use Rattle.uca_weights.specs.Settings.{levels}
 use Rattle.uca_model.specs.LevelWeights.{level_list}
 use Rattle.uca_model.specs.DecidingLevel.{OrdersLevel}
 use Rattle.uca_model.proofs.LevelLemmas.{levels-within}
-use Rattle.uca_window.specs.Passage.{text_of}
 use Rattle.uca_levels.specs.WithoutFront.{MayFollow}
 use Rattle.uca_levels.proofs.ReadsLemmas.{from_ne, from_not_ne}
 use Rattle.uca_levels.proofs.LevelsFromCut.{undecided-first, undecided-next, decided-here}
 use Rattle.uca_levels.proofs.WithoutFront.{orders-left, left-none, left-whole}
-use Rattle.uca_levels.proofs.text_order.compare.Goals as goal
+use Rattle.uca_levels.proofs.text_order.order_by_characters.Goals as goal
+
+pub returns-then-is_ne : goal.returns-then-is_ne
+returns-then-is_ne c =
+    let o : Ordering = c.in-Ok.order in
+    let some : 1 ≤ levels c.args.s.strength = (levels-within c.args.s.strength).0 in
+    sym (decided-here c.args.t.now c.args.s (chars c.args.a.now) (chars c.args.b.now) 1 o (undecided-first c.args.t.now c.args.s (chars c.args.a.now) (chars c.args.b.now)) some c.in-Ok.ensures (from_ne o (sym c.is_ne.ensures ∙ c.if-is_ne.true))).0
 
 pub returns-then-are_empty : goal.returns-then-are_empty
 returns-then-are_empty c =
     let none = c.are_empty.ensures c.if-are_empty.true in
-    sym (left-none c.args.t.now c.args.s _ _ _ _ (left-whole (MayFollow c.args.t.now) (text_of c.args.a.now) (text_of c.args.b.now)) none.0 none.1)
+    sym (left-none c.args.t.now c.args.s _ _ _ _ (left-whole (MayFollow c.args.t.now) (chars c.args.a.now) (chars c.args.b.now)) none.0 none.1)
 
 pub returns-then-are_empty-2 : goal.returns-then-are_empty-2
 returns-then-are_empty-2 c =
     let none = c.are_empty-2.ensures c.if-are_empty-2.true in
-    sym (left-none c.args.t.now c.args.s _ _ _ _ c.left_of.ensures none.0 none.1)
-
-pub returns-then-is_ne : goal.returns-then-is_ne
-returns-then-is_ne c =
-    let t = c.args.t.now in
-    let a = text_of c.args.a.now in
-    let b = text_of c.args.b.now in
-    let o : Ordering = c.first_order-order.result in
-    let some : 1 ≤ levels c.args.s.strength = (levels-within c.args.s.strength).0 in
-    sym (decided-here t c.args.s a b 1 o (undecided-first t c.args.s a b) some c.first_order-order.ensures (from_ne o (sym c.is_ne.ensures ∙ c.if-is_ne.true))).0
+    sym (left-none c.args.t.now c.args.s _ _ _ _ c.without_front.ensures none.0 none.1)
 
 pub each-init : goal.each-init
 each-init c =
-    let t = c.args.t.now in
-    let a = text_of c.args.a.now in
-    let b = text_of c.args.b.now in
-    let o : Ordering = c.first_order-order.result in
+    let o : Ordering = c.in-Ok.order in
     let some : 1 ≤ levels c.args.s.strength = (levels-within c.args.s.strength).0 in
     record {
       first = omega arith;
       last = omega (arith, some);
-      undecided = undecided-next t c.args.s a b 1 o (undecided-first t c.args.s a b) some c.first_order-order.ensures (from_not_ne o (sym c.is_ne.ensures ∙ c.if-is_ne.false));
+      undecided = undecided-next c.args.t.now c.args.s (chars c.args.a.now) (chars c.args.b.now) 1 o (undecided-first c.args.t.now c.args.s (chars c.args.a.now) (chars c.args.b.now)) some c.in-Ok.ensures (from_not_ne o (sym c.is_ne.ensures ∙ c.if-is_ne.false));
     }
 
 pub returns-then-is_ne-2 : goal.returns-then-is_ne-2
 returns-then-is_ne-2 c =
     let t = c.args.t.now in
-    let a = text_of c.args.a.now in
-    let b = text_of c.args.b.now in
-    let o : Ordering = c.order_of_texts-order.result in
+    let a = chars c.args.a.now in
+    let b = chars c.args.b.now in
+    let o : Ordering = c.in-Ok-order_of_alone.order in
     let orders : OrdersLevel c.each.level (level_list t c.args.s.weighting a c.each.level) (level_list t c.args.s.weighting b c.each.level) o =
-    orders-left t c.args.s.weighting a b (text_of c.left_of.result.0) (text_of c.left_of.result.1) c.each.level o c.longest-longest.ensures.valid c.left_of.ensures c.order_of_texts-order.ensures in
+    orders-left t c.args.s.weighting a b (chars c.without_front.result.0.now) (chars c.without_front.result.1.now) c.each.level o c.longest-longest.ensures.valid c.without_front.ensures c.in-Ok-order_of_alone.ensures in
     sym (decided-here t c.args.s a b c.each.level o c.each.invariant.undecided (omega (arith, c.each-test.true, c.levels-last.ensures)) orders (from_ne o (sym c.is_ne-in-each.ensures ∙ c.if-is_ne-2.true))).0
 
 pub each-preserved : goal.each-preserved
 each-preserved c =
     let t = c.args.t.now in
-    let a = text_of c.args.a.now in
-    let b = text_of c.args.b.now in
-    let o : Ordering = c.order_of_texts-order.result in
+    let a = chars c.args.a.now in
+    let b = chars c.args.b.now in
+    let o : Ordering = c.in-Ok-order_of_alone.order in
     let inside : c.each.level ≤ levels c.args.s.strength = omega (arith, c.each-test.true, c.levels-last.ensures) in
     let orders : OrdersLevel c.each.level (level_list t c.args.s.weighting a c.each.level) (level_list t c.args.s.weighting b c.each.level) o =
-    orders-left t c.args.s.weighting a b (text_of c.left_of.result.0) (text_of c.left_of.result.1) c.each.level o c.longest-longest.ensures.valid c.left_of.ensures c.order_of_texts-order.ensures in
+    orders-left t c.args.s.weighting a b (chars c.without_front.result.0.now) (chars c.without_front.result.1.now) c.each.level o c.longest-longest.ensures.valid c.without_front.ensures c.in-Ok-order_of_alone.ensures in
     record {
       first = omega (arith, c.each.invariant.first);
       last = omega (arith, inside);
