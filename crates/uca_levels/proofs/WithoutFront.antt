@@ -1,6 +1,6 @@
 -- Two texts without a common front have the order of the whole texts.
 use Rattle.std.proofs.Common.{◌≡◌, ℕ, zero, suc, ◌+◌, ◌-◌, ◌≤◌, Bool, ◌&&◌, ◌==◌, List, [], ◌∷◌, ◌++◌, All, length, take, drop, chars, IsUtf8, refl, sym, ap, ap₂, subst, ◌∙◌, arith, inl, inr, append-nil}
-use Rattle.std.proofs.lemmas.Bool.{cases_Bool, cases_lt, cond-true, cond-false}
+use Rattle.std.proofs.lemmas.Bool.{cases_Bool, cond-true, cond-false}
 use Rattle.std.proofs.lemmas.List.{take-append-drop}
 use Rattle.std.proofs.lemmas.List.Sums.{AllPass-from_list_all}
 use Rattle.std.proofs.lemmas.Str.{chars-append, scalars-chars, IsUtf8-take}
@@ -14,7 +14,6 @@ use Rattle.std.specs.declared.cmp.Ordering.{Ordering}
 use Rattle.std.specs.declared.cmp.Ordering.TheVariants.{Equal}
 use lib.Utf8.{scalar, scalars}
 use Rattle.unicode_normalization.proofs.OrderLemmas.{canonical_order-nil}
-use Rattle.unicode_normalization.specs.Forms.{nfd}
 use Rattle.uca_weights.specs.declared.settings.Settings.{Settings}
 use Rattle.uca_weights.specs.declared.settings.Variable.{Variable}
 use Rattle.uca_weights.specs.Settings.{levels}
@@ -24,8 +23,8 @@ use Rattle.uca_model.specs.LevelWeights.{level_weights, level_list}
 use Rattle.uca_model.specs.DecidingLevel.{OrdersLevel, key_from, list_order}
 use Rattle.uca_model.specs.SafeText.{IsSafe}
 use Rattle.uca_model.specs.SortKey.{key_order, sort_key}
-use Rattle.uca_model.proofs.LevelLemmas.{OrdersLevel-front, OrdersLevel-points, OrdersLevel-weights, levels-within, sort_key-levels}
-use Rattle.uca_model.proofs.WeightLemmas.{HasWeights-IsTable}
+use Rattle.uca_model.proofs.LevelLemmas.{OrdersLevel-front, levels-within, sort_key-levels}
+use Rattle.uca_model.proofs.EquivalenceLemmas.{level-orders, order-itself}
 use Rattle.uca_model.proofs.SafeLemmas.{nfd-is, safe_none}
 use Rattle.uca_model.proofs.StandAloneLemmas.{elements_none}
 use Rattle.uca_model.proofs.SafeCutLemmas.{IsCut-from, level_list-cut, IsSafe-back}
@@ -83,19 +82,6 @@ scalars-after : (front left text : List ℕ) → text ≡ front ++ left → All 
 scalars-after front left text e scalars =
     subst (All IsScalar) (drop-append_seam front left) (All-drop IsScalar (length front) (front ++ left) (subst (All IsScalar) e scalars))
 
--- texts of scalar values are ordered at each level
-level-orders : (t : ElementTable) (s : Settings) (x y : List ℕ) → IsTable t → All IsScalar x → All IsScalar y → (level : ℕ) → 1 ≤ level → level ≤ 5
-    → OrdersLevel level (level_list t s.weighting x level) (level_list t s.weighting y level) (list_order (level_list t s.weighting x level) (level_list t s.weighting y level))
-level-orders t s x y valid of_x of_y level low top =
-    let p = HasWeights-IsTable t s x valid of_x in
-    let q = HasWeights-IsTable t s y valid of_y in
-    elim (cases_lt level 5) [
-      | inl weights ↦ OrdersLevel-weights level _ _ weights (p.weights level low weights) (q.weights level low weights)
-      | inr points ↦
-          let last : 5 ≡ level = omega arith in
-          subst (λ l. OrdersLevel l (level_list t s.weighting x l) (level_list t s.weighting y l) (list_order (level_list t s.weighting x l) (level_list t s.weighting y l))) last (OrdersLevel-points (nfd x) (nfd y) p.points q.points)
-    ]
-
 -- keys whose levels are in the same order
 same-keys : (n level : ℕ) (la lb lx ly : ℕ → List ℕ) → level + n ≤ 5
     → ((k : ℕ) → level ≤ k → k ≤ level + n → OrdersLevel k (lx k) (ly k) (list_order (lx k) (ly k)) × OrdersLevel k (la k) (lb k) (list_order (lx k) (ly k)))
@@ -142,17 +128,10 @@ left-safe t a b x y h safe_a safe_b =
 
 -- ---- equal texts
 
-number-same : (n : ℕ) → nat_cmp n n ≡ Equal
-number-same n = grind arith
-
-order-same : (xs : List ℕ) → key_order xs xs ≡ Equal
-order-same [] = refl
-order-same (x ∷ xs) = ap (λ o. ordering_then o (key_order xs xs)) (number-same x) ∙ order-same xs
-
 -- where nothing is left of either, they are the same
 pub left-none : (t : ElementTable) (s : Settings) (a b x y : List ℕ) → AreWithoutFront t a b x y → x ≡ [] → y ≡ [] → key_order (sort_key t s a) (sort_key t s b) ≡ Equal
 left-none t s a b x y h none_x none_y =
-    ap (λ u. key_order (sort_key t s a) (sort_key t s u)) (h.second ∙ ap (λ l. h.front ++ l) (none_y ∙ sym none_x) ∙ sym h.first) ∙ order-same (sort_key t s a)
+    ap (λ u. key_order (sort_key t s a) (sort_key t s u)) (h.second ∙ ap (λ l. h.front ++ l) (none_y ∙ sym none_x) ∙ sym h.first) ∙ order-itself (sort_key t s a)
 
 -- ---- their bytes
 

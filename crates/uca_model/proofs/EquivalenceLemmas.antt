@@ -103,7 +103,7 @@ strengths-refine t v low high a b valid of_a of_b few =
     (keys-refine la lb (level-orders t s a b valid of_a of_b) (levels low - 1) (levels high - 1) 1 (omega arith) (omega arith) (omega arith)))
 
 -- equal keys are in the order Equal
-order-itself : (xs : List ℕ) → key_order xs xs ≡ Equal
+pub order-itself : (xs : List ℕ) → key_order xs xs ≡ Equal
 order-itself [] = refl
 order-itself (x ∷ xs) = ap (λ o. ordering_then o (key_order xs xs)) (number-itself x) ∙ order-itself xs
   where
