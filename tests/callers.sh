@@ -169,10 +169,10 @@ in_postgresql() {
     psql -qX -h "$data" -U tester -d postgres -f "$work/pg.sql" >"$work/pgout" 2>"$work/pgerrors"
     is "PostgreSQL: another session, whose fingerprint is the one that was fixed" "-1" \
         "$(psql -qXAt -h "$data" -U tester -d postgres -c "SELECT uca_cmp('a', 'b')" 2>&1)"
-    sed -n '/^### An index in PostgreSQL/,/^## /s/^    //p' README.md | grep -v '^\$' >"$work/readme"
-    psql -qX -h "$data" -U tester -d postgres -c 'CREATE DATABASE readme'
-    is "PostgreSQL: what the README says" "$(grep -v '^postgres=#' "$work/readme")" \
-        "$(sed -n 's/^postgres=# //p' "$work/readme" | sed "s,'/.*allkeys.txt,'$table,; s/DATABASE postgres/DATABASE readme/" | psql -qXAt -h "$data" -U tester -d readme 2>&1)"
+    sed -n '/^## An index in PostgreSQL/,$s/^    //p' docs/EXAMPLES.md | grep -v '^\$' >"$work/example_page"
+    psql -qX -h "$data" -U tester -d postgres -c 'CREATE DATABASE example'
+    is "PostgreSQL: what docs/EXAMPLES.md says" "$(grep -v '^postgres=#' "$work/example_page")" \
+        "$(sed -n 's/^postgres=# //p' "$work/example_page" | sed "s,'/.*allkeys.txt,'$table,; s/DATABASE postgres/DATABASE example/" | psql -qXAt -h "$data" -U tester -d example 2>&1)"
     stop_server
     wait
     is "PostgreSQL: by key" "" "$(cmp "$work/by_key.csv" "$work/ordered.csv" 2>&1)"
