@@ -59,7 +59,7 @@ is "files are completed" "man/uca.1" "$(completed key --table man/uca)"
 if command -v make >/dev/null; then
     make -s install-program DESTDIR="$work/root" PREFIX=/usr >"$work/out" 2>&1
     is "it is installed" "0" "$?"
-    is "the files that are installed" "bin/uca share/bash-completion/completions/uca share/man/man1/uca.1 share/uca/rules/ of $(find rules -name '*.rules' | wc -l)" \
+    is "the files that are installed" "bin/uca share/bash-completion/completions/uca share/doc/uca/LICENSE-UNICODE.txt share/man/man1/uca.1 share/uca/rules/ of $(find rules -name '*.rules' | wc -l)" \
         "$(cd "$work/root/usr" && find . -type f | grep -v '/rules/' | sort | sed 's/^\.\///' | paste -sd' ') share/uca/rules/ of $(find "$work/root/usr/share/uca/rules" -type f | wc -l)"
     is "the program that is installed" "a|b" "$(cd / && printf 'b\na\n' | "$work/root/usr/bin/uca" order --rules "$work/root/usr/share/uca/rules/es.rules" --table "$(published_table)" 2>&1 | paste -sd'|')"
 else
