@@ -23,9 +23,11 @@ is "the names of the shared library" "$names" "$(nm -D --defined-only "$usr/lib/
 is "the names of the archive" "$names" "$(nm --extern-only --defined-only "$usr/lib/libuca.a" 2>/dev/null | awk 'NF == 3 { print $3 }' | sort | paste -sd' ')"
 is "the functions of the header" "$names" "$(sed -n 's/^[a-z0-9_]* \(uca_[a-z_]*\)(.*/\1/p' include/uca.h | sort -u | paste -sd' ')"
 is "the libraries that the shared one needs" "libc.so.6" "$(readelf -d "$usr/lib/libuca.so.1" | sed -n 's/.*NEEDED.*\[\(.*\)\]/\1/p')"
+version=$(header_version)
+is "the name of the shared library" "libuca.so.${version%%.*}" "$(readelf -d "$usr/lib/libuca.so.1" | sed -n 's/.*SONAME.*\[\(.*\)\]/\1/p')"
 is "no relocation of text, no executable stack" "0" "$(readelf -dlW "$usr/lib/libuca.so.1" | grep -cE 'TEXTREL|GNU_STACK.*RWE')"
 if command -v pkg-config >/dev/null; then
-    is "what pkg-config has" "1.0.0 -I$usr/include -L$usr/lib -luca" \
+    is "what pkg-config has" "$version -I$usr/include -L$usr/lib -luca" \
         "$(PKG_CONFIG_PATH=$usr/lib/pkgconfig pkg-config --modversion uca) $(PKG_CONFIG_PATH=$usr/lib/pkgconfig pkg-config --cflags --libs uca | sed 's/ *$//')"
 else
     left_out "pkg-config"

@@ -37,6 +37,13 @@ published_table() {
     done
 }
 
+# header_version: the version that include/uca.h names, as 1.0.0
+header_version() {
+    local number
+    number=$(sed -n 's/^#define UCA_VERSION \(0x[0-9A-F]*\)$/\1/p' include/uca.h)
+    echo "$((number >> 16)).$((number >> 8 & 255)).$((number & 255))"
+}
+
 # sum_up: the last line of a script
 sum_up() {
     echo "$script: $passed passed, $failed failed"
