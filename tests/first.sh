@@ -82,7 +82,7 @@ new_copy() {
 }
 asked() { cut -d' ' -f1-3 "$ASKED" | paste -sd'|'; }
 said() { paste -sd'|' "$work/err"; }
-steps="uca_table: rt lib|uca_commands: rt all|uca_commands: rt lib|uca_cli: rt lib|uca: rt run"
+steps="uca_table: rt lib|uca_cli: rt all|uca_commands: rt lib|uca_cli: rt lib|uca: rt run"
 
 for where in elsewhere at_terminal; do
     new_copy $'uca: line 1: TooLong\nchecked: ended status=3\nrun=ended status=3 runners=1 proved=no'
