@@ -12,8 +12,9 @@ install-library:
 install-program:
 	./uca --prove
 	$(INSTALL) -d $(DESTDIR)$(PREFIX)/bin $(DESTDIR)$(PREFIX)/share/man/man1 $(DESTDIR)$(PREFIX)/share/uca/rules \
-		$(DESTDIR)$(PREFIX)/share/bash-completion/completions
+		$(DESTDIR)$(PREFIX)/share/bash-completion/completions $(DESTDIR)$(PREFIX)/share/doc/uca
 	$(INSTALL) -m 755 crates/uca/out/uca $(DESTDIR)$(PREFIX)/bin/uca
 	$(INSTALL) -m 644 man/uca.1 $(DESTDIR)$(PREFIX)/share/man/man1/uca.1
 	$(INSTALL) -m 644 rules/*.rules $(DESTDIR)$(PREFIX)/share/uca/rules
+	$(INSTALL) -m 644 docs/LICENSE-UNICODE.txt $(DESTDIR)$(PREFIX)/share/doc/uca/LICENSE-UNICODE.txt
 	$(INSTALL) -m 644 completions/uca.bash $(DESTDIR)$(PREFIX)/share/bash-completion/completions/uca

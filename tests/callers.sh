@@ -23,9 +23,11 @@ is "the names of the shared library" "$names" "$(nm -D --defined-only "$usr/lib/
 is "the names of the archive" "$names" "$(nm --extern-only --defined-only "$usr/lib/libuca.a" 2>/dev/null | awk 'NF == 3 { print $3 }' | sort | paste -sd' ')"
 is "the functions of the header" "$names" "$(sed -n 's/^[a-z0-9_]* \(uca_[a-z_]*\)(.*/\1/p' include/uca.h | sort -u | paste -sd' ')"
 is "the libraries that the shared one needs" "libc.so.6" "$(readelf -d "$usr/lib/libuca.so.1" | sed -n 's/.*NEEDED.*\[\(.*\)\]/\1/p')"
+version=$(header_version)
+is "the name of the shared library" "libuca.so.${version%%.*}" "$(readelf -d "$usr/lib/libuca.so.1" | sed -n 's/.*SONAME.*\[\(.*\)\]/\1/p')"
 is "no relocation of text, no executable stack" "0" "$(readelf -dlW "$usr/lib/libuca.so.1" | grep -cE 'TEXTREL|GNU_STACK.*RWE')"
 if command -v pkg-config >/dev/null; then
-    is "what pkg-config has" "1.0.0 -I$usr/include -L$usr/lib -luca" \
+    is "what pkg-config has" "$version -I$usr/include -L$usr/lib -luca" \
         "$(PKG_CONFIG_PATH=$usr/lib/pkgconfig pkg-config --modversion uca) $(PKG_CONFIG_PATH=$usr/lib/pkgconfig pkg-config --cflags --libs uca | sed 's/ *$//')"
 else
     left_out "pkg-config"
@@ -169,10 +171,10 @@ in_postgresql() {
     psql -qX -h "$data" -U tester -d postgres -f "$work/pg.sql" >"$work/pgout" 2>"$work/pgerrors"
     is "PostgreSQL: another session, whose fingerprint is the one that was fixed" "-1" \
         "$(psql -qXAt -h "$data" -U tester -d postgres -c "SELECT uca_cmp('a', 'b')" 2>&1)"
-    sed -n '/^### An index in PostgreSQL/,/^## /s/^    //p' README.md | grep -v '^\$' >"$work/readme"
-    psql -qX -h "$data" -U tester -d postgres -c 'CREATE DATABASE readme'
-    is "PostgreSQL: what the README says" "$(grep -v '^postgres=#' "$work/readme")" \
-        "$(sed -n 's/^postgres=# //p' "$work/readme" | sed "s,'/.*allkeys.txt,'$table,; s/DATABASE postgres/DATABASE readme/" | psql -qXAt -h "$data" -U tester -d readme 2>&1)"
+    sed -n '/^## An index in PostgreSQL/,$s/^    //p' docs/EXAMPLES.md | grep -v '^\$' >"$work/example_page"
+    psql -qX -h "$data" -U tester -d postgres -c 'CREATE DATABASE example'
+    is "PostgreSQL: what docs/EXAMPLES.md says" "$(grep -v '^postgres=#' "$work/example_page")" \
+        "$(sed -n 's/^postgres=# //p' "$work/example_page" | sed "s,'/.*allkeys.txt,'$table,; s/DATABASE postgres/DATABASE example/" | psql -qXAt -h "$data" -U tester -d example 2>&1)"
     stop_server
     wait
     is "PostgreSQL: by key" "" "$(cmp "$work/by_key.csv" "$work/ordered.csv" 2>&1)"

@@ -2,6 +2,7 @@
 set -u
 cd "$(dirname "${BASH_SOURCE[0]}")/.." || exit 2
 script=tests/$(basename "$0")
+export UCA_PROVED=1 # no check takes an answer without a proof
 work=$(mktemp -d) || exit 2
 trap 'rm -rf "$work"' EXIT
 passed=0
@@ -34,6 +35,13 @@ published_table() {
     for folder in $(perl -e 'print join " ", @INC' 2>/dev/null); do
         [ -f "$folder/Unicode/Collate/allkeys.txt" ] && echo "$folder/Unicode/Collate/allkeys.txt" && return
     done
+}
+
+# header_version: the version that include/uca.h names, as 1.0.0
+header_version() {
+    local number
+    number=$(sed -n 's/^#define UCA_VERSION \(0x[0-9A-F]*\)$/\1/p' include/uca.h)
+    echo "$((number >> 16)).$((number >> 8 & 255)).$((number & 255))"
 }
 
 # sum_up: the last line of a script

@@ -56,6 +56,7 @@ mapfile -t tags < <(tools/cldr-rules --cldr "$cldr" --list | grep -vxF "$(tr ' '
 tools/cldr-rules --cldr "$cldr" --into "$rules" "${tags[@]}" 2>"$work/left"
 is "collations that are written" "0" "$?"
 tools/cldr-rules --cldr "$cldr" --text --into "$rules" "${tags[@]}"
+is "rules name CLDR's version" "# Source: CLDR 41, common/collation/da.xml, standard, by tools/cldr-rules." "$(head -n 1 "$rules/da.rules")"
 perl tests/cldr_lines.pl "$cldr" "$rules"
 printf '%s\n' "${tags[@]}" | xargs -P "$(nproc)" -I{} bash -c 'compares {}' | LC_ALL=C sort >"$work/rows"
 

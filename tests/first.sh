@@ -1,34 +1,63 @@
 #!/usr/bin/env bash
-# The first run in a new copy of the repository: at a terminal an answer with no proof, elsewhere a build.
+# The first run in a new copy of the repository: an answer without a proof, on a terminal and elsewhere, and the build.
 source "$(dirname "${BASH_SOURCE[0]}")/checks.bash"
+
+is_built
+unset UCA_PROVED # in the copies below nothing is built
+
+# elsewhere FOLDER COMMAND: runs it without a terminal; leaves out, err and status
+elsewhere() {
+    (cd "$1" && timeout 300 bash -c "$2" >"$work/out" 2>"$work/err" </dev/null)
+    status=$?
+}
 
 # at_terminal FOLDER COMMAND: runs it with a terminal as its standard error; leaves out, err and status
 at_terminal() {
     (cd "$1" && SHELL=/bin/bash script -qec "$2 >$work/out" /dev/null </dev/null >"$work/shown")
     status=$?
-    # Progress is shown on one line, which begins anew each second.
+    # Progress is shown on one line, which is written again each second.
     tr -d '\r' <"$work/shown" | sed 's/.*\x1b\[K//' | grep -v '^$' >"$work/err"
 }
 
-note="uca: this answer is not proved. ./uca --prove proves and builds the program, in some twenty minutes"
+proof="some 23 minutes on four processors"
+before="uca: this answer comes without a proof, in some 90 seconds; ./uca --prove proves and builds the program: $proof"
+after="uca: this answer is not proved; ./uca --prove proves and builds the program: $proof"
+building="uca: proving and building the program: $proof"
+no_answer="uca: no answer without a proof:"
 
-# With the kit itself.
+# With the kit itself: one answer on a terminal, and one elsewhere beside it, with files of other folders.
 mkdir "$work/copy"
 tar -c --exclude='crates/*/out' uca crates.txt HANDLES crates | tar -x -C "$work/copy"
+table=$(published_table)
+words="order ${table:+--table $table} --rules $PWD/rules/sv.rules"
+(cd "$work/copy" && printf 'ö\nz\nå\nä\n' | ./uca $words >"$work/swedish" 2>"$work/said") &
 at_terminal "$work/copy" "printf 'a\nab\n' | ./uca key"
-is "a first answer" "$(./uca key < <(printf 'a\nab\n'))|0" "$(cat "$work/out")|$status"
-is "a first answer is said not to be proved" "$note" "$(cat "$work/err")"
+wait
+is "a first answer at a terminal" "$(./uca key < <(printf 'a\nab\n'))|0" "$(cat "$work/out")|$status"
+is "it is said not to be proved, before and after" "$before"$'\n'"$after" "$(cat "$work/err")"
+is "a first answer elsewhere, with files" "$(printf 'ö\nz\nå\nä\n' | ./uca $words)" "$(cat "$work/swedish")"
+is "it is said not to be proved there, too" "$before"$'\n'"$after" "$(cat "$work/said")"
 is "a first answer leaves no program" "" "$(find "$work/copy" -name out)"
 
-# With a kit that only says what it was asked for. Its last step makes the program.
+# With a kit that only says what it was asked for. `rt all` prints that many crates are done, and would go on for a long time; the
+# last step makes the program.
 mkdir -p "$work/kit" "$work/new"
 cat >"$work/kit/rt" <<'RT'
 #!/usr/bin/env bash
 echo "$(basename "$PWD"): rt $*" >>"$ASKED"
+echo $$ >"$ASKED.process"
 case $1 in
 try)
     cat
     echo "$SAYS" >&2
+    ;;
+lib)
+    echo "logic=proved"
+    sleep "${SECONDS_OF_LIB-0}"
+    ;;
+all)
+    for crate in $(seq 40); do echo "== uca_$crate"; done
+    exec sleep 200
     ;;
 run)
     [ -z "${FAILS-}" ] || exit 1
@@ -41,52 +70,75 @@ RT
 chmod +x "$work/kit/rt"
 PATH=$work/kit:$PATH
 export ASKED=$work/asked SAYS FAILS=
+ended=$'checked: ended status=0\nrun=ended status=0 runners=1 proved=no'
 
-# anew SAYS: a copy in which nothing was built, with this as what `rt try` writes beside the answer
-anew() {
+# new_copy SAYS: one in which nothing was built, with this as what `rt try` writes beside the answer
+new_copy() {
     SAYS=$1
     rm -rf "$work/new" "$ASKED"
-    mkdir -p "$work/new/rules" "$work/new/crates/"{uca,uca_cli,uca_table}/src
+    mkdir -p "$work/new/rules" "$work/new/crates/"{uca,uca_cli,uca_commands,uca_table}/src
     cp uca crates.txt "$work/new"
     cp rules/sv.rules "$work/new/rules"
 }
 asked() { cut -d' ' -f1-3 "$ASKED" | paste -sd'|'; }
-building="uca_table: rt lib|uca_cli: rt all|uca: rt run"
+said() { paste -sd'|' "$work/err"; }
+steps="uca_table: rt lib|uca_cli: rt all|uca_commands: rt lib|uca_cli: rt lib|uca: rt run"
 
-anew $'uca: line 1: TooLong\nchecked: ended status=3\nrun=ended status=3 runners=1 proved=no'
-at_terminal "$work/new" "printf 'b\na\n' | ./uca order --rules rules/sv.rules"
-is "a first answer has its input and its status" $'b\na|3' "$(cat "$work/out")|$status"
-is "a first answer has its fault, before the note" "uca: line 1: TooLong"$'\n'"$note" "$(cat "$work/err")"
-is "a file is handed on by its name" "uca: rt try --data rules/sv.rules=$work/new/rules/sv.rules -- order --rules rules/sv.rules" "$(cat "$ASKED")"
-at_terminal "$work/new" "./uca order --rules=rules/sv.rules"
-is "a file after = is handed on" "uca: rt try --data rules/sv.rules=$work/new/rules/sv.rules -- order --rules=rules/sv.rules" "$(sed -n 2p "$ASKED")"
+for where in elsewhere at_terminal; do
+    new_copy $'uca: line 1: TooLong\nchecked: ended status=3\nrun=ended status=3 runners=1 proved=no'
+    $where "$work/new" "printf 'b\na\n' | ./uca order --rules rules/sv.rules"
+    is "$where: a first answer has its input and its status" $'b\na|3' "$(cat "$work/out")|$status"
+    is "$where: a first answer has its fault, before the last line" "$before|uca: line 1: TooLong|$after" "$(said)"
+    is "$where: a file is handed on" "uca: rt try --data handed-on-0=$work/new/rules/sv.rules -- order --rules handed-on-0" "$(cat "$ASKED")"
 
-at_terminal "$work/new" "printf 'b\n' | ./uca order --rules $work/new/rules/sv.rules"
-is "with a file of another folder it builds" "built: order --rules $work/new/rules/sv.rules"$'\n'"b|0" "$(cat "$work/out")|$status"
-is "such a build" "$building" "$(sed 1,2d "$ASKED" | cut -d' ' -f1-3 | paste -sd'|')"
-is "such a build says nothing of proofs" "" "$(cat "$work/err")"
-rm "$ASKED"
-at_terminal "$work/new" "printf 'b\n' | ./uca order"
-is "the program that was built is run" "built: order"$'\n'"b||0" "$(cat "$work/out")|$(cat "$ASKED" 2>&1 | grep -v 'No such file')|$status"
+    new_copy "$ended"
+    $where "$work/new" "printf 'b\n' | ./uca key --rules <(cat rules/sv.rules)"
+    is "$where: with a pipe as a file it says so and builds" "b|$steps" "$(tail -n 1 "$work/out")|$(asked)"
+    is "$where: what it says then" "$no_answer /dev/fd/N is no regular file|$building" "$(said | sed 's,/fd/[0-9]*,/fd/N,')"
+    rm "$ASKED"
+    $where "$work/new" "printf 'b\n' | ./uca order"
+    is "$where: the program that was built is run" "built: order"$'\n'"b||0|" "$(cat "$work/out")|$(said)|$status|$(cat "$ASKED" 2>/dev/null)"
 
-anew "run=none runners=0 proved=no"
-at_terminal "$work/new" "printf 'b\n' | ./uca key"
-is "where there is no such answer it builds" "built: key"$'\n'"b|uca: rt try|$building" "$(cat "$work/out")|$(asked)"
+    new_copy "$ended"
+    UCA_PROVED=1 $where "$work/new" "printf 'b\n' | ./uca order"
+    is "$where: with UCA_PROVED it builds" "built: order"$'\n'"b|$building|$steps" "$(cat "$work/out")|$(said)|$(asked)"
+
+    new_copy "$ended"
+    $where "$work/new" "./uca --prove"
+    is "$where: --prove builds and runs nothing" "|$building|0|$steps" "$(cat "$work/out")|$(said)|$status|$(asked)"
+    $where "$work/new" "./uca --prove"
+    is "$where: --prove builds once" "||0|$steps" "$(cat "$work/out")|$(said)|$status|$(asked)"
+done
+
+new_copy "$ended"
+ln -s "$PWD/rules" "$work/new/linked"
+elsewhere "$work/new" "printf 'b\n' | ./uca key --table=linked/es.rules --rules $PWD/rules/sv.rules"
+is "two files are handed on" \
+    "uca: rt try --data handed-on-0=$PWD/rules/es.rules --data handed-on-1=$PWD/rules/sv.rules -- key --table=handed-on-0 --rules handed-on-1" "$(cat "$ASKED")"
+elsewhere "$work/new" "./uca lint --table missing </dev/null"
+is "a file that is not there is left to the program" "uca: rt try -- lint --table missing" "$(tail -n 1 "$ASKED")"
+elsewhere "$work/new" "timeout 10 ./uca lint < <(sleep 20)"
+is "a command without input waits for none" "0" "$status"
+elsewhere "$work/new" "yes | ./uca check | wc -c"
+is "an input past the limit is read up to one byte after it" "67108865" "$(cat "$work/out")"
+elsewhere "$work/new" "head -c 1048577 /dev/zero | ./uca order | wc -c"
+is "a longer input is not lost where it builds" "1048590|$no_answer it has more than a mebibyte|$building" "$(cat "$work/out")|$(said)"
+
+new_copy $'checked: no-answer: the program wrote too much\nrun=no-answer proved=no'
+elsewhere "$work/new" "printf 'b\n' | ./uca check"
+is "where there is no answer it says why, and builds" "$before|$no_answer the program wrote too much|$building|uca: rt try|$steps" "$(said)|$(asked)"
+is "it has its input then" "built: check"$'\n'"b" "$(cat "$work/out")"
 
 FAILS=yes
-anew "run=none runners=0 proved=no"
-at_terminal "$work/new" "printf 'b\n' | ./uca key"
-is "where there is no program either it says so" "|uca: the program could not be built|3" "$(cat "$work/out")|$(cat "$work/err")|$status"
+new_copy "run=none runners=0 proved=no"
+elsewhere "$work/new" "printf 'b\n' | ./uca key"
+is "where there is no program either it says so" "|uca: the program could not be built|3" "$(cat "$work/out")|$(tail -n 1 "$work/err")|$status"
 FAILS=
 
-anew ""
-printf 'b\n' | (cd "$work/new" && ./uca key) >"$work/out" 2>"$work/err"
-is "without a terminal it builds" "built: key"$'\n'"b||$building" "$(cat "$work/out")|$(cat "$work/err")|$(asked)"
-
-anew ""
-at_terminal "$work/new" "./uca --prove"
-is "--prove builds and runs nothing" "|0|$building" "$(cat "$work/out" "$work/err")|$status|$(asked)"
-at_terminal "$work/new" "./uca --prove"
-is "--prove builds once" "|0|$building" "$(cat "$work/out" "$work/err")|$status|$(asked)"
+# A build says how far it is, and ends with the script.
+new_copy "$ended"
+(cd "$work/new" && SECONDS_OF_LIB=32 exec timeout --foreground 40 ./uca --prove) >"$work/out" 2>"$work/err"
+is "each half minute of a build has a line" "$building|uca: building: N of 16 crates proved, 30 s" "$(said | sed 's/building: [0-9]*/building: N/; s/3[0-9] s/30 s/')"
+is "what was begun ends with it" "" "$(sleep 1; kill -0 "$(cat "$ASKED.process")" 2>/dev/null && echo "it goes on")"
 
 sum_up

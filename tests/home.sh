@@ -43,6 +43,21 @@ for command in "$work"/*.command; do
 done
 is "examples that were run" "3" "$(find "$work" -name '*.command' | wc -l)"
 
+# One version everywhere; that of the built library is seen by tests/callers.sh.
+version=$(header_version)
+IFS=. read -r major minor patch <<<"$version"
+names_version() { is "the version in $1" "$2" "$(sed -n "$3" "$1" | head -n 1)"; }
+names_version crates/uca_c/src/lib.rt "$(printf '0x%02x_%02x_%02x' "$major" "$minor" "$patch")" 's/^const VERSION: u32 = \(.*\);$/\1/p'
+names_version bindings/c/Makefile "$version" 's/^VERSION := //p'
+names_version bindings/c/Makefile "libuca.so.$major" 's/.*-soname,\(libuca\.so\.[0-9]*\) .*/\1/p'
+names_version bindings/rust/Cargo.toml "$version" 's/^version = "\(.*\)"$/\1/p'
+names_version bindings/rust/examples/check.rs "$(printf '0x%02x%02x%02x' "$major" "$minor" "$patch")" 's/.*uca::version(), uca::unicode_version()), (\(0x[0-9a-f]*\),.*/\1/p'
+names_version bindings/python/uca.py "$major" 's/^    if library.uca_version() >> 16 != \([0-9]*\):$/\1/p'
+names_version bindings/python/test.py "$major, $minor, $patch" 's/.*uca.version() == (\([^)]*\)).*/\1/p'
+names_version man/uca.1 "$version" 's/^\.TH UCA 1 [0-9-]* "Hagvlomi \(.*\)" "User Commands"$/\1/p'
+names_version man/uca.1 "$version" 's/^This is the manual of version \(.*\)\.$/\1/p'
+names_version CHANGELOG.md "$version" 's/^## \([0-9][0-9.]*\).*/\1/p'
+
 # completed WORDS..: what bash offers for the last word
 completed() {
     bash -c 'source completions/uca.bash; COMP_WORDS=("$@"); COMP_CWORD=$(($# - 1))
@@ -59,7 +74,7 @@ is "files are completed" "man/uca.1" "$(completed key --table man/uca)"
 if command -v make >/dev/null; then
     make -s install-program DESTDIR="$work/root" PREFIX=/usr >"$work/out" 2>&1
     is "it is installed" "0" "$?"
-    is "the files that are installed" "bin/uca share/bash-completion/completions/uca share/man/man1/uca.1 share/uca/rules/ of $(find rules -name '*.rules' | wc -l)" \
+    is "the files that are installed" "bin/uca share/bash-completion/completions/uca share/doc/uca/LICENSE-UNICODE.txt share/man/man1/uca.1 share/uca/rules/ of $(find rules -name '*.rules' | wc -l)" \
         "$(cd "$work/root/usr" && find . -type f | grep -v '/rules/' | sort | sed 's/^\.\///' | paste -sd' ') share/uca/rules/ of $(find "$work/root/usr/share/uca/rules" -type f | wc -l)"
     is "the program that is installed" "a|b" "$(cd / && printf 'b\na\n' | "$work/root/usr/bin/uca" order --rules "$work/root/usr/share/uca/rules/es.rules" --table "$(published_table)" 2>&1 | paste -sd'|')"
 else

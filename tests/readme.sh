@@ -1,15 +1,23 @@
 #!/usr/bin/env bash
-# README.md is true: its example is a part of a crate that the gate builds, and its commands print what it says.
+# README.md and docs/EXAMPLES.md are true: their programs are parts of what the gate builds, and their commands print what they say.
 source "$(dirname "${BASH_SOURCE[0]}")/checks.bash"
 
 is_built
-is "the example stands in its crate" "yes" "$(perl -0777 -e '
-    my ($readme, $code) = map { local @ARGV = $_; <> } @ARGV;
-    my ($example) = $readme =~ /^```rust\n(.*?)^```$/ms;
-    print defined $example && index($code, $example) >= 0 ? "yes" : "no"' README.md crates/uca_example/src/main.rt)"
-is "the C program stands in bindings/c" "yes" "$(perl -0777 -ne '/^```c\n(.*?)^```$/ms and print $1' README.md | cmp -s - bindings/c/compare.c && echo yes)"
+pages=(README.md docs/EXAMPLES.md)
+is "the example in Rattle is a part of its crate" "yes" "$(perl -0777 -e '
+    my ($page, $code) = map { local @ARGV = $_; <> } @ARGV;
+    my ($example) = $page =~ /^```rust\n(.*?)^```$/ms;
+    print defined $example && index($code, $example) >= 0 ? "yes" : "no"' docs/EXAMPLES.md crates/uca_example/src/main.rt)"
+is "the C program is that of bindings/c" "yes" "$(perl -0777 -ne '/^```c\n(.*?)^```$/ms and print $1' docs/EXAMPLES.md | cmp -s - bindings/c/compare.c && echo yes)"
+is "README has 120 lines at most" "yes" "$([ "$(wc -l <README.md)" -le 120 ] && echo yes)"
+is "the pages that README and docs link to are there" "" "$(for page in README.md CHANGELOG.md docs/*.md; do
+    grep -o '](\([^):#]*\)' "$page" | sed 's/^](//' | while read -r link; do
+        [ -e "$(dirname "$page")/$link" ] || echo "$page: $link"
+    done
+done)"
+is "README names the logic that proves it" "logic $(rt version | sed 's/.* logic //')" "$(grep -o 'logic [0-9a-f]\{16\}' README.md)"
 
-# Each command, and what the README prints below it: the files N.command and N.wanted.
+# Each command, and what the pages print below it: the files N.command and N.wanted.
 perl -e '
     my ($folder, $number, $file) = (shift, 0);
     while (<>) {
@@ -22,7 +30,7 @@ perl -e '
         } else {
             undef $file;
         }
-    }' "$work" README.md
+    }' "$work" "${pages[@]}"
 
 # runs_with_compiler LINE WANTED: make says much; SQLite gets what stands after its prompt
 runs_with_compiler() {
@@ -56,7 +64,11 @@ if [ -n "$published" ]; then
         line=$(cat "$command")
         case $line in
         .ci/run | psql* | "make -C bindings/postgresql"*) ;; # those of PostgreSQL: tests/callers.sh
-        table=*) table=$published ;;
+        table=*)
+            eval "$line"
+            is "$line" "allkeys.txt" "${table##*/}"
+            table=$published
+            ;;
         make* | cc* | ./compare* | sqlite3* | export*) [ -z "$has_compiler" ] || runs_with_compiler "$line" "${command%.command}.wanted" ;;
         *)
             eval "$line" >"$work/out" 2>&1
