@@ -188,9 +188,9 @@ uint32_t uca_sort_key(uca_collator *collator, const uca_settings *settings, cons
 /*
  * Writes the first bytes of a text's packed sort key to `out`, as uca_sort_key does of its sort key. Packed keys are for indexes:
  * comparing two of them byte by byte gives the order of the two sort keys under the same settings, and they are equal exactly
- * where those are, but most have less than half the bytes. They depend on what sort keys depend on, so a stored fingerprint is
- * right for both. uca_prefix_bounds gives the range of packed keys, too. A packed key cannot be compared with a sort key (at
- * the strength UCA_PRIMARY the two are the same bytes).
+ * where those are, but most have less than half the bytes, and none more than twice as many. They depend on what sort keys depend
+ * on, so a stored fingerprint is right for both. uca_prefix_bounds gives the range of packed keys, too. A packed key cannot be
+ * compared with a sort key (at the strength UCA_PRIMARY the two are the same bytes).
  * Returns UCA_OK, UCA_BAD_SETTINGS, UCA_NOT_OPEN, UCA_NOT_UTF8, UCA_LONG_RUN or UCA_NO_MEMORY.
  */
 uint32_t uca_packed_key(uca_collator *collator, const uca_settings *settings, const uint8_t *text, size_t size, uint8_t *out,
@@ -220,9 +220,10 @@ uint32_t uca_prefix_bounds(uca_collator *collator, const uca_settings *settings,
                            size_t *upper_needed, uca_fault *fault);
 
 /*
- * Writes the SHA-256 digest of all that sort keys depend on: the table in its canonical form, the settings, and the version
- * of Unicode. Store it with an index of keys, packed or not: while it is the same, the keys are right. It takes about as long as
- * uca_open.
+ * Writes the SHA-256 digest of all that sort keys and packed keys depend on: the table in its canonical form, the settings, the
+ * form of keys, and the version of Unicode. Store it with an index of keys, packed or not: while it is the same, keys made now can
+ * be compared with those of the index, if all are sort keys or all packed keys. What the digest is of is proved; that this is
+ * enough is not proved yet, and docs/C.md says what it rests on. It takes about as long as uca_open.
  * Returns UCA_OK, UCA_BAD_SETTINGS, UCA_NOT_OPEN or UCA_NO_MEMORY.
  */
 uint32_t uca_fingerprint(uca_collator *collator, const uca_settings *settings, uca_digest *out);

@@ -5,8 +5,9 @@
 #
 # tests/failures.c makes these runs out of one, as copies of the process at each step. The rows are the commands of the program with
 # their options, their refusals, and tests of crates. Of a row with more than 800 steps the first 400, the last 400 and every
-# 211th between fail; over the published table 60, 60 and every 4001st. Of a test with more than 240 growths 120, 120 and every
-# 997th fail; with more than 20,000, or where its name says that an input has its limit or no end, 20, 20 and every 9973rd.
+# 211th between fail; over the published table 60, 60 and every 4001st. Of a test with at most 8,000 growths each one fails. Of one
+# with more 120, 120 and every 997th fail; with more than 20,000, or where its name says that its input is at its limit or has no end,
+# 20, 20 and every 9973rd. The names of the tests of which not all growths fail are printed.
 source "$(dirname "${BASH_SOURCE[0]}")/checks.bash"
 
 command -v cc >/dev/null || { echo "$script: left out, since there is no C compiler"; sum_up; exit; }
@@ -57,17 +58,18 @@ rightly() {
 
 # fails_in_turn FOLDER KIND: each step of this kind fails; KIND.result says how that went
 fails_in_turn() {
-    local folder=$1 kind=$2 notes growths reads whole each every many few rarely
+    local folder=$1 kind=$2 notes growths reads whole each every many few rarely all
     mapfile -t notes <"$folder/notes"
     read -r growths reads <"$folder/count.report"
-    read -r each every many few rarely <"$folder/rule"
+    read -r each every many few rarely all <"$folder/rule"
     case $kind in
     growths) whole=$growths ;;
     *-reads | reads) whole=$reads ;;
     *) whole=$(stat -c %s "$folder/out") ;;
     esac
     if [ -n "$many" ] && [ "$whole" -gt "$many" ]; then each=$few every=$rarely; fi
-    [ "$whole" -gt $((2 * each)) ] || whole=0
+    if [ "$whole" -le $((2 * each)) ] || [ "$whole" -le "${all:-0}" ]; then whole=0; fi
+    [ "$whole" = 0 ] || echo "$(tail -n 1 "$folder/words") ($whole)" >>"$work/sampled"
     preloaded "$folder" "$kind" FAILURES_WHOLE="$whole" FAILURES_EACH="$each" FAILURES_EVERY="$every" "${notes[@]}"
     for file in out err status; do
         cmp -s "$folder/$kind.$file" "$folder/$file" || echo "! without a failure: another $file" >>"$folder/$kind.report"
@@ -283,13 +285,15 @@ for crate in uca_weights uca_{io,window,table,allkeys,match,levels,key,tailor,co
         number=$((number + 1))
         row "$crate-$number" "$work/none" "$PWD/$tests" "$name"
         case $name in
-        *limit* | *without_end*) echo 20 9973 >"$folder/rule" ;;
-        *) echo 120 997 20000 20 9973 >"$folder/rule" ;;
+        *_at_the_limit_* | *_past_the_limit* | *limit_of_the_input* | *file_has_a_limit | *without_end*) echo 20 9973 >"$folder/rule" ;;
+        *) echo 120 997 20000 20 9973 8000 >"$folder/rule" ;;
         esac
         printf 'error: AllocError\nthe test failed: its result gives status 1\n' >"$folder/refused"
         echo 101 >"$folder/refused-status"
         tries growths
     done
 done
+rm -f "$work/sampled"
 all_rows "tests of crates"
+[ ! -s "$work/sampled" ] || echo "$script: a sample of the growths of these tests: $(sort "$work/sampled" | paste -sd, | sed 's/,/, /g')"
 sum_up
