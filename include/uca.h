@@ -222,8 +222,8 @@ uint32_t uca_prefix_bounds(uca_collator *collator, const uca_settings *settings,
 /*
  * Writes the SHA-256 digest of all that sort keys and packed keys depend on: the table in its canonical form, the settings, the
  * form of keys, and the version of Unicode. Store it with an index of keys, packed or not: while it is the same, keys made now can
- * be compared with those of the index, if all are sort keys or all packed keys. What the digest is of is proved; that this is
- * enough is not proved yet, and docs/C.md says what it rests on. It takes about as long as uca_open.
+ * be compared with those of the index, if all are sort keys or all packed keys. Where the digested bytes are equal, so are all
+ * keys; that is proved, and SHA-256 is trusted for the rest. It takes about as long as uca_open.
  * Returns UCA_OK, UCA_BAD_SETTINGS, UCA_NOT_OPEN or UCA_NO_MEMORY.
  */
 uint32_t uca_fingerprint(uca_collator *collator, const uca_settings *settings, uca_digest *out);
