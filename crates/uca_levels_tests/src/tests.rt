@@ -9,55 +9,13 @@ use std::test::Fail;
 use uca_levels::{Points, Weights, compare, compare_sources};
 use uca_match::Elements;
 use uca_table::Table;
-use uca_testing::{small_table, table_from};
+use uca_testing::{SMALL_TEXT, small_table, source_of, table_from};
 use uca_weights::{Settings, Strength, Variable};
-use uca_window::{Passage, PassageSource, Source, Window};
+use uca_window::{Passage, Source, Window};
 
 /// The small table.
 fn table(rt: &impl Abort, alloc: Global) -> Table {
     small_table(alloc).ok().expect(rt, "a table")
-}
-
-/// The characters of a passage, with the calls counted.
-#[derive(Drop)]
-struct Counted<'t> {
-    source: PassageSource<'t>,
-    reads: usize,
-    rewinds: usize,
-}
-
-impl<'t> Source for Counted<'t> {
-    ghost state = { λ s. s.source };
-
-    fn next(&mut self) -> Option<char> {
-        self.reads = self.reads.saturating_add(1);
-        self.source.next()
-    }
-
-    fn restart(&mut self) {
-        self.rewinds = self.rewinds.saturating_add(1);
-        self.source.restart();
-    }
-
-    fn mark(&mut self) {
-        self.source.mark();
-    }
-
-    fn rewind(&mut self) {
-        self.rewinds = self.rewinds.saturating_add(1);
-        self.source.rewind();
-    }
-}
-
-fn source_of<'t>(p: &Passage<'t>) -> Counted<'t>
-    ensures unread { IsSafe (unread result.source) }
-    ensures text { IsSafe result.source.text }
-{
-    Counted {
-        source: PassageSource::new(p),
-        reads: 0,
-        rewinds: 0,
-    }
 }
 
 fn passage<'t>(rt: &impl Abort, text: &'t str) -> Passage<'t> {
@@ -298,27 +256,31 @@ fn an_older_mark_is_not_gone_back_to(rt: HostRuntime) {
     assert!(rt; order == Ordering::Greater);
 }
 
-/// A table under which a text with a cut before `h` would have `hx`, where it has `ch` and `x`.
-const CUT_TABLE: &[u8] = b"\
-0061 ; [.1000.0020.0002]
-0063 ; [.1002.0020.0002]
-0063 0068 ; [.1007.0020.0002]
-0068 ; [.1005.0020.0002]
-0068 0078 ; [.1005.0020.0002][.1010.0030.0002]
+/// Three keys more, with which a text of the small table that is cut before `h` would have `hx`, where it has `ch` and `x`.
+const ADDED_KEYS: &[u8] = b"\
 0078 ; [.1010.0020.0002]
 0079 ; [.1010.0021.0002]
+0068 0078 ; [.1005.0020.0002][.1010.0030.0002]
 ";
 
+/// Two texts, of which the one with `hx` would come last.
+const CUT_ROW: OrderRow = ("chx", "chy", Strength::Secondary, Ordering::Less);
+
+/// Stops a test where `compare` or `compare_sources` returns another order of two texts.
+fn assert_both_orders(rt: &impl Abort, t: &Table, row: &OrderRow) {
+    assert_order(rt, t, row);
+    let (a, b, strength, wanted) = row;
+    let s = settings(*strength, Variable::NonIgnorable);
+    calls_of(rt, t, s, [*a, *b], *wanted);
+}
+
 #[test]
-fn a_text_is_not_cut_before_the_end_of_a_contraction(rt: HostRuntime) {
-    let t = table_from(rt.alloc(), CUT_TABLE)
-        .ok()
-        .expect(&rt, "a table");
-    assert_order(
-        &rt,
-        &t,
-        &("chx", "chy", Strength::Secondary, Ordering::Less),
-    );
+fn a_text_is_not_cut_before_the_end_of_a_contraction(rt: HostRuntime) -> Result<(), Fail> {
+    let mut text = SMALL_TEXT.to_vec(rt.alloc())?;
+    text.extend_from_slice(ADDED_KEYS)?;
+    let t = table_from(rt.alloc(), &text).ok().expect(&rt, "a table");
+    assert_both_orders(&rt, &t, &CUT_ROW);
+    Ok(())
 }
 
 #[test]

@@ -68,8 +68,8 @@ pub const SMALL_TEXT: &[u8] = b"\
 /// A text of the small table, as a person writes it.
 pub const WRITTEN_BY_HAND: &[u8] = b"\
 @version 15.1.0
-@implicitweights 18D00..18D8F; FB00 # second range, the same base
 @implicitweights 17000..18AFF; FB00 # first range
+@implicitweights 18D00..18D8F; FB00 # second range, the same base
 
 0001  ; [.0000.0000.0000] # completely ignorable
 0020  ; [*0201.0020.0002] # SPACE
