@@ -13,50 +13,9 @@ use std::alloc::{AllocError, Global};
 use std::process::Abort;
 use uca_match::Elements;
 use uca_table::Table;
-use uca_testing::plain;
+use uca_testing::{plain, source_of};
 use uca_weights::{Element, MAX_KEY};
-use uca_window::{Passage, PassageSource, Source};
-
-/// The characters of a passage, with the calls counted.
-#[derive(Drop)]
-struct Counted<'t> {
-    source: PassageSource<'t>,
-    reads: usize,
-    rewinds: usize,
-}
-
-impl<'t> Source for Counted<'t> {
-    ghost state = { λ s. s.source };
-
-    fn next(&mut self) -> Option<char> {
-        self.reads = self.reads.saturating_add(1);
-        self.source.next()
-    }
-
-    fn restart(&mut self) {
-        self.rewinds = self.rewinds.saturating_add(1);
-        self.source.restart();
-    }
-
-    fn mark(&mut self) {
-        self.source.mark();
-    }
-
-    fn rewind(&mut self) {
-        self.rewinds = self.rewinds.saturating_add(1);
-        self.source.rewind();
-    }
-}
-
-fn source_of<'t>(p: &Passage<'t>) -> Counted<'t>
-    ensures { IsSafe (unread result.source) }
-{
-    Counted {
-        source: PassageSource::new(p),
-        reads: 0,
-        rewinds: 0,
-    }
-}
+use uca_window::{Passage, Source};
 
 /// The elements of what a source has not given yet, one by one.
 fn elements_in_turn<S: Source>(
