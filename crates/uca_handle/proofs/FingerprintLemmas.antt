@@ -15,10 +15,10 @@ use Rattle.uca_handle.specs.Fingerprint.{settings_bytes, strength_number, variab
 use Rattle.uca_handle.specs.FingerprintLaws.{EqualFingerprintsMeanEqualKeys}
 
 -- the strength and the option that a number stands for
-strength_of : ℕ → Strength
+abbrev strength_of : ℕ → Strength
 strength_of n = if n == 1 then Primary else if n == 2 then Secondary else if n == 3 then Tertiary else if n == 4 then Quaternary else Identical
 
-variable_of : ℕ → Variable
+abbrev variable_of : ℕ → Variable
 variable_of n = if n == 0 then NonIgnorable else if n == 1 then Blanked else Shifted
 
 strength-said : (strength : Strength) → strength_of (strength_number strength) ≡ strength
