@@ -1,5 +1,5 @@
 -- How many elements have each weight, when room is made and entries are put in.
-use Rattle.std.proofs.Common.{◌≡◌, ℕ, suc, zero, ◌+◌, ◌-◌, ◌≤◌, ◌<◌, nat_lt, Bool, true, false, cond, ◌||◌, ◌&&◌, ◌==◌, T, if◌then◌else◌, List, [], ◌∷◌, ◌++◌, length, take, drop, map, get_or, slice_index, Option, Some, None, unwrap_or, Vec, refl, sym, ap, ap₂, subst, ◌∙◌, arith, inl, inr}
+use Rattle.std.proofs.Common.{◌≡◌, ℕ, suc, zero, ◌+◌, ◌≤◌, ◌<◌, nat_lt, Bool, true, false, cond, ◌||◌, ◌&&◌, ◌==◌, T, if◌then◌else◌, List, [], ◌∷◌, ◌++◌, length, take, drop, map, get_or, slice_index, Option, Some, None, unwrap_or, Vec, refl, sym, ap, ap₂, subst, ◌∙◌, arith, inl, inr}
 use Rattle.std.proofs.lemmas.Bool.{cases_lt}
 use Rattle.std.proofs.lemmas.Bool.Decides.{nat_tests}
 use Rattle.std.proofs.lemmas.List.{take_more, take_all, drop_more, drop_all, with_items_is}
@@ -59,17 +59,6 @@ Reach-less level i es d w counts new n h is step reach =
 pub Reach-end : (level i : ℕ) (es : List Element) (counts : List ℕ) (n : ℕ → ℕ) → length es ≤ i → Reach counts (λ x. n x + count_at level x (drop i es)) → Reach counts n
 Reach-end level i es counts n h = Reach-same counts (λ x. n x + count_at level x (drop i es)) n (λ x. let e : count_at level x (drop i es) ≡ 0 = ap (count_at level x) (drop_all i es h) in omega (arith, e))
 
--- and of one that counts the elements of entries
-pub left-entry : (level : ℕ) (all rest left : List (List ℕ × List Element)) (e : List ℕ × List Element) (x : ℕ) → left ≡ e ∷ rest → count_in level x left ≤ count_in level x all → count_in level x rest ≤ count_in level x all
-left-entry level all rest left e x is few = let f : count_in level x left ≡ count_at level x e.1 + count_in level x rest = ap (count_in level x) is in omega (arith, f, few)
-
-pub Reach-entry : (level : ℕ) (all rest left : List (List ℕ × List Element)) (e : List ℕ × List Element) (counts new : List ℕ) → left ≡ e ∷ rest → ((x : ℕ) → count_in level x left ≤ count_in level x all) → ((m : ℕ → ℕ) → Reach counts m → Reach new (λ x. m x + count_at level x e.1))
-    → Reach counts (λ x. count_in level x all - count_in level x left) → Reach new (λ x. count_in level x all - count_in level x rest)
-Reach-entry level all rest left e counts new is few step reach =
-    Reach-same new (λ x. count_in level x all - count_in level x left + count_at level x e.1) (λ x. count_in level x all - count_in level x rest)
-    (λ x. let f : count_in level x left ≡ count_at level x e.1 + count_in level x rest = ap (count_in level x) is in let h = few x in omega (arith, f, h))
-    (step (λ x. count_in level x all - count_in level x left) reach)
-
 -- ## Room
 
 one_below : (level w x y : ℕ) → x ≤ w → one_at (weight_with_room level w y) x ≡ one_at y x
@@ -122,7 +111,7 @@ Reach-room level w es old new l within opens reach x h few = elim (cases_lt w x)
         ap (slice_index new) is ∙ opens.next (omega (arith, size, h, is)) ∙ sym none ∙ ap (λ k. count_in level k (map (entry_with_room level w) es)) (sym is)
   ]
 
-entries-from_entries : (es : List (List ℕ × List Element)) → T (is_sorted key_cmp es) → entries (from_entries {R = key_cmp} es) ≡ es
+pub entries-from_entries : (es : List (List ℕ × List Element)) → T (is_sorted key_cmp es) → entries (from_entries {R = key_cmp} es) ≡ es
 entries-from_entries es sorted =
     ap entries (same_map nat_list_cmp_total (slice_cmp-IsAntisymmetric nat_cmp-IsAntisymmetric) (from_entries es) (from_sorted es) (λ q. get-from_entries nat_list_cmp_total es q ∙ sym (get-from_sorted key_cmp es q sorted)))
     ∙ entries-from_sorted key_cmp es sorted
@@ -153,16 +142,16 @@ AreCounts-other level w k t counts stays are = record {
 
 -- ## An entry
 
-both_T : (a b : Bool) → T (a && b) → T a × T b
+pub both_T : (a b : Bool) → T (a && b) → T a × T b
 both_T true b h = (tt, h)
 both_T false b h = absurd h
 
-less : (o : Ordering) → T (is_lt o) → o ≡ Less
+pub less : (o : Ordering) → T (is_lt o) → o ≡ Less
 less Less h = refl
 less Equal h = absurd h
 less Greater h = absurd h
 
-abbrev or_none : Option (List Element) → List Element
+abbrev pub or_none : Option (List Element) → List Element
 or_none o = unwrap_or o []
 
 -- a key below another one is not among the entries above that
@@ -173,7 +162,7 @@ absent k a (e ∷ es) is h =
     let lower : key_cmp k e.0 ≡ Less = nat_list_cmp_total.trans k a e.0 is (less (key_cmp a e.0) b.0) in
     ap (λ o. cond (is_eq o) (Some e.1) (find key_cmp k es)) lower ∙ absent k a es is b.1
 
-count-put : (level x : ℕ) (k : List ℕ) (v : List Element) (es : List (List ℕ × List Element)) → T (is_sorted key_cmp es) → count_in level x (put key_cmp k v es) + count_at level x (or_none (find key_cmp k es)) ≡ count_in level x es + count_at level x v
+pub count-put : (level x : ℕ) (k : List ℕ) (v : List Element) (es : List (List ℕ × List Element)) → T (is_sorted key_cmp es) → count_in level x (put key_cmp k v es) + count_at level x (or_none (find key_cmp k es)) ≡ count_in level x es + count_at level x v
 count-put level x k v [] sorted = omega arith
 count-put level x k v (e ∷ es) sorted =
     let b = both_T (below_all key_cmp e.0 es) (is_sorted key_cmp es) sorted in

@@ -29,3 +29,4 @@ pub mod TopLemmas
 pub mod CountLemmas
 pub mod RenumberedLemmas
 pub mod CopyLemmas
+pub mod CountedEntries

@@ -21,11 +21,6 @@ use Rattle.uca_tailor.specs.Renumbered.{IsBelow, HasTop, HaveTops}
 use Rattle.uca_tailor.specs.Tops.{HoldsElements, IsAtMost}
 use Rattle.uca_tailor.proofs.Levels.{IsLevel, level_one, level_two, level_three}
 
--- a test of what is seen of each element
-pub any-map : {A B : Type 0} (p : B → Bool) (f : A → B) (xs : List A) → list_any p (map f xs) ≡ list_any (λ x. p (f x)) xs
-any-map p f [] = refl
-any-map p f (x ∷ xs) = ap (λ b. p (f x) || b) (any-map p f xs)
-
 -- a greater weight stands above what a lower one does
 above_more : (level top more x : ℕ) → top ≤ more → moves level top x ≡ false → moves level more x ≡ false
 above_more level top more x h e = grind (arith, nat_tests)

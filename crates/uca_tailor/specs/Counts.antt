@@ -1,5 +1,5 @@
 -- How many elements of a table have each weight of a level.
-use Rattle.std.specs.Prelude.{◌≡◌, ℕ, ◌+◌, ◌<◌, ◌≤◌, ◌==◌, Bool, nat_lt, List, [], ◌∷◌, length, slice_index, if◌then◌else◌}
+use Rattle.std.specs.Prelude.{◌≡◌, ℕ, ◌+◌, ◌<◌, ◌≤◌, ◌==◌, min, Bool, nat_lt, List, [], ◌∷◌, length, slice_index, if◌then◌else◌}
 use Rattle.std.specs.FinMap.{entries}
 use Rattle.std.specs.Option.{unwrap_or}
 use Rattle.uca_weights.specs.declared.element.Element.{Element}
@@ -22,6 +22,10 @@ count_in level x (e ∷ es) = count_at level x e.1 + count_in level x es
 abbrev pub Reach : List ℕ → (ℕ → ℕ) → Type 0
 Reach counts n = (x : ℕ) → x < length counts → slice_index counts x < 4294967295 → slice_index counts x ≡ n x
 
+-- each count is the number itself, or the greatest of 32 bits
+abbrev pub AreCapped : List ℕ → (ℕ → ℕ) → Type 0
+AreCapped counts n = (x : ℕ) → x < length counts → slice_index counts x ≡ min (n x) 4294967295
+
 -- the counts of the weights above w go up by one place, and the weight next to w is free
 pub record Opens (w : ℕ) (old new : List ℕ) : Type 0 where
   pub size : length new ≡ length old
@@ -39,6 +43,11 @@ pub record HaveCounts (c : Counts) (t : ElementTable) : Type 0 where
   pub first : AreCounts 1 c.first.items t
   pub second : AreCounts 2 c.second.items t
   pub third : AreCounts 3 c.third.items t
+
+-- all weights of a level that are not implicit were counted, and none was taken since
+pub record AreAllCounts (level : ℕ) (counts : List ℕ) (t : ElementTable) : Type 0 where
+  pub size : length counts ≡ max_weight level + 1
+  pub capped : AreCapped counts (λ x. count_in level x (entries t.entries))
 
 -- no level was counted
 pub record AreNone (c : Counts) : Type 0 where

@@ -1,13 +1,13 @@
 //! How many elements of a table have each weight of a level, so that it is known without a look at the table whether one
 //! has the greatest.
-ghost use Rattle.std.specs.Prelude.{◌≡◌, ◌≤◌, ◌<◌, ◌+◌, ◌-◌, ◌==◌, ℕ, List, min, length, if◌then◌else◌, IsTrue, IfOk, IfSome};
+ghost use Rattle.std.specs.Prelude.{◌≡◌, ◌≤◌, ◌<◌, ◌+◌, ◌-◌, ◌==◌, ℕ, List, min, length, if◌then◌else◌, IsTrue, IfSome};
 ghost use Rattle.uca_model.specs.Room.{table_with_room};
 ghost use Rattle.uca_model.specs.Table.{ElementTable, with_entry};
-ghost use Rattle.uca_tailor.specs.Counts.{count_at, Reach, Opens, AreCounts, AreNone, HaveCounts, elements_or_none, reaches_limit};
+ghost use Rattle.uca_tailor.specs.Counts.{count_at, Reach, Opens, AreAllCounts, AreCapped, AreCounts, AreNone, HaveCounts, elements_or_none, reaches_limit};
 
-use std::alloc::{AllocError, Global};
+use std::alloc::Global;
+use uca_table::Element;
 use uca_table::room::max_weight;
-use uca_table::{Element, Table};
 
 /// For each level how many elements of a table have each weight below the implicit ones, or nothing where that was not
 /// counted.
@@ -37,8 +37,9 @@ fn one_less(count: u32) -> u32
 }
 
 /// Counts an element more.
-fn add_one(counts: &mut [u32], weight: u16)
+pub(crate) fn add_one(counts: &mut [u32], weight: u16)
     ensures size { length counts.new ≡ length counts.old }
+    ensures capped { (n : ℕ → ℕ) → AreCapped counts.old n → AreCapped counts.new (λ x. n x + (if weight == x then 1 else 0)) }
     ensures reach { (n : ℕ → ℕ) → Reach counts.old n → Reach counts.new (λ x. n x + (if weight == x then 1 else 0)) }
 {
     let place = weight as usize;
@@ -114,18 +115,16 @@ fn reaches_limit(level: u8, counts: &[u32]) -> Option<bool>
     }
 }
 
-/// The counts of a level of a table.
-fn counts_of(alloc: Global, level: u8, t: &Table) -> Result<Vec<u32>, AllocError>
+/// Whether some element has the greatest weight of a level, where all were counted and none was taken since.
+pub(crate) fn has_greatest(level: u8, counts: &[u32]) -> bool
     requires first { 1 ≤ level }
     requires last { level ≤ 3 }
-    ensures { IfOk result (λ v. AreCounts level v.items t.now) }
+    ensures { (t : ElementTable) → AreAllCounts level counts.now t → result ≡ reaches_limit level t }
 {
-    let mut counts = Vec::new(alloc);
-    counts.resize(max_weight(level) as usize + 1, 0)?;
-    for (_, elements) in t.entries() {
-        add(level, &mut counts, elements);
+    match counts.get(max_weight(level) as usize) {
+        Some(count) => *count > 0,
+        None => false,
     }
-    Ok(counts)
 }
 
 impl Counts {
@@ -147,19 +146,17 @@ impl Counts {
         self.first.is_empty() && self.second.is_empty() && self.third.is_empty()
     }
 
-    /// Counts a level, 1 to 3, of a table.
-    pub(crate) fn count(&mut self, alloc: Global, level: u8, t: &Table) -> Result<(), AllocError>
+    /// Takes the counts of a level, 1 to 3.
+    pub(crate) fn set(&mut self, level: u8, counts: Vec<u32>)
         requires first { 1 ≤ level }
         requires last { level ≤ 3 }
-        ensures { HaveCounts self.old t.now → HaveCounts self.new t.now }
+        ensures { (t : ElementTable) → AreAllCounts level counts.items t → HaveCounts self.old t → HaveCounts self.new t }
     {
-        let counts = counts_of(alloc, level, t)?;
         match level {
             1 => self.first = counts,
             2 => self.second = counts,
             _ => self.third = counts,
         }
-        Ok(())
     }
 
     /// Makes room above a weight of a level, 1 to 3.

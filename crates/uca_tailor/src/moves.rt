@@ -67,7 +67,7 @@ impl Moves {
     }
 
     /// What an element has become that was put in after the first rooms.
-    fn moved(&self, after: Stamp, element: Element) -> Element
+    pub(crate) fn moved(&self, after: Stamp, element: Element) -> Element
         requires { IsPast self.now after }
         ensures { result ≡ cut (moved_element self.now after element) }
     {

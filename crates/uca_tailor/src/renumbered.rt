@@ -8,11 +8,12 @@ ghost use Rattle.uca_model.specs.Table.{elements_at, with_entry, IsElement, IsKe
 ghost use Rattle.uca_match.specs.Keys.{key_set};
 ghost use Rattle.uca_tailor.specs.Counts.{elements_or_none};
 
-use crate::counts::Counts;
+use crate::counting::counts_of;
+use crate::counts::{Counts, has_greatest};
 use crate::items::Item;
 use crate::merging::{in_order, merge};
 use crate::moves::{Moves, START};
-use crate::tops::{Tops, any_lacks_room};
+use crate::tops::Tops;
 use std::alloc::{AllocError, Global};
 use std::collections::BTreeMap;
 use std::marker::Model;
@@ -122,8 +123,8 @@ impl<'t> Renumbered<'t> {
     }
 
     /// Whether some weight of the entries at a level, 1 to 3, would move if room were made above `w`, and can't. The
-    /// entries are looked at, and counted, only where the greatest weight of the level may stand at the limit for the
-    /// first time. From then on the counts say whether one stands there.
+    /// weights are counted only where the greatest of the level may stand at the limit for the first time, over the given
+    /// entries and the items, without a copy. From then on the counts say whether one stands there.
     pub(crate) fn lacks_room(
         &mut self,
         alloc: Global,
@@ -144,9 +145,10 @@ impl<'t> Renumbered<'t> {
         if let Some(at_limit) = self.counts.reaches_limit(level) {
             return Ok(at_limit);
         }
-        let whole = self.to_table(alloc)?;
-        self.counts.count(alloc, level, &whole)?;
-        Ok(any_lacks_room(level, w, &whole))
+        let counts = counts_of(alloc, level, &self.moves, &self.items, self.table)?;
+        let at_limit = has_greatest(level, &counts);
+        self.counts.set(level, counts);
+        Ok(at_limit)
     }
 
     /// The table with entries of its own.

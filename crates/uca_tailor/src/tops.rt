@@ -1,13 +1,10 @@
 //! Weights above which no weight of a table stands, so that a relation need not look at the whole table for room.
 ghost use Rattle.std.specs.Prelude.{◌≡◌, ◌≤◌, min};
-ghost use Rattle.std.specs.FinMap.{values};
-ghost use Rattle.std.specs.List.{list_any};
-ghost use Rattle.uca_model.specs.Room.{has_no_room, moves, weight_with_room};
+ghost use Rattle.uca_model.specs.Room.{moves, weight_with_room};
 ghost use Rattle.uca_tailor.specs.Renumbered.{IsBelow, HaveTops};
 ghost use Rattle.uca_tailor.specs.Tops.{raised, HoldsElements, IsAtMost};
 
 use crate::shifts::with_room;
-use uca_table::room::any_has_no_room;
 use uca_table::{Element, Table};
 
 /// For each level a weight above which no weight of a table stands, but implicit ones.
@@ -40,20 +37,6 @@ fn highest(level: u8, elements: &[Element], top: u16) -> u16
         }
     }
     highest
-}
-
-/// Whether some weight of a table at a level, 1 to 3, would move if room were made above `w`, and can't.
-pub(crate) fn any_lacks_room(level: u8, w: u16, t: &Table) -> bool
-    requires first { 1 ≤ level }
-    requires last { level ≤ 3 }
-    ensures { result ≡ list_any (list_any (has_no_room level w)) (values t.now.entries) }
-{
-    for (_, elements) in t.entries() {
-        if any_has_no_room(level, w, elements) {
-            return true;
-        }
-    }
-    false
 }
 
 impl Tops {
