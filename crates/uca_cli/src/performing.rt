@@ -14,26 +14,37 @@ use uca_job::{Job, Task};
 use uca_table::{RangeFault, Table};
 use uca_weights::{Reader, Settings, Writer};
 
-/// Gives a table a range of ideographs, and its cells what follows from that.
-fn widen(alloc: Global, t: &mut Table, ends: (char, char)) -> Result<(), CliFault>
+/// Gives a table a range of ideographs.
+fn widen(t: &mut Table, ends: (char, char)) -> Result<(), CliFault>
     ensures { MatchResult result (λ _. Widens (Some ends) t.old t.new) (RefusesWidening (Some ends) t.old) }
 {
     match t.add_ideographs(ends.0, ends.1) {
-        Ok(()) => Ok(t.prepare(alloc)?),
+        Ok(()) => Ok(()),
         Err(RangeFault::BadRange) => Err(CliFault::Ideographs),
         Err(RangeFault::OutOfMemory) => Err(CliFault::OutOfMemory),
     }
 }
 
 /// Gives a table the range of ideographs of a job, where it has one.
-fn widened(alloc: Global, mut t: Table, ends: Option<(char, char)>) -> Result<Table, CliFault>
+fn widened(mut t: Table, ends: Option<(char, char)>) -> Result<Table, CliFault>
     ensures ok { IfOk result (Widens ends t) }
     ensures err { IfErr result (RefusesWidening ends t) }
 {
     if let Some(ends) = ends {
-        widen(alloc, &mut t, ends)?;
+        widen(&mut t, ends)?;
     }
     Ok(t)
+}
+
+/// The table of a job that has no rules. If a range of ideographs was added, the cells that this dropped are made anew; where
+/// memory for them is refused, the table is only slower.
+fn ready(alloc: Global, mut t: Table, ends: Option<(char, char)>) -> Table
+    ensures { result ≡ t }
+{
+    if ends.is_some() {
+        let _has_cells = t.prepare(alloc);
+    }
+    t
 }
 
 /// Does the command of a job with its table.
@@ -108,10 +119,10 @@ pub fn perform<T: Reader, U: Reader, I: Reader, W: Writer>(
         Some(reader) => read_table(alloc, reader)?,
         None => built_in(alloc)?,
     };
-    let base = widened(alloc, given, job.ideographs)?;
+    let base = widened(given, job.ideographs)?;
     let t = match rules {
         Some(reader) => tailored_in(alloc, base, reader)?,
-        None => base,
+        None => ready(alloc, base, job.ideographs),
     };
     work(alloc, job, &t, input, output)
 }

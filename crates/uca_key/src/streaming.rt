@@ -7,15 +7,42 @@ ghost use Rattle.uca_model.specs.SafeText.{IsSafe};
 ghost use Rattle.uca_model.specs.SortKey.{weight_bytes, code_point_bytes, sort_key};
 ghost use Rattle.uca_model.specs.Source.{unread};
 ghost use Rattle.uca_window.specs.Passage.{text_of};
+ghost use Rattle.uca_key.specs.Faults.{write_fault};
 
 use uca_io::OutputBuffer;
 use uca_levels::{Points, Weights};
 use uca_table::Table;
-use uca_weights::{Settings, Variable, WriteFault, Writer};
+use uca_weights::{Settings, Variable, WriteCause, WriteFault, Writer};
 use uca_window::{Passage, PassageSource, Source};
 
 /// How far the bytes of a key came, and why they stopped.
-pub type KeyFault = WriteFault;
+#[derive(Clone, Copy, Debug, PartialEq, Eq)]
+pub struct KeyFault {
+    /// How many bytes of the key the writer took.
+    pub written: u128,
+    pub cause: WriteCause,
+}
+
+impl From<KeyFault> for WriteFault {
+    ghost from_gives = { λ fault result. result ≡ write_fault fault };
+
+    fn from(fault: KeyFault) -> WriteFault {
+        WriteFault {
+            written: fault.written,
+            cause: fault.cause,
+        }
+    }
+}
+
+// A fault of the writer as one of the key.
+fn stopped(fault: WriteFault) -> KeyFault
+    ensures { write_fault result ≡ fault }
+{
+    KeyFault {
+        written: fault.written,
+        cause: fault.cause,
+    }
+}
 
 // Has a weight go out.
 fn send_weight<W: Writer>(w: &mut W, out: &mut OutputBuffer, weight: u16) -> Result<(), WriteFault>
@@ -187,17 +214,17 @@ pub fn write_key<W: Writer>(
 ) -> Result<u128, KeyFault>
     ensures { MatchResult result
         (λ n. WritesAll (W.state w.old) (W.state w.new) (sort_key t.now s (text_of p.now)) × (n ≡ length (sort_key t.now s (text_of p.now))))
-        (λ f. WritesFront (W.state w.old) (W.state w.new) (sort_key t.now s (text_of p.now)) f) }
+        (λ f. WritesFront (W.state w.old) (W.state w.new) (sort_key t.now s (text_of p.now)) (write_fault f)) }
 {
     show_room(t, s, p);
     let mut out = OutputBuffer::new();
     let mut source = PassageSource::new(p);
     match send_key(w, &mut out, t, s, &mut source) {
         Ok(()) => {}
-        Err(fault) => return Err(fault),
+        Err(fault) => return Err(stopped(fault)),
     }
     match out.flush(w) {
         Ok(()) => Ok(out.written()),
-        Err(fault) => Err(fault),
+        Err(fault) => Err(stopped(fault)),
     }
 }

@@ -1,4 +1,4 @@
-use Rattle.std.proofs.Common.{inl, inr, refl, arith}
+use Rattle.std.proofs.Common.{inl, inr, arith}
 use Rattle.std.proofs.lemmas.Result.{err_from_is_err_and}
 use Rattle.uca_cli.proofs.PerformingLemmas.{option_cases, makes_base, stops_widening, performs, stops, no_rules, no_table}
 use Rattle.uca_cli.proofs.performing.perform.Goals.{in-Some+in_ok-given-in-Some, in-None+in_ok-given-in-None, in-Some-rules+in_ok-t-in-Some-rules, in-None-rules}
@@ -90,11 +90,11 @@ returns-clause-done g c =
     elim c.match-table.branch [
       | in-Some+in_ok-given-in-Some w ↦ elim c.match-rules.branch [
         | in-Some-rules+in_ok-t-in-Some-rules v ↦ rw (w.in-Some.is, w.table-is, v.in-Some-rules.is, v.rules-is) (performs _ _ _ _ _ c.in_ok-base.base c.match-rules.t _ _ _ (makes_base _ _ _ _ _ _ w.given-is w.in_ok-given-in-Some.ensures.reads c.in_ok-base.ensures.ok) (rw v.t-is v.in_ok-t-in-Some-rules.ensures.ok) c.work.ensures.done)
-        | in-None-rules v ↦ rw (w.in-Some.is, w.table-is, v.in-None-rules.is) (performs _ _ _ _ _ c.in_ok-base.base c.match-rules.t _ _ _ (makes_base _ _ _ _ _ _ w.given-is w.in_ok-given-in-Some.ensures.reads c.in_ok-base.ensures.ok) (rw v.t-is refl) c.work.ensures.done)
+        | in-None-rules v ↦ rw (w.in-Some.is, w.table-is, v.in-None-rules.is) (performs _ _ _ _ _ c.in_ok-base.base c.match-rules.t _ _ _ (makes_base _ _ _ _ _ _ w.given-is w.in_ok-given-in-Some.ensures.reads c.in_ok-base.ensures.ok) (rw v.t-is v.ready-t.ensures) c.work.ensures.done)
       ]
       | in-None+in_ok-given-in-None w ↦ elim c.match-rules.branch [
         | in-Some-rules+in_ok-t-in-Some-rules v ↦ rw (w.in-None.is, v.in-Some-rules.is, v.rules-is) (performs _ _ _ _ _ c.in_ok-base.base c.match-rules.t _ _ _ (makes_base _ _ _ _ _ _ w.given-is w.in_ok-given-in-None.ensures c.in_ok-base.ensures.ok) (rw v.t-is v.in_ok-t-in-Some-rules.ensures.ok) c.work.ensures.done)
-        | in-None-rules v ↦ rw (w.in-None.is, v.in-None-rules.is) (performs _ _ _ _ _ c.in_ok-base.base c.match-rules.t _ _ _ (makes_base _ _ _ _ _ _ w.given-is w.in_ok-given-in-None.ensures c.in_ok-base.ensures.ok) (rw v.t-is refl) c.work.ensures.done)
+        | in-None-rules v ↦ rw (w.in-None.is, v.in-None-rules.is) (performs _ _ _ _ _ c.in_ok-base.base c.match-rules.t _ _ _ (makes_base _ _ _ _ _ _ w.given-is w.in_ok-given-in-None.ensures c.in_ok-base.ensures.ok) (rw v.t-is v.ready-t.ensures) c.work.ensures.done)
       ]
     ]
 
@@ -103,11 +103,11 @@ returns-clause-fault g c =
     elim c.match-table.branch [
       | in-Some+in_ok-given-in-Some w ↦ elim c.match-rules.branch [
         | in-Some-rules+in_ok-t-in-Some-rules v ↦ rw (w.in-Some.is, w.table-is, v.in-Some-rules.is, v.rules-is) (stops _ _ _ _ _ c.in_ok-base.base c.match-rules.t _ _ _ (makes_base _ _ _ _ _ _ w.given-is w.in_ok-given-in-Some.ensures.reads c.in_ok-base.ensures.ok) (rw v.t-is v.in_ok-t-in-Some-rules.ensures.ok) c.work.ensures.fault)
-        | in-None-rules v ↦ rw (w.in-Some.is, w.table-is, v.in-None-rules.is) (stops _ _ _ _ _ c.in_ok-base.base c.match-rules.t _ _ _ (makes_base _ _ _ _ _ _ w.given-is w.in_ok-given-in-Some.ensures.reads c.in_ok-base.ensures.ok) (rw v.t-is refl) c.work.ensures.fault)
+        | in-None-rules v ↦ rw (w.in-Some.is, w.table-is, v.in-None-rules.is) (stops _ _ _ _ _ c.in_ok-base.base c.match-rules.t _ _ _ (makes_base _ _ _ _ _ _ w.given-is w.in_ok-given-in-Some.ensures.reads c.in_ok-base.ensures.ok) (rw v.t-is v.ready-t.ensures) c.work.ensures.fault)
       ]
       | in-None+in_ok-given-in-None w ↦ elim c.match-rules.branch [
         | in-Some-rules+in_ok-t-in-Some-rules v ↦ rw (w.in-None.is, v.in-Some-rules.is, v.rules-is) (stops _ _ _ _ _ c.in_ok-base.base c.match-rules.t _ _ _ (makes_base _ _ _ _ _ _ w.given-is w.in_ok-given-in-None.ensures c.in_ok-base.ensures.ok) (rw v.t-is v.in_ok-t-in-Some-rules.ensures.ok) c.work.ensures.fault)
-        | in-None-rules v ↦ rw (w.in-None.is, v.in-None-rules.is) (stops _ _ _ _ _ c.in_ok-base.base c.match-rules.t _ _ _ (makes_base _ _ _ _ _ _ w.given-is w.in_ok-given-in-None.ensures c.in_ok-base.ensures.ok) (rw v.t-is refl) c.work.ensures.fault)
+        | in-None-rules v ↦ rw (w.in-None.is, v.in-None-rules.is) (stops _ _ _ _ _ c.in_ok-base.base c.match-rules.t _ _ _ (makes_base _ _ _ _ _ _ w.given-is w.in_ok-given-in-None.ensures c.in_ok-base.ensures.ok) (rw v.t-is v.ready-t.ensures) c.work.ensures.fault)
       ]
     ]
 
