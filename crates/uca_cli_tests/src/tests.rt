@@ -7,6 +7,7 @@ mod ordering;
 mod raw;
 mod rules;
 mod tables;
+mod words;
 
 use given::{Given, failing, output_refused, whole};
 use std::alloc::{AllocError, Global};

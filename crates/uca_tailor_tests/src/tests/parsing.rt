@@ -242,6 +242,7 @@ fn runs_keep_to_the_limit(rt: HostRuntime) {
     assert_answer(&rt, alloc, &[("&a<", 1), ("\u{344}", 31)], "LongRun 3");
     assert_answer(&rt, alloc, &[("&a<", 1), ("\u{301}", 33)], "KeyTooLong 3");
     assert_answer(&rt, alloc, &[("&a< b", 1), ("\u{301}", 61)], "LongRun 3");
+    assert_taken(&rt, alloc, &[("&a<", 1), ("\u{301}", 31)]);
     assert_taken(&rt, alloc, &[("&a", 1), ("\u{301}", 31)]);
     assert_answer(
         &rt,
