@@ -1,7 +1,7 @@
 -- Bytes that are put into a buffer one piece after the other.
 use Rattle.std.proofs.Common.{◌≡◌, ℕ, zero, suc, ◌+◌, ◌-◌, ◌^◌, ◌≤◌, ◌<◌, List, [], ◌∷◌, ◌++◌, length, take, drop, Option, Some, None, refl, sym, ap, ap₂, subst, ◌∙◌, arith, inl, inr, append_assoc, append-nil, take-append-drop, length-append}
 use Rattle.std.proofs.lemmas.Bool.{cases_lt}
-use Rattle.uca_model.specs.DecidingLevel.{bytes_at, key_from}
+pub use Rattle.uca_key.proofs.KeyPieces.{key_from-split, none_from, tail_of}
 use Rattle.uca_handle.specs.Placing.{with_bytes_at, PutsAt}
 
 take-nil : (n : ℕ) → take {A = ℕ} n [] ≡ []
@@ -87,16 +87,3 @@ module _ (at next : ℕ) (before now whole left : List ℕ) (h : IsPutting at be
 
   pub IsPutting-ends : left ≡ [] → PutsAt at whole before now next
   IsPutting-ends none = subst (λ (l : List ℕ). PutsAt at l before now next) (sym (append-nil h.put) ∙ ap (λ l. h.put ++ l) (sym none) ∙ h.parts) h.puts
-
--- what follows a level in a key
-abbrev pub tail_of : ℕ → ℕ → (ℕ → List ℕ) → List ℕ
-tail_of zero level lists = []
-tail_of (suc n) level lists = 0 ∷ 0 ∷ key_from n (level + 1) lists
-
-pub key_from-split : (n level : ℕ) (lists : ℕ → List ℕ) (own : List ℕ) → lists level ≡ own → key_from n level lists ≡ bytes_at level own ++ tail_of n level lists
-key_from-split zero level lists own same = sym (append-nil (bytes_at level (lists level))) ∙ ap (λ l. bytes_at level l ++ []) same
-key_from-split (suc n) level lists own same = ap (λ l. bytes_at level l ++ 0 ∷ 0 ∷ key_from n (level + 1) lists) same
-
-pub none_from : {A : Type 0} (o : Option A) → ((x : A) → o ≡ Some x → ⊥) → o ≡ None
-none_from None other = refl
-none_from (Some x) other = absurd (other x refl)
