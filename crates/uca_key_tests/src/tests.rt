@@ -25,20 +25,16 @@ fn table(rt: &impl Abort, alloc: Global) -> Table {
     small_table(alloc).ok().expect(rt, "a table")
 }
 
-/// The key of a safe text, asked for once more where memory was refused.
-fn key_again(
-    rt: &impl Abort,
-    alloc: Global,
-    t: &Table,
-    strength: Strength,
-    weighting: Variable,
-    text: &str,
-) -> Vec<u8> {
-    let p = Passage::check(text).ok().expect(rt, "a safe text");
-    let settings = Settings {
+fn settings(strength: Strength, weighting: Variable) -> Settings {
+    Settings {
         strength,
         weighting,
-    };
+    }
+}
+
+/// The key of a safe text, asked for once more where memory was refused.
+fn key_again(rt: &impl Abort, alloc: Global, t: &Table, settings: Settings, text: &str) -> Vec<u8> {
+    let p = Passage::check(text).ok().expect(rt, "a safe text");
     match key_of(alloc, t, settings, &p) {
         Ok(key) => key,
         Err(_) => key_of(alloc, t, settings, &p).expect(rt, "a key"),
@@ -50,7 +46,7 @@ type KeyRow = (&'static str, Strength, Variable, &'static [u8]);
 
 /// Stops a test where the key of a text is not this one.
 fn assert_key(rt: &impl Abort, alloc: Global, t: &Table, (text, strength, v, wanted): &KeyRow) {
-    let key = key_again(rt, alloc, t, *strength, *v, text);
+    let key = key_again(rt, alloc, t, settings(*strength, *v), text);
     assert!(rt; key.as_slice() == *wanted, "{text:?} {strength:?} {v:?}");
 }
 
@@ -167,11 +163,12 @@ fn marks_alone_count_at_the_second_level(rt: HostRuntime) {
     let t = table(&rt, rt.alloc());
     let text =
         "\u{301}\u{301}\u{301}\u{301}\u{301}\u{301}\u{301}\u{301}\u{301}\u{301}\u{301}\u{301}\u{301}\u{301}\u{301}\u{301}\u{301}\u{301}\u{301}\u{301}\u{301}\u{301}\u{301}\u{301}\u{301}\u{301}\u{301}\u{301}\u{301}\u{301}\u{301}\u{301}\u{301}\u{301}\u{301}\u{301}\u{301}\u{301}\u{301}\u{301}\u{301}\u{301}\u{301}\u{301}\u{301}\u{301}\u{301}\u{301}\u{301}\u{301}\u{301}\u{301}\u{301}\u{301}\u{301}\u{301}\u{301}\u{301}\u{301}\u{301}";
-    let option = Variable::NonIgnorable;
-    let key = key_again(&rt, rt.alloc(), &t, Strength::Primary, option, text);
+    let primary = settings(Strength::Primary, Variable::NonIgnorable);
+    let secondary = settings(Strength::Secondary, Variable::NonIgnorable);
+    let key = key_again(&rt, rt.alloc(), &t, primary, text);
     assert!(rt; key.is_empty());
-    let key = key_again(&rt, rt.alloc(), &t, Strength::Secondary, option, text);
+    let key = key_again(&rt, rt.alloc(), &t, secondary, text);
     assert_marks_alone(&rt, &key);
-    let empty = key_again(&rt, rt.alloc(), &t, Strength::Secondary, option, "");
+    let empty = key_again(&rt, rt.alloc(), &t, secondary, "");
     assert!(rt; key.as_slice() > empty.as_slice());
 }

@@ -242,12 +242,24 @@ fn a_text_is_cut_in_its_thirteenth_line(rt: HostRuntime) {
     }
 }
 
-#[test]
-fn no_bytes_give_an_empty_table(rt: HostRuntime) {
-    let table = read(rt.alloc(), b"").expect(&rt, "a table");
+/// Stops a test where a text is refused, or its table has something.
+fn assert_empty(rt: &impl Abort, answer: Result<Table, ReadFault>) {
+    let table = answer.expect(rt, "a table");
     assert!(rt; table.longest() == 1);
     assert!(rt; table.entries().count() == 0);
     assert!(rt; table.ranges().is_empty());
+}
+
+#[test]
+fn no_bytes_give_an_empty_table(rt: HostRuntime) {
+    assert_empty(&rt, read(rt.alloc(), b""));
+}
+
+#[test]
+fn the_longest_comment_gives_an_empty_table(rt: HostRuntime) -> Result<(), Fail> {
+    let comment = repeated(rt.alloc(), &[("#", 1), ("x", 4_095), ("\n", 1)])?;
+    assert_empty(&rt, read(rt.alloc(), &comment));
+    Ok(())
 }
 
 #[test]

@@ -1,4 +1,4 @@
-use super::{KeyRow, table};
+use super::{KeyRow, settings, table};
 use std::alloc::{AllocError, Global};
 use std::process::Abort;
 use std::test::Fail;
@@ -13,15 +13,10 @@ fn packed_again(
     rt: &impl Abort,
     alloc: Global,
     t: &Table,
-    strength: Strength,
-    weighting: Variable,
+    settings: Settings,
     text: &str,
 ) -> Vec<u8> {
     let p = Passage::check(text).ok().expect(rt, "a safe text");
-    let settings = Settings {
-        strength,
-        weighting,
-    };
     match packed_key_of(alloc, t, settings, &p) {
         Ok(key) => key,
         Err(_) => packed_key_of(alloc, t, settings, &p).expect(rt, "a key"),
@@ -30,7 +25,7 @@ fn packed_again(
 
 /// Stops a test where the packed key of a text is not this one.
 fn assert_packed(rt: &impl Abort, alloc: Global, t: &Table, (text, strength, v, wanted): &KeyRow) {
-    let key = packed_again(rt, alloc, t, *strength, *v, text);
+    let key = packed_again(rt, alloc, t, settings(*strength, *v), text);
     assert!(rt; key.as_slice() == *wanted, "{text:?} {strength:?} {v:?}");
 }
 
@@ -145,9 +140,9 @@ const ENDED_RUNS: [(&'static str, usize, &'static [u8]); 5] = [
 #[test]
 fn other_weights_end_a_run(rt: HostRuntime) {
     let t = table_from(rt.alloc(), WEIGHTS).ok().expect(&rt, "a table");
-    let option = Variable::NonIgnorable;
+    let s = settings(Strength::Tertiary, Variable::NonIgnorable);
     for (text, first, wanted) in &ENDED_RUNS {
-        let key = packed_again(&rt, rt.alloc(), &t, Strength::Tertiary, option, text);
+        let key = packed_again(&rt, rt.alloc(), &t, s, text);
         assert!(rt; key.get(*first..) == Some(*wanted), "{text:?}");
     }
 }
@@ -177,8 +172,8 @@ fn eighty_four_common_weights_are_one_byte(rt: HostRuntime) -> Result<(), Fail> 
     let t = table(&rt, rt.alloc());
     for (times, end, first, wanted) in &LONG_RUNS {
         let text = letters_before(rt.alloc(), *times, end)?;
-        let option = Variable::NonIgnorable;
-        let key = packed_again(&rt, rt.alloc(), &t, Strength::Secondary, option, &text);
+        let s = settings(Strength::Secondary, Variable::NonIgnorable);
+        let key = packed_again(&rt, rt.alloc(), &t, s, &text);
         assert!(rt; key.get(*first..) == Some(*wanted), "{times}");
     }
     Ok(())

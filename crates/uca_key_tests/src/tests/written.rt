@@ -46,7 +46,7 @@ const CHARACTERS: [char; 16] = [
 /// Stops a test where what `write_key` writes is not the key.
 fn assert_written(rt: &impl Abort, alloc: Global, t: &Table, s: Settings, p: &Passage) {
     let text = p.as_str();
-    let key = key_again(rt, alloc, t, s.strength, s.weighting, text);
+    let key = key_again(rt, alloc, t, s, text);
     let mut writer = Expecting::new(&key, 10_000, WriteCause::Failed);
     let written = write_key(&mut writer, t, s, p);
     assert!(rt; written == Ok(key.len() as u128), "{text:?}");
