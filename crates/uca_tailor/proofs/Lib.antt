@@ -30,3 +30,4 @@ pub mod CountLemmas
 pub mod RenumberedLemmas
 pub mod CopyLemmas
 pub mod CountedEntries
+pub mod ChainLemmas

@@ -1,4 +1,5 @@
 ghost use Rattle.uca_tailor.specs.TailoringLaws.{UntouchedTextsKeepTheirOrder, EachItemIsPlaced, EachItemIsNext, EachItemIsAnAnchor, EachShiftIsIncreasing, RelatedTablesAreTables};
+ghost use Rattle.uca_tailor.specs.ChainLaws.{ChainsComeAsWritten, NeighboursComeAsWritten};
 
 /// Two texts that no rule touches keep their order: the byte order of their sort keys is the same under the given and
 /// the tailored table, at every strength and option. So a table may be tailored while an index of such texts stays in order.
@@ -41,4 +42,18 @@ pub fn related_tables_are_tables()
 /// stand at that level, so it keeps their order, and no two of them become one. It leaves zero and implicit elements as they are.
 pub fn each_shift_is_increasing()
     ensures { EachShiftIsIncreasing }
+{}
+
+/// A text that a relation goes on from and its item come out as they are written: under the table that all rules make they are
+/// equal at the strengths below the relation's level, and the text comes first at all others, where variable elements are not
+/// ignored. Later relations may not disturb them: both texts have the matches that they had after the relation, and none of
+/// these is a later item.
+pub fn neighbours_come_as_written()
+    ensures { NeighboursComeAsWritten }
+{}
+
+/// The items of a chain come out in its order: of texts of which each comes after the one before, the first comes before the
+/// last at the strongest operator between them, and at all strengths above.
+pub fn chains_come_as_written()
+    ensures { ChainsComeAsWritten }
 {}
