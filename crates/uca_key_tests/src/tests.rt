@@ -1,6 +1,7 @@
 mod all_pairs;
 mod bounds;
 mod packed;
+mod texts;
 mod written;
 
 use std::alloc::Global;

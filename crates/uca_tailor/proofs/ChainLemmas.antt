@@ -7,13 +7,12 @@ use Rattle.std.specs.Prelude.{Result, Err}
 use Rattle.std.specs.declared.cmp.Ordering.TheVariants.{Less, Equal}
 use Rattle.unicode_normalization.specs.Forms.{nfd}
 use Rattle.uca_weights.specs.declared.element.Element.{Element}
-use Rattle.uca_weights.specs.declared.settings.Settings.{Settings}
 use Rattle.uca_weights.specs.declared.settings.Strength.{Strength}
 use Rattle.uca_weights.specs.declared.settings.Variable.TheVariants.{NonIgnorable}
 use Rattle.uca_weights.specs.Settings.{levels}
 use Rattle.uca_model.specs.Table.{ElementTable, IsTable}
 use Rattle.uca_model.specs.CollationElements.{elements}
-use Rattle.uca_model.specs.SortKey.{key_order, sort_key}
+use Rattle.uca_model.specs.SortKey.{key_order}
 use Rattle.uca_model.specs.Rules.{Relation, Chain}
 use Rattle.uca_model.specs.TableText.{◌>>=◌}
 use Rattle.uca_model.specs.Tailoring.{TailorCause, TailorFault, Related, related, at_relation, related_all, tailored_from, tailored}

@@ -154,3 +154,29 @@ fn an_item_with_an_expansion_is_not_next_to_its_anchor(rt: HostRuntime) {
     assert_list(&rt, rt.alloc(), &u, 'a', &[0x1000]);
     assert_list(&rt, rt.alloc(), &u, 'c', &[0x1000, 0x1001]);
 }
+
+#[test]
+fn a_chain_comes_out_in_its_order(rt: HostRuntime) {
+    let t = small_table(&rt, rt.alloc());
+    let u = tailored_table(&rt, rt.alloc(), &t, "&a<x<<q<<<w &b<y");
+    assert_ascending(&rt, rt.alloc(), &u, &[&['a'], &['x'], &['b'], &['y']]);
+    let texts: [&[char]; 2] = [&['x'], &['w']];
+    assert!(rt; order(&rt, rt.alloc(), &u, texts, 1) == Ordering::Equal);
+    assert!(rt; order(&rt, rt.alloc(), &u, texts, 2) == Ordering::Less);
+}
+
+#[test]
+fn an_item_that_is_tailored_again_leaves_its_chain(rt: HostRuntime) {
+    let t = small_table(&rt, rt.alloc());
+    let u = tailored_table(&rt, rt.alloc(), &t, "&a<x<y &z<x");
+    let texts: [&[char]; 2] = [&['x'], &['y']];
+    assert!(rt; order(&rt, rt.alloc(), &u, texts, 1) == Ordering::Greater);
+}
+
+#[test]
+fn a_later_contraction_takes_a_text_out_of_its_chain(rt: HostRuntime) {
+    let t = small_table(&rt, rt.alloc());
+    let u = tailored_table(&rt, rt.alloc(), &t, "&cz<x &z<cz");
+    let texts: [&[char]; 2] = [&['c', 'z'], &['x']];
+    assert!(rt; order(&rt, rt.alloc(), &u, texts, 1) == Ordering::Greater);
+}
