@@ -33,6 +33,17 @@ is "the tailored table" "@implicitweights 17000..18AFF; FB00
 0301 ; [.0000.0022.0002]
 0308 ; [.0000.0023.0002]
 0323 ; [.0000.0024.0002]|0" "$(cat "$work/out")|$status"
+# A chain comes out as it is written; where a premise of that law does not hold, it need not.
+with_rules "&'-'<x" compare < <(printf -- '-\nx\n')
+is "an item after a hyphen" "less|0" "$(cat "$work/out")|$status"
+with_rules "&'-'<x" compare --variable blanked < <(printf -- '-\nx\n')
+is "an item after a hyphen, variable elements ignored" "equal|0" "$(cat "$work/out")|$status"
+with_rules '&cz<cz' compare < <(printf 'cz\ncz\n')
+is "an item that is its own reset" "equal|0" "$(cat "$work/out")|$status"
+with_rules '&a<x<y &z<x' compare < <(printf 'x\ny\n')
+is "an item that a later relation moves" "greater|0" "$(cat "$work/out")|$status"
+with_rules '&cz<x &z<cz' compare < <(printf 'cz\nx\n')
+is "a reset that a later item takes" "greater|0" "$(cat "$work/out")|$status"
 with_rules '# nothing but a comment\n' table </dev/null
 is "rules without a chain" "$(./uca table </dev/null)|0" "$(cat "$work/out")|$status"
 with_rules '&a<b/e<c' elements < <(printf 'b\nc\ne\n')
