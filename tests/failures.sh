@@ -226,6 +226,30 @@ else
 fi
 all_rows "the program"
 
+# With a range of ideographs little more may be reported than without one: growths for its words and for the list of ranges.
+# A refused growth of what only makes a table quicker is no fault, and where rules follow, nothing of that kind is made before them.
+for set in plain rules; do
+    words=(key)
+    [ "$set" = rules ] && words+=(--rules "$work/rules")
+    for range in "" "--ideographs 323B0..33479"; do
+        # shellcheck disable=SC2086
+        row "$set${range:+-ideographs}" "$work/line" "$program" "${words[@]}" $range
+        echo 100000 1 >"$folder/rule"
+        notes FAILURES_BEGUN=1 FAILURES_RULES="$work/rules"
+        tries growths
+    done
+done
+run_rows
+growths_of() { cut -d' ' -f1 "$work/rows/$1/count.report"; }
+reported_of() { awk '/^=/ { print $6 }' "$work/rows/$1/growths.report"; }
+few() { [ $(($1 - $2)) -le 40 ] && echo few || echo "$1 beside $2"; }
+for set in plain rules; do
+    is "wrong answers with a range of ideographs, $set" "" "$(said_of "$work/rows/$set-ideographs/growths.report")"
+    is "failures that are reported for a range of ideographs, $set" "few" "$(few "$(reported_of $set-ideographs)" "$(reported_of $set)")"
+done
+is "growths for a range of ideographs before rules" "few" "$(few "$(growths_of rules-ideographs)" "$(growths_of rules)")"
+forget_rows
+
 # The text of the built-in table, with a version, comments and more blanks, cut after each byte: the last line is still one, or is refused.
 { echo '@version 15.1.0'; sed 's/ ;/  ;/; s/$/ # what it is/' "$work/table"; } >"$work/text"
 perl -e '
