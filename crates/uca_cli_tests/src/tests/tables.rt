@@ -61,7 +61,7 @@ fn a_faulty_text_is_reported_and_nothing_is_written(rt: HostRuntime) {
 #[test]
 fn a_failed_read_of_the_table_is_reported(rt: HostRuntime) {
     // The line in which the reader fails, a byte at a time.
-    for (calls, line) in &[(0, 1), (15, 1), (16, 2), (81, 2), (82, 3)] {
+    for (calls, line) in &[(0, 1), (15, 1), (16, 2), (65, 2), (66, 3)] {
         let given = table_in(Pieces::new(WRITTEN_BY_HAND, 1, *calls));
         let fault = table_refused(*line, ReadCause::Read);
         assert!(rt;
