@@ -6,14 +6,12 @@ ghost use Rattle.uca_table.specs.Stored.{longest_of};
 
 use crate::entry_map::EntryMap;
 use crate::fault::{FinishFault, InsertFault, RangeFault};
-use crate::firsts::Firsts;
-use crate::flat::{Flat, Span};
 use crate::range_map::RangeMap;
 use crate::stored::Stored;
 use crate::table::Table;
-use crate::trie::Trie;
 use std::alloc::Global;
 use std::marker::Model;
+use uca_keys::Nodes;
 use uca_weights::{Element, MAX_ELEMENTS, MAX_KEY, Range};
 
 /// Collects the entries of a table, one after the other.
@@ -97,23 +95,21 @@ impl TableBuilder {
         ensures made { MatchResult result (λ t. t ≡ self) (λ f. f.builder ≡ self) }
         ensures unlisted { IfOk result (λ t. t.ideographs ≡ []) }
     {
-        let Ok(entries) = self.entries.flat(self.alloc) else {
+        let Ok(entries) = self.entries.nodes(self.alloc) else {
             return Err(FinishFault { builder: self });
         };
         let Ok(range_room) = Vec::with_capacity(self.alloc, self.ranges.len()) else {
             return Err(FinishFault { builder: self });
         };
         let longest_key = longest_key(&entries);
-        let all = Span::all(&entries);
-        let firsts = Firsts::of(self.alloc, &all);
-        let trie = Trie::of(self.alloc, &all, &firsts);
+        let Ok(keys) = entries.finish(self.alloc) else {
+            return Err(FinishFault { builder: self });
+        };
         let stored = Stored {
-            entries,
+            keys,
             ranges: self.ranges.finish(range_room),
             ideographs: Vec::new(self.alloc),
             longest_key,
-            firsts,
-            trie,
         };
         Ok(Table::of(self.alloc, stored))
     }
@@ -154,12 +150,12 @@ fn longer(longest: usize, key: &[char]) -> usize
 }
 
 /// The length of the longest key, 1 where there is none.
-fn longest_key(entries: &Flat) -> usize
+fn longest_key(entries: &Nodes) -> usize
     ensures { result ≡ longest_of entries.now }
 {
     let mut longest = 1;
-    for at in 0..entries.len() {
-        longest = longer(longest, entries.key(at));
+    for (key, _) in entries.entries() {
+        longest = longer(longest, key.as_slice());
     }
     longest
 }
