@@ -1,9 +1,8 @@
 -- What the children of a node lead to.
-use Rattle.std.proofs.Common.{◌≡◌, ℕ, zero, suc, ◌+◌, ◌-◌, ◌≤◌, ◌<◌, Bool, true, false, cond, ◌&&◌, ◌||◌, eqb, nat_lt, T, List, [], ◌∷◌, ◌++◌, length, take, drop, get_or, All, refl, sym, ap, ap₂, subst, ◌∙◌, arith, inl, inr, eqb-true, eq-eqb, ne_eqb, ltb-true, ltb-false, length-append, length-take-le, length-drop, take-take, take_all, append_assoc, le_refl}
+use Rattle.std.proofs.Common.{◌≡◌, ℕ, zero, suc, ◌+◌, ◌≤◌, ◌<◌, Bool, true, false, cond, ◌&&◌, ◌||◌, eqb, nat_lt, T, List, [], ◌∷◌, ◌++◌, length, take, get_or, refl, sym, ap, subst, ◌∙◌, arith, inl, inr, eqb-true, eq-eqb, ltb-true, ltb-false, length-take-le, append_assoc, le_refl}
 use Rattle.std.proofs.lemmas.Bool.{cases_Bool, cases_lt, and_parts}
 use Rattle.std.proofs.lemmas.List.{length_push}
-use Rattle.std.specs.declared.cmp.Ordering.{Ordering}
-use Rattle.std.specs.declared.cmp.Ordering.TheVariants.{Less, Equal, Greater}
+use Rattle.std.specs.declared.cmp.Ordering.TheVariants.{Less, Equal}
 use Rattle.std.specs.List.{AllByRecursion, list_any}
 use Rattle.std.specs.List.Sorted.{IsNonDecreasingBy}
 use Rattle.std.specs.Cmp.{tied_itself, nat_cmp_total}
@@ -13,8 +12,8 @@ use Rattle.uca_model.specs.Table.{key_cmp}
 use Rattle.uca_keys.specs.declared.node.Node.{Node}
 use Rattle.uca_keys.specs.declared.trie.Child.{Child}
 use Rattle.uca_keys.specs.Fronts.{is_front, begins_entry}
-use Rattle.uca_keys.specs.Links.{child_of, kids_from, span_len}
-use Rattle.uca_keys.specs.Nodes.{path_after, paths_after, last_path, elements_in, entries_after, IsNext, AreNext}
+use Rattle.uca_keys.specs.Links.{child_of, kids_from}
+use Rattle.uca_keys.specs.Nodes.{path_after, paths_after, elements_in, entries_after, AreNext}
 use Rattle.uca_keys.proofs.PathLemmas.{chain, front_of_front, front_left, front_longer, upto}
 use Rattle.uca_keys.proofs.NodeLemmas.{path_front, path_long}
 

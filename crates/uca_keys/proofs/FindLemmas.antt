@@ -1,6 +1,6 @@
 -- What look-ups find in a trie.
-use Rattle.std.proofs.Common.{◌≡◌, ℕ, zero, suc, ◌+◌, ◌-◌, ◌≤◌, ◌<◌, Bool, true, false, cond, ◌||◌, ◌&&◌, eqb, List, [], ◌∷◌, ◌++◌, length, take, drop, get_or, All, Option, Some, None, refl, sym, ap, ap₂, subst, ◌∙◌, arith, inl, inr, eq-eqb, ne_eqb, length-append, length-take-le, take_all, le_refl}
-use Rattle.std.proofs.lemmas.Bool.{cases_Bool, cases_lt}
+use Rattle.std.proofs.Common.{◌≡◌, ℕ, zero, suc, ◌+◌, ◌-◌, ◌≤◌, ◌<◌, Bool, true, false, cond, ◌||◌, ◌&&◌, eqb, List, [], ◌∷◌, ◌++◌, length, take, drop, get_or, Some, None, refl, sym, ap, ap₂, subst, ◌∙◌, arith, inl, inr, eq-eqb, ne_eqb, length-take-le, take_all, le_refl}
+use Rattle.std.proofs.lemmas.Bool.{cases_Bool}
 use Rattle.std.proofs.lemmas.List.{length_push, get_or_default}
 use Rattle.std.proofs.lemmas.List.Elements.{All-from_recursion}
 use Rattle.std.specs.declared.cmp.Ordering.{Ordering}
@@ -15,10 +15,10 @@ use Rattle.uca_keys.specs.declared.node.Node.{Node}
 use Rattle.uca_keys.specs.declared.trie.Child.{Child}
 use Rattle.uca_keys.specs.Fronts.{is_front, begins_entry}
 use Rattle.uca_keys.specs.Links.{depth_below, kids_from, kids_of, AreLinked}
-use Rattle.uca_keys.specs.Nodes.{path_after, paths_after, last_path, elements_in, entries_after, IsNext, AreNext, AreFull}
+use Rattle.uca_keys.specs.Nodes.{path_after, paths_after, last_path, elements_in, entries_after, AreNext, AreFull}
 use Rattle.uca_keys.specs.Paths.{TrieState, entries_of, path_at, paths_of}
 use Rattle.uca_keys.proofs.ChildLemmas.{IsKid, LacksPoint, kids_none, kids_rise, kids_sound, none_or, not_below}
-use Rattle.uca_keys.proofs.NodeLemmas.{begins_at, entries-append, find_at, find_none, own_of, path_above, path_long}
+use Rattle.uca_keys.proofs.NodeLemmas.{begins_at, entries-append, find_at, find_none, own_of, path_long}
 use Rattle.uca_keys.proofs.PathLemmas.{below_longer, chain}
 use Rattle.uca_keys.proofs.PushLemmas.{both_parts}
 

@@ -1,7 +1,7 @@
 -- How the children of all nodes are found from the last node back.
-use Rattle.std.proofs.Common.{◌≡◌, ℕ, zero, suc, ◌+◌, ◌-◌, ◌≤◌, ◌<◌, Bool, true, false, cond, eqb, nat_lt, List, [], ◌∷◌, ◌++◌, length, take, drop, get_or, refl, sym, ap, ap₂, subst, ◌∙◌, arith, inl, inr, eqb-true, eq-eqb, ne_eqb, ltb-true, ltb-false, lt-ltb, le-ltb, length-append, length-drop, get_or-drop, append_assoc, append-nil}
+use Rattle.std.proofs.Common.{◌≡◌, ℕ, zero, suc, ◌+◌, ◌-◌, ◌≤◌, ◌<◌, true, false, cond, nat_lt, List, [], ◌∷◌, ◌++◌, length, take, drop, get_or, refl, sym, ap, ap₂, subst, ◌∙◌, arith, inl, inr, eq-eqb, ne_eqb, ltb-true, ltb-false, lt-ltb, le-ltb, length-append, length-drop, get_or-drop, append-nil}
 use Rattle.std.proofs.lemmas.Bool.{cases_Bool, cases_lt}
-use Rattle.std.proofs.lemmas.List.{get_or_push, get_or_default, length_push, take-append-le, drop-append-le, drop-drop, drop_all}
+use Rattle.std.proofs.lemmas.List.{get_or_push, length_push, take-append-le, drop-append-le, drop-drop, drop_all}
 use Rattle.uca_weights.specs.declared.element.Element.{Element}
 use Rattle.uca_keys.specs.declared.node.Node.{Node}
 use Rattle.uca_keys.specs.declared.trie.Child.{Child}

@@ -1,9 +1,8 @@
 -- Nodes, their paths and the entries at which keys end.
-use Rattle.std.proofs.Common.{◌≡◌, ℕ, zero, suc, ◌+◌, ◌-◌, ◌≤◌, ◌<◌, Bool, true, false, cond, ◌||◌, eqb, T, List, [], ◌∷◌, ◌++◌, length, take, drop, get_or, All, Option, Some, None, refl, sym, ap, ap₂, subst, ◌∙◌, arith, inl, inr, eqb-true, eq-eqb, ne_eqb, length-append, length-take-le, length-drop, take-take, take_all, append_assoc}
-use Rattle.std.proofs.lemmas.Bool.{cases_Bool, cases_lt}
+use Rattle.std.proofs.Common.{◌≡◌, ℕ, zero, suc, ◌+◌, ◌-◌, ◌≤◌, ◌<◌, Bool, true, false, cond, ◌||◌, eqb, List, [], ◌∷◌, ◌++◌, length, take, drop, get_or, Option, Some, None, refl, sym, ap, ap₂, subst, ◌∙◌, arith, inl, inr, eqb-true, ne_eqb, length-append, length-take-le, length-drop, take-take, take_all, append_assoc}
+use Rattle.std.proofs.lemmas.Bool.{cases_Bool}
 use Rattle.std.proofs.lemmas.List.{take-append-le, drop-append-le, length_push}
-use Rattle.std.specs.declared.cmp.Ordering.{Ordering}
-use Rattle.std.specs.declared.cmp.Ordering.TheVariants.{Less, Equal, Greater}
+use Rattle.std.specs.declared.cmp.Ordering.TheVariants.{Less, Greater}
 use Rattle.std.specs.List.{list_any}
 use Rattle.std.specs.Ordering.{is_eq, ordering_reverse}
 use Rattle.std.specs.Cmp.{tied_itself}
@@ -14,7 +13,7 @@ use Rattle.uca_weights.specs.declared.limits.TheConstants.{MAX_KEY, MAX_ELEMENTS
 use Rattle.uca_model.specs.Table.{key_cmp}
 use Rattle.uca_keys.specs.declared.node.Node.{Node}
 use Rattle.uca_keys.specs.Fronts.{is_front, begins_entry, last_key}
-use Rattle.uca_keys.specs.Nodes.{path_after, paths_after, last_path, elements_in, entries_after, nodes_of, IsNext, AreNext, AreFull}
+use Rattle.uca_keys.specs.Nodes.{path_after, paths_after, last_path, elements_in, entries_after, nodes_of, AreNext, AreFull}
 use Rattle.uca_keys.proofs.PathLemmas.{below_longer, chain, own_front, front_longer, front_of_front}
 
 -- one list of nodes after another

@@ -1,5 +1,5 @@
 -- What a trie shows: its keys, and the paths of its nodes.
-use Rattle.std.specs.Prelude.{ℕ, List, [], ◌∷◌, length, get_or}
+use Rattle.std.specs.Prelude.{ℕ, List, [], ◌∷◌, get_or}
 use Rattle.uca_weights.specs.declared.element.Element.{Element}
 use Rattle.uca_keys.specs.declared.node.Node.{Node}
 use Rattle.uca_keys.specs.Nodes.{paths_after, entries_after}

@@ -113,11 +113,7 @@ impl Nodes {
     }
 
     /// No keys, with room for so many nodes and elements.
-    pub fn with_capacity(
-        alloc: Global,
-        nodes: usize,
-        elements: usize,
-    ) -> Result<Nodes, AllocError>
+    pub fn with_capacity(alloc: Global, nodes: usize, elements: usize) -> Result<Nodes, AllocError>
         ensures { IfOk result (λ n. n ≡ []) }
     {
         let nodes = Vec::with_capacity(alloc, nodes)?;

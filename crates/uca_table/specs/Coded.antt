@@ -1,6 +1,6 @@
 -- A table as data, by which a proof distinguishes two of them.
-use Rattle.std.specs.Prelude.{ℕ, Bool, List, refl}
-use Rattle.std.specs.Coded.{Coded, code_by, coded×, coded_list, coded_ℕ, coded_bool}
+use Rattle.std.specs.Prelude.{ℕ, List, refl}
+use Rattle.std.specs.Coded.{Coded, code_by, coded×, coded_list, coded_ℕ}
 use Rattle.std.specs.FinMap.{FinMap, code}
 use Rattle.uca_weights.specs.declared.element.Element.{Element}
 pub use Rattle.uca_keys.specs.Coded.{coded_element, coded_entries}

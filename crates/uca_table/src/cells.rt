@@ -63,8 +63,8 @@ pub(crate) enum Block {
 /// So many blocks of cells has any table with so many blocks of keys.
 const FEW_BLOCKS: usize = 64;
 
-/// And one more for so many entries.
-const ENTRIES_OF_A_BLOCK: usize = 8;
+/// And one more for so many nodes of its keys.
+const NODES_OF_A_BLOCK: usize = 8;
 
 /// A number that fits thirty-two bits.
 fn small(n: usize) -> Option<u32>
@@ -376,9 +376,9 @@ impl Cells {
         Ok(Block::Own(start))
     }
 
-    // Whether there is room for one more block: those of a table take no more memory than a few of its entries each.
+    // Whether there is room for one more block. They take at most 128 bytes for each node of the table's keys.
     fn has_room(&self, t: &Stored) -> bool {
-        self.others.len() / BLOCK < FEW_BLOCKS + t.keys.len() / ENTRIES_OF_A_BLOCK
+        self.others.len() / BLOCK < FEW_BLOCKS + t.keys.len() / NODES_OF_A_BLOCK
     }
 
     // What there is of a block of characters, from a number on. One that has a key gets cells.

@@ -1,4 +1,4 @@
-use Rattle.std.proofs.Common.{◌≡◌, ◌-◌, ◌+◌, ◌++◌, length, drop}
+use Rattle.std.proofs.Common.{◌≡◌, ◌+◌, ◌++◌, length, drop}
 use Rattle.uca_keys.specs.Nodes.{nodes_of}
 use Rattle.uca_keys.proofs.nodes.nodes_from.Given as goal
 

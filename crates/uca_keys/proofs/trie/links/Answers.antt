@@ -1,6 +1,6 @@
-use Rattle.std.proofs.Common.{◌≡◌, ◌+◌, ◌-◌, ◌≤◌, ◌<◌, ◌^◌, ◌++◌, ◌∷◌, [], ℕ, List, drop, length, sym, ap, ap₂, subst, ◌∙◌, arith, rules, length-drop}
+use Rattle.std.proofs.Common.{◌≡◌, ◌-◌, ◌<◌, ◌^◌, ◌++◌, ◌∷◌, [], List, drop, length, sym, ap, ap₂, subst, ◌∙◌, arith, rules, length-drop}
 use Rattle.uca_keys.specs.declared.node.Node.{Node}
-use Rattle.uca_keys.specs.Links.{depth_below, kids_of, span_len, AreLinked}
+use Rattle.uca_keys.specs.Links.{depth_below, kids_of, AreLinked}
 use Rattle.uca_keys.proofs.LinkLemmas.{AreSoFar, AreSoFar-more, AreLinked-all, span_within}
 use Rattle.uca_keys.proofs.trie.links.Goals as goal
 

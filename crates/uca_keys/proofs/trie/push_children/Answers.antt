@@ -1,7 +1,6 @@
-use Rattle.std.proofs.Common.{◌≡◌, ◌+◌, ◌-◌, ◌≤◌, ◌<◌, ◌++◌, ◌∷◌, [], ℕ, List, length, drop, get_or, refl, sym, ap, ◌∙◌, arith, append_assoc}
+use Rattle.std.proofs.Common.{◌≡◌, ◌+◌, ◌-◌, ◌++◌, ◌∷◌, [], ℕ, List, length, drop, get_or, refl, sym, ap, ◌∙◌, arith, append_assoc}
 use Rattle.uca_keys.specs.declared.node.Node.{Node}
-use Rattle.uca_keys.specs.declared.trie.Child.{Child}
-use Rattle.uca_keys.specs.Links.{child_of, kids_from, span_len}
+use Rattle.uca_keys.specs.Links.{child_of, kids_from}
 use Rattle.uca_keys.proofs.FindLemmas.{no_node}
 use Rattle.uca_keys.proofs.LinkLemmas.{IsStep, all_added, ends_with, step_over, stops_at}
 use Rattle.uca_keys.proofs.trie.push_children.Goals as goal

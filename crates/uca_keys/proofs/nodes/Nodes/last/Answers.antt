@@ -1,4 +1,4 @@
-use Rattle.std.proofs.Common.{sym, ap, ◌∙◌}
+use Rattle.std.proofs.Common.{ap, ◌∙◌}
 use Rattle.uca_keys.specs.Fronts.{last_key}
 use Rattle.uca_keys.proofs.PushLemmas.{last_is}
 use Rattle.uca_keys.proofs.nodes.Nodes.last.Goals as goal

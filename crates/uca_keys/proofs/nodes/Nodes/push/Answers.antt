@@ -23,8 +23,7 @@ invariant_of-self-2 c =
     let nodes : c.extend_from_slice.new.self.items ≡ ns ++ nodes_of (drop from key) from (length es) (length els) = search rules in
     let elements : c.push_reserved.new.all.items ≡ es ++ els = search rules in
     let front : c.truncate.new.self.items ≡ take from key = c.truncate.ensures.items ∙ ap (take from) c.self.invariant.2 ∙ sym (ap (take from) last) ∙ c.common_len-from.ensures.same in
-    let whole : c.append.new.key.items ≡ key = c.append.ensures ∙ ap₂ (λ l r. l ++ r) front (take_rest key from) ∙ both_parts key from in
-    (
+    let whole : c.append.new.key.items ≡ key = c.append.ensures ∙ ap₂ (λ l r. l ++ r) front (take_rest key from) ∙ both_parts key from in (
       subst (λ xs. AreNext xs [] c.extend_from_slice.new.self.items) (sym elements) (subst (AreNext (es ++ els) []) (sym nodes) is.next),
       subst AreFull (sym nodes) is.full,
       whole ∙ is.last ∙ ap (last_path []) (sym nodes),

@@ -1,4 +1,4 @@
-use Rattle.std.proofs.Common.{◌≡◌, ◌<◌, [], List, Err, IfErr, length, get_or, sym, subst, rules}
+use Rattle.std.proofs.Common.{◌≡◌, [], IfErr, get_or, sym, subst, rules}
 use Rattle.std.proofs.lemmas.Cmp.{ranked}
 use Rattle.std.proofs.lemmas.List.Sorted.{answers_always}
 use Rattle.std.specs.List.Sorted.{IsNonDecreasingBy}

@@ -1,4 +1,4 @@
-use Rattle.std.proofs.Common.{◌≡◌, ◌+◌, ◌-◌, ◌≤◌, length, take, drop, get_or, sym, ap, subst, ◌∙◌, arith}
+use Rattle.std.proofs.Common.{◌≡◌, ◌+◌, ◌-◌, ◌≤◌, length, take, drop, get_or, sym, ap, subst, ◌∙◌}
 use Rattle.uca_keys.specs.Links.{kids_of}
 use Rattle.uca_keys.proofs.FindLemmas.{IsRange, listed_range}
 use Rattle.uca_keys.proofs.trie.Trie.children_of.Goals as goal

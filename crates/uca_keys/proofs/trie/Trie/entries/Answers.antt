@@ -1,4 +1,4 @@
-use Rattle.std.proofs.Common.{◌≡◌, ◌≤◌, ◌<◌, ◌^◌, [], length, subst, arith, rules}
+use Rattle.std.proofs.Common.{◌≤◌, ◌<◌, ◌^◌, [], length, subst, arith, rules}
 use Rattle.uca_keys.specs.Paths.{TrieState, entries_of}
 use Rattle.uca_keys.proofs.FindLemmas.{fewer_entries}
 use Rattle.uca_keys.proofs.trie.Trie.entries.Goals as goal

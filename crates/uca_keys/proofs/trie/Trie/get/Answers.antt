@@ -1,4 +1,4 @@
-use Rattle.std.proofs.Common.{◌≡◌, ◌+◌, ◌≤◌, ◌<◌, ◌++◌, ◌∷◌, [], false, option_copied, length, take, get_or, refl, sym, ap, subst, ◌∙◌, arith, take_all}
+use Rattle.std.proofs.Common.{◌≡◌, ◌+◌, ◌++◌, ◌∷◌, [], false, option_copied, take, refl, sym, ap, ◌∙◌, arith, take_all}
 use Rattle.std.specs.FinMap.{find}
 use Rattle.uca_model.specs.Table.{key_cmp}
 use Rattle.uca_keys.specs.Fronts.{begins_entry}

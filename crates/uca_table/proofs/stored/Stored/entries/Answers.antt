@@ -1,4 +1,4 @@
-use Rattle.std.proofs.Common.{◌≡◌, ◌<◌, ◌^◌, length, sym, ap, subst, ◌∙◌}
+use Rattle.std.proofs.Common.{◌<◌, ◌^◌, length, sym, ap, subst, ◌∙◌}
 use Rattle.std.specs.FinMap.{entries, entries-from_sorted}
 use Rattle.uca_model.specs.Table.{ElementTable, key_cmp}
 use Rattle.uca_keys.specs.Paths.{entries_of}

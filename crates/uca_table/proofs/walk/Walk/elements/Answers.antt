@@ -1,4 +1,4 @@
-use Rattle.std.proofs.Common.{◌≡◌, ◌<◌, ◌≤◌, length, option_copied, sym, ap, ◌∙◌}
+use Rattle.std.proofs.Common.{◌<◌, ◌≤◌, length, sym, ap, ◌∙◌}
 use Rattle.std.specs.FinMap.{entries, find, get-entries}
 use Rattle.std.specs.List.{All}
 use Rattle.uca_weights.specs.declared.limits.TheConstants.{MAX_ELEMENTS}
