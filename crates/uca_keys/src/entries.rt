@@ -1,4 +1,4 @@
-ghost use Rattle.std.specs.Prelude.{◌≡◌, ◌≤◌, length};
+ghost use Rattle.std.specs.Prelude.{◌≡◌, ◌≤◌, [], length};
 ghost use Rattle.uca_weights.specs.declared.limits.TheConstants.{MAX_KEY};
 
 use crate::node::Node;
@@ -12,12 +12,14 @@ use uca_weights::{Element, MAX_KEY};
 pub struct Entries<'t> {
     pub(crate) nodes: &'t [Node],
     pub(crate) elements: &'t [Element],
-    // The path of the node before these.
-    pub(crate) path: ArrayVec<char, MAX_KEY>,
+    // The path of the node before these is so many of these code points.
+    path: [char; MAX_KEY],
+    len: usize,
 }
 
 impl<'t> Model for Entries<'t> {
-    ghost use Rattle.std.specs.Prelude.{ℕ, List};
+    ghost use Rattle.std.specs.Prelude.{ℕ, ◌≤◌, List, take};
+    ghost use Rattle.uca_weights.specs.declared.limits.TheConstants.{MAX_KEY};
     ghost use Rattle.uca_weights.specs.declared.element.Element.{Element};
     ghost use Rattle.uca_keys.specs.Nodes.{AreNext, entries_after};
     ghost use Rattle.uca_keys.specs.Coded.{coded_entries};
@@ -26,9 +28,26 @@ impl<'t> Model for Entries<'t> {
 
     ghost coded = { coded_entries };
 
-    ghost view = { λ e. entries_after e.elements.now e.path.items e.nodes.now };
+    ghost view = { λ e. entries_after e.elements.now (take e.len e.path) e.nodes.now };
 
-    ghost invariant = { λ e. AreNext e.elements.now e.path.items e.nodes.now };
+    ghost invariant = { λ e. (e.len ≤ MAX_KEY) × AreNext e.elements.now (take e.len e.path) e.nodes.now };
+}
+
+impl<'t> Entries<'t> {
+    ghost use Rattle.uca_keys.specs.Nodes.{AreNext, entries_after};
+
+    /// Those of all nodes of keys.
+    pub(crate) fn new(nodes: &'t [Node], elements: &'t [Element]) -> Entries<'t>
+        requires { AreNext elements.now [] nodes.now }
+        ensures { result ≡ entries_after elements.now [] nodes.now }
+    {
+        Entries {
+            nodes,
+            elements,
+            path: ['\0'; MAX_KEY],
+            len: 0,
+        }
+    }
 }
 
 impl<'t> Iterator for Entries<'t> {
@@ -43,13 +62,13 @@ impl<'t> Iterator for Entries<'t> {
 
     fn next(&mut self) -> Option<(ArrayVec<char, MAX_KEY>, &'t [Element])> {
         while let Some((node, others)) = self.nodes.split_first() {
-            self.path.truncate(node.depth as usize);
-            self.path.push(node.point);
+            self.path[node.depth as usize] = node.point;
+            self.len = node.depth as usize + 1;
             self.nodes = others;
             if node.count != 0 {
                 let start = node.start as usize;
                 let elements = &self.elements[start..start + node.count as usize];
-                return Some((copied(self.path.as_slice()), elements));
+                return Some((copied(&self.path[..self.len]), elements));
             }
         }
         None

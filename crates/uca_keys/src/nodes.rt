@@ -1,4 +1,4 @@
-ghost use Rattle.std.specs.Prelude.{◌≡◌, ℕ, ◌+◌, ◌<◌, ◌≤◌, ◌++◌, ◌∷◌, [], length, take, drop, get_or, vec_len, vec_capacity, IfOk, IfSome, OnOk, OnErr};
+ghost use Rattle.std.specs.Prelude.{◌≡◌, ℕ, ◌+◌, ◌-◌, ◌<◌, ◌≤◌, ◌++◌, ◌∷◌, [], length, take, drop, get_or, vec_len, vec_capacity, IfOk, IfSome, OnOk, OnErr};
 ghost use Rattle.arrayvec.specs.ArrayVec.{array_vec_len};
 ghost use Rattle.uca_weights.specs.declared.limits.TheConstants.{MAX_KEY, MAX_ELEMENTS};
 ghost use Rattle.uca_keys.specs.Nodes.{nodes_of};
@@ -61,22 +61,21 @@ pub(crate) fn numbered(n: usize) -> Result<u32, AllocError>
     }
 }
 
-/// The nodes of a key from a place on. Its elements are those of the last one.
-fn nodes_from(key: &[char], from: usize, start: u32, count: u8) -> ArrayVec<Node, MAX_KEY>
+/// Appends the nodes of a key from a place on, for which there is room. Its elements are those of the last one.
+fn push_nodes(nodes: &mut Vec<Node>, key: &[char], from: usize, start: u32, count: u8)
     requires few { length key.now ≤ MAX_KEY }
     requires from { from ≤ length key.now }
-    ensures { result.items ≡ nodes_of (drop from key.now) from start count }
+    requires room { vec_len nodes.old + (length key.now - from) ≤ vec_capacity nodes.old }
+    ensures { nodes.new.items ≡ nodes.old.items ++ nodes_of (drop from key.now) from start count }
 {
-    let mut nodes = ArrayVec::new();
     for depth in from..key.len() {
-        nodes.push(Node {
+        let _fits = nodes.push(Node {
             point: key[depth],
             start,
             count: if depth + 1 == key.len() { count } else { 0 },
             depth: depth as u8,
         });
     }
-    nodes
 }
 
 /// Appends elements for which there is room.
@@ -143,9 +142,9 @@ impl Nodes {
     {
         let from = common_len(self.last.as_slice(), key);
         let start = numbered(self.elements.len())?;
-        let added = nodes_from(key, from, start, elements.len() as u8);
         self.elements.reserve(elements.len())?;
-        self.nodes.extend_from_slice(added.as_slice())?;
+        self.nodes.reserve(key.len() - from)?;
+        push_nodes(&mut self.nodes, key, from, start, elements.len() as u8);
         push_reserved(&mut self.elements, elements);
         self.last.truncate(from);
         append(&mut self.last, &key[from..]);
@@ -156,11 +155,7 @@ impl Nodes {
     pub fn entries(&self) -> Entries<'_>
         ensures { result ≡ self.now }
     {
-        Entries {
-            nodes: self.nodes.as_slice(),
-            elements: self.elements.as_slice(),
-            path: ArrayVec::new(),
-        }
+        Entries::new(self.nodes.as_slice(), self.elements.as_slice())
     }
 
     /// These keys, ready for look-ups.

@@ -8,7 +8,6 @@ ghost use Rattle.uca_keys.specs.Paths.{entries_of, path_at};
 use crate::entries::Entries;
 use crate::node::Node;
 use crate::nodes::numbered;
-use arrayvec::ArrayVec;
 use std::alloc::{AllocError, Global};
 use std::marker::Model;
 use uca_weights::Element;
@@ -153,11 +152,7 @@ impl Trie {
         ensures few { length (entries_of self.now) < 2 ^ 64 }
     {
         let _count = self.nodes.len();
-        Entries {
-            nodes: self.nodes.as_slice(),
-            elements: self.elements.as_slice(),
-            path: ArrayVec::new(),
-        }
+        Entries::new(self.nodes.as_slice(), self.elements.as_slice())
     }
 
     /// The children of a node.

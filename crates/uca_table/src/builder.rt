@@ -1,8 +1,7 @@
-ghost use Rattle.std.specs.Prelude.{◌≡◌, max, length, [], OnOk, OnErr, IfOk, MatchResult, All, None};
+ghost use Rattle.std.specs.Prelude.{◌≡◌, [], OnOk, OnErr, IfOk, MatchResult, All, None};
 ghost use Rattle.std.specs.Char.{IsScalar};
 ghost use Rattle.std.specs.FinMap.{empty};
 ghost use Rattle.uca_model.specs.Table.{IsElement};
-ghost use Rattle.uca_table.specs.Stored.{longest_of};
 
 use crate::entry_map::EntryMap;
 use crate::fault::{FinishFault, InsertFault, RangeFault};
@@ -11,7 +10,6 @@ use crate::stored::Stored;
 use crate::table::Table;
 use std::alloc::Global;
 use std::marker::Model;
-use uca_keys::Nodes;
 use uca_weights::{Element, MAX_ELEMENTS, MAX_KEY, Range};
 
 /// Collects the entries of a table, one after the other.
@@ -101,7 +99,7 @@ impl TableBuilder {
         let Ok(range_room) = Vec::with_capacity(self.alloc, self.ranges.len()) else {
             return Err(FinishFault { builder: self });
         };
-        let longest_key = longest_key(&entries);
+        let longest_key = self.entries.longest_key();
         let Ok(keys) = entries.finish(self.alloc) else {
             return Err(FinishFault { builder: self });
         };
@@ -140,22 +138,4 @@ fn read_element(element: &Element)
     let _primary = element.l1;
     let _secondary = element.l2;
     let _tertiary = element.l3;
-}
-
-/// The greater of a number and the length of a key.
-fn longer(longest: usize, key: &[char]) -> usize
-    ensures { result ≡ max longest (length key.now) }
-{
-    longest.max(key.len())
-}
-
-/// The length of the longest key, 1 where there is none.
-fn longest_key(entries: &Nodes) -> usize
-    ensures { result ≡ longest_of entries.now }
-{
-    let mut longest = 1;
-    for (key, _) in entries.entries() {
-        longest = longer(longest, key.as_slice());
-    }
-    longest
 }

@@ -1,11 +1,13 @@
-ghost use Rattle.std.specs.Prelude.{◌≡◌, vec_len, vec_capacity, ◌<◌, ◌≤◌, ◌+◌, ◌∷◌, ◌++◌, [], length, map, take, drop, is_some, if◌then◌else◌, T, None, Some, IfOk, OnOk, OnErr, MatchResult};
+ghost use Rattle.std.specs.Prelude.{◌≡◌, vec_len, vec_capacity, ◌<◌, ◌≤◌, ◌+◌, ◌∷◌, ◌++◌, [], length, max, map, take, drop, is_some, if◌then◌else◌, T, None, Some, IfOk, OnOk, OnErr, MatchResult};
 ghost use Rattle.std.specs.BTreeMap.{insert_entry, is_at};
 ghost use Rattle.std.specs.FinMap.{find, is_sorted, put};
 ghost use Rattle.std.specs.List.{list_any, AllByRecursion};
 ghost use Rattle.std.specs.Map.{lookup};
 ghost use Rattle.std.specs.Ordering.{eq_by_cmp};
 ghost use Rattle.std.specs.declared.cmp.Ordering.TheVariants.{Less};
+ghost use Rattle.uca_weights.specs.declared.limits.TheConstants.{MAX_KEY};
 ghost use Rattle.uca_keys.specs.Fronts.{last_key};
+ghost use Rattle.uca_table.specs.Stored.{longest_of};
 ghost use Rattle.uca_model.specs.Table.{key_cmp, IsEntry};
 ghost use Rattle.uca_table.specs.Builder.{known_fault, reported_fault};
 ghost use Rattle.uca_table.specs.EntryMap.{entry_in, is_key_at, pair_cmp, IsPlaced};
@@ -111,6 +113,14 @@ impl EntryMap {
         Ok(())
     }
 
+    /// The length of the longest key, 1 where there is none.
+    pub(crate) fn longest_key(&self) -> usize
+        requires { AllByRecursion IsEntry self.now }
+        ensures { result ≡ longest_of self.now }
+    {
+        longest_key(&self.places, &self.elements)
+    }
+
     /// The nodes of the entries.
     pub(crate) fn nodes(&self, alloc: Global) -> Result<Nodes, AllocError>
         requires sorted { T (is_sorted key_cmp self.now) }
@@ -174,6 +184,26 @@ fn elements_at(all: &[Element], place: Place) -> &[Element]
     ensures { result.now ≡ take place.count (drop place.start all.now) }
 {
     &all[place.start..place.start + place.count]
+}
+
+/// The length of the longest key of a map, 1 where there is none.
+fn longest_key(places: &BTreeMap<Key, Place>, elements: &[Element]) -> usize
+    requires { AllByRecursion IsEntry (map (entry_in elements.now) places.now.entries) }
+    ensures { result ≡ longest_of (map (entry_in elements.now) places.now.entries) }
+{
+    let mut longest = 1;
+    for (key, _) in places.iter() {
+        longest = longer(longest, key.1.len());
+    }
+    longest
+}
+
+/// The greater of a number and the length of a key with so many code points after its first.
+fn longer(longest: usize, others: usize) -> usize
+    requires { others < MAX_KEY }
+    ensures { result ≡ max longest (others + 1) }
+{
+    longest.max(others + 1)
 }
 
 /// How many code points a key has beyond those that it begins with as another one does.

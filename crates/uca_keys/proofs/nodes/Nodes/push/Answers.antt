@@ -19,12 +19,11 @@ invariant_of-self-2 c =
     pushed es ns key els from c.self.invariant.0 c.self.invariant.1 (subst (λ l. key_cmp l key ≡ Less) (sym below) c.requires.after)
     (subst (λ l. from ≤ length l) last c.common_len-from.ensures.in_a) c.common_len-from.ensures.in_b (subst (λ l. take from l ≡ take from key) last c.common_len-from.ensures.same)
     (subst (λ l. (d : ℕ) → from < length l → from < length key → get_or l from d ≡ get_or key from d → ⊥) last c.common_len-from.ensures.differ) c.requires.few c.requires.some_elements c.requires.few_elements in
-    let added : c.nodes_from-added.result.items ≡ nodes_of (drop from key) from (length es) (length els) = search rules in
-    let nodes : c.extend_from_slice.new.self.items ≡ ns ++ nodes_of (drop from key) from (length es) (length els) = search rules in
+    let nodes : c.push_nodes.new.nodes.items ≡ ns ++ nodes_of (drop from key) from (length es) (length els) = search rules in
     let elements : c.push_reserved.new.all.items ≡ es ++ els = search rules in
     let front : c.truncate.new.self.items ≡ take from key = c.truncate.ensures.items ∙ ap (take from) c.self.invariant.2 ∙ sym (ap (take from) last) ∙ c.common_len-from.ensures.same in
     let whole : c.append.new.key.items ≡ key = c.append.ensures ∙ ap₂ (λ l r. l ++ r) front (take_rest key from) ∙ both_parts key from in (
-      subst (λ xs. AreNext xs [] c.extend_from_slice.new.self.items) (sym elements) (subst (AreNext (es ++ els) []) (sym nodes) is.next),
+      subst (λ xs. AreNext xs [] c.push_nodes.new.nodes.items) (sym elements) (subst (AreNext (es ++ els) []) (sym nodes) is.next),
       subst AreFull (sym nodes) is.full,
       whole ∙ is.last ∙ ap (last_path []) (sym nodes),
     )
@@ -39,7 +38,6 @@ returns-clause-ok c =
     pushed es ns key els from c.self.invariant.0 c.self.invariant.1 (subst (λ l. key_cmp l key ≡ Less) (sym below) c.requires.after)
     (subst (λ l. from ≤ length l) last c.common_len-from.ensures.in_a) c.common_len-from.ensures.in_b (subst (λ l. take from l ≡ take from key) last c.common_len-from.ensures.same)
     (subst (λ l. (d : ℕ) → from < length l → from < length key → get_or l from d ≡ get_or key from d → ⊥) last c.common_len-from.ensures.differ) c.requires.few c.requires.some_elements c.requires.few_elements in
-    let added : c.nodes_from-added.result.items ≡ nodes_of (drop from key) from (length es) (length els) = search rules in
-    let nodes : c.extend_from_slice.new.self.items ≡ ns ++ nodes_of (drop from key) from (length es) (length els) = search rules in
+    let nodes : c.push_nodes.new.nodes.items ≡ ns ++ nodes_of (drop from key) from (length es) (length els) = search rules in
     let elements : c.push_reserved.new.all.items ≡ es ++ els = search rules in
     ap₂ (λ xs ms. entries_after xs [] ms) elements nodes ∙ is.entries ∙ ap (λ l. l ++ (key, els) ∷ []) c.self.view_is
