@@ -25,6 +25,7 @@
 #include "utils/inval.h"
 #include "utils/lsyscache.h"
 #include "utils/memutils.h"
+#include "utils/plancache.h"
 #include "utils/sortsupport.h"
 #include "utils/syscache.h"
 #include "utils/varlena.h"
@@ -81,7 +82,11 @@ static void path_changed(const char *value, void *extra) { changes++; }
 
 static void setting_changed(int value, void *extra) { changes++; }
 
-static void dictionaries_changed(Datum arg, int cache, uint32 hash) { changes++; }
+/* Plans may have keys of before as constants. */
+static void dictionaries_changed(Datum arg, int cache, uint32 hash) {
+    changes++;
+    ResetPlanCache();
+}
 
 /* The number of a word, or an error. */
 static int number_of(const struct config_enum_entry *words, const char *option, const char *word) {
@@ -203,17 +208,25 @@ static void check_settings(const struct definition *definition) {
     if (variable != definition->settings.variable) report_setting("uca.variable", word_of(variables, variable), word_of(variables, definition->settings.variable));
 }
 
-/* Shares a table that the postmaster has loaded, if there is one of these files with the fingerprint that was fixed. */
+static bool has_settings(const struct preloaded *preloaded, const uca_settings *settings) {
+    return memcmp(&preloaded->settings, settings, sizeof *settings) == 0;
+}
+
+/* Shares a table that the postmaster has loaded, if there is one of these files with the fingerprint that was fixed. Where it was loaded
+   for these settings, its fingerprint is known. */
 static bool takes_preloaded(struct collation *collation, const struct definition *definition) {
-    int i;
-    for (i = 0; i < count_of_preloads; i++) {
-        struct preloaded *preloaded = preloads + i;
-        char digits[DIGITS + 1];
-        if (strcmp(preloaded->table, definition->table) != 0 || strcmp(preloaded->rules, definition->rules) != 0) continue;
-        if (uca_clone(&preloaded->collator, &collation->collator) != UCA_OK) continue;
-        if (memcmp(&preloaded->settings, &definition->settings, sizeof(uca_settings)) == 0) memcpy(digits, preloaded->digits, sizeof digits);
-        else digits_of(&collation->collator, &definition->settings, digits);
-        if (strcmp(digits, definition->fixed) == 0) return true;
+    int round, i;
+    for (round = 0; round < 2; round++) {
+        for (i = 0; i < count_of_preloads; i++) {
+            struct preloaded *preloaded = preloads + i;
+            char digits[DIGITS + 1];
+            if (has_settings(preloaded, &definition->settings) != (round == 0)) continue;
+            if (strcmp(preloaded->table, definition->table) != 0 || strcmp(preloaded->rules, definition->rules) != 0) continue;
+            if (uca_clone(&preloaded->collator, &collation->collator) != UCA_OK) continue;
+            if (round == 0) memcpy(digits, preloaded->digits, sizeof digits);
+            else digits_of(&collation->collator, &definition->settings, digits);
+            if (strcmp(digits, definition->fixed) == 0) return true;
+        }
     }
     return false;
 }
