@@ -49,6 +49,9 @@ UPDATE pg_catalog.pg_operator SET oprcanhash = true, oprcanmerge = true WHERE oi
 CREATE FUNCTION uca_create(name text, table_file text, rules_file text DEFAULT '', strength text DEFAULT 'tertiary', variable text DEFAULT 'non-ignorable')
     RETURNS regdictionary LANGUAGE plpgsql AS $$
 BEGIN
+    IF octet_length(name) > 63 THEN
+        RAISE EXCEPTION 'uca: the name "%" has more than 63 bytes', name USING ERRCODE = 'name_too_long';
+    END IF;
     IF EXISTS (SELECT FROM pg_catalog.pg_ts_dict t WHERE t.dictname = name AND t.dictnamespace = '@extschema@'::regnamespace) THEN
         RAISE EXCEPTION 'uca: there is a text search dictionary "%" already', name USING ERRCODE = 'duplicate_object';
     END IF;
