@@ -135,8 +135,9 @@ in_postgresql() {
     is "PostgreSQL: another session, whose fingerprint is the one that was fixed" "-1" "$(sql pgdata postgres -c "SELECT uca_cmp('a', 'b')")"
     sed -n '/^## An index in PostgreSQL/,$s/^    //p' docs/EXAMPLES.md | grep -v '^\$' >"$work/example_page"
     sql pgdata postgres -c 'CREATE DATABASE example'
+    cp rules/sv.rules "$work/" && chmod 644 "$work/sv.rules"
     is "PostgreSQL: what docs/EXAMPLES.md says" "$(grep -v '^postgres=#' "$work/example_page")" \
-        "$(sed -n 's/^postgres=# //p' "$work/example_page" | sed "s,'/[^']*allkeys.txt','$table',; s,'[^']*\(rules/[a-z]*.rules\)','$PWD/\1'," | psql -qXAt -h "$work/pgdata" -U tester -d example 2>&1)"
+        "$(sed -n 's/^postgres=# //p' "$work/example_page" | sed "s,'/[^']*allkeys.txt','$table',; s,'/[^']*sv.rules','$work/sv.rules'," | psql -qXAt -h "$work/pgdata" -U tester -d example 2>&1)"
     stop_servers
     is "PostgreSQL: by key" "" "$(cmp "$work/by_key.csv" "$work/ordered.csv" 2>&1)"
     is "PostgreSQL: by sort key" "" "$(cmp "$work/by_sort_key.csv" "$work/ordered.csv" 2>&1)"

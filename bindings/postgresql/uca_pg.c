@@ -601,16 +601,17 @@ static void preload(struct preloaded *preloaded, char *entry) {
 
 /* Loads the tables of uca.preload. What can't be loaded is logged: the server starts, and sessions read the files themselves. */
 static void preload_all(void) {
-    MemoryContext before = MemoryContextSwitchTo(TopMemoryContext);
+    MemoryContext scratch = AllocSetContextCreate(TopMemoryContext, "preload of uca", ALLOCSET_DEFAULT_SIZES);
+    MemoryContext before = MemoryContextSwitchTo(scratch);
     List *entries;
     ListCell *cell;
     if (!SplitGUCList(pstrdup(preload_list), ',', &entries)) {
         ereport(WARNING, (errcode(ERRCODE_INVALID_PARAMETER_VALUE), errmsg("uca.preload is no list: %s", preload_list)));
         entries = NIL;
     }
-    preloads = palloc((list_length(entries) + 1) * sizeof *preloads);
+    preloads = MemoryContextAllocZero(TopMemoryContext, (list_length(entries) + 1) * sizeof *preloads);
     foreach(cell, entries) {
-        char *entry = pstrdup(lfirst(cell));
+        char *entry = MemoryContextStrdup(TopMemoryContext, lfirst(cell));
         PG_TRY();
         {
             preload(preloads + count_of_preloads, entry);
@@ -618,15 +619,17 @@ static void preload_all(void) {
         }
         PG_CATCH();
         {
-            MemoryContextSwitchTo(TopMemoryContext);
+            MemoryContextSwitchTo(scratch);
             EmitErrorReport();
             FlushErrorState();
             uca_close(&preloads[count_of_preloads].collator);
+            pfree(entry);
             ereport(WARNING, (errmsg("uca.preload: \"%s\" was not loaded", (char *)lfirst(cell))));
         }
         PG_END_TRY();
     }
     MemoryContextSwitchTo(before);
+    MemoryContextDelete(scratch);
 }
 
 void _PG_init(void);
