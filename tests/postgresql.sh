@@ -246,5 +246,19 @@ is "a beginning asks its server alone, by its index's range" "names_2 actual|SEL
     "$(asked "SELECT name FROM names WHERE uca_key(name) >= uca_prefix_lower('s') AND uca_key(name) < uca_prefix_upper('s')")"
 says "a name goes to its server, and is found there" "names_2|names_1" list "INSERT INTO names VALUES ('Öster'), ('Anka')" "SELECT tableoid::regclass FROM names WHERE uca_key(name) = uca_key('Öster')" "SELECT tableoid::regclass FROM names WHERE uca_key(name) = uca_key('Anka')"
 
+# ---- A new version of the server, to which pg_upgrade copies indexes as they are
+stop_servers
+echo '# newer' >>"$table"
+mkdir "$work/upgraded" && new=$work/three
+[ "$(id -u)" -eq 0 ] && chown nobody:nogroup "$work/upgraded"
+start_server three && stop_server three
+# The copied server runs in a folder of its own, where pg_upgrade writes.
+as_nobody env -C "$work/upgraded" "$bin/pg_upgrade" -b "$bin" -B "$bin" -d "$work/two" -D "$new" -U tester >"$work/log" 2>&1 || cat "$work/log"
+start_server three || echo "$script: the upgraded server does not start"
+is "indexes that pg_upgrade has copied are refused by a newer table, and made anew" \
+    "ERROR:  uca: the files or settings of the collation \"uca\" are not those that were fixed|NOTICE:  uca: index names_2_uca_key_idx is made anew|t|Öster" \
+    "$(sql three shard -c "SET enable_seqscan = off" -c "SELECT name FROM names_2 WHERE uca_key(name) = uca_key('Öster')" -c "SELECT uca_fix(force => true) IS NOT NULL" -c "SELECT name FROM names_2 WHERE uca_key(name) = uca_key('Öster')" | paste -sd'|')"
+is "and new collations are fixed there" "sv|t" "$(sql three shard -c "SELECT uca_create('sv', '$table', '$swedish')" -c "SELECT uca_fixed('sv') = uca_found('sv')" | paste -sd'|')"
+
 stop_servers
 sum_up

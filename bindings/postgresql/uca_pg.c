@@ -452,14 +452,21 @@ Datum uca_pg_hash_extended(PG_FUNCTION_ARGS) {
 
 /* What a sort has beside its texts. */
 struct sorting {
+    Oid function; /* by which the default collation is found, once there is a text: an empty index needs none */
     struct collation *collation;
     hyperLogLogState distinct; /* of the abbreviated keys */
 };
 
-static int compare_texts(Datum x, Datum y, SortSupport support) {
+static struct collation *collation_of_sort(SortSupport support) {
     struct sorting *sorting = support->ssup_extra;
+    if (!sorting->collation) sorting->collation = default_of(sorting->function);
+    return sorting->collation;
+}
+
+static int compare_texts(Datum x, Datum y, SortSupport support) {
+    struct collation *collation = collation_of_sort(support);
     text *a = DatumGetTextPP(x), *b = DatumGetTextPP(y);
-    int order = order_of(sorting->collation, a, b);
+    int order = order_of(collation, a, b);
     if (PointerGetDatum(a) != x) pfree(a);
     if (PointerGetDatum(b) != y) pfree(b);
     return order;
@@ -468,12 +475,13 @@ static int compare_texts(Datum x, Datum y, SortSupport support) {
 /* The first eight bytes of a key as a number. */
 static Datum abbreviated(Datum original, SortSupport support) {
     struct sorting *sorting = support->ssup_extra;
+    struct collation *collation = collation_of_sort(support);
     text *given = DatumGetTextPP(original);
     uint64 front = 0;
     size_t needed;
     uca_fault fault;
-    uint32_t status = uca_packed_key(&sorting->collation->collator, &sorting->collation->settings, (uint8_t *)VARDATA_ANY(given),
-                                     VARSIZE_ANY_EXHDR(given), (uint8_t *)&front, sizeof front, &needed, &fault);
+    uint32_t status = uca_packed_key(&collation->collator, &collation->settings, (uint8_t *)VARDATA_ANY(given), VARSIZE_ANY_EXHDR(given),
+                                     (uint8_t *)&front, sizeof front, &needed, &fault);
     if (status != UCA_OK) report("uca_cmp", status, &fault);
     if (PointerGetDatum(given) != original) pfree(given);
     front = pg_ntoh64(front);
@@ -497,7 +505,8 @@ Datum uca_pg_sort_support(PG_FUNCTION_ARGS) {
     SortSupport support = (SortSupport)PG_GETARG_POINTER(0);
     struct sorting *sorting = MemoryContextAlloc(support->ssup_cxt, sizeof *sorting);
     MemoryContext before = MemoryContextSwitchTo(support->ssup_cxt);
-    sorting->collation = default_of(fcinfo->flinfo->fn_oid);
+    sorting->function = fcinfo->flinfo->fn_oid;
+    sorting->collation = NULL;
     support->ssup_extra = sorting;
     support->comparator = compare_texts;
 #ifdef USE_FLOAT8_BYVAL
