@@ -176,14 +176,16 @@ static char *options_of(Oid oid, Oid schema, char **name) {
     bool is_ours, is_null;
     Datum options;
     char *copy;
-    if (!HeapTupleIsValid(tuple)) ereport(ERROR, (errcode(ERRCODE_UNDEFINED_OBJECT), errmsg("uca: there is no text search dictionary %u", oid)));
+    if (!HeapTupleIsValid(tuple))
+        ereport(ERROR, (errcode(ERRCODE_UNDEFINED_OBJECT), errmsg("uca: there is no text search dictionary %u", oid)));
     row = (Form_pg_ts_dict)GETSTRUCT(tuple);
     *name = pstrdup(NameStr(row->dictname));
     template = SearchSysCache1(TSTEMPLATEOID, ObjectIdGetDatum(row->dicttemplate));
     is_ours = HeapTupleIsValid(template) && strcmp(NameStr(((Form_pg_ts_template)GETSTRUCT(template))->tmplname), "uca") == 0
         && ((Form_pg_ts_template)GETSTRUCT(template))->tmplnamespace == schema;
     if (HeapTupleIsValid(template)) ReleaseSysCache(template);
-    if (!is_ours) ereport(ERROR, (errcode(ERRCODE_WRONG_OBJECT_TYPE), errmsg("uca: the text search dictionary \"%s\" is no collation of uca", *name)));
+    if (!is_ours)
+        ereport(ERROR, (errcode(ERRCODE_WRONG_OBJECT_TYPE), errmsg("uca: the text search dictionary \"%s\" is no collation of uca", *name)));
     options = SysCacheGetAttr(TSDICTOID, tuple, Anum_pg_ts_dict_dictinitoption, &is_null);
     copy = is_null ? pstrdup("") : TextDatumGetCString(options);
     ReleaseSysCache(tuple);
@@ -196,7 +198,8 @@ static struct definition definition_in(const char *options) {
 
 static void report_setting(const char *setting, const char *value, const char *fixed) {
     ereport(ERROR, (errcode(ERRCODE_CONFIG_FILE_ERROR), errmsg("uca: %s is \"%s\", and the collation \"uca\" has \"%s\"", setting, value, fixed),
-                    errhint("Set uca.table_file, uca.rules_file, uca.strength and uca.variable as they were; or SELECT uca_fix(), which says what depends on them.")));
+                    errhint("Set uca.table_file, uca.rules_file, uca.strength and uca.variable as they were; "
+                            "or SELECT uca_fix(), which says what depends on them.")));
 }
 
 /* The default collation can be named by settings, too. Where they are there, they have to say what it is. */
@@ -204,8 +207,10 @@ static void check_settings(const struct definition *definition) {
     if (!*table_path) return;
     if (strcmp(table_path, definition->table) != 0) report_setting("uca.table_file", table_path, definition->table);
     if (strcmp(rules_path, definition->rules) != 0) report_setting("uca.rules_file", rules_path, definition->rules);
-    if (strength != definition->settings.strength) report_setting("uca.strength", word_of(strengths, strength), word_of(strengths, definition->settings.strength));
-    if (variable != definition->settings.variable) report_setting("uca.variable", word_of(variables, variable), word_of(variables, definition->settings.variable));
+    if (strength != definition->settings.strength)
+        report_setting("uca.strength", word_of(strengths, strength), word_of(strengths, definition->settings.strength));
+    if (variable != definition->settings.variable)
+        report_setting("uca.variable", word_of(variables, variable), word_of(variables, definition->settings.variable));
 }
 
 static bool has_settings(const struct preloaded *preloaded, const uca_settings *settings) {
@@ -242,7 +247,8 @@ static void load(struct collation *collation, const struct definition *definitio
     if (strcmp(digits, definition->fixed) == 0) return;
     uca_close(&collation->collator);
     ereport(ERROR, (errcode(ERRCODE_INDEX_CORRUPTED), errmsg("uca: the files or settings of the collation \"%s\" are not those that were fixed", name),
-                    errdetail("The fingerprint of \"%s\"%s%s%s is %s; fixed was %s.", definition->table, *definition->rules ? " with \"" : "",
+                    errdetail("The fingerprint of \"%s\"%s%s%s is %s; fixed was %s.",
+                              definition->table, *definition->rules ? " with \"" : "",
                               definition->rules, *definition->rules ? "\"" : "", digits, definition->fixed),
                     errhint("Put back what was there; or SELECT uca_fix(%s), which says what depends on it.", quote_literal_cstr(name))));
 }
@@ -571,7 +577,8 @@ Datum uca_pg_init(PG_FUNCTION_ARGS) {
     struct definition definition = definition_of((List *)PG_GETARG_POINTER(0));
     uca_collator collator = UCA_CLOSED;
     if (!has_privs_of_role(GetUserId(), ROLE_PG_READ_SERVER_FILES))
-        ereport(ERROR, (errcode(ERRCODE_INSUFFICIENT_PRIVILEGE), errmsg("uca: a collation names files, and may be made only by members of pg_read_server_files")));
+        ereport(ERROR, (errcode(ERRCODE_INSUFFICIENT_PRIVILEGE),
+                        errmsg("uca: a collation names files, and may be made only by members of pg_read_server_files")));
     if (GetDatabaseEncoding() != PG_UTF8)
         ereport(ERROR, (errcode(ERRCODE_FEATURE_NOT_SUPPORTED), errmsg("uca: the database is not in UTF-8")));
     open_files(&collator, definition.table, definition.rules);
@@ -647,11 +654,15 @@ void _PG_init(void) {
     HASHCTL how = {.keysize = sizeof(Oid), .entrysize = sizeof(struct collation)};
     collations = hash_create("collations of uca", 16, &how, HASH_ELEM | HASH_BLOBS);
     CacheRegisterSyscacheCallback(TSDICTOID, dictionaries_changed, (Datum)0);
-    DefineCustomStringVariable("uca.table_file", "The file of the table of the default collation.", NULL, &table_path, "", PGC_SUSET, 0, NULL, path_changed, NULL);
-    DefineCustomStringVariable("uca.rules_file", "The file of the rules that tailor it; none if empty.", NULL, &rules_path, "", PGC_SUSET, 0, NULL, path_changed, NULL);
-    DefineCustomEnumVariable("uca.strength", "How many levels are compared.", NULL, &strength, UCA_TERTIARY, strengths, PGC_SUSET, 0, NULL, setting_changed, NULL);
-    DefineCustomEnumVariable("uca.variable", "How punctuation is weighted.", NULL, &variable, UCA_NON_IGNORABLE, variables, PGC_SUSET, 0, NULL, setting_changed, NULL);
-    DefineCustomStringVariable("uca.preload", "Tables to load once for all sessions, with shared_preload_libraries.", "TABLE[:RULES[:STRENGTH[:VARIABLE]]], ..",
+    DefineCustomStringVariable("uca.table_file", "The file of the table of the default collation.", NULL,
+                               &table_path, "", PGC_SUSET, 0, NULL, path_changed, NULL);
+    DefineCustomStringVariable("uca.rules_file", "The file of the rules that tailor it; none if empty.", NULL,
+                               &rules_path, "", PGC_SUSET, 0, NULL, path_changed, NULL);
+    DefineCustomEnumVariable("uca.strength", "How many levels are compared.", NULL,
+                             &strength, UCA_TERTIARY, strengths, PGC_SUSET, 0, NULL, setting_changed, NULL);
+    DefineCustomEnumVariable("uca.variable", "How punctuation is weighted.", NULL,
+                             &variable, UCA_NON_IGNORABLE, variables, PGC_SUSET, 0, NULL, setting_changed, NULL);
+    DefineCustomStringVariable("uca.preload", "Tables that shared_preload_libraries loads for all sessions.", "TABLE[:RULES[:STRENGTH[:VARIABLE]]], ..",
                                &preload_list, "", process_shared_preload_libraries_in_progress ? PGC_POSTMASTER : PGC_SIGHUP, 0, NULL, NULL, NULL);
     EmitWarningsOnPlaceholders("uca");
     if (process_shared_preload_libraries_in_progress) preload_all();

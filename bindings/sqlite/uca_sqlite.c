@@ -260,7 +260,8 @@ static int opens(sqlite3_context *context, struct collation *collation, int coun
 
 /* Runs a statement of a database's with a name and a digest bound, up to its first row. Returns what SQLite says; whether there is a row,
    and whether its first column is the digest, go to `has_row` and `is_same`. */
-static int run(sqlite3 *connection, const char *sql, const char *schema, const char *name, const uca_digest *digest, int *has_row, int *is_same) {
+static int run(sqlite3 *connection, const char *sql, const char *schema, const char *name, const uca_digest *digest, int *has_row,
+               int *is_same) {
     sqlite3_stmt *statement = NULL;
     char *text = sqlite3_mprintf(sql, schema);
     int result = text ? sqlite3_prepare_v2(connection, text, -1, &statement, NULL) : SQLITE_NOMEM;
@@ -277,14 +278,16 @@ static int run(sqlite3 *connection, const char *sql, const char *schema, const c
     return sqlite3_finalize(statement);
 }
 
-/* Whether a database has fixed another fingerprint for a name, or has fixed none and can: then this one is fixed. */
+/* Whether a database has fixed no other fingerprint for a name. Where it has fixed none and may, it fixes this one. */
 static int fits(sqlite3_context *context, sqlite3 *connection, const char *schema, const char *name, const uca_digest *digest, int may_fix) {
     int has_row, is_same, result;
-    result = run(connection, "SELECT 1 FROM \"%w\".sqlite_schema WHERE type = 'table' AND name = 'uca_fixed'", schema, name, digest, &has_row, &is_same);
+    result = run(connection, "SELECT 1 FROM \"%w\".sqlite_schema WHERE type = 'table' AND name = 'uca_fixed'",
+                 schema, name, digest, &has_row, &is_same);
     if (result == SQLITE_OK && has_row)
         result = run(connection, "SELECT fingerprint FROM \"%w\".uca_fixed WHERE name = ?1", schema, name, digest, &has_row, &is_same);
     else if (result == SQLITE_OK && may_fix)
-        result = run(connection, "CREATE TABLE \"%w\".uca_fixed (name TEXT PRIMARY KEY COLLATE NOCASE, fingerprint BLOB NOT NULL)", schema, name, digest, &has_row, &is_same);
+        result = run(connection, "CREATE TABLE \"%w\".uca_fixed (name TEXT PRIMARY KEY COLLATE NOCASE, fingerprint BLOB NOT NULL)",
+                     schema, name, digest, &has_row, &is_same);
     if (result == SQLITE_OK && has_row && !is_same) {
         char *text = sqlite3_mprintf("uca_load: the database \"%s\" has keys of another table, other rules or other settings under \"%s\": "
                                      "load those, or DELETE FROM uca_fixed, load these, and REINDEX", schema, name);
