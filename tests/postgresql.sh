@@ -29,6 +29,25 @@ says() {
     for statement in "$@"; do words+=(-c "$statement"); done
     is "$name" "$wanted" "$(sql one "$database" "${words[@]}" | sed "s,$work/,,g" | paste -sd'|')"
 }
+# A session that stays open: opens, then typed, then answered with the number of lines that it has to have by now, and closed.
+opens() {
+    rm -f "$work/typed"
+    mkfifo "$work/typed"
+    psql -qXAt -h "$work/one" -U tester -d "$1" <"$work/typed" >"$work/session" 2>&1 &
+    session=$!
+    exec 8>"$work/typed"
+}
+typed() { printf '%s\n' "$@" >&8; }
+answered() {
+    for _ in $(seq 200); do
+        [ "$(wc -l <"$work/session")" -ge "$1" ] && return
+        sleep 0.05
+    done
+}
+closed() {
+    exec 8>&-
+    wait "$session"
+}
 new_database() { sql one postgres -c "DROP DATABASE IF EXISTS $1" -c "CREATE DATABASE $1" | grep -v NOTICE; }
 
 # ---- Collations by name
@@ -117,17 +136,13 @@ says "the old file again is another one now" "ERROR:  uca: the files or settings
 sql one stale -c "SELECT uca_fix_all(force => true)" >/dev/null 2>&1
 # A session that is open, and has keys and a plan of before, sees that another one has fixed anew.
 sql one stale -c "SELECT uca_create('es', '$table', '$work/files/es.rules')" -c "CREATE INDEX by_es ON w (uca_key(t, 'es'))" >/dev/null
-mkfifo "$work/typed"
-psql -qXAt -h "$work/one" -U tester -d stale <"$work/typed" >"$work/session" 2>&1 &
-session=$!
-exec 8>"$work/typed"
-echo "PREPARE p AS SELECT bool_and(uca_key('zon', 'es') = uca_key(t, 'es')) FROM w WHERE t = 'zon'; EXECUTE p;" >&8
-sleep 1
+opens stale
+typed "PREPARE p AS SELECT bool_and(uca_key('zon', 'es') = uca_key(t, 'es')) FROM w WHERE t = 'zon';" "EXECUTE p;"
+answered 1
 echo "&n<zon" >"$work/files/es.rules"
 sql one stale -c "SELECT uca_fix('es', force => true)" >/dev/null 2>&1
-echo "INSERT INTO w (t) VALUES ('zon'); SELECT string_agg(t, ' ' ORDER BY uca_key(t, 'es')) FROM w; EXECUTE p;" >&8
-exec 8>&-
-wait "$session"
+typed "INSERT INTO w (t) VALUES ('zon'); SELECT string_agg(t, ' ' ORDER BY uca_key(t, 'es')) FROM w;" "EXECUTE p;"
+closed
 is "an open session takes the new rules" "zon zon oas öl|t" "$(tail -n 2 "$work/session" | paste -sd'|')"
 says "a collation with an index can't be dropped" "ERROR:  cannot drop text search dictionary es because other objects depend on it" stale "DROP TEXT SEARCH DICTIONARY es"
 says "the default one, dropped and made anew, makes its indexes anew" "ERROR:  uca: there is no collation \"uca\"|NOTICE:  uca: index by_key is made anew|NOTICE:  uca: index by_text is made anew|uca" stale \
@@ -177,23 +192,18 @@ says "and are used at once where they are the same" "t" again "SET uca.table_fil
 # ---- One table for all connections
 # memory PID: the kilobytes of a process's own memory
 memory() { awk '/^Private_(Clean|Dirty):/ { n += $2 } END { print n }' "/proc/$1/smaps_rollup"; }
-# first_key: milliseconds and own kilobytes of the first key of a new connection
+# first_key: milliseconds and own kilobytes of the first key of a new connection, after another query of it
 first_key() {
     local pid before after
-    rm -f "$work/typed"
-    mkfifo "$work/typed"
-    psql -qXAt -h "$work/one" -U tester -d names <"$work/typed" >"$work/session" 2>&1 &
-    session=$!
-    exec 8>"$work/typed"
-    printf 'SELECT pg_backend_pid();\nSELECT length(md5(t)) FROM w LIMIT 1;\n\\timing on\n' >&8
-    sleep 0.3
+    opens names
+    typed 'SELECT pg_backend_pid();' 'SELECT length(md5(t)) FROM w LIMIT 1;' '\timing on'
+    answered 2
     pid=$(head -n 1 "$work/session")
     before=$(memory "$pid")
-    echo "SELECT length(uca_key('ål', 'sv'));" >&8
-    sleep 0.7
+    typed "SELECT length(uca_key('ål', 'sv'));"
+    answered 4
     after=$(memory "$pid")
-    exec 8>&-
-    wait "$session"
+    closed
     echo "$(sed -n 's/^Time: \([0-9.]*\) ms.*/\1/p' "$work/session" | tail -1) $((after - before))"
 }
 if [ -r /proc/self/smaps_rollup ]; then
