@@ -75,7 +75,7 @@ says "each call by name" "-1|1|t|f|f|t|t" names "SELECT uca_cmp('zon', 'ål', 's
 says "bounds without a null" "0|4096|t" names "SELECT length(uca_prefix_lower('', 'sv'))" "SELECT length(uca_prefix_upper('', 'sv'))" \
     "SELECT count(*) = count(*) FILTER (WHERE uca_key(t, 'sv') < uca_prefix_upper('', 'sv')) FROM w"
 says "names, files and settings that are bad" \
-    "ERROR:  uca: there is a text search dictionary \"sv\" already|ERROR:  uca: could not open \"/nowhere\": No such file or directory|ERROR:  uca: could not open \"/nowhere\": No such file or directory|ERROR:  uca: could not read \"/\": Is a directory|ERROR:  uca: \"files/sv.rules\": bad table, kind 2, at 1|ERROR:  uca: \"files/table\": bad rules, kind 21, at 0|ERROR:  uca: \"sixth\" is no value of strength|ERROR:  uca: \"none\" is no value of variable|ERROR:  uca: table_file is missing|ERROR:  text search dictionary \"none\" does not exist at character 21|ERROR:  uca: the text search dictionary \"english_stem\" is no collation of uca|ERROR:  uca: a collation has no option \"tabel\"|3" \
+    "ERROR:  uca: there is a text search dictionary \"sv\" already|ERROR:  uca: could not open \"/nowhere\": No such file or directory|ERROR:  uca: could not open \"/nowhere\": No such file or directory|ERROR:  uca: could not read \"/\": Is a directory|ERROR:  uca: \"files/sv.rules\": bad table, kind 3, at 3|ERROR:  uca: \"files/table\": bad rules, kind 22, at 539|ERROR:  uca: \"sixth\" is no value of strength|ERROR:  uca: \"none\" is no value of variable|ERROR:  uca: table_file is missing|ERROR:  text search dictionary \"none\" does not exist at character 21|ERROR:  uca: the text search dictionary \"english_stem\" is no collation of uca|ERROR:  uca: a collation has no option \"tabel\"|3" \
     names "SELECT uca_create('sv', '$table')" "SELECT uca_create('x', '/nowhere')" "SELECT uca_create('x', '$table', '/nowhere')" "SELECT uca_create('x', '/')" \
     "SELECT uca_create('x', '$swedish')" "SELECT uca_create('x', '$table', '$table')" "SELECT uca_create('x', '$table', '', 'sixth')" "SELECT uca_create('x', '$table', variable => 'none')" \
     "SELECT uca_create('x', NULL)" "SELECT uca_key('a', 'none')" "SELECT uca_key('a', 'english_stem')" "CREATE TEXT SEARCH DICTIONARY x (TEMPLATE = uca, tabel = 'a')" \
@@ -218,7 +218,7 @@ if [ -r /proc/self/smaps_rollup ]; then
     is "what cannot be loaded is logged" "uca.preload: \"/nowhere\" was not loaded|uca.preload: \"files/table::sixth\" was not loaded" "$(sed -n 's/.*WARNING:  //p' "$work/one.log" | grep preload | sed "s,$work/,," | paste -sd'|')"
     ./uca order --table "$table" --rules "$german" --variable shifted <"$work/words" >"$work/wanted"
     is "the order by a shared table" "" "$(sql one names -c "SELECT t FROM w ORDER BY uca_key(t, 'de'), n" | cmp - "$work/wanted" 2>&1)"
-    echo '# newer' >>"$swedish"
+    cat rules/es.rules >>"$swedish"
     says "new rules are read where the shared ones are older" "t|t|t" names "SELECT uca_key('ål', 'sv') > uca_key('zon', 'sv')" "SET client_min_messages = warning" "SELECT uca_fix('sv', force => true) IS NOT NULL" "SELECT uca_fingerprint('sv') = decode(uca_found('sv'), 'hex')"
     stop_server one
     start_server one
@@ -252,13 +252,13 @@ is "both servers have a part of it" "yes" "$(awk '$1 == 0 { few = 1 } END { prin
 asked() { sql one list -c "EXPLAIN (ANALYZE, VERBOSE, COSTS OFF, TIMING OFF, SUMMARY OFF) $1" | sed -n 's/^ *-> *Foreign Scan on public.\(names_[12]\).*(\(actual\|never\).*/\1 \2/p; s/^ *Foreign Scan on public.\(names_[12]\).*(\(actual\|never\).*/\1 \2/p; s/^ *Remote SQL: //p' | paste -sd'|'; }
 is "the first names ask the first server alone, and it sorts" "names_1 actual|SELECT name FROM public.names_1 ORDER BY public.uca_key(name) ASC NULLS LAST|names_2 never|SELECT name FROM public.names_2 ORDER BY public.uca_key(name) ASC NULLS LAST" \
     "$(asked "SELECT name FROM names ORDER BY uca_key(name) LIMIT 5")"
-is "a beginning asks its server alone, by its index's range" "names_2 actual|SELECT name FROM public.names_2 WHERE ((public.uca_key(name) >= E'\\\\x2217'::bytea)) AND ((public.uca_key(name) < E'\\\\x2218'::bytea))" \
+is "a beginning asks its server alone, by its index's range" "names_2 actual|SELECT name FROM public.names_2 WHERE ((public.uca_key(name) >= E'\\\\x21d2'::bytea)) AND ((public.uca_key(name) < E'\\\\x21d3'::bytea))" \
     "$(asked "SELECT name FROM names WHERE uca_key(name) >= uca_prefix_lower('s') AND uca_key(name) < uca_prefix_upper('s')")"
 says "a name goes to its server, and is found there" "names_2|names_1" list "INSERT INTO names VALUES ('Öster'), ('Anka')" "SELECT tableoid::regclass FROM names WHERE uca_key(name) = uca_key('Öster')" "SELECT tableoid::regclass FROM names WHERE uca_key(name) = uca_key('Anka')"
 
 # ---- A new version of the server, to which pg_upgrade copies indexes as they are
 stop_servers
-echo '# newer' >>"$table"
+sed -i 's/^0062  *;.*/0062 ; [.1CA9.0020.0003]/' "$table" # b has another weight
 mkdir "$work/upgraded" && new=$work/three
 [ "$(id -u)" -eq 0 ] && chown nobody:nogroup "$work/upgraded"
 start_server three && stop_server three

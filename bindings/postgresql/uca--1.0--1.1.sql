@@ -90,18 +90,22 @@ BEGIN
     FOREACH dictionary IN ARRAY dictionaries LOOP
         EXECUTE format('ALTER TEXT SEARCH DICTIONARY %s (fingerprint = %L)', dictionary, @extschema@.uca_found(dictionary));
     END LOOP;
-    FOR stale IN SELECT DISTINCT c.oid IS NULL, d.description, coalesce(c.oid, a.attrelid)::regclass AS relation, c.relkind AS index_kind, a.attname AS generated
+    FOR stale IN SELECT DISTINCT c.oid IS NULL, d.description, coalesce(c.oid, a.attrelid)::regclass AS relation, c.relkind AS index_kind, a.attname AS base
             FROM unnest(dictionaries) n CROSS JOIN @extschema@.uca_dependents(n) d
             LEFT JOIN pg_catalog.pg_class c ON d.classid = 'pg_catalog.pg_class'::regclass AND c.oid = d.objid AND c.relkind IN ('i', 'I')
-            LEFT JOIN (pg_catalog.pg_attrdef f JOIN pg_catalog.pg_attribute a ON a.attrelid = f.adrelid AND a.attnum = f.adnum AND a.attgenerated = 's'
-                       JOIN pg_catalog.pg_class r ON r.oid = a.attrelid AND r.relkind = 'r')
+            LEFT JOIN (pg_catalog.pg_attrdef f JOIN pg_catalog.pg_attribute g ON g.attrelid = f.adrelid AND g.attnum = f.adnum AND g.attgenerated = 's'
+                       JOIN pg_catalog.pg_class r ON r.oid = f.adrelid AND r.relkind = 'r'
+                       JOIN LATERAL (SELECT min(b.refobjsubid) AS number FROM pg_catalog.pg_depend b
+                           WHERE b.classid = 'pg_catalog.pg_attrdef'::regclass AND b.objid = f.oid AND b.refclassid = 'pg_catalog.pg_class'::regclass
+                             AND b.refobjid = f.adrelid AND b.refobjsubid NOT IN (0, f.adnum)) b ON true
+                       JOIN pg_catalog.pg_attribute a ON a.attrelid = f.adrelid AND a.attnum = b.number)
                 ON d.classid = 'pg_catalog.pg_attrdef'::regclass AND f.oid = d.objid
             ORDER BY 1, 2 LOOP
         CONTINUE WHEN stale.index_kind = 'I'; -- its parts come by themselves
         IF stale.index_kind = 'i' THEN
             EXECUTE format('REINDEX INDEX %s', stale.relation);
-        ELSIF stale.generated IS NOT NULL THEN
-            EXECUTE format('UPDATE %s SET %I = DEFAULT', stale.relation, stale.generated);
+        ELSIF stale.base IS NOT NULL THEN
+            EXECUTE format('UPDATE %s SET %I = %I', stale.relation, stale.base, stale.base); -- a column that the generated one is made of
         ELSE
             RAISE WARNING 'uca: % depends on keys that are others now', stale.description;
             CONTINUE;
