@@ -3,6 +3,7 @@
 # What a caller needs is Debian's; where it cannot be had, the script says so and leaves that caller out.
 source "$(dirname "${BASH_SOURCE[0]}")/checks.bash"
 source tests/debian.bash
+source tests/postgres.bash
 
 is_built
 chmod 755 "$work"
@@ -110,7 +111,7 @@ in_sqlite() {
     is "SQLite: by key" "" "$(cmp "$folder/by_key" "$work/ordered" 2>&1)"
     is "SQLite: by sort key" "" "$(cmp "$folder/by_sort_key" "$work/ordered" 2>&1)"
     is "SQLite: indexes are used, and are well" \
-        "50000|SCAN w USING COVERING INDEX by_collation|SCAN w USING INDEX by_key|SEARCH w USING COVERING INDEX by_collation (t>? AND t<?)|SEARCH w USING INDEX by_key (<expr>>? AND <expr><?)|1|lomo luna llano mano|SEARCH w USING INDEX by_key (<expr>>? AND <expr><?)|lo Lómo||1|1|2000|1|SCAN w USING INDEX by_sort_key|SEARCH w USING INDEX by_sort_key (<expr>>? AND <expr><?)|1|1|2026|1FA21FBC00000505|1FA21FBC000000200020000000020002|$digest|ok" \
+        "50000|SCAN w USING COVERING INDEX by_collation|SCAN w USING INDEX by_key|SEARCH w USING COVERING INDEX by_collation (t>? AND t<?)|SEARCH w USING INDEX by_key (<expr>>? AND <expr><?)|1|lomo luna llano mano|SEARCH w USING INDEX by_key (<expr>>? AND <expr><?)|lo Lómo||4096|1|2000|1|SCAN w USING INDEX by_sort_key|SEARCH w USING INDEX by_sort_key (<expr>>? AND <expr><?)|1|1|2026|1FA21FBC00000505|1FA21FBC000000200020000000020002|$digest|ok" \
         "$(grep -v '^QUERY PLAN' "$folder/answers" | sed 's/^`--//' | sed -n '1,16p' | paste -sd'|')"
     is "SQLite: a null, and a long key" "|6004" "$(tail -1 "$folder/answers")"
     is "SQLite: faults" \
@@ -123,73 +124,33 @@ else
     left_out "SQLite, since sqlite3 or its header is not there"
 fi
 
-# Debian's headers of the server, installed or brought into $work: leaves their folder in $server
-server_headers() {
-    local release=$1
-    server=/usr/include/postgresql/$release/server
-    [ -f "$server/postgres.h" ] && return
-    mkdir "$work/dev" && debian update || return 1
-    (cd "$work/dev" && debian download "postgresql-server-dev-$release" "libpq-dev" && for package in *.deb; do dpkg -x "$package" .; done) || return 1
-    server=$work/dev/usr/include/postgresql/$release/server
-    [ -f "$server/postgres.h" ]
-}
-
-# as_nobody WORDS..: as a user without privileges, where this is root
-as_nobody() {
-    if [ "$(id -u)" -eq 0 ]; then
-        (cd / && setpriv --reuid=nobody --regid=nogroup --clear-groups "$@")
-    else
-        "$@"
-    fi
-}
-
-# stop_server: stops the server that in_postgresql has started, by its id
-stop_server() { [ -f "$work/pgdata/postmaster.pid" ] && kill -INT "$(head -1 "$work/pgdata/postmaster.pid")" 2>/dev/null; }
-
-# in_postgresql RELEASE: the tests of PostgreSQL's extension, in a copy of the server that has it and a server of its own
+# in_postgresql: the tests of PostgreSQL's extension that C.md and EXAMPLES.md tell; those of databases are in tests/postgresql.sh
 in_postgresql() {
-    local pg=$work/pg release=$1 bin data
-    bin=$pg/usr/lib/postgresql/$release/bin
-    data=$work/pgdata
-    mkdir -p "$pg/usr/lib/postgresql" "$pg/usr/share/postgresql" "$data" "$work/extension"
-    cp -r "/usr/lib/postgresql/$release" "$pg/usr/lib/postgresql/" && cp -rL "/usr/share/postgresql/$release" "$pg/usr/share/postgresql/" 2>/dev/null
-    cp bindings/postgresql/{Makefile,uca.control,uca--1.0.sql,uca_pg.c} "$work/extension/" # and nothing that was built before
-    make -s -C "$work/extension" install UCA="$usr" DESTDIR="$pg" PG_CONFIG="$(command -v pg_config || echo "$work/dev/usr/bin/pg_config")" \
-        COPT="-I$server -Wall -Werror" with_llvm=no >"$work/log" 2>&1 || { cat "$work/log"; return 1; }
-    chmod -R a+rX "$pg" && chmod 644 "$work/lines" "$work/ordered"
+    extension_is_built && chmod 644 "$work/lines" "$work/ordered" || return 1
     sed 's/"/""/g; s/.*/"&"/' "$work/lines" >"$work/lines.csv"
     sed 's/"/""/g; s/.*/"&"/' "$work/ordered" >"$work/ordered.csv"
-    [ "$(id -u)" -eq 0 ] && chown nobody:nogroup "$data"
-    as_nobody "$bin/initdb" -D "$data" -U tester --encoding=UTF8 --locale=C --no-sync >"$work/log" 2>&1 || { cat "$work/log"; return 1; }
-    (cd / && as_nobody "$bin/postgres" -D "$data" -k "$data" -c listen_addresses= -c fsync=off -c "uca.table_file=$table") >"$work/pglog" 2>&1 &
-    for _ in $(seq 100); do
-        [ -f "$data/postmaster.pid" ] && psql -h "$data" -U tester -d postgres -c 'SELECT 1' >/dev/null 2>&1 && break
-        sleep 0.1
-    done
-    trap 'stop_server; rm -rf "$work"' EXIT
+    start_server pgdata -c "uca.table_file=$table" || return 1
     sed "s,@WORK@,$work," bindings/postgresql/test.sql >"$work/pg.sql"
-    psql -qX -h "$data" -U tester -d postgres -f "$work/pg.sql" >"$work/pgout" 2>"$work/pgerrors"
-    is "PostgreSQL: another session, whose fingerprint is the one that was fixed" "-1" \
-        "$(psql -qXAt -h "$data" -U tester -d postgres -c "SELECT uca_cmp('a', 'b')" 2>&1)"
+    psql -qX -h "$work/pgdata" -U tester -d postgres -f "$work/pg.sql" >"$work/pgout" 2>"$work/pgerrors"
+    is "PostgreSQL: another session, whose fingerprint is the one that was fixed" "-1" "$(sql pgdata postgres -c "SELECT uca_cmp('a', 'b')")"
     sed -n '/^## An index in PostgreSQL/,$s/^    //p' docs/EXAMPLES.md | grep -v '^\$' >"$work/example_page"
-    psql -qX -h "$data" -U tester -d postgres -c 'CREATE DATABASE example'
+    sql pgdata postgres -c 'CREATE DATABASE example'
+    cp rules/sv.rules "$work/" && chmod 644 "$work/sv.rules"
     is "PostgreSQL: what docs/EXAMPLES.md says" "$(grep -v '^postgres=#' "$work/example_page")" \
-        "$(sed -n 's/^postgres=# //p' "$work/example_page" | sed "s,'/.*allkeys.txt,'$table,; s/DATABASE postgres/DATABASE example/" | psql -qXAt -h "$data" -U tester -d example 2>&1)"
-    stop_server
-    wait
+        "$(sed -n 's/^postgres=# //p' "$work/example_page" | sed "s,'/[^']*allkeys.txt','$table',; s,'/[^']*sv.rules','$work/sv.rules'," | psql -qXAt -h "$work/pgdata" -U tester -d example 2>&1)"
+    stop_servers
     is "PostgreSQL: by key" "" "$(cmp "$work/by_key.csv" "$work/ordered.csv" 2>&1)"
     is "PostgreSQL: by sort key" "" "$(cmp "$work/by_sort_key.csv" "$work/ordered.csv" 2>&1)"
     is "PostgreSQL: by operator class" "" "$(cmp "$work/by_text.csv" "$work/ordered.csv" 2>&1)"
     is "PostgreSQL: indexes are used" \
-        "50000|Index Scan using by_key on w|Index Scan using by_sort_key on w|Index Only Scan using by_text on w|Index Scan using by_key on w|  Index Cond: ((uca_key(t) >= '\x20d600000303'::bytea) AND (uca_key(t) <= '\x210900000303'::bytea))|Index Only Scan using by_text on w|  Index Cond: ((t >=~ 'l'::text) AND (t <=~ 'm'::text))|Index Scan using by_key on w|  Index Cond: ((uca_key(t) >= '\x20d6213c'::bytea) AND (uca_key(t) < '\x20d6213d'::bytea))|Index Scan using by_sort_key on w|  Index Cond: ((uca_sort_key(t) >= '\x20d6213c'::bytea) AND (uca_sort_key(t) < '\x20d6213d'::bytea))|t|t|-1|1|0|t|\x20d6213c2109213c00000909|\x20d6213c2109213c0000002000200020002000000002000200020002|t|t|0|lo Lómo|$digest" \
+        "50000|Index Scan using by_key on w|Index Scan using by_sort_key on w|Index Only Scan using by_text on w|Index Scan using by_key on w|  Index Cond: ((uca_key(t) >= '\x20d600000303'::bytea) AND (uca_key(t) <= '\x210900000303'::bytea))|Index Only Scan using by_text on w|  Index Cond: ((t >=~ 'l'::text) AND (t <=~ 'm'::text))|Index Scan using by_key on w|  Index Cond: ((uca_key(t) >= '\x20d6213c'::bytea) AND (uca_key(t) < '\x20d6213d'::bytea))|Index Scan using by_sort_key on w|  Index Cond: ((uca_sort_key(t) >= '\x20d6213c'::bytea) AND (uca_sort_key(t) < '\x20d6213d'::bytea))|t|t|-1|1|0|t|\x20d6213c2109213c00000909|\x20d6213c2109213c0000002000200020002000000002000200020002|t|4096|0|50000|lo Lómo|$digest" \
         "$(paste -sd'|' "$work/pgout")"
     is "PostgreSQL: faults" \
-        "ERROR:  uca_key: too many nonstarters in a row, kind 0, at 121|ERROR:  uca_sort_key: too many nonstarters in a row, kind 0, at 121|ERROR:  uca: the table or the settings are not those that were fixed" \
+        "ERROR:  uca_key: too many nonstarters in a row, kind 0, at 121|ERROR:  uca_sort_key: too many nonstarters in a row, kind 0, at 121|ERROR:  uca: uca.strength is \"primary\", and the collation \"uca\" has \"tertiary\"" \
         "$(sed 's/^psql:[^ ]* //' "$work/pgerrors" | grep ERROR | paste -sd'|')"
 }
-release=$(ls /usr/lib/postgresql 2>/dev/null | sort -n | tail -1)
-if [ -n "$release" ] && [ -x "/usr/lib/postgresql/$release/bin/initdb" ] && command -v psql >/dev/null && server_headers "$release"; then
-    in_postgresql "$release" || { echo "$script: PostgreSQL's extension could not be tried"; failed=$((failed + 1)); }
+if postgresql_is_here; then
+    in_postgresql || { echo "$script: PostgreSQL's extension could not be tried"; failed=$((failed + 1)); }
 else
     left_out "PostgreSQL, since its server or the server's headers cannot be had"
 fi

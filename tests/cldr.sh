@@ -17,6 +17,17 @@ cldr_is_here() {
     [ -f "$cldr/uca/allkeys_CLDR.txt" ]
 }
 
+# tools/cldr-rules reads XML by XML::LibXML: the installed one, or Debian's packages brought into $work
+xml_is_here() {
+    local parts
+    perl -MXML::LibXML -e 1 2>/dev/null && return
+    debian update || return 1
+    (cd "$work" && debian download libxml2 libxml-libxml-perl libxml-namespacesupport-perl libxml-sax-base-perl libxml-sax-perl && for package in libxml*.deb; do dpkg-deb -x "$package" xml || exit 1; done) || return 1
+    parts=("$work"/xml/usr/lib/*/perl5/*)
+    export PERL5LIB=${parts[0]}:$work/xml/usr/share/perl5 LD_LIBRARY_PATH=${parts[0]%/perl5/*}${LD_LIBRARY_PATH:+:$LD_LIBRARY_PATH}
+    perl -MXML::LibXML -e 1 2>/dev/null
+}
+
 # compares TAG: a row of the table, with how many neighbours differ with the rules and without any; run by xargs
 compares() {
     local tag=$1 found plain collator relations same=
@@ -42,6 +53,7 @@ compares() {
 
 is_built
 cldr_is_here || { echo "$script: unicode-cldr-core could not be had, so nothing was tried"; exit 0; }
+xml_is_here || { echo "$script: libxml-libxml-perl could not be had, so nothing was tried"; exit 0; }
 icu_is_built || { echo "$script: ICU could not be had: it wants gcc and libicu-dev, so nothing was tried"; exit 0; }
 export rules=$work/rules table=$cldr/uca/allkeys_CLDR.txt icu=$work/icu_keys
 export -f compares
@@ -57,6 +69,9 @@ tools/cldr-rules --cldr "$cldr" --into "$rules" "${tags[@]}" 2>"$work/left"
 is "collations that are written" "0" "$?"
 tools/cldr-rules --cldr "$cldr" --text --into "$rules" "${tags[@]}"
 is "rules name CLDR's version" "# Source: CLDR 41, common/collation/da.xml, standard, by tools/cldr-rules." "$(head -n 1 "$rules/da.rules")"
+mkdir -p "$work/broken/collation" && printf '<ldml>\n<collations>\n' >"$work/broken/collation/da.xml"
+is "XML that is none" "cldr-rules: $work/broken/collation/da.xml:3: parser error : Premature end of data in tag collations line 2
+1" "$(tools/cldr-rules --cldr "$work/broken" --text da 2>&1 | paste -sd'|'; echo "${PIPESTATUS[0]}")"
 perl tests/cldr_lines.pl "$cldr" "$rules"
 printf '%s\n' "${tags[@]}" | xargs -P "$(nproc)" -I{} bash -c 'compares {}' | LC_ALL=C sort >"$work/rows"
 

@@ -84,6 +84,36 @@ else
     echo "$script: there is no sqlite3, so no database was tried"
 fi
 
+# The extension of SQLite: what a database has fixed under a name stays so.
+if command -v sqlite3 >/dev/null && echo '#include <sqlite3ext.h>' | cc -E - >/dev/null 2>&1; then
+    cc -std=c11 -Wall -Wextra -Werror -O2 -shared -fPIC -Iinclude -o "$work/uca_sqlite.so" bindings/sqlite/uca_sqlite.c "$work/c/libuca.a"
+    db=$work/fixed.db
+    # sqlite WORDS..: with the extension, in one line
+    sqlite() { sqlite3 -cmd ".load $work/uca_sqlite" "$db" "$@" 2>&1 | sed 's/^Error: [a-z]*, //; s/^Runtime error near line [0-9]*: //' | paste -sd'|'; }
+    loads="SELECT uca_load('uca', '$published')"
+    others="uca_load: the database \"main\" has keys of another table, other rules or other settings under \"uca\": load those, or DELETE FROM uca_fixed, load these, and REINDEX"
+    is "SQLite: an index by the first rules" "uca|öl zon" "$(sqlite "$loads" "CREATE TABLE w (t TEXT)" "INSERT INTO w VALUES ('zon'), ('öl')" "CREATE INDEX by_key ON w (uca_key(t))" \
+        "SELECT group_concat(t, ' ') FROM (SELECT t FROM w ORDER BY uca_key(t))")"
+    is "SQLite: the same again" "uca|1" "$(sqlite "$loads" "SELECT hex(fingerprint) = hex(uca_fingerprint('uca')) FROM uca_fixed")"
+    is "SQLite: other rules" "$others" "$(sqlite "SELECT uca_load('uca', '$published', 'rules/sv.rules')")"
+    is "SQLite: other settings" "$others" "$(sqlite "SELECT uca_load('UCA', '$published', NULL, 'primary')" | sed 's/"UCA"/"uca"/')"
+    { cat "$published"; echo '10FFFD ; [.1C47.0020.0002]'; } >"$work/newer"
+    is "SQLite: another table" "$others" "$(sqlite "SELECT uca_load('uca', '$work/newer')")"
+    is "SQLite: other rules in another database of the connection" "${others/main/one}" "$(db=:memory: sqlite "ATTACH '$db' AS one" "SELECT uca_load('uca', '$published', 'rules/sv.rules')")"
+    is "SQLite: other rules under another name" "sv|uca|2" "$(sqlite "SELECT uca_load('sv', '$published', 'rules/sv.rules')" "$loads" "SELECT count(*) FROM uca_fixed")"
+    is "SQLite: a database that can't be written" "$others|x|2" "$(sqlite3 -readonly -cmd ".load $work/uca_sqlite" "$db" "SELECT uca_load('uca', '$work/newer')" 2>&1 | sed 's/^Error: [a-z]*, //')|$(sqlite "PRAGMA query_only = 1" "SELECT uca_load('x', '$work/newer')" "SELECT count(*) FROM uca_fixed")"
+    is "SQLite: a write without the extension fails" "no|2" "$(sqlite3 "$db" "INSERT INTO w VALUES ('a')" >/dev/null 2>&1 && echo yes || echo no)|$(sqlite3 "$db" 'SELECT count(*) FROM w')"
+    is "SQLite: to other rules, and an index made anew" "uca|zon öl|ok|$others" "$(sqlite "BEGIN" "DELETE FROM uca_fixed WHERE name = 'uca'" "SELECT uca_load('uca', '$published', 'rules/sv.rules')" "REINDEX" "COMMIT" \
+        "SELECT group_concat(t, ' ') FROM (SELECT t FROM w ORDER BY uca_key(t))" "PRAGMA integrity_check")|$(sqlite "$loads")"
+    sqlite3 "$db" .dump | grep -v uca_fixed >"$work/dump.sql"
+    is "SQLite: a dump is restored under the rules of now" "uca|öl zon" "$(db=$work/restored.db sqlite "$loads" ".read $work/dump.sql" "SELECT group_concat(t, ' ') FROM (SELECT t FROM w ORDER BY uca_key(t))")"
+    is "SQLite: uca_begins, and bounds without a null" "1 0 1|1|4096|1" "$(sqlite "SELECT uca_load('sv', '$published', 'rules/sv.rules')" "SELECT uca_begins('Öland', 'öl', 'sv') || ' ' || uca_begins('Öland', 'ol', 'sv') || ' ' || uca_begins('Öland', '', 'sv')" \
+        "SELECT uca_begins(NULL, 'a', 'sv') IS NULL" "SELECT length(uca_prefix_upper('', 'sv'))" "SELECT uca_key('Öland', 'sv') < uca_prefix_upper('', 'sv')" | sed 's/^sv|//')"
+    is "SQLite: bad names and files by the thousand change nothing" "1000|2" "$(for i in $(seq 1000); do echo "SELECT uca_load('bad$((i % 7))', '/nowhere/$i', CASE $((i % 2)) WHEN 1 THEN 'rules/sv.rules' END);"; done | sqlite | tr '|' '\n' | grep -c 'could not be read')|$(sqlite3 "$db" 'SELECT count(*) FROM uca_fixed')"
+else
+    echo "$script: left out: the extension of SQLite, since sqlite3 or its header is not there"
+fi
+
 # The fingerprint: the same for another spelling of the same order, another one for another order.
 fingerprint() { { ./uca table "$@" </dev/null; echo "strength tertiary, variable non-ignorable, Unicode 18, ideographs 15.1"; } | sha256sum; }
 ./uca table --table "$published" </dev/null >"$work/canonical"

@@ -1,5 +1,6 @@
 \set ON_ERROR_STOP on
 CREATE EXTENSION uca;
+SELECT uca_fix() IS NOT NULL AS fixed \gset
 CREATE TABLE w (n serial PRIMARY KEY, t text);
 \copy w (t) FROM '@WORK@/lines.csv' WITH (FORMAT csv)
 CREATE INDEX by_key ON w (uca_key(t));
@@ -24,7 +25,7 @@ SELECT (SELECT array_agg(n ORDER BY n) FROM w WHERE uca_key(t) >= uca_prefix_low
     IS NOT DISTINCT FROM (SELECT array_agg(n ORDER BY n) FROM w WHERE uca_sort_key(t) >= uca_prefix_lower('a') AND uca_sort_key(t) < uca_prefix_upper('a'));
 SELECT uca_cmp('a', 'b'), uca_cmp('b', 'a'), uca_cmp(E'a\u0301', E'\u00e1'), uca_key(NULL) IS NULL;
 SELECT uca_key('lomo'), uca_sort_key('lomo'), uca_sort_key(NULL) IS NULL;
-SELECT uca_prefix_upper('') IS NULL, length(uca_prefix_lower(''));
+SELECT length(uca_prefix_upper('')), length(uca_prefix_lower('')), (SELECT count(*) FROM w WHERE uca_key(t) >= uca_prefix_lower('') AND uca_key(t) < uca_prefix_upper(''));
 SELECT string_agg(b.t, ' ' ORDER BY uca_key(b.t)) FROM (VALUES ('lp'), ('Lómo'), ('l'), ('lo'), ('ln')) AS b (t)
     WHERE uca_key(b.t) >= uca_prefix_lower('lo') AND uca_key(b.t) < uca_prefix_upper('lo');
 SELECT encode(uca_fix(), 'hex');

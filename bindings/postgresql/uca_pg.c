@@ -1,26 +1,75 @@
 /*
- * An extension of PostgreSQL that sorts and indexes text by libuca: keys as bytea, and an operator class for text.
+ * An extension of PostgreSQL that sorts and indexes text by libuca: keys as bytea, and operator classes for text.
  *
- * The table and the settings are those of the server's settings uca.table_file, uca.rules_file, uca.strength and uca.variable. Only a
- * superuser may set them, since each index depends on them. Where uca_fix() has stored their fingerprint, a session that has
- * another one is refused at its first use.
+ * A collation is a text search dictionary of the template `uca`. Its options name the files and the settings, and the fingerprint that was
+ * fixed when it was made. The server keeps dictionaries in its catalog, tells each session when one changes, notes which indexes name
+ * one, and dumps them before any table. A collation makes keys only while its files have its fingerprint, so its functions are
+ * immutable. The functions that take no collation use the one named `uca`, in the schema of the extension.
  */
 #include "postgres.h"
-#include "executor/spi.h"
+#include "catalog/pg_authid.h"
+#include "catalog/pg_ts_dict.h"
+#include "catalog/pg_ts_template.h"
+#include "commands/defrem.h"
+#include "common/hashfn.h"
 #include "fmgr.h"
+#include "lib/hyperloglog.h"
 #include "mb/pg_wchar.h"
+#include "miscadmin.h"
+#include "port/pg_bswap.h"
+#include "storage/fd.h"
+#include "utils/acl.h"
 #include "utils/builtins.h"
 #include "utils/guc.h"
+#include "utils/hsearch.h"
+#include "utils/inval.h"
+#include "utils/lsyscache.h"
 #include "utils/memutils.h"
+#include "utils/plancache.h"
+#include "utils/sortsupport.h"
+#include "utils/syscache.h"
+#include "utils/varlena.h"
 #include "uca.h"
-
-#include <stdio.h>
 
 PG_MODULE_MAGIC;
 
-static uca_collator collator = UCA_CLOSED;
-static bool is_fixed_checked;
-static char *table_path, *rules_path;
+/* A table has at most 64 MiB, and rules have less. */
+#define MOST_BYTES ((size_t)64 << 20)
+
+/* An upper end for a range without one: no key begins with so many bytes FF that a B-tree could hold it. */
+#define BYTES_OF_LAST_END 4096
+
+#define DIGITS (2 * sizeof(uca_digest))
+
+/* What the options of a dictionary say. */
+struct definition {
+    const char *table, *rules; /* files; no rules if empty */
+    uca_settings settings;
+    const char *fixed; /* the fingerprint in hexadecimal digits, or null */
+};
+
+/* A collation that this session has used. */
+struct collation {
+    Oid oid; /* of its dictionary */
+    uint64 seen; /* the number of changes when it was last found right */
+    char *options; /* those that its table was found right by, or null */
+    uca_collator collator;
+    uca_settings settings;
+};
+
+/* A table that the postmaster has loaded, for all sessions. */
+struct preloaded {
+    char *table, *rules;
+    uca_settings settings;
+    uca_collator collator;
+    char digits[DIGITS + 1];
+};
+
+static HTAB *collations;
+static uint64 changes = 1; /* of dictionaries, and of the settings */
+static struct preloaded *preloads;
+static int count_of_preloads;
+static char *table_path, *rules_path, *preload_list;
 static int strength, variable;
 
 static const struct config_enum_entry strengths[] = {
@@ -29,20 +78,27 @@ static const struct config_enum_entry strengths[] = {
 static const struct config_enum_entry variables[] = {
     {"non-ignorable", UCA_NON_IGNORABLE, false}, {"blanked", UCA_BLANKED, false}, {"shifted", UCA_SHIFTED, false}, {NULL, 0, false}};
 
-static void path_changed(const char *value, void *extra) {
-    uca_close(&collator);
-    is_fixed_checked = false;
+static void path_changed(const char *value, void *extra) { changes++; }
+
+static void setting_changed(int value, void *extra) { changes++; }
+
+/* Plans may have keys of before as constants. */
+static void dictionaries_changed(Datum arg, int cache, uint32 hash) {
+    changes++;
+    ResetPlanCache();
 }
 
-static void setting_changed(int value, void *extra) { is_fixed_checked = false; }
+/* The number of a word, or an error. */
+static int number_of(const struct config_enum_entry *words, const char *option, const char *word) {
+    const struct config_enum_entry *entry = words;
+    while (entry->name && strcmp(entry->name, word) != 0) entry++;
+    if (!entry->name) ereport(ERROR, (errcode(ERRCODE_INVALID_PARAMETER_VALUE), errmsg("uca: \"%s\" is no value of %s", word, option)));
+    return entry->val;
+}
 
-void _PG_init(void);
-
-void _PG_init(void) {
-    DefineCustomStringVariable("uca.table_file", "The file of the collation element table.", NULL, &table_path, "", PGC_SUSET, 0, NULL, path_changed, NULL);
-    DefineCustomStringVariable("uca.rules_file", "The file of the rules that tailor it; none if empty.", NULL, &rules_path, "", PGC_SUSET, 0, NULL, path_changed, NULL);
-    DefineCustomEnumVariable("uca.strength", "How many levels are compared.", NULL, &strength, UCA_TERTIARY, strengths, PGC_SUSET, 0, NULL, setting_changed, NULL);
-    DefineCustomEnumVariable("uca.variable", "How punctuation is weighted.", NULL, &variable, UCA_NON_IGNORABLE, variables, PGC_SUSET, 0, NULL, setting_changed, NULL);
+static const char *word_of(const struct config_enum_entry *words, int number) {
+    while (words->name && words->val != number) words++;
+    return words->name;
 }
 
 static void report(const char *function, uint32_t status, const uca_fault *fault) {
@@ -54,91 +110,230 @@ static void report(const char *function, uint32_t status, const uca_fault *fault
 
 /* The bytes of a file in this context of memory. */
 static uint8_t *contents(const char *path, size_t *size) {
-    FILE *file = fopen(path, "rb");
+    FILE *file = AllocateFile(path, PG_BINARY_R);
     size_t room = 1 << 16, got;
     uint8_t *bytes = palloc(room);
-    bool failed;
     *size = 0;
     if (!file) ereport(ERROR, (errcode_for_file_access(), errmsg("uca: could not open \"%s\": %m", path)));
     while ((got = fread(bytes + *size, 1, room - *size, file)) > 0) {
         *size += got;
-        if (*size < room) continue;
-        if (room > MaxAllocSize / 2) break;
-        bytes = repalloc(bytes, room *= 2);
+        if (*size > MOST_BYTES) ereport(ERROR, (errcode(ERRCODE_PROGRAM_LIMIT_EXCEEDED), errmsg("uca: \"%s\" is larger than 64 MiB", path)));
+        if (*size == room) bytes = repalloc(bytes, room *= 2);
     }
-    failed = ferror(file) || *size == room;
-    fclose(file);
-    if (failed) ereport(ERROR, (errcode_for_file_access(), errmsg("uca: could not read \"%s\"", path)));
+    if (ferror(file)) ereport(ERROR, (errcode_for_file_access(), errmsg("uca: could not read \"%s\": %m", path)));
+    FreeFile(file);
     return bytes;
 }
 
-static uca_settings settings_now(void) {
-    uca_settings settings = UCA_SETTINGS(strength, variable);
-    return settings;
-}
-
-static void open_collator(void) {
+/* Opens a collator by files. What is wrong with their contents is reported with the file's name. */
+static void open_files(uca_collator *collator, const char *table_file, const char *rules_file) {
     uca_fault fault;
     size_t table_size, rules_size = 0;
-    uint8_t *table, *rules = NULL;
-    uint32_t status;
-    if (GetDatabaseEncoding() != PG_UTF8)
-        ereport(ERROR, (errcode(ERRCODE_FEATURE_NOT_SUPPORTED), errmsg("uca: the database is not in UTF-8")));
-    if (!*table_path) ereport(ERROR, (errcode(ERRCODE_CONFIG_FILE_ERROR), errmsg("uca: uca.table_file is not set")));
-    table = contents(table_path, &table_size);
-    if (*rules_path) rules = contents(rules_path, &rules_size);
-    status = uca_open(&collator, table, table_size, rules, rules_size, &fault);
+    uint8_t *table = contents(table_file, &table_size), *rules = *rules_file ? contents(rules_file, &rules_size) : NULL;
+    uint32_t status = uca_open(collator, table, table_size, rules, rules_size, &fault);
     pfree(table);
     if (rules) pfree(rules);
-    if (status != UCA_OK) report("uca_open", status, &fault);
+    if (status == UCA_OK) return;
+    report(psprintf("uca: \"%s\"", status == UCA_BAD_RULES || status == UCA_BAD_TAILORING ? rules_file : table_file), status, &fault);
 }
 
-/* Refuses another table or other settings than those that uca_fix() has stored. */
-static void check_fixed(void) {
-    uca_settings settings = settings_now();
-    uca_digest digest;
+static void digest_of(uca_collator *collator, const uca_settings *settings, uca_digest *digest) {
     uca_fault none = {0, 0, 0};
-    uint32_t status;
-    bool is_other = false, found;
-    if (SPI_connect() != SPI_OK_CONNECT) elog(ERROR, "uca: no SPI");
-    found = SPI_execute("SELECT quote_ident(n.nspname) FROM pg_catalog.pg_extension e JOIN pg_catalog.pg_namespace n ON n.oid = e.extnamespace WHERE e.extname = 'uca'", true, 1) == SPI_OK_SELECT && SPI_processed == 1;
-    if (found) {
-        char *query = psprintf("SELECT fingerprint FROM %s.uca_fixed", SPI_getvalue(SPI_tuptable->vals[0], SPI_tuptable->tupdesc, 1));
-        if (SPI_execute(query, true, 1) == SPI_OK_SELECT && SPI_processed == 1) {
-            bool is_null;
-            bytea *fixed = DatumGetByteaPP(SPI_getbinval(SPI_tuptable->vals[0], SPI_tuptable->tupdesc, 1, &is_null));
-            status = uca_fingerprint(&collator, &settings, &digest);
-            if (status != UCA_OK) report("uca_fingerprint", status, &none);
-            is_other = VARSIZE_ANY_EXHDR(fixed) != sizeof digest.bytes || memcmp(VARDATA_ANY(fixed), digest.bytes, sizeof digest.bytes) != 0;
+    uint32_t status = uca_fingerprint(collator, settings, digest);
+    if (status != UCA_OK) report("uca_fingerprint", status, &none);
+}
+
+static void digits_of(uca_collator *collator, const uca_settings *settings, char *digits) {
+    uca_digest digest;
+    digest_of(collator, settings, &digest);
+    hex_encode((char *)digest.bytes, sizeof digest.bytes, digits);
+    digits[DIGITS] = '\0';
+}
+
+/* Reads the options of a dictionary, or reports which one is wrong. */
+static struct definition definition_of(List *options) {
+    struct definition definition = {"", "", UCA_TERTIARY_SETTINGS, NULL};
+    ListCell *cell;
+    foreach(cell, options) {
+        DefElem *option = lfirst(cell);
+        const char *value = defGetString(option);
+        if (strcmp(option->defname, "table_file") == 0) definition.table = value;
+        else if (strcmp(option->defname, "rules_file") == 0) definition.rules = value;
+        else if (strcmp(option->defname, "strength") == 0) definition.settings.strength = number_of(strengths, "strength", value);
+        else if (strcmp(option->defname, "variable") == 0) definition.settings.variable = number_of(variables, "variable", value);
+        else if (strcmp(option->defname, "fingerprint") == 0) definition.fixed = value;
+        else ereport(ERROR, (errcode(ERRCODE_INVALID_PARAMETER_VALUE), errmsg("uca: a collation has no option \"%s\"", option->defname),
+                             errhint("Its options are table_file, rules_file, strength and variable.")));
+    }
+    if (!*definition.table) ereport(ERROR, (errcode(ERRCODE_INVALID_PARAMETER_VALUE), errmsg("uca: table_file is missing")));
+    return definition;
+}
+
+/* The options of a dictionary as the catalog has them; its name goes to `name`. */
+static char *options_of(Oid oid, Oid schema, char **name) {
+    HeapTuple tuple = SearchSysCache1(TSDICTOID, ObjectIdGetDatum(oid)), template;
+    Form_pg_ts_dict row;
+    bool is_ours, is_null;
+    Datum options;
+    char *copy;
+    if (!HeapTupleIsValid(tuple))
+        ereport(ERROR, (errcode(ERRCODE_UNDEFINED_OBJECT), errmsg("uca: there is no text search dictionary %u", oid)));
+    row = (Form_pg_ts_dict)GETSTRUCT(tuple);
+    *name = pstrdup(NameStr(row->dictname));
+    template = SearchSysCache1(TSTEMPLATEOID, ObjectIdGetDatum(row->dicttemplate));
+    is_ours = HeapTupleIsValid(template) && strcmp(NameStr(((Form_pg_ts_template)GETSTRUCT(template))->tmplname), "uca") == 0
+        && ((Form_pg_ts_template)GETSTRUCT(template))->tmplnamespace == schema;
+    if (HeapTupleIsValid(template)) ReleaseSysCache(template);
+    if (!is_ours)
+        ereport(ERROR, (errcode(ERRCODE_WRONG_OBJECT_TYPE), errmsg("uca: the text search dictionary \"%s\" is no collation of uca", *name)));
+    options = SysCacheGetAttr(TSDICTOID, tuple, Anum_pg_ts_dict_dictinitoption, &is_null);
+    copy = is_null ? pstrdup("") : TextDatumGetCString(options);
+    ReleaseSysCache(tuple);
+    return copy;
+}
+
+static struct definition definition_in(const char *options) {
+    return definition_of(deserialize_deflist(PointerGetDatum(cstring_to_text(options))));
+}
+
+static void report_setting(const char *setting, const char *value, const char *fixed) {
+    ereport(ERROR, (errcode(ERRCODE_CONFIG_FILE_ERROR), errmsg("uca: %s is \"%s\", and the collation \"uca\" has \"%s\"", setting, value, fixed),
+                    errhint("Set uca.table_file, uca.rules_file, uca.strength and uca.variable as they were; "
+                            "or SELECT uca_fix(), which says what depends on them.")));
+}
+
+/* The default collation can be named by settings, too. Where they are there, they have to say what it is. */
+static void check_settings(const struct definition *definition) {
+    if (!*table_path) return;
+    if (strcmp(table_path, definition->table) != 0) report_setting("uca.table_file", table_path, definition->table);
+    if (strcmp(rules_path, definition->rules) != 0) report_setting("uca.rules_file", rules_path, definition->rules);
+    if (strength != definition->settings.strength)
+        report_setting("uca.strength", word_of(strengths, strength), word_of(strengths, definition->settings.strength));
+    if (variable != definition->settings.variable)
+        report_setting("uca.variable", word_of(variables, variable), word_of(variables, definition->settings.variable));
+}
+
+static bool has_settings(const struct preloaded *preloaded, const uca_settings *settings) {
+    return memcmp(&preloaded->settings, settings, sizeof *settings) == 0;
+}
+
+/* Shares a table that the postmaster has loaded, if there is one of these files with the fingerprint that was fixed. Where it was loaded
+   for these settings, its fingerprint is known. */
+static bool takes_preloaded(struct collation *collation, const struct definition *definition) {
+    int round, i;
+    for (round = 0; round < 2; round++) {
+        for (i = 0; i < count_of_preloads; i++) {
+            struct preloaded *preloaded = preloads + i;
+            char digits[DIGITS + 1];
+            if (has_settings(preloaded, &definition->settings) != (round == 0)) continue;
+            if (strcmp(preloaded->table, definition->table) != 0 || strcmp(preloaded->rules, definition->rules) != 0) continue;
+            if (uca_clone(&preloaded->collator, &collation->collator) != UCA_OK) continue;
+            if (round == 0) memcpy(digits, preloaded->digits, sizeof digits);
+            else digits_of(&collation->collator, &definition->settings, digits);
+            if (strcmp(digits, definition->fixed) == 0) return true;
         }
     }
-    SPI_finish();
-    if (is_other)
-        ereport(ERROR, (errcode(ERRCODE_INDEX_CORRUPTED), errmsg("uca: the table or the settings are not those that were fixed"),
-                        errhint("Set uca.table_file, uca.rules_file, uca.strength and uca.variable as they were; or call uca_fix() and REINDEX.")));
+    return false;
 }
 
-static void make_ready(void) {
-    if (!collator.private_is_open) open_collator();
-    if (is_fixed_checked) return;
-    check_fixed();
-    is_fixed_checked = true;
+/* Gives a collation the table of its definition, if that has the fingerprint that was fixed. */
+static void load(struct collation *collation, const struct definition *definition, const char *name) {
+    char digits[DIGITS + 1];
+    uca_close(&collation->collator);
+    collation->settings = definition->settings;
+    if (takes_preloaded(collation, definition)) return;
+    open_files(&collation->collator, definition->table, definition->rules);
+    digits_of(&collation->collator, &collation->settings, digits);
+    if (strcmp(digits, definition->fixed) == 0) return;
+    uca_close(&collation->collator);
+    ereport(ERROR, (errcode(ERRCODE_INDEX_CORRUPTED), errmsg("uca: the files or settings of the collation \"%s\" are not those that were fixed", name),
+                    errdetail("The fingerprint of \"%s\"%s%s%s is %s; fixed was %s.",
+                              definition->table, *definition->rules ? " with \"" : "",
+                              definition->rules, *definition->rules ? "\"" : "", digits, definition->fixed),
+                    errhint("Put back what was there; or SELECT uca_fix(%s), which says what depends on it.", quote_literal_cstr(name))));
+}
+
+static void make_right(struct collation *collation, Oid schema, bool is_default) {
+    uint64 now = changes;
+    char *name, *options = options_of(collation->oid, schema, &name), *kept = NULL;
+    struct definition definition = definition_in(options);
+    if (is_default) check_settings(&definition);
+    if (!definition.fixed)
+        ereport(ERROR, (errcode(ERRCODE_OBJECT_NOT_IN_PREREQUISITE_STATE), errmsg("uca: the fingerprint of the collation \"%s\" is not fixed yet", name),
+                        errhint("SELECT uca_fix(%s) fixes it.", quote_literal_cstr(name))));
+    if (!collation->options || strcmp(collation->options, options) != 0) {
+        kept = MemoryContextStrdup(TopMemoryContext, options);
+        if (collation->options) pfree(collation->options);
+        collation->options = NULL;
+        PG_TRY();
+        {
+            load(collation, &definition, name);
+        }
+        PG_CATCH();
+        {
+            pfree(kept);
+            PG_RE_THROW();
+        }
+        PG_END_TRY();
+        collation->options = kept;
+    }
+    collation->seen = now;
+    pfree(options);
+    pfree(name);
+}
+
+/* The collation named `uca` in the schema of the extension. */
+static Oid default_in(Oid schema) {
+    Oid oid = GetSysCacheOid2(TSDICTNAMENSP, Anum_pg_ts_dict_oid, CStringGetDatum("uca"), ObjectIdGetDatum(schema));
+    if (!OidIsValid(oid))
+        ereport(ERROR, (errcode(ERRCODE_UNDEFINED_OBJECT), errmsg("uca: there is no collation \"uca\""),
+                        errhint("SELECT uca_create('uca', table_file, rules_file) makes it; or set uca.table_file and SELECT uca_fix().")));
+    return oid;
+}
+
+static struct collation *collation_by(Oid oid, Oid schema, bool is_default) {
+    struct collation *collation;
+    bool is_found;
+    collation = hash_search(collations, &oid, HASH_ENTER, &is_found);
+    if (!is_found) {
+        collation->seen = 0;
+        collation->options = NULL;
+        memset(&collation->collator, 0, sizeof collation->collator);
+    }
+    if (collation->seen != changes) make_right(collation, schema, is_default);
+    return collation;
+}
+
+static struct collation *default_of(Oid function) {
+    static struct collation *last;
+    Oid schema;
+    if (last && last->seen == changes) return last;
+    schema = get_func_namespace(function);
+    return last = collation_by(default_in(schema), schema, true);
+}
+
+/* The collation that the argument at a place names, or the default one of a function that has no such argument. */
+static struct collation *collation_of(FunctionCallInfo fcinfo, int place) {
+    static struct collation *last;
+    Oid oid;
+    if (PG_NARGS() <= place) return default_of(fcinfo->flinfo->fn_oid);
+    oid = PG_GETARG_OID(place);
+    if (!last || last->oid != oid || last->seen != changes) last = collation_by(oid, get_func_namespace(fcinfo->flinfo->fn_oid), false);
+    return last;
 }
 
 /* A call of the library that makes a key: uca_packed_key for uca_key of SQL, and uca_sort_key for uca_sort_key. */
 typedef uint32_t key_call(uca_collator *, const uca_settings *, const uint8_t *, size_t, uint8_t *, size_t, size_t *, uca_fault *);
 
-static Datum key_by(FunctionCallInfo fcinfo, key_call *makes_key, const char *function, size_t bytes_of_each) {
-    text *given = PG_GETARG_TEXT_PP(0);
+static bytea *key_of(struct collation *collation, const uca_settings *settings, const text *given, key_call *makes_key, const char *function,
+                     size_t bytes_of_each) {
     size_t size = VARSIZE_ANY_EXHDR(given), room = bytes_of_each * size + 64, needed = 0;
-    uca_settings settings = settings_now();
     uca_fault fault;
     uint32_t status;
     bytea *key;
-    make_ready();
     for (;;) {
         key = palloc_extended(VARHDRSZ + room, MCXT_ALLOC_HUGE);
-        status = makes_key(&collator, &settings, (uint8_t *)VARDATA_ANY(given), size, (uint8_t *)VARDATA(key), room, &needed, &fault);
+        status = makes_key(&collation->collator, settings, (uint8_t *)VARDATA_ANY(given), size, (uint8_t *)VARDATA(key), room, &needed, &fault);
         if (status != UCA_OK) report(function, status, &fault);
         if (needed <= room) break;
         pfree(key);
@@ -146,36 +341,59 @@ static Datum key_by(FunctionCallInfo fcinfo, key_call *makes_key, const char *fu
     }
     if (needed > MaxAllocSize - VARHDRSZ) ereport(ERROR, (errcode(ERRCODE_PROGRAM_LIMIT_EXCEEDED), errmsg("%s: the key is too long", function)));
     SET_VARSIZE(key, VARHDRSZ + needed);
-    PG_RETURN_BYTEA_P(key);
+    return key;
 }
 
 PG_FUNCTION_INFO_V1(uca_pg_packed_key);
-Datum uca_pg_packed_key(PG_FUNCTION_ARGS) { return key_by(fcinfo, uca_packed_key, "uca_key", 4); }
+Datum uca_pg_packed_key(PG_FUNCTION_ARGS) {
+    struct collation *collation = collation_of(fcinfo, 1);
+    PG_RETURN_BYTEA_P(key_of(collation, &collation->settings, PG_GETARG_TEXT_PP(0), uca_packed_key, "uca_key", 4));
+}
 
 PG_FUNCTION_INFO_V1(uca_pg_sort_key);
-Datum uca_pg_sort_key(PG_FUNCTION_ARGS) { return key_by(fcinfo, uca_sort_key, "uca_sort_key", 8); }
+Datum uca_pg_sort_key(PG_FUNCTION_ARGS) {
+    struct collation *collation = collation_of(fcinfo, 1);
+    PG_RETURN_BYTEA_P(key_of(collation, &collation->settings, PG_GETARG_TEXT_PP(0), uca_sort_key, "uca_sort_key", 8));
+}
 
-/* One of the two ends of the keys of all texts that begin with a text; null where there is no upper one. */
+/* Whether the primary weights of a text begin with those of another: whether its key at primary begins with the other's. */
+PG_FUNCTION_INFO_V1(uca_pg_begins);
+Datum uca_pg_begins(PG_FUNCTION_ARGS) {
+    struct collation *collation = collation_of(fcinfo, 2);
+    uca_settings settings = UCA_SETTINGS(UCA_PRIMARY, collation->settings.variable);
+    bytea *whole = key_of(collation, &settings, PG_GETARG_TEXT_PP(0), uca_packed_key, "uca_begins", 4);
+    bytea *front = key_of(collation, &settings, PG_GETARG_TEXT_PP(1), uca_packed_key, "uca_begins", 4);
+    PG_RETURN_BOOL(VARSIZE(front) <= VARSIZE(whole) && memcmp(VARDATA(whole), VARDATA(front), VARSIZE(front) - VARHDRSZ) == 0);
+}
+
+/* An end after all keys that begin with bytes FF. */
+static bytea *last_end(void) {
+    bytea *end = palloc(VARHDRSZ + BYTES_OF_LAST_END);
+    memset(VARDATA(end), 0xFF, BYTES_OF_LAST_END);
+    SET_VARSIZE(end, VARHDRSZ + BYTES_OF_LAST_END);
+    return end;
+}
+
+/* One of the two ends of the keys of all texts that begin with a text. */
 static Datum bound(FunctionCallInfo fcinfo, bool is_upper) {
+    struct collation *collation = collation_of(fcinfo, 1);
     text *given = PG_GETARG_TEXT_PP(0);
     size_t size = VARSIZE_ANY_EXHDR(given), room = 4 * size + 64, needed[2] = {0, 0};
-    uca_settings settings = settings_now();
     uca_fault fault;
     uint32_t status;
     bytea *end;
-    make_ready();
     for (;;) {
         uint8_t *out;
         end = palloc_extended(VARHDRSZ + room, MCXT_ALLOC_HUGE);
         out = (uint8_t *)VARDATA(end);
-        status = uca_prefix_bounds(&collator, &settings, (uint8_t *)VARDATA_ANY(given), size, is_upper ? NULL : out, is_upper ? 0 : room,
-                                   is_upper ? out : NULL, is_upper ? room : 0, &needed[0], &needed[1], &fault);
+        status = uca_prefix_bounds(&collation->collator, &collation->settings, (uint8_t *)VARDATA_ANY(given), size, is_upper ? NULL : out,
+                                   is_upper ? 0 : room, is_upper ? out : NULL, is_upper ? room : 0, &needed[0], &needed[1], &fault);
         if (status != UCA_OK) report(is_upper ? "uca_prefix_upper" : "uca_prefix_lower", status, &fault);
         if (needed[is_upper] <= room) break;
         pfree(end);
         room = needed[is_upper];
     }
-    if (is_upper && needed[1] == 0) PG_RETURN_NULL();
+    if (is_upper && needed[1] == 0) PG_RETURN_BYTEA_P(last_end());
     if (needed[is_upper] > MaxAllocSize - VARHDRSZ) ereport(ERROR, (errcode(ERRCODE_PROGRAM_LIMIT_EXCEEDED), errmsg("uca: the key is too long")));
     SET_VARSIZE(end, VARHDRSZ + needed[is_upper]);
     PG_RETURN_BYTEA_P(end);
@@ -187,48 +405,321 @@ Datum uca_pg_prefix_lower(PG_FUNCTION_ARGS) { return bound(fcinfo, false); }
 PG_FUNCTION_INFO_V1(uca_pg_prefix_upper);
 Datum uca_pg_prefix_upper(PG_FUNCTION_ARGS) { return bound(fcinfo, true); }
 
-static int32_t order_of(FunctionCallInfo fcinfo) {
-    text *a = PG_GETARG_TEXT_PP(0), *b = PG_GETARG_TEXT_PP(1);
-    uca_settings settings = settings_now();
+static int32_t order_of(struct collation *collation, const text *a, const text *b) {
+    size_t a_size = VARSIZE_ANY_EXHDR(a), b_size = VARSIZE_ANY_EXHDR(b);
+    int32_t order = 0;
     uca_fault fault;
     uint32_t status;
-    int32_t order = 0;
-    make_ready();
-    status = uca_compare(&collator, &settings, (uint8_t *)VARDATA_ANY(a), VARSIZE_ANY_EXHDR(a), (uint8_t *)VARDATA_ANY(b),
-                         VARSIZE_ANY_EXHDR(b), &order, &fault);
+    status = uca_compare(&collation->collator, &collation->settings, (uint8_t *)VARDATA_ANY(a), a_size, (uint8_t *)VARDATA_ANY(b), b_size, &order, &fault);
     if (status != UCA_OK) report("uca_cmp", status, &fault);
+    return order;
+}
+
+/* The order of the two first arguments. A B-tree calls this often, so detoasted copies are freed. */
+static int32_t order_of_arguments(FunctionCallInfo fcinfo) {
+    struct collation *collation = collation_of(fcinfo, 2);
+    text *a = PG_GETARG_TEXT_PP(0), *b = PG_GETARG_TEXT_PP(1);
+    int32_t order = order_of(collation, a, b);
     PG_FREE_IF_COPY(a, 0);
     PG_FREE_IF_COPY(b, 1);
     return order;
 }
 
-PG_FUNCTION_INFO_V1(uca_pg_cmp);
-Datum uca_pg_cmp(PG_FUNCTION_ARGS) { PG_RETURN_INT32(order_of(fcinfo)); }
+#define COMPARISON(name, type, expression)                       \
+    PG_FUNCTION_INFO_V1(name);                                   \
+    Datum name(PG_FUNCTION_ARGS) {                               \
+        int32_t order = order_of_arguments(fcinfo);              \
+        PG_RETURN_##type(expression);                            \
+    }
+COMPARISON(uca_pg_cmp, INT32, order)
+COMPARISON(uca_pg_lt, BOOL, order < 0)
+COMPARISON(uca_pg_le, BOOL, order <= 0)
+COMPARISON(uca_pg_eq, BOOL, order == 0)
+COMPARISON(uca_pg_ge, BOOL, order >= 0)
+COMPARISON(uca_pg_gt, BOOL, order > 0)
 
-PG_FUNCTION_INFO_V1(uca_pg_lt);
-Datum uca_pg_lt(PG_FUNCTION_ARGS) { PG_RETURN_BOOL(order_of(fcinfo) < 0); }
+PG_FUNCTION_INFO_V1(uca_pg_hash);
+Datum uca_pg_hash(PG_FUNCTION_ARGS) {
+    struct collation *collation = default_of(fcinfo->flinfo->fn_oid);
+    bytea *key = key_of(collation, &collation->settings, PG_GETARG_TEXT_PP(0), uca_packed_key, "uca_hash", 4);
+    Datum hash = hash_any((unsigned char *)VARDATA(key), VARSIZE(key) - VARHDRSZ);
+    pfree(key);
+    return hash;
+}
 
-PG_FUNCTION_INFO_V1(uca_pg_le);
-Datum uca_pg_le(PG_FUNCTION_ARGS) { PG_RETURN_BOOL(order_of(fcinfo) <= 0); }
+PG_FUNCTION_INFO_V1(uca_pg_hash_extended);
+Datum uca_pg_hash_extended(PG_FUNCTION_ARGS) {
+    struct collation *collation = default_of(fcinfo->flinfo->fn_oid);
+    bytea *key = key_of(collation, &collation->settings, PG_GETARG_TEXT_PP(0), uca_packed_key, "uca_hash_extended", 4);
+    Datum hash = hash_any_extended((unsigned char *)VARDATA(key), VARSIZE(key) - VARHDRSZ, PG_GETARG_INT64(1));
+    pfree(key);
+    return hash;
+}
 
-PG_FUNCTION_INFO_V1(uca_pg_eq);
-Datum uca_pg_eq(PG_FUNCTION_ARGS) { PG_RETURN_BOOL(order_of(fcinfo) == 0); }
+/* A text and its key, one after the other. */
+struct remembered {
+    size_t text_size, key_size, room;
+    uint8_t *bytes;
+};
 
-PG_FUNCTION_INFO_V1(uca_pg_ge);
-Datum uca_pg_ge(PG_FUNCTION_ARGS) { PG_RETURN_BOOL(order_of(fcinfo) >= 0); }
+/* How many keys a sort remembers, and of how long texts. */
+#define MOST_REMEMBERED 32768
+#define LONGEST_REMEMBERED 256
 
-PG_FUNCTION_INFO_V1(uca_pg_gt);
-Datum uca_pg_gt(PG_FUNCTION_ARGS) { PG_RETURN_BOOL(order_of(fcinfo) > 0); }
+/* What a sort has beside its texts. */
+struct sorting {
+    Oid function; /* by which the default collation is found, once there is a text: an empty index needs none */
+    struct collation *collation;
+    hyperLogLogState distinct; /* of the abbreviated keys */
+    struct remembered *remembered; /* null until one is; each at a place by the address of its text */
+};
 
+static struct collation *collation_of_sort(SortSupport support) {
+    struct sorting *sorting = support->ssup_extra;
+    if (!sorting->collation) sorting->collation = default_of(sorting->function);
+    return sorting->collation;
+}
+
+static int compare_texts(Datum x, Datum y, SortSupport support) {
+    struct collation *collation = collation_of_sort(support);
+    text *a = DatumGetTextPP(x), *b = DatumGetTextPP(y);
+    int order = order_of(collation, a, b);
+    if (PointerGetDatum(a) != x) pfree(a);
+    if (PointerGetDatum(b) != y) pfree(b);
+    return order;
+}
+
+/* The key of a text of a sort. A text lies where it lies for long, and is compared often. */
+static struct remembered *key_of_sorted(struct sorting *sorting, const text *given) {
+    MemoryContext context = GetMemoryChunkContext(sorting);
+    size_t size = VARSIZE_ANY_EXHDR(given), room = 5 * size + 64;
+    struct remembered *it;
+    uca_fault fault;
+    uint32_t status;
+    if (!sorting->remembered) sorting->remembered = MemoryContextAllocZero(context, MOST_REMEMBERED * sizeof *it);
+    it = sorting->remembered + DatumGetUInt32(hash_uint32((uint32)((uintptr_t)given >> 3))) % MOST_REMEMBERED;
+    if (it->bytes && it->text_size == size && memcmp(it->bytes, VARDATA_ANY(given), size) == 0) return it;
+    for (;;) {
+        if (it->room < room) {
+            if (it->bytes) pfree(it->bytes);
+            it->room = 0;
+            it->bytes = MemoryContextAlloc(context, room);
+            it->room = room;
+        }
+        status = uca_packed_key(&sorting->collation->collator, &sorting->collation->settings, (uint8_t *)VARDATA_ANY(given), size,
+                                it->bytes + size, it->room - size, &it->key_size, &fault);
+        if (status != UCA_OK) report("uca_cmp", status, &fault);
+        if (it->key_size <= it->room - size) break;
+        room = size + it->key_size;
+    }
+    memcpy(it->bytes, VARDATA_ANY(given), size);
+    it->text_size = size;
+    return it;
+}
+
+/* Compares texts whose abbreviated keys are equal. */
+static int compare_alike(Datum x, Datum y, SortSupport support) {
+    struct sorting *sorting = support->ssup_extra;
+    text *a = (text *)DatumGetPointer(x), *b = (text *)DatumGetPointer(y);
+    struct remembered *a_key, *b_key;
+    int order;
+    if (VARATT_IS_EXTENDED(a) && !VARATT_IS_SHORT(a)) return compare_texts(x, y, support);
+    if (VARATT_IS_EXTENDED(b) && !VARATT_IS_SHORT(b)) return compare_texts(x, y, support);
+    if (VARSIZE_ANY_EXHDR(a) > LONGEST_REMEMBERED || VARSIZE_ANY_EXHDR(b) > LONGEST_REMEMBERED) return compare_texts(x, y, support);
+    collation_of_sort(support);
+    a_key = key_of_sorted(sorting, a);
+    b_key = key_of_sorted(sorting, b);
+    if (a_key == b_key) return compare_texts(x, y, support);
+    order = memcmp(a_key->bytes + a_key->text_size, b_key->bytes + b_key->text_size, Min(a_key->key_size, b_key->key_size));
+    return order ? order : (a_key->key_size > b_key->key_size) - (a_key->key_size < b_key->key_size);
+}
+
+/* The first eight bytes of a key as a number. */
+static Datum abbreviated(Datum original, SortSupport support) {
+    struct sorting *sorting = support->ssup_extra;
+    struct collation *collation = collation_of_sort(support);
+    text *given = DatumGetTextPP(original);
+    uint64 front = 0;
+    size_t needed;
+    uca_fault fault;
+    uint32_t status = uca_packed_key(&collation->collator, &collation->settings, (uint8_t *)VARDATA_ANY(given), VARSIZE_ANY_EXHDR(given),
+                                     (uint8_t *)&front, sizeof front, &needed, &fault);
+    if (status != UCA_OK) report("uca_cmp", status, &fault);
+    if (PointerGetDatum(given) != original) pfree(given);
+    front = pg_ntoh64(front);
+    addHyperLogLog(&sorting->distinct, DatumGetUInt32(hash_uint32((uint32)front ^ (uint32)(front >> 32))));
+    return UInt64GetDatum(front);
+}
+
+/* Keys that mostly begin alike are not worth their time. */
+static bool are_too_alike(int count, SortSupport support) {
+    struct sorting *sorting = support->ssup_extra;
+    return count > 10000 && estimateHyperLogLog(&sorting->distinct) < count / 100;
+}
+
+#if PG_VERSION_NUM < 150000
+static int ssup_datum_unsigned_cmp(Datum x, Datum y, SortSupport support) { return (x > y) - (x < y); }
+#endif
+
+PG_FUNCTION_INFO_V1(uca_pg_sort_support);
+Datum uca_pg_sort_support(PG_FUNCTION_ARGS) {
+    SortSupport support = (SortSupport)PG_GETARG_POINTER(0);
+    struct sorting *sorting = MemoryContextAlloc(support->ssup_cxt, sizeof *sorting);
+    MemoryContext before = MemoryContextSwitchTo(support->ssup_cxt);
+    sorting->function = fcinfo->flinfo->fn_oid;
+    sorting->collation = NULL;
+    sorting->remembered = NULL;
+    support->ssup_extra = sorting;
+    support->comparator = compare_texts;
+#ifdef USE_FLOAT8_BYVAL
+    if (support->abbreviate) {
+        initHyperLogLog(&sorting->distinct, 10);
+        support->comparator = ssup_datum_unsigned_cmp;
+        support->abbrev_full_comparator = compare_alike;
+        support->abbrev_converter = abbreviated;
+        support->abbrev_abort = are_too_alike;
+    }
+#endif
+    MemoryContextSwitchTo(before);
+    PG_RETURN_VOID();
+}
+
+/* The fingerprint that was fixed, of a collation that makes keys. */
 PG_FUNCTION_INFO_V1(uca_pg_fingerprint);
 Datum uca_pg_fingerprint(PG_FUNCTION_ARGS) {
-    uca_settings settings = settings_now();
-    uca_fault none = {0, 0, 0};
+    struct collation *collation = collation_of(fcinfo, 0);
     bytea *out = palloc(VARHDRSZ + sizeof(uca_digest));
-    uint32_t status;
-    if (!collator.private_is_open) open_collator();
-    status = uca_fingerprint(&collator, &settings, (uca_digest *)VARDATA(out));
-    if (status != UCA_OK) report("uca_fingerprint", status, &none);
+    hex_decode(definition_in(collation->options).fixed, DIGITS, VARDATA(out));
     SET_VARSIZE(out, VARHDRSZ + sizeof(uca_digest));
     PG_RETURN_BYTEA_P(out);
+}
+
+/* The fingerprint that is fixed in the options of a collation, whatever its files are; null where there is none. */
+PG_FUNCTION_INFO_V1(uca_pg_fixed);
+Datum uca_pg_fixed(PG_FUNCTION_ARGS) {
+    char *name;
+    struct definition definition = definition_in(options_of(PG_GETARG_OID(0), get_func_namespace(fcinfo->flinfo->fn_oid), &name));
+    if (!definition.fixed) PG_RETURN_NULL();
+    PG_RETURN_TEXT_P(cstring_to_text(definition.fixed));
+}
+
+/* The fingerprint of files in hexadecimal digits. */
+static void digits_of_files(const struct definition *definition, char *digits) {
+    uca_collator collator = UCA_CLOSED;
+    open_files(&collator, definition->table, definition->rules);
+    PG_TRY();
+    {
+        digits_of(&collator, &definition->settings, digits);
+    }
+    PG_FINALLY();
+    {
+        uca_close(&collator);
+    }
+    PG_END_TRY();
+}
+
+/* The fingerprint that the files of a collation have now. */
+PG_FUNCTION_INFO_V1(uca_pg_found);
+Datum uca_pg_found(PG_FUNCTION_ARGS) {
+    char *name, digits[DIGITS + 1];
+    struct definition definition = definition_in(options_of(PG_GETARG_OID(0), get_func_namespace(fcinfo->flinfo->fn_oid), &name));
+    digits_of_files(&definition, digits);
+    PG_RETURN_TEXT_P(cstring_to_text(digits));
+}
+
+/* The template calls this with the options of a new or altered dictionary, and refuses what makes no collation. */
+PG_FUNCTION_INFO_V1(uca_pg_init);
+Datum uca_pg_init(PG_FUNCTION_ARGS) {
+    struct definition definition = definition_of((List *)PG_GETARG_POINTER(0));
+    uca_collator collator = UCA_CLOSED;
+    if (!has_privs_of_role(GetUserId(), ROLE_PG_READ_SERVER_FILES))
+        ereport(ERROR, (errcode(ERRCODE_INSUFFICIENT_PRIVILEGE),
+                        errmsg("uca: a collation names files, and may be made only by members of pg_read_server_files")));
+    if (GetDatabaseEncoding() != PG_UTF8)
+        ereport(ERROR, (errcode(ERRCODE_FEATURE_NOT_SUPPORTED), errmsg("uca: the database is not in UTF-8")));
+    open_files(&collator, definition.table, definition.rules);
+    uca_close(&collator);
+    PG_RETURN_POINTER(NULL);
+}
+
+/* A collation knows no lexemes. */
+PG_FUNCTION_INFO_V1(uca_pg_lexize);
+Datum uca_pg_lexize(PG_FUNCTION_ARGS) { PG_RETURN_POINTER(NULL); }
+
+/* ---- Tables that the postmaster loads */
+
+/* Cuts a word off the front of a list that colons separate. */
+static char *cut(char **rest) {
+    char *word = *rest ? *rest : "", *colon = strchr(word, ':');
+    *rest = colon ? colon + 1 : NULL;
+    if (colon) *colon = '\0';
+    return word;
+}
+
+/* Loads TABLE[:RULES[:STRENGTH[:VARIABLE]]]. */
+static void preload(struct preloaded *preloaded, char *entry) {
+    char *strength_word, *variable_word;
+    memset(preloaded, 0, sizeof *preloaded);
+    preloaded->table = cut(&entry);
+    preloaded->rules = cut(&entry);
+    strength_word = cut(&entry);
+    variable_word = cut(&entry);
+    if (entry) ereport(ERROR, (errcode(ERRCODE_INVALID_PARAMETER_VALUE), errmsg("uca.preload: more than TABLE:RULES:STRENGTH:VARIABLE")));
+    preloaded->settings.strength = *strength_word ? number_of(strengths, "strength", strength_word) : UCA_TERTIARY;
+    preloaded->settings.variable = *variable_word ? number_of(variables, "variable", variable_word) : UCA_NON_IGNORABLE;
+    open_files(&preloaded->collator, preloaded->table, preloaded->rules);
+    digits_of(&preloaded->collator, &preloaded->settings, preloaded->digits);
+}
+
+/* Loads the tables of uca.preload. What can't be loaded is logged: the server starts, and sessions read the files themselves. */
+static void preload_all(void) {
+    MemoryContext scratch = AllocSetContextCreate(TopMemoryContext, "preload of uca", ALLOCSET_DEFAULT_SIZES);
+    MemoryContext before = MemoryContextSwitchTo(scratch);
+    List *entries;
+    ListCell *cell;
+    if (!SplitGUCList(pstrdup(preload_list), ',', &entries)) {
+        ereport(WARNING, (errcode(ERRCODE_INVALID_PARAMETER_VALUE), errmsg("uca.preload is no list: %s", preload_list)));
+        entries = NIL;
+    }
+    preloads = MemoryContextAllocZero(TopMemoryContext, (list_length(entries) + 1) * sizeof *preloads);
+    foreach(cell, entries) {
+        char *entry = MemoryContextStrdup(TopMemoryContext, lfirst(cell));
+        PG_TRY();
+        {
+            preload(preloads + count_of_preloads, entry);
+            count_of_preloads++;
+        }
+        PG_CATCH();
+        {
+            MemoryContextSwitchTo(scratch);
+            EmitErrorReport();
+            FlushErrorState();
+            uca_close(&preloads[count_of_preloads].collator);
+            pfree(entry);
+            ereport(WARNING, (errmsg("uca.preload: \"%s\" was not loaded", (char *)lfirst(cell))));
+        }
+        PG_END_TRY();
+    }
+    MemoryContextSwitchTo(before);
+    MemoryContextDelete(scratch);
+}
+
+void _PG_init(void);
+
+void _PG_init(void) {
+    HASHCTL how = {.keysize = sizeof(Oid), .entrysize = sizeof(struct collation)};
+    collations = hash_create("collations of uca", 16, &how, HASH_ELEM | HASH_BLOBS);
+    CacheRegisterSyscacheCallback(TSDICTOID, dictionaries_changed, (Datum)0);
+    DefineCustomStringVariable("uca.table_file", "The file of the table of the default collation.", NULL,
+                               &table_path, "", PGC_SUSET, 0, NULL, path_changed, NULL);
+    DefineCustomStringVariable("uca.rules_file", "The file of the rules that tailor it; none if empty.", NULL,
+                               &rules_path, "", PGC_SUSET, 0, NULL, path_changed, NULL);
+    DefineCustomEnumVariable("uca.strength", "How many levels are compared.", NULL,
+                             &strength, UCA_TERTIARY, strengths, PGC_SUSET, 0, NULL, setting_changed, NULL);
+    DefineCustomEnumVariable("uca.variable", "How punctuation is weighted.", NULL,
+                             &variable, UCA_NON_IGNORABLE, variables, PGC_SUSET, 0, NULL, setting_changed, NULL);
+    DefineCustomStringVariable("uca.preload", "Tables that shared_preload_libraries loads for all sessions.", "TABLE[:RULES[:STRENGTH[:VARIABLE]]], ..",
+                               &preload_list, "", process_shared_preload_libraries_in_progress ? PGC_POSTMASTER : PGC_SIGHUP, 0, NULL, NULL, NULL);
+    EmitWarningsOnPlaceholders("uca");
+    if (process_shared_preload_libraries_in_progress) preload_all();
 }

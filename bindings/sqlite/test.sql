@@ -29,7 +29,7 @@ SELECT group_concat(column1, ' ') FROM (SELECT column1 FROM (VALUES ('mano'), ('
 EXPLAIN QUERY PLAN SELECT t FROM w WHERE uca_key(t) >= uca_prefix_lower('lo') AND uca_key(t) < uca_prefix_upper('lo');
 SELECT group_concat(column1, ' ') FROM (SELECT column1 FROM (VALUES ('lp'), ('Lómo'), ('l'), ('lo'), ('ln'))
     WHERE uca_key(column1) >= uca_prefix_lower('lo') AND uca_key(column1) < uca_prefix_upper('lo') ORDER BY uca_key(column1));
-SELECT hex(uca_prefix_lower('')), uca_prefix_upper('') IS NULL, uca_prefix_lower(NULL) IS NULL, length(uca_prefix_upper(printf('%.*c', 1000, 'a'))),
+SELECT hex(uca_prefix_lower('')), length(uca_prefix_upper('')), uca_prefix_lower(NULL) IS NULL, length(uca_prefix_upper(printf('%.*c', 1000, 'a'))),
     uca_prefix_lower('ch', 'es') = uca_prefix_lower('ch');
 EXPLAIN QUERY PLAN SELECT t FROM w ORDER BY uca_sort_key(t), n;
 EXPLAIN QUERY PLAN SELECT t FROM w WHERE uca_sort_key(t) >= uca_prefix_lower('lo') AND uca_sort_key(t) < uca_prefix_upper('lo');

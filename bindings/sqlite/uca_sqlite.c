@@ -11,11 +11,13 @@
  *     SELECT uca_sort_key(t) FROM words;                               -- the sort key of the standard, longer, in the same order
  *     SELECT t FROM words WHERE uca_key(t) >= uca_prefix_lower('l') AND uca_key(t) < uca_prefix_upper('l');
  *                                                                      -- the texts that begin with a text; or by uca_sort_key
- *     SELECT uca_fingerprint('uca');                                   -- store it with an index, and compare before use
+ *     SELECT t FROM words WHERE uca_begins(t, 'l');                    -- the same without an index
+ *     SELECT uca_fingerprint('uca');                                   -- of the table and the settings
  *
- * uca_load has to run on each connection before a statement that needs its collation. A file that it names is read by the
- * process, so it cannot be called from triggers and views. Bytes that are no text come after all texts, by their bytes,
- * since a collation of SQLite cannot fail; uca_key and uca_sort_key report them.
+ * uca_load has to run on each connection before a statement that needs its collation. The first time that it loads a name in a
+ * database, it stores the fingerprint in the table uca_fixed there; from then on it refuses another table, rules or settings under
+ * that name. A file that it names is read by the process, so it cannot be called from triggers and views. Bytes that are no text
+ * come after all texts, by their bytes, since a collation of SQLite cannot fail; uca_key and uca_sort_key report them.
  */
 #include <sqlite3ext.h>
 SQLITE_EXTENSION_INIT1
@@ -122,7 +124,14 @@ static void key(sqlite3_context *context, int count, sqlite3_value **values) { k
 
 static void sort_key(sqlite3_context *context, int count, sqlite3_value **values) { key_by(uca_sort_key, "uca_sort_key", context, count, values); }
 
-/* One of the two ends of the keys of all texts that begin with a text; null where there is no upper one. */
+/* An upper end for a range without one: no key that an index is likely to have begins with so many bytes FF. */
+static void last_end(sqlite3_context *context) {
+    uint8_t end[4096];
+    memset(end, 0xFF, sizeof end);
+    sqlite3_result_blob(context, end, sizeof end, SQLITE_TRANSIENT);
+}
+
+/* One of the two ends of the keys of all texts that begin with a text. */
 static void bound(sqlite3_context *context, int count, sqlite3_value **values, int is_upper) {
     struct collation *collation = wanted(context, count, values, 1);
     if (!collation || sqlite3_value_type(values[0]) == SQLITE_NULL) return;
@@ -143,13 +152,45 @@ static void bound(sqlite3_context *context, int count, sqlite3_value **values, i
         }
     }
     if (status != UCA_OK) report(context, is_upper ? "uca_prefix_upper" : "uca_prefix_lower", status, &fault);
-    else if (!is_upper || needed[1] > 0) sqlite3_result_blob64(context, out, needed[is_upper], SQLITE_TRANSIENT);
+    else if (is_upper && needed[1] == 0) last_end(context);
+    else sqlite3_result_blob64(context, out, needed[is_upper], SQLITE_TRANSIENT);
     if (out != room) sqlite3_free(out);
 }
 
 static void lower_bound(sqlite3_context *context, int count, sqlite3_value **values) { bound(context, count, values, 0); }
 
 static void upper_bound(sqlite3_context *context, int count, sqlite3_value **values) { bound(context, count, values, 1); }
+
+/* The key of a text at primary, to be freed by sqlite3_free; null where an error was reported. */
+static uint8_t *primary_key(sqlite3_context *context, struct collation *collation, sqlite3_value *value, size_t *needed) {
+    const uint8_t *text = sqlite3_value_text(value);
+    size_t size = sqlite3_value_bytes(value), capacity = 4 * size + 64;
+    uca_settings settings = UCA_SETTINGS(UCA_PRIMARY, collation->settings.variable);
+    uca_fault fault;
+    for (;;) {
+        uint8_t *key = sqlite3_malloc64(capacity);
+        uint32_t status = key ? uca_packed_key(&collation->collator, &settings, text, size, key, capacity, needed, &fault) : UCA_NO_MEMORY;
+        if (status == UCA_OK && *needed <= capacity) return key;
+        sqlite3_free(key);
+        if (status != UCA_OK) {
+            report(context, "uca_begins", status, &fault);
+            return NULL;
+        }
+        capacity = *needed;
+    }
+}
+
+/* Whether the primary weights of a text begin with those of another: whether its key at primary begins with the other's. */
+static void begins(sqlite3_context *context, int count, sqlite3_value **values) {
+    struct collation *collation = wanted(context, count, values, 2);
+    size_t whole_size, front_size;
+    if (!collation || sqlite3_value_type(values[0]) == SQLITE_NULL || sqlite3_value_type(values[1]) == SQLITE_NULL) return;
+    uint8_t *whole = primary_key(context, collation, values[0], &whole_size);
+    uint8_t *front = whole ? primary_key(context, collation, values[1], &front_size) : NULL;
+    if (front) sqlite3_result_int(context, front_size <= whole_size && memcmp(whole, front, front_size) == 0);
+    sqlite3_free(whole);
+    sqlite3_free(front);
+}
 
 static void fingerprint(sqlite3_context *context, int count, sqlite3_value **values) {
     struct collation *collation = wanted(context, count, values, 0);
@@ -217,6 +258,71 @@ static int opens(sqlite3_context *context, struct collation *collation, int coun
     return are_read && status == UCA_OK;
 }
 
+/* Runs a statement of a database's with a name and a digest bound, up to its first row. Returns what SQLite says; whether there is a row,
+   and whether its first column is the digest, go to `has_row` and `is_same`. */
+static int run(sqlite3 *connection, const char *sql, const char *schema, const char *name, const uca_digest *digest, int *has_row,
+               int *is_same) {
+    sqlite3_stmt *statement = NULL;
+    char *text = sqlite3_mprintf(sql, schema);
+    int result = text ? sqlite3_prepare_v2(connection, text, -1, &statement, NULL) : SQLITE_NOMEM;
+    sqlite3_free(text);
+    *has_row = *is_same = 0;
+    if (result != SQLITE_OK) return result;
+    if (sqlite3_bind_parameter_count(statement) > 0) sqlite3_bind_text(statement, 1, name, -1, SQLITE_STATIC);
+    if (sqlite3_bind_parameter_count(statement) > 1) sqlite3_bind_blob(statement, 2, digest->bytes, sizeof digest->bytes, SQLITE_STATIC);
+    if (sqlite3_step(statement) == SQLITE_ROW) {
+        *has_row = 1;
+        *is_same = sqlite3_column_bytes(statement, 0) == sizeof digest->bytes
+            && memcmp(sqlite3_column_blob(statement, 0), digest->bytes, sizeof digest->bytes) == 0;
+    }
+    return sqlite3_finalize(statement);
+}
+
+/* Whether a database has fixed no other fingerprint for a name. Where it has fixed none and may, it fixes this one. */
+static int fits(sqlite3_context *context, sqlite3 *connection, const char *schema, const char *name, const uca_digest *digest, int may_fix) {
+    int has_row, is_same, result;
+    result = run(connection, "SELECT 1 FROM \"%w\".sqlite_schema WHERE type = 'table' AND name = 'uca_fixed'",
+                 schema, name, digest, &has_row, &is_same);
+    if (result == SQLITE_OK && has_row)
+        result = run(connection, "SELECT fingerprint FROM \"%w\".uca_fixed WHERE name = ?1", schema, name, digest, &has_row, &is_same);
+    else if (result == SQLITE_OK && may_fix)
+        result = run(connection, "CREATE TABLE \"%w\".uca_fixed (name TEXT PRIMARY KEY COLLATE NOCASE, fingerprint BLOB NOT NULL)",
+                     schema, name, digest, &has_row, &is_same);
+    if (result == SQLITE_OK && has_row && !is_same) {
+        char *text = sqlite3_mprintf("uca_load: the database \"%s\" has keys of another table, other rules or other settings under \"%s\": "
+                                     "load those, or DELETE FROM uca_fixed, load these, and REINDEX", schema, name);
+        sqlite3_result_error(context, text ? text : "uca_load", -1);
+        sqlite3_free(text);
+        return 0;
+    }
+    if (result == SQLITE_OK && !has_row && may_fix)
+        result = run(connection, "INSERT INTO \"%w\".uca_fixed VALUES (?1, ?2)", schema, name, digest, &has_row, &is_same);
+    if (result == SQLITE_OK || (result & 0xFF) == SQLITE_READONLY) return 1;
+    sqlite3_result_error(context, sqlite3_errmsg(connection), -1);
+    return 0;
+}
+
+/* Whether no open database has fixed another fingerprint for the name of a collation. The main one fixes this one, if it has fixed none. */
+static int fits_all(sqlite3_context *context, sqlite3 *connection, struct collation *collation) {
+    uca_digest digest;
+    uca_fault none = {0, 0, 0};
+    sqlite3_stmt *databases;
+    uint32_t status = uca_fingerprint(&collation->collator, &collation->settings, &digest);
+    if (status != UCA_OK) {
+        report(context, "uca_load", status, &none);
+        return 0;
+    }
+    if (sqlite3_prepare_v2(connection, "SELECT name FROM pragma_database_list WHERE name <> 'main'", -1, &databases, NULL) != SQLITE_OK) {
+        sqlite3_result_error(context, sqlite3_errmsg(connection), -1);
+        return 0;
+    }
+    int are_fitting = 1;
+    while (are_fitting && sqlite3_step(databases) == SQLITE_ROW)
+        are_fitting = fits(context, connection, (const char *)sqlite3_column_text(databases, 0), collation->name, &digest, 0);
+    sqlite3_finalize(databases);
+    return are_fitting && fits(context, connection, "main", collation->name, &digest, 1);
+}
+
 static void load(sqlite3_context *context, int count, sqlite3_value **values) {
     struct registry *registry = sqlite3_user_data(context);
     sqlite3 *connection = sqlite3_context_db_handle(context);
@@ -247,8 +353,8 @@ static void load(sqlite3_context *context, int count, sqlite3_value **values) {
         return;
     }
     status = uca_compare(&collation->collator, &collation->settings, NULL, 0, NULL, 0, &order, &fault);
-    if (status != UCA_OK) {
-        report(context, "uca_load", status, &fault);
+    if (status != UCA_OK) report(context, "uca_load", status, &fault);
+    if (status != UCA_OK || !fits_all(context, connection, collation)) {
         let_go(collation);
         return;
     }
@@ -276,6 +382,8 @@ int sqlite3_ucasqlite_init(sqlite3 *connection, char **error, const sqlite3_api_
     int flags = SQLITE_UTF8 | SQLITE_DETERMINISTIC | SQLITE_INNOCUOUS;
     /* The first function lets the registry go, with the connection. */
     int result = sqlite3_create_function_v2(connection, "uca_load", -1, SQLITE_UTF8 | SQLITE_DIRECTONLY, registry, load, NULL, NULL, let_all_go);
+    for (int count = 2; count <= 3; count++)
+        if (result == SQLITE_OK) result = sqlite3_create_function_v2(connection, "uca_begins", count, flags, registry, begins, NULL, NULL, NULL);
     for (int count = 1; count <= 2; count++) {
         if (result == SQLITE_OK) result = sqlite3_create_function_v2(connection, "uca_key", count, flags, registry, key, NULL, NULL, NULL);
         if (result == SQLITE_OK) result = sqlite3_create_function_v2(connection, "uca_sort_key", count, flags, registry, sort_key, NULL, NULL, NULL);
