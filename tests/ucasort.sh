@@ -212,6 +212,14 @@ is "a line that is refused" "2|0|ucasort: $work/lines:2: byte 0: NotUtf8" "$stat
 printf 'a\n' >"$work/good"
 sorts --bad refuse "$work/good" - "$work/good" < <(printf 'a\nb\nc'; marks 61; printf '\n')
 is "a line that is refused, of several files" "2|0|ucasort: -:3: byte 121: LongRun" "$status|$(wc -c <"$work/out")|$(cat "$work/err")"
+for way in -s -u '-k 1' ''; do
+    # shellcheck disable=SC2086
+    sorts --bad refuse $way <(printf 'c\nb') <(printf 'a') <(printf 'd\n')
+    is "lines of several files without an end, $way" "a|b|c|d|0" "$(in_one "$work/out")|$status"
+    # shellcheck disable=SC2086
+    sorts -z --bad refuse $way <(printf 'c\0b') <(printf 'a') <(printf 'd\0')
+    is "names of several files without an end, $way" "a|b|c|d||0" "$(tr '\0' '|' <"$work/out")|$status"
+done
 sorts --bad refuse -t, -k1,1 -k2,2 "$work/fields"
 is "a field that is refused" "2|0|ucasort: $work/fields:2: byte 0: NotUtf8 in key 1" "$status|$(wc -c <"$work/out")|$(cat "$work/err")"
 perl -e 'print "x\xcc\x81" . "\xcc\x80" x (58 + $_ % 4), "\n" for 1 .. 3000' >"$work/runs"
