@@ -456,22 +456,11 @@ Datum uca_pg_hash_extended(PG_FUNCTION_ARGS) {
     return hash;
 }
 
-/* A text and its key, one after the other. */
-struct remembered {
-    size_t text_size, key_size, room;
-    uint8_t *bytes;
-};
-
-/* How many keys a sort remembers, and of how long texts. */
-#define MOST_REMEMBERED 32768
-#define LONGEST_REMEMBERED 256
-
 /* What a sort has beside its texts. */
 struct sorting {
     Oid function; /* by which the default collation is found, once there is a text: an empty index needs none */
     struct collation *collation;
     hyperLogLogState distinct; /* of the abbreviated keys */
-    struct remembered *remembered; /* null until one is; each at a place by the address of its text */
 };
 
 static struct collation *collation_of_sort(SortSupport support) {
@@ -489,60 +478,17 @@ static int compare_texts(Datum x, Datum y, SortSupport support) {
     return order;
 }
 
-/* The key of a text of a sort. A text lies where it lies for long, and is compared often. */
-static struct remembered *key_of_sorted(struct sorting *sorting, const text *given) {
-    MemoryContext context = GetMemoryChunkContext(sorting);
-    size_t size = VARSIZE_ANY_EXHDR(given), room = 5 * size + 64;
-    struct remembered *it;
-    uca_fault fault;
-    uint32_t status;
-    if (!sorting->remembered) sorting->remembered = MemoryContextAllocZero(context, MOST_REMEMBERED * sizeof *it);
-    it = sorting->remembered + DatumGetUInt32(hash_uint32((uint32)((uintptr_t)given >> 3))) % MOST_REMEMBERED;
-    if (it->bytes && it->text_size == size && memcmp(it->bytes, VARDATA_ANY(given), size) == 0) return it;
-    for (;;) {
-        if (it->room < room) {
-            if (it->bytes) pfree(it->bytes);
-            it->room = 0;
-            it->bytes = MemoryContextAlloc(context, room);
-            it->room = room;
-        }
-        status = uca_packed_key(&sorting->collation->collator, &sorting->collation->settings, (uint8_t *)VARDATA_ANY(given), size,
-                                it->bytes + size, it->room - size, &it->key_size, &fault);
-        if (status != UCA_OK) report("uca_cmp", status, &fault);
-        if (it->key_size <= it->room - size) break;
-        room = size + it->key_size;
-    }
-    memcpy(it->bytes, VARDATA_ANY(given), size);
-    it->text_size = size;
-    return it;
-}
-
-/* Compares texts whose abbreviated keys are equal. */
-static int compare_alike(Datum x, Datum y, SortSupport support) {
-    struct sorting *sorting = support->ssup_extra;
-    text *a = (text *)DatumGetPointer(x), *b = (text *)DatumGetPointer(y);
-    struct remembered *a_key, *b_key;
-    int order;
-    if (VARATT_IS_EXTENDED(a) && !VARATT_IS_SHORT(a)) return compare_texts(x, y, support);
-    if (VARATT_IS_EXTENDED(b) && !VARATT_IS_SHORT(b)) return compare_texts(x, y, support);
-    if (VARSIZE_ANY_EXHDR(a) > LONGEST_REMEMBERED || VARSIZE_ANY_EXHDR(b) > LONGEST_REMEMBERED) return compare_texts(x, y, support);
-    collation_of_sort(support);
-    a_key = key_of_sorted(sorting, a);
-    b_key = key_of_sorted(sorting, b);
-    if (a_key == b_key) return compare_texts(x, y, support);
-    order = memcmp(a_key->bytes + a_key->text_size, b_key->bytes + b_key->text_size, Min(a_key->key_size, b_key->key_size));
-    return order ? order : (a_key->key_size > b_key->key_size) - (a_key->key_size < b_key->key_size);
-}
-
-/* The first eight bytes of a key as a number. */
+/* The first eight bytes of a key as a number. Those of the key at primary take less time, and are the same where it has so many. Where it
+   has fewer, the bytes 0 after it are no more than what follows it in the key: 0000 and then what other levels have. */
 static Datum abbreviated(Datum original, SortSupport support) {
     struct sorting *sorting = support->ssup_extra;
     struct collation *collation = collation_of_sort(support);
     text *given = DatumGetTextPP(original);
+    uca_settings settings = UCA_SETTINGS(UCA_PRIMARY, collation->settings.variable);
     uint64 front = 0;
     size_t needed;
     uca_fault fault;
-    uint32_t status = uca_packed_key(&collation->collator, &collation->settings, (uint8_t *)VARDATA_ANY(given), VARSIZE_ANY_EXHDR(given),
+    uint32_t status = uca_packed_key(&collation->collator, &settings, (uint8_t *)VARDATA_ANY(given), VARSIZE_ANY_EXHDR(given),
                                      (uint8_t *)&front, sizeof front, &needed, &fault);
     if (status != UCA_OK) report("uca_cmp", status, &fault);
     if (PointerGetDatum(given) != original) pfree(given);
@@ -568,14 +514,13 @@ Datum uca_pg_sort_support(PG_FUNCTION_ARGS) {
     MemoryContext before = MemoryContextSwitchTo(support->ssup_cxt);
     sorting->function = fcinfo->flinfo->fn_oid;
     sorting->collation = NULL;
-    sorting->remembered = NULL;
     support->ssup_extra = sorting;
     support->comparator = compare_texts;
 #ifdef USE_FLOAT8_BYVAL
     if (support->abbreviate) {
         initHyperLogLog(&sorting->distinct, 10);
         support->comparator = ssup_datum_unsigned_cmp;
-        support->abbrev_full_comparator = compare_alike;
+        support->abbrev_full_comparator = compare_texts;
         support->abbrev_converter = abbreviated;
         support->abbrev_abort = are_too_alike;
     }
