@@ -13,7 +13,6 @@
 #include "commands/defrem.h"
 #include "common/hashfn.h"
 #include "fmgr.h"
-#include "lib/hyperloglog.h"
 #include "mb/pg_wchar.h"
 #include "miscadmin.h"
 #include "port/pg_bswap.h"
@@ -460,7 +459,6 @@ Datum uca_pg_hash_extended(PG_FUNCTION_ARGS) {
 struct sorting {
     Oid function; /* by which the default collation is found, once there is a text: an empty index needs none */
     struct collation *collation;
-    hyperLogLogState distinct; /* of the abbreviated keys */
 };
 
 static struct collation *collation_of_sort(SortSupport support) {
@@ -481,7 +479,6 @@ static int compare_texts(Datum x, Datum y, SortSupport support) {
 /* The first eight bytes of a key as a number. Those of the key at primary take less time, and are the same where it has so many. Where it
    has fewer, the bytes 0 after it are no more than what follows it in the key: 0000 and then what other levels have. */
 static Datum abbreviated(Datum original, SortSupport support) {
-    struct sorting *sorting = support->ssup_extra;
     struct collation *collation = collation_of_sort(support);
     text *given = DatumGetTextPP(original);
     uca_settings settings = UCA_SETTINGS(UCA_PRIMARY, collation->settings.variable);
@@ -492,16 +489,11 @@ static Datum abbreviated(Datum original, SortSupport support) {
                                      (uint8_t *)&front, sizeof front, &needed, &fault);
     if (status != UCA_OK) report("uca_cmp", status, &fault);
     if (PointerGetDatum(given) != original) pfree(given);
-    front = pg_ntoh64(front);
-    addHyperLogLog(&sorting->distinct, DatumGetUInt32(hash_uint32((uint32)front ^ (uint32)(front >> 32))));
-    return UInt64GetDatum(front);
+    return UInt64GetDatum(pg_ntoh64(front));
 }
 
-/* Keys that mostly begin alike are not worth their time. */
-static bool are_too_alike(int count, SortSupport support) {
-    struct sorting *sorting = support->ssup_extra;
-    return count > 10000 && estimateHyperLogLog(&sorting->distinct) < count / 100;
-}
+/* An abbreviated key takes no more time than a comparison or two of texts, so it is worth it even where many are alike. */
+static bool is_aborted(int count, SortSupport support) { return false; }
 
 #if PG_VERSION_NUM < 150000
 static int ssup_datum_unsigned_cmp(Datum x, Datum y, SortSupport support) { return (x > y) - (x < y); }
@@ -518,11 +510,10 @@ Datum uca_pg_sort_support(PG_FUNCTION_ARGS) {
     support->comparator = compare_texts;
 #ifdef USE_FLOAT8_BYVAL
     if (support->abbreviate) {
-        initHyperLogLog(&sorting->distinct, 10);
         support->comparator = ssup_datum_unsigned_cmp;
         support->abbrev_full_comparator = compare_texts;
         support->abbrev_converter = abbreviated;
-        support->abbrev_abort = are_too_alike;
+        support->abbrev_abort = is_aborted;
     }
 #endif
     MemoryContextSwitchTo(before);
