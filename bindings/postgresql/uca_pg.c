@@ -476,17 +476,18 @@ static int compare_texts(Datum x, Datum y, SortSupport support) {
     return order;
 }
 
-/* The first eight bytes of a key as a number. Those of the key at primary take less time, and are the same where it has so many. Where it
-   has fewer, the bytes 0 after it are no more than what follows it in the key: 0000 and then what other levels have. */
+/* The first eight bytes of a key as a number. Where the key at primary has so many, they are its own, and it takes less time. */
 static Datum abbreviated(Datum original, SortSupport support) {
     struct collation *collation = collation_of_sort(support);
     text *given = DatumGetTextPP(original);
+    uint8_t *bytes = (uint8_t *)VARDATA_ANY(given);
+    size_t size = VARSIZE_ANY_EXHDR(given), needed;
     uca_settings settings = UCA_SETTINGS(UCA_PRIMARY, collation->settings.variable);
     uint64 front = 0;
-    size_t needed;
     uca_fault fault;
-    uint32_t status = uca_packed_key(&collation->collator, &settings, (uint8_t *)VARDATA_ANY(given), VARSIZE_ANY_EXHDR(given),
-                                     (uint8_t *)&front, sizeof front, &needed, &fault);
+    uint32_t status = uca_packed_key(&collation->collator, &settings, bytes, size, (uint8_t *)&front, sizeof front, &needed, &fault);
+    if (status == UCA_OK && needed < sizeof front)
+        status = uca_packed_key(&collation->collator, &collation->settings, bytes, size, (uint8_t *)&front, sizeof front, &needed, &fault);
     if (status != UCA_OK) report("uca_cmp", status, &fault);
     if (PointerGetDatum(given) != original) pfree(given);
     return UInt64GetDatum(pg_ntoh64(front));
