@@ -455,10 +455,21 @@ Datum uca_pg_hash_extended(PG_FUNCTION_ARGS) {
     return hash;
 }
 
+/* How many keys a sort remembers, and of how long texts. */
+#define MOST_REMEMBERED 32768
+#define LONGEST_REMEMBERED 255
+
+/* A text and its key, one after the other. */
+struct remembered {
+    size_t text_size, key_size, room;
+    uint8_t *bytes;
+};
+
 /* What a sort has beside its texts. */
 struct sorting {
     Oid function; /* by which the default collation is found, once there is a text: an empty index needs none */
     struct collation *collation;
+    struct remembered *remembered; /* null until one is; each at a place by the address of its text */
 };
 
 static struct collation *collation_of_sort(SortSupport support) {
@@ -474,6 +485,50 @@ static int compare_texts(Datum x, Datum y, SortSupport support) {
     if (PointerGetDatum(a) != x) pfree(a);
     if (PointerGetDatum(b) != y) pfree(b);
     return order;
+}
+
+/* The key of a text. A text lies at one address for as long as its sort goes on in memory, and is compared several times. */
+static const struct remembered *remembered(struct sorting *sorting, const text *given) {
+    MemoryContext context = GetMemoryChunkContext(sorting);
+    size_t size = VARSIZE_ANY_EXHDR(given), room = 5 * size + 64;
+    struct remembered *it;
+    uca_fault fault;
+    uint32_t status;
+    if (!sorting->remembered) sorting->remembered = MemoryContextAllocZero(context, MOST_REMEMBERED * sizeof *it);
+    it = sorting->remembered + DatumGetUInt32(hash_uint32((uint32)((uintptr_t)given >> 3))) % MOST_REMEMBERED;
+    if (it->bytes && it->text_size == size && memcmp(it->bytes, VARDATA_ANY(given), size) == 0) return it;
+    for (;; room = size + it->key_size) {
+        if (it->room < room) {
+            it->bytes = it->bytes ? repalloc(it->bytes, room) : MemoryContextAlloc(context, room);
+            it->room = room;
+        }
+        status = uca_packed_key(&sorting->collation->collator, &sorting->collation->settings, (uint8_t *)VARDATA_ANY(given), size,
+                                it->bytes + size, it->room - size, &it->key_size, &fault);
+        if (status != UCA_OK) report("uca_cmp", status, &fault);
+        if (it->key_size <= it->room - size) break;
+    }
+    memcpy(it->bytes, VARDATA_ANY(given), size);
+    it->text_size = size;
+    return it;
+}
+
+/* Whether a key of it is remembered: of a short text, as it lies in memory. */
+static bool is_short(const text *given) {
+    return (VARATT_IS_SHORT(given) || !VARATT_IS_EXTENDED(given)) && VARSIZE_ANY_EXHDR(given) <= LONGEST_REMEMBERED;
+}
+
+/* Compares texts whose abbreviated keys are equal. */
+static int compare_alike(Datum x, Datum y, SortSupport support) {
+    const text *a = (text *)DatumGetPointer(x), *b = (text *)DatumGetPointer(y);
+    const struct remembered *a_key, *b_key;
+    int order;
+    if (!is_short(a) || !is_short(b)) return compare_texts(x, y, support);
+    collation_of_sort(support);
+    a_key = remembered(support->ssup_extra, a);
+    b_key = remembered(support->ssup_extra, b);
+    if (a_key == b_key) return compare_texts(x, y, support); /* the second took the first one's place */
+    order = memcmp(a_key->bytes + a_key->text_size, b_key->bytes + b_key->text_size, Min(a_key->key_size, b_key->key_size));
+    return order ? order : (a_key->key_size > b_key->key_size) - (a_key->key_size < b_key->key_size);
 }
 
 /* The first eight bytes of a key as a number. Where the key at primary has so many, they are its own, and it takes less time. */
@@ -507,12 +562,13 @@ Datum uca_pg_sort_support(PG_FUNCTION_ARGS) {
     MemoryContext before = MemoryContextSwitchTo(support->ssup_cxt);
     sorting->function = fcinfo->flinfo->fn_oid;
     sorting->collation = NULL;
+    sorting->remembered = NULL;
     support->ssup_extra = sorting;
     support->comparator = compare_texts;
 #ifdef USE_FLOAT8_BYVAL
     if (support->abbreviate) {
         support->comparator = ssup_datum_unsigned_cmp;
-        support->abbrev_full_comparator = compare_texts;
+        support->abbrev_full_comparator = compare_alike;
         support->abbrev_converter = abbreviated;
         support->abbrev_abort = is_aborted;
     }
