@@ -92,6 +92,12 @@ for where in elsewhere at_terminal; do
     is "$where: a file is handed on" "uca: rt try --data handed-on-0=$work/new/rules/sv.rules -- order --rules handed-on-0" "$(cat "$ASKED")"
 
     new_copy "$ended"
+    UCA_TABLE=rules/sv.rules $where "$work/new" "./uca table; ./uca table --table crates.txt; ./uca --help"
+    is "$where: a table of the environment is handed on" \
+        "uca: rt try --data handed-on-0=$work/new/rules/sv.rules -- table --table handed-on-0|uca: rt try --data handed-on-0=$work/new/crates.txt -- table --table handed-on-0|uca: rt try -- --help" \
+        "$(paste -sd'|' "$ASKED")"
+
+    new_copy "$ended"
     $where "$work/new" "printf 'b\n' | ./uca key --rules <(cat rules/sv.rules)"
     is "$where: with a pipe as a file it says so and builds" "b|$steps" "$(tail -n 1 "$work/out")|$(asked)"
     is "$where: what it says then" "$no_answer /dev/fd/N is no regular file|$building" "$(said | sed 's,/fd/[0-9]*,/fd/N,')"

@@ -6,10 +6,12 @@ is_built
 uca=$PWD/crates/uca/out/uca
 mkdir "$work/bin"
 ln -s "$uca" "$work/bin/uca"
+ln -s "$PWD/ucasort" "$work/bin/ucasort"
 PATH=$work/bin:$PATH
 
 # The manual has each command, each option and each value that the help of the program shows.
-sed 's/\\-/-/g; s/\\f[BIR]//g; s/^\.[A-Z]* //' man/uca.1 >"$work/manual"
+plain() { sed 's/\\-/-/g; s/\\f[BIR]//g; s/^\.[A-Z]* //' "$1" >"$work/manual"; }
+plain man/uca.1
 in_manual() { grep -qE -- "(^|[^a-z-])$1([^a-z-]|\$)" "$work/manual" || echo "$1"; }
 "$uca" --help 2>"$work/help" >"$work/out"
 commands=$(sed -n '/^Commands:/,/^$/s/^  \([a-z]*\) .*/\1/p' "$work/help")
@@ -26,8 +28,15 @@ for command in $commands; do
     done
 done
 is "the manual has the statuses" "" "$(for status in 0 1 2 3; do in_manual "$status"; done)"
+plain man/ucasort.1
+ucasort --help >"$work/help"
+for option in $(grep -oE -e '(^|[ ,])-[a-zA-Z]\b|--[a-z]+(-[a-z]+)*' "$work/help" | tr -d ' ,' | sort -u); do
+    is "the manual of ucasort has $option" "" "$(in_manual "$option")"
+done
 if command -v groff >/dev/null; then
-    is "the manual is set without a warning" "0" "$(groff -man -Tutf8 -ww -z man/uca.1 2>&1 | wc -c)"
+    for page in man/*.1; do
+        is "$page is set without a warning" "0" "$(groff -Kutf8 -man -Tutf8 -ww -z "$page" 2>&1 | wc -c)"
+    done
 fi
 
 # Its examples print what it says.
@@ -36,12 +45,12 @@ perl -ne '
     s/\\-/-/g; s/\\e/\\/g;
     if (/^\.E[XE]/) { $in = /X/; undef $file }
     elsif ($in && s/^\$ //) { $n++; open $file, ">", "$folder/$n.command"; print $file $_; open $file, ">", "$folder/$n.wanted" }
-    elsif ($file) { print $file $_ }' "$work" man/uca.1
+    elsif ($file) { print $file $_ }' "$work" man/uca.1 man/ucasort.1
 mkdir "$work/room"
 for command in "$work"/*.command; do
     is "an example of the manual: $(cat "$command")" "$(cat "${command%.command}.wanted")" "$(cd "$work/room" && bash "$command" 2>&1)"
 done
-is "examples that were run" "3" "$(find "$work" -name '*.command' | wc -l)"
+is "examples that were run" "7" "$(find "$work" -name '*.command' | wc -l)"
 
 # One version everywhere; that of the built library is seen by tests/callers.sh.
 version=$(header_version)
@@ -56,27 +65,59 @@ names_version bindings/python/uca.py "$major" 's/^    if library.uca_version() >
 names_version bindings/python/test.py "$major, $minor, $patch" 's/.*uca.version() == (\([^)]*\)).*/\1/p'
 names_version man/uca.1 "$version" 's/^\.TH UCA 1 [0-9-]* "Hagvlomi \(.*\)" "User Commands"$/\1/p'
 names_version man/uca.1 "$version" 's/^This is the manual of version \(.*\)\.$/\1/p'
+names_version man/ucasort.1 "$version" 's/^\.TH UCASORT 1 [0-9-]* "Hagvlomi \(.*\)" "User Commands"$/\1/p'
+names_version man/ucasort.1 "$version" 's/^This is the manual of version \(.*\)\.$/\1/p'
+names_version ucasort "$version" 's/^version=//p'
 names_version CHANGELOG.md "$version" 's/^## \([0-9][0-9.]*\).*/\1/p'
 
 # completed WORDS..: what bash offers for the last word
 completed() {
-    bash -c 'source completions/uca.bash; COMP_WORDS=("$@"); COMP_CWORD=$(($# - 1))
-        _uca "$1" "${COMP_WORDS[COMP_CWORD]}" "${COMP_WORDS[COMP_CWORD - 1]}"; printf "%s\n" "${COMPREPLY[@]}"' bash uca "$@" | sort | paste -sd' '
+    completed_of uca "$@"
+}
+
+# completed_of PROGRAM WORDS..: the same for a program
+completed_of() {
+    bash -c 'source "completions/$1.bash"; COMP_WORDS=("$@"); COMP_CWORD=$(($# - 1))
+        "_$1" "$1" "${COMP_WORDS[COMP_CWORD]}" "${COMP_WORDS[COMP_CWORD - 1]}"; printf "%s\n" "${COMPREPLY[@]}"' bash "$@" | sort | paste -sd' '
 }
 is "commands are completed" "check compare" "$(completed c)"
 is "options are completed" "--raw --rules" "$(completed key --r)"
 is "options are those of the command" "--rules" "$(completed order --r)"
 is "values are completed" "secondary" "$(completed key --strength s)"
 is "values after = are completed" "blanked non-ignorable shifted" "$(completed key --variable =)"
-is "files are completed" "man/uca.1" "$(completed key --table man/uca)"
+is "files are completed" "man/uca.1 man/ucasort.1" "$(completed key --table man/uca)"
+is "options of ucasort are completed" "--stable --strength" "$(completed_of ucasort --st)"
+is "languages are completed" "sv" "$(completed_of ucasort -l sv)"
+is "values of ucasort are completed after =" "first" "$(completed_of ucasort --bad = f)"
+is "files are completed for ucasort" "man/uca.1 man/ucasort.1" "$(completed_of ucasort -r man/uca)"
 
 # Installed, it runs without this repository.
 if command -v make >/dev/null; then
     make -s install-program DESTDIR="$work/root" PREFIX=/usr >"$work/out" 2>&1
     is "it is installed" "0" "$?"
-    is "the files that are installed" "bin/uca share/bash-completion/completions/uca share/doc/uca/LICENSE-UNICODE.txt share/man/man1/uca.1 share/uca/rules/ of $(find rules -name '*.rules' | wc -l)" \
+    is "the files that are installed" "bin/uca bin/ucasort share/bash-completion/completions/uca share/bash-completion/completions/ucasort share/doc/uca/LICENSE-UNICODE.txt share/man/man1/uca.1 share/man/man1/ucasort.1 share/uca/rules/ of $(find rules -name '*.rules' | wc -l)" \
         "$(cd "$work/root/usr" && find . -type f | grep -v '/rules/' | sort | sed 's/^\.\///' | paste -sd' ') share/uca/rules/ of $(find "$work/root/usr/share/uca/rules" -type f | wc -l)"
     is "the program that is installed" "a|b" "$(cd / && printf 'b\na\n' | "$work/root/usr/bin/uca" order --rules "$work/root/usr/share/uca/rules/es.rules" --table "$(published_table)" 2>&1 | paste -sd'|')"
+    is "ucasort is installed with its languages" "zon|öra" "$(cd / && printf 'öra\nzon\n' | UCA_TABLE=$(published_table) "$work/root/usr/bin/ucasort" -l sv 2>&1 | paste -sd'|')"
+
+    # A table that is installed is the one that ucasort takes. One that is refused is not, and the other stays.
+    installs_table() { make -s install-table TABLE="$1" DESTDIR="$work/root" PREFIX=/usr >"$work/out" 2>"$work/err"; }
+    printf '@version 1.2.3\n0062 ; [.1000.0020.0002]\n0061 ; [.1001.0020.0002]\n' >"$work/b_first"
+    printf '0062 ; [.1000.0020.0002\n' >"$work/broken"
+    installs_table "$work/b_first"
+    is "a table is installed" "0|$work/root/usr/share/uca/allkeys.txt: version 1.2.3, 2 entries, sha256 $(sha256sum <"$work/b_first" | cut -d' ' -f1)" "$?|$(cat "$work/out")"
+    is "its fingerprint" "allkeys.txt: OK" "$(cd "$work/root/usr/share/uca" && sha256sum -c allkeys.txt.sha256)"
+    for table in broken none; do
+        installs_table "$work/$table"
+        is "a table that is not installed: $table" "2||1" "$?|$(cat "$work/out")|$(grep -c "^install-table: .*$work/$table" "$work/err")"
+    done
+    is "ucasort takes the installed table" "b|a" "$(cd / && printf 'a\nb\n' | "$work/root/usr/bin/ucasort" 2>&1 | paste -sd'|')"
+    if [ -n "$(published_table)" ]; then
+        installs_table "$(published_table)"
+        is "another table is installed" "0|2" "$?|$(grep -cE 'version [0-9.]+, [0-9]+ entries|stored' "$work/out")"
+        is "ucasort takes that one" "a|b" "$(cd / && printf 'b\na\n' | "$work/root/usr/bin/ucasort" 2>&1 | paste -sd'|')"
+    fi
+    is "nothing else is left there" "allkeys.txt allkeys.txt.sha256 rules" "$(ls -A "$work/root/usr/share/uca" | paste -sd' ')"
 else
     echo "$script: there is no make, so nothing was installed"
 fi

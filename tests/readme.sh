@@ -1,16 +1,16 @@
 #!/usr/bin/env bash
-# README.md and docs/EXAMPLES.md are true: their programs are parts of what the gate builds, and their commands print what they say.
+# README.md, docs/EXAMPLES.md and docs/CATALOGUES.md are true: their programs are parts of what the gate builds, and their commands print what they say.
 source "$(dirname "${BASH_SOURCE[0]}")/checks.bash"
 
 is_built
-pages=(README.md docs/EXAMPLES.md)
+pages=(README.md docs/EXAMPLES.md docs/CATALOGUES.md)
 is "the example in Rattle is a part of its crate" "yes" "$(perl -0777 -e '
     my ($page, $code) = map { local @ARGV = $_; <> } @ARGV;
     my ($example) = $page =~ /^```rust\n(.*?)^```$/ms;
     print defined $example && index($code, $example) >= 0 ? "yes" : "no"' docs/EXAMPLES.md crates/uca_example/src/main.rt)"
 is "the C program is that of bindings/c" "yes" "$(perl -0777 -ne '/^```c\n(.*?)^```$/ms and print $1' docs/EXAMPLES.md | cmp -s - bindings/c/compare.c && echo yes)"
 is "README has 120 lines at most" "yes" "$([ "$(wc -l <README.md)" -le 120 ] && echo yes)"
-is "the pages that README and docs link to are there" "" "$(for page in README.md CHANGELOG.md docs/*.md; do
+is "the pages that README and docs link to are there" "" "$(for page in README.md CHANGELOG.md docs/*.md examples/*/README.md; do
     grep -o '](\([^):#]*\)' "$page" | sed 's/^](//' | while read -r link; do
         [ -e "$(dirname "$page")/$link" ] || echo "$page: $link"
     done
@@ -54,16 +54,19 @@ published=$(published_table)
 if [ -n "$published" ]; then
     echo "tests/readme.sh: with $published"
     mkdir "$work/room"
-    ln -s "$PWD/uca" "$PWD/rules" "$PWD/bindings" "$PWD/Makefile" "$work/room/"
+    ln -s "$PWD/uca" "$PWD/ucasort" "$PWD/rules" "$PWD/bindings" "$PWD/Makefile" "$work/room/"
     cd "$work/room" || exit 2
     has_compiler=yes
     for program in cc make objcopy pkg-config sqlite3; do command -v "$program" >/dev/null || has_compiler=; done
+    has_python=yes
+    command -v python3 >/dev/null || { has_python= && echo "tests/readme.sh: left out: the commands with python3, which is not there"; }
     echo '#include <sqlite3ext.h>' | cc -E - >/dev/null 2>&1 || has_compiler=
     [ -n "$has_compiler" ] || echo "tests/readme.sh: left out: C and SQLite, since their compiler, headers or programs are not there"
     for command in $(find "$work" -name '*.command' | sort -V); do
         line=$(cat "$command")
         case $line in
         .ci/run | psql* | "make -C bindings/postgresql"*) ;; # those of PostgreSQL: tests/callers.sh
+        *python3*) [ -z "$has_python" ] || runs_with_compiler "$line" "${command%.command}.wanted" ;;
         table=*)
             eval "$line"
             is "$line" "allkeys.txt" "${table##*/}"

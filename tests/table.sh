@@ -19,6 +19,31 @@ runs table --table "$work"
 is "a folder" "|uca: table line 1: Read|3" "$(cat "$work/out")|$(cat "$work/err")|$status"
 runs table --table "$work/none"
 is "a file that is not there" "|uca: cannot open $work/none|3" "$(cat "$work/out")|$(cat "$work/err")|$status"
+
+# The table of the environment: where no other is named, and for every command; an empty value is none.
+UCA_TABLE=$work/small runs table
+is "a table of the environment" "0062 ; [.1001.0020.0002]|0" "$(tail -n 1 "$work/out")|$status"
+for command in elements key compare order check lint table; do
+    UCA_TABLE=$work/cut runs "$command" </dev/null
+    is "$command with a table of the environment that is cut" "|uca: table line 2: BadElement|3" "$(cat "$work/out")|$(cat "$work/err")|$status"
+done
+UCA_TABLE=$work/cut runs table --table "$work/small"
+is "a table that is named, and one of the environment" "0062 ; [.1001.0020.0002]|0" "$(tail -n 1 "$work/out")|$status"
+UCA_TABLE='' runs table
+is "an empty value" "0061 ; [.1000.0020.0002]|0" "$(grep '^0061 ;' "$work/out")|$status"
+UCA_TABLE=$work/none runs table
+is "a table of the environment that is not there" "|uca: cannot open $work/none|3" "$(cat "$work/out")|$(cat "$work/err")|$status"
+UCA_TABLE=$'\xff' runs table
+is "a value that is not UTF-8" "|uca: UCA_TABLE is not UTF-8|2" "$(cat "$work/out")|$(cat "$work/err")|$status"
+for words in --help 'key --help' sort 'key --strength third'; do
+    # shellcheck disable=SC2086
+    runs $words </dev/null
+    cp "$work/err" "$work/wanted"
+    # shellcheck disable=SC2086
+    UCA_TABLE=$'\xff' runs $words </dev/null
+    is "words that are no job look at no table: $words" "same|2" "$(cmp -s "$work/wanted" "$work/err" && echo same)|$status"
+done
+
 ./uca table >/dev/full 2>"$work/err" </dev/null
 status=$?
 is "a full disk" "uca: output byte 0: Failed|3" "$(cat "$work/err")|$status"

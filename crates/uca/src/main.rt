@@ -2,12 +2,16 @@
 #![tactic(auto)]
 
 use std::alloc::AllocError;
+use std::env::VarError;
 use std::fs::File;
 use std::io::{ErrorKind, IsTerminal, Read, Stdin, Write};
 use std::process::ExitCode;
 use std::{env, fs, io};
 use uca_cli::{CliFault, Job, JobFault, Task, job_of, perform, status_of};
 use uca_weights::{Reading, Writing};
+
+/// The variable of the environment that names the file of the table where `--table` does not.
+const TABLE_VARIABLE: &str = "UCA_TABLE";
 
 /// The status for words that are no job.
 const REFUSED_WORDS: u8 = 2;
@@ -29,9 +33,28 @@ fn run(rt: &HostRuntime) -> u8 {
         return out_of_memory(rt);
     };
     match job_of(rt.alloc(), &views) {
-        Ok(job) => do_job(rt, &job),
+        Ok(job) => do_job_with_default(rt, job),
         Err(fault) => refuse_job(rt, &fault),
     }
+}
+
+/// Does a job, with the table that the environment names where the job names none.
+fn do_job_with_default(rt: &HostRuntime, mut job: Job) -> u8 {
+    if job.table.is_none() {
+        match env::var(rt, TABLE_VARIABLE) {
+            Ok(path) if !path.is_empty() => job.table = Some(path),
+            Ok(_) | Err(VarError::NotPresent) => {}
+            Err(VarError::NotUnicode) => return refuse_variable(rt),
+            Err(VarError::OutOfMemory) => return out_of_memory(rt),
+        }
+    }
+    do_job(rt, &job)
+}
+
+/// Reports that the variable could not be read.
+fn refuse_variable(rt: &HostRuntime) -> u8 {
+    let _ = eprintln!(rt; "uca: {TABLE_VARIABLE} is not UTF-8");
+    REFUSED_WORDS
 }
 
 /// The words after the program's name.

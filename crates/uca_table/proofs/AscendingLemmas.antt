@@ -1,5 +1,5 @@
 -- A key after entries whose keys rise.
-use Rattle.std.proofs.Common.{◌≡◌, ℕ, ◌-◌, ◌≤◌, ◌<◌, Bool, false, cond, T, List, [], ◌∷◌, ◌++◌, length, get_or, is_some, Some, None, refl, ap, ◌∙◌, arith, inl, inr}
+use Rattle.std.proofs.Common.{◌≡◌, ℕ, ◌-◌, ◌≤◌, ◌<◌, Bool, false, cond, T, List, [], ◌∷◌, ◌++◌, length, get_or, is_some, Some, None, refl, sym, ap, subst, ◌∙◌, arith, inl, inr}
 use Rattle.std.proofs.lemmas.Bool.{cases_lt, ne_eqb, le-ltb}
 use Rattle.std.proofs.lemmas.List.Folds.{list_any_none, list_any_at}
 use Rattle.std.specs.declared.cmp.Ordering.{Ordering}
@@ -15,6 +15,8 @@ use Rattle.uca_model.specs.Table.{ElementTable, key_cmp, IsEntry}
 use Rattle.uca_table.specs.Ascending.{AreAscending, has_greater, append_fault, IsOrder}
 use Rattle.uca_table.specs.Place.{BelongsAt}
 use Rattle.uca_table.specs.declared.fault.AppendFault.TheVariants.{OutOfOrder, Repeated}
+use Rattle.uca_keys.specs.Fronts.{last_key}
+use Rattle.uca_table.proofs.KeyLemmas.{last_key-at}
 use Rattle.uca_table.proofs.EntryLemmas.{all-put, table_put}
 use Rattle.uca_table.proofs.PutLemmas.{put_before}
 use Rattle.uca_table.proofs.SearchLemmas.{found_at, found_nowhere, in_order, lower_before, same_at}
@@ -90,3 +92,12 @@ map_put es key v sorted = ap (λ (t : ElementTable). t.entries) (table_put es []
 
 pub AreAscending-put : (es : List (List ℕ × List Element)) (key : List ℕ) (v : List Element) → AreAscending es → IsEntry (key, v) → AreAscending (put key_cmp key v es)
 AreAscending-put es key v are new = record { sorted = is_sorted-put key_cmp nat_list_cmp_total key v es are.sorted; entries = all-put es key v new are.entries }
+
+above_none : (key : List ℕ) → 0 < length key → key_cmp key [] ≡ Greater
+above_none [] some = absurd (omega arith)
+above_none (x ∷ key) some = refl
+
+-- the last key decides, and where there is none, no code points do
+pub order_of_last : (key : List ℕ) (es : List (List ℕ × List Element)) (o : Ordering) → T (is_sorted key_cmp es) → 0 < length key → key_cmp key (last_key es) ≡ o → IsOrder o key es
+order_of_last key [] o sorted some is = subst (λ r. IsOrder r key []) (sym (above_none key some) ∙ is) (order_first key [] refl)
+order_of_last key (e ∷ es) o sorted some is = order_last key (e ∷ es) ([], []) o sorted (omega arith) (ap (key_cmp key) (sym (last_key-at (e ∷ es) ([], []) (omega arith))) ∙ is)

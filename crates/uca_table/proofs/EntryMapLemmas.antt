@@ -1,6 +1,6 @@
 -- The entries of a builder, which lie in a map and one list of elements.
 use Rattle.std.proofs.Common.{◌≡◌, ℕ, ◌+◌, ◌≤◌, ◌<◌, ◌-◌, ◌==◌, ◌&&◌, ◌||◌, true, false, cond, get_or, nat_eq, List, [], ◌∷◌, ◌++◌, length, take, drop, map, Some, None, is_some, refl, sym, ap, ap₂, subst, ◌∙◌, arith, length-drop, length-append}
-use Rattle.std.proofs.lemmas.List.{take_all, drop_all, drop-append-le}
+use Rattle.std.proofs.lemmas.List.{take_all, take-append-le, drop_all, drop-append-le}
 use Rattle.std.specs.declared.cmp.Ordering.TheVariants.{Less, Equal, Greater}
 use Rattle.std.specs.declared.vec.Vec.{Vec}
 use Rattle.std.specs.List.{list_any, AllByRecursion}
@@ -17,8 +17,16 @@ use Rattle.uca_table.specs.declared.fault.InsertFault.TheVariants.{Repeated}
 use Rattle.uca_table.specs.declared.entry_map.Place.{Place}
 use Rattle.uca_table.specs.Builder.{known_fault}
 use Rattle.uca_table.specs.EntryMap.{entry_in, is_key_at, pair_cmp, IsPlaced}
-use Rattle.uca_table.specs.Flat.{IsGrown}
-use Rattle.uca_table.proofs.FlatLemmas.{part-grown}
+
+-- the second list begins with the first
+abbrev IsGrown : List Element → List Element → Type 0
+IsGrown old new = new ≡ old ++ drop (length old) new
+
+-- a part of a list is one of each that begins with it
+part-grown : (xs ys : List Element) (m n : ℕ) → m + n ≤ length xs → IsGrown xs ys → take n (drop m ys) ≡ take n (drop m xs)
+part-grown xs ys m n within grown =
+    ap (λ l. take n (drop m l)) grown ∙ ap (take n) (drop-append-le m xs (drop (length xs) ys) (omega arith))
+    ∙ take-append-le n (drop m xs) (drop (length xs) ys) (omega (arith, length-drop m xs))
 
 -- what the map's insertion does is `put`
 put_inserted : {Y : Type 0} (es : List Element) (ms : List ((ℕ × Vec ℕ Y) × Place)) (k : ℕ × Vec ℕ Y) (p : Place) → map (entry_in es) (insert_entry pair_cmp ms k p) ≡ put key_cmp (k.0 ∷ k.1.items) (take p.count (drop p.start es)) (map (entry_in es) ms)

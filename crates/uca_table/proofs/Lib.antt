@@ -12,11 +12,8 @@ pub mod MatchLemmas
 pub mod MovedForward
 pub mod ElementLemmas
 pub mod CellLemmas
-pub mod FrontLemmas
 pub mod IdeographLemmas
 pub mod WalkLemmas
-pub mod FirstsLemmas
-pub mod FlatLemmas
-pub mod TrieLemmas
 pub mod EntryMapLemmas
 pub mod AscendingLemmas
+pub mod KeyLemmas

@@ -1,15 +1,12 @@
 -- A table as data, by which a proof distinguishes two of them.
-use Rattle.std.specs.Prelude.{ℕ, Bool, List, refl}
-use Rattle.std.specs.Coded.{Coded, code_by, coded×, coded_list, coded_ℕ, coded_bool}
+use Rattle.std.specs.Prelude.{ℕ, List, refl}
+use Rattle.std.specs.Coded.{Coded, code_by, coded×, coded_list, coded_ℕ}
 use Rattle.std.specs.FinMap.{FinMap, code}
 use Rattle.uca_weights.specs.declared.element.Element.{Element}
+pub use Rattle.uca_keys.specs.Coded.{coded_element, coded_entries}
 use Rattle.uca_weights.specs.declared.range.Ideographs.{Ideographs}
 use Rattle.uca_weights.specs.declared.range.Range.{Range}
 use Rattle.uca_model.specs.Table.{ElementTable, key_cmp}
-
--- an element as its mark and its weights
-abbrev pub coded_element : Coded Element
-coded_element = code_by (Bool × (ℕ × (ℕ × ℕ))) (coded× coded_bool (coded× coded_ℕ (coded× coded_ℕ coded_ℕ))) (λ e. (e.starred, (e.l1, (e.l2, e.l3)))) (λ p. record { starred = p.0; l1 = p.1.0; l2 = p.1.1.0; l3 = p.1.1.1 }) (λ _. refl)
 
 -- a range as its ends and its base
 abbrev pub coded_range : Coded Range
@@ -32,7 +29,3 @@ abbrev pub coded_table : Coded ElementTable
 coded_table =
     code_by (FinMap key_cmp (List Element) × (List Range × List Ideographs)) (coded× (code (coded_list coded_ℕ) (coded_list coded_element)) (coded× coded_ranges (coded_list coded_ideographs)))
     (λ t. (t.entries, (t.ranges, t.ideographs))) (λ p. record { entries = p.0; ranges = p.1.0; ideographs = p.1.1 }) (λ _. refl)
-
--- entries as pairs of lists
-abbrev pub coded_entries : Coded (List (List ℕ × List Element))
-coded_entries = coded_list (coded× (coded_list coded_ℕ) (coded_list coded_element))

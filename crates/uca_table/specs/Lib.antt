@@ -9,9 +9,5 @@ pub mod Cells
 pub mod Starters
 pub mod Fronts
 pub mod Walk
-pub mod Firsts
-pub mod Flat
-pub mod Span
-pub mod Trie
 pub mod EntryMap
 pub mod Ascending

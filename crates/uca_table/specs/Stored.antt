@@ -1,17 +1,12 @@
 -- How a table lies in a list of entries in order, and a list of ranges.
 use Rattle.std.specs.Prelude.{ℕ, T, max, List, [], length, fold}
-use Rattle.arrayvec.specs.ArrayVec.{ArrayVec}
 use Rattle.std.specs.List.{AllByRecursion}
 use Rattle.std.specs.FinMap.{from_sorted, is_sorted}
-use Rattle.std.specs.Borrow.{Bor}
+pub use Rattle.uca_keys.specs.Coded.{key_and_elements}
 use Rattle.uca_weights.specs.declared.element.Element.{Element}
 use Rattle.uca_weights.specs.declared.range.Range.{Range}
 use Rattle.uca_model.specs.Table.{ElementTable, key_cmp, IsEntry, AreRanges}
 use Rattle.uca_model.specs.Ranges.{AreByFirst}
-
--- a key and its elements, as an iterator gives them
-abbrev pub key_and_elements : ArrayVec ℕ × Bor (List Element) → List ℕ × List Element
-key_and_elements e = (e.0.items, e.1.now)
 
 -- the table of entries whose keys rise, without further ideographs
 abbrev pub table_of : List (List ℕ × List Element) → List Range → ElementTable

@@ -1,8 +1,7 @@
 -- What a walk shows.
 use Rattle.std.specs.Prelude.{ℕ, List}
 use Rattle.uca_model.specs.Table.{ElementTable}
-use Rattle.uca_table.specs.Fronts.{first_path}
-use Rattle.uca_table.specs.Span.{entries_in}
+use Rattle.uca_keys.specs.Paths.{path_at}
 use Rattle.uca_table.specs.declared.walk.Walk.{Walk}
 
 -- the table whose keys it goes along
@@ -11,4 +10,4 @@ table_of_walk w = w.table.now
 
 -- the code points that were stepped
 abbrev pub path_of : Walk → List ℕ
-path_of w = first_path (entries_in w.reached) w.depth
+path_of w = path_at w.keys.now w.node.number

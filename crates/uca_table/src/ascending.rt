@@ -1,22 +1,22 @@
 //! Entries that come in the order of a table, so that each is stored as it comes.
-ghost use Rattle.std.specs.Prelude.{◌≡◌, IfOk, OnOk, OnErr, MatchResult, None, T};
+ghost use Rattle.std.specs.Prelude.{◌≡◌, ◌<◌, length, IfOk, OnOk, OnErr, MatchResult, None, T};
 ghost use Rattle.std.specs.FinMap.{empty, insert, is_sorted};
 ghost use Rattle.uca_model.specs.Table.{key_cmp};
 ghost use Rattle.uca_table.specs.Ascending.{IsOrder, append_fault, reported_append_fault};
 
 use crate::builder::{read_elements, read_key};
 use crate::fault::AppendFault;
-use crate::flat::Flat;
 use crate::table::Table;
 use std::alloc::{AllocError, Global};
 use std::cmp::Ordering;
 use std::marker::Model;
+use uca_keys::Nodes;
 use uca_weights::{Element, MAX_ELEMENTS, MAX_KEY};
 
 /// Collects the entries of a table whose keys come in their order: by code points, a proper prefix first.
 #[derive(Drop)]
 pub struct AscendingEntries {
-    entries: Flat,
+    entries: Nodes,
     longest_key: usize,
 }
 
@@ -44,7 +44,7 @@ impl AscendingEntries {
         ensures { result ≡ empty }
     {
         AscendingEntries {
-            entries: Flat::none(alloc),
+            entries: Nodes::new(alloc),
             longest_key: 1,
         }
     }
@@ -95,12 +95,10 @@ impl AscendingEntries {
 }
 
 /// How a key stands to the last of some entries in their order; after none of them, it is greater.
-fn order_after(entries: &Flat, key: &[char]) -> Ordering
-    requires { T (is_sorted key_cmp entries.now) }
+fn order_after(entries: &Nodes, key: &[char]) -> Ordering
+    requires sorted { T (is_sorted key_cmp entries.now) }
+    requires some { 0 < length key.now }
     ensures { IsOrder result key.now entries.now }
 {
-    if entries.len() == 0 {
-        return Ordering::Greater;
-    }
-    key.cmp(entries.key(entries.len() - 1))
+    key.cmp(entries.last())
 }

@@ -1,17 +1,13 @@
-ghost use Rattle.std.specs.Prelude.{◌≡◌, max, length, [], OnOk, OnErr, IfOk, MatchResult, All, None};
+ghost use Rattle.std.specs.Prelude.{◌≡◌, [], OnOk, OnErr, IfOk, MatchResult, All, None};
 ghost use Rattle.std.specs.Char.{IsScalar};
 ghost use Rattle.std.specs.FinMap.{empty};
 ghost use Rattle.uca_model.specs.Table.{IsElement};
-ghost use Rattle.uca_table.specs.Stored.{longest_of};
 
 use crate::entry_map::EntryMap;
 use crate::fault::{FinishFault, InsertFault, RangeFault};
-use crate::firsts::Firsts;
-use crate::flat::{Flat, Span};
 use crate::range_map::RangeMap;
 use crate::stored::Stored;
 use crate::table::Table;
-use crate::trie::Trie;
 use std::alloc::Global;
 use std::marker::Model;
 use uca_weights::{Element, MAX_ELEMENTS, MAX_KEY, Range};
@@ -97,23 +93,21 @@ impl TableBuilder {
         ensures made { MatchResult result (λ t. t ≡ self) (λ f. f.builder ≡ self) }
         ensures unlisted { IfOk result (λ t. t.ideographs ≡ []) }
     {
-        let Ok(entries) = self.entries.flat(self.alloc) else {
+        let Ok(entries) = self.entries.nodes(self.alloc) else {
             return Err(FinishFault { builder: self });
         };
         let Ok(range_room) = Vec::with_capacity(self.alloc, self.ranges.len()) else {
             return Err(FinishFault { builder: self });
         };
-        let longest_key = longest_key(&entries);
-        let all = Span::all(&entries);
-        let firsts = Firsts::of(self.alloc, &all);
-        let trie = Trie::of(self.alloc, &all, &firsts);
+        let longest_key = self.entries.longest_key();
+        let Ok(keys) = entries.finish(self.alloc) else {
+            return Err(FinishFault { builder: self });
+        };
         let stored = Stored {
-            entries,
+            keys,
             ranges: self.ranges.finish(range_room),
             ideographs: Vec::new(self.alloc),
             longest_key,
-            firsts,
-            trie,
         };
         Ok(Table::of(self.alloc, stored))
     }
@@ -144,22 +138,4 @@ fn read_element(element: &Element)
     let _primary = element.l1;
     let _secondary = element.l2;
     let _tertiary = element.l3;
-}
-
-/// The greater of a number and the length of a key.
-fn longer(longest: usize, key: &[char]) -> usize
-    ensures { result ≡ max longest (length key.now) }
-{
-    longest.max(key.len())
-}
-
-/// The length of the longest key, 1 where there is none.
-fn longest_key(entries: &Flat) -> usize
-    ensures { result ≡ longest_of entries.now }
-{
-    let mut longest = 1;
-    for at in 0..entries.len() {
-        longest = longer(longest, entries.key(at));
-    }
-    longest
 }

@@ -8,7 +8,6 @@ ghost use Rattle.uca_model.specs.StandAlone.{begins, leads, continues, joining_o
 ghost use Rattle.uca_table.specs.Cells.{AreKeyFlags, AreHeldBlocks, IsCell, IsBlock, AreCells, AreCellsFrom, AreBlocks, HoldsCells, Grows};
 
 use crate::collation::{push_elements, push_found, push_matches};
-use crate::firsts::small;
 use crate::key_flags::{BLOCK, BLOCKS, KeyFlags, key_flags_of, limit_for};
 use crate::stored::Stored;
 use std::alloc::{AllocError, Global};
@@ -64,8 +63,18 @@ pub(crate) enum Block {
 /// So many blocks of cells has any table with so many blocks of keys.
 const FEW_BLOCKS: usize = 64;
 
-/// And one more for so many entries.
-const ENTRIES_OF_A_BLOCK: usize = 8;
+/// And one more for so many nodes of its keys.
+const NODES_OF_A_BLOCK: usize = 8;
+
+/// A number that fits thirty-two bits.
+fn small(n: usize) -> Option<u32>
+    ensures { IfSome result (λ m. m ≡ n) }
+{
+    match u32::try_from(n) {
+        Ok(m) => Some(m),
+        Err(_) => None,
+    }
+}
 
 /// The elements of characters, each by itself, and whether they stand alone in a text.
 #[derive(Drop)]
@@ -367,9 +376,9 @@ impl Cells {
         Ok(Block::Own(start))
     }
 
-    // Whether there is room for one more block: those of a table take no more memory than a few of its entries each.
+    // Whether there is room for one more block. They take at most 128 bytes for each node of the table's keys.
     fn has_room(&self, t: &Stored) -> bool {
-        self.others.len() / BLOCK < FEW_BLOCKS + t.entries.len() / ENTRIES_OF_A_BLOCK
+        self.others.len() / BLOCK < FEW_BLOCKS + t.keys.len() / NODES_OF_A_BLOCK
     }
 
     // What there is of a block of characters, from a number on. One that has a key gets cells.
@@ -444,7 +453,7 @@ impl Cells {
     {
         let key_flags = key_flags_of(alloc, t)?;
         let mut made = Cells::none(alloc);
-        for point in 0..limit_for(t.entries.len()) {
+        for point in 0..limit_for(t.keys.len()) {
             made.push_point(alloc, t, &key_flags, point)?;
         }
         made.push_blocks(alloc, t, &key_flags)?;

@@ -1,6 +1,6 @@
 //! What holds the entries of a table shows its name alone: a table has tens of thousands of them.
 
-use crate::{AscendingEntries, Entries, Table, TableBuilder, Walk};
+use crate::{AscendingEntries, Table, TableBuilder, Walk};
 use std::fmt;
 
 impl fmt::Debug for Table {
@@ -18,12 +18,6 @@ impl fmt::Debug for TableBuilder {
 impl fmt::Debug for AscendingEntries {
     fn fmt<W: fmt::Write>(&self, f: &mut fmt::Formatter<W>) -> fmt::Result {
         f.debug_struct("AscendingEntries").finish_non_exhaustive()
-    }
-}
-
-impl<'t> fmt::Debug for Entries<'t> {
-    fn fmt<W: fmt::Write>(&self, f: &mut fmt::Formatter<W>) -> fmt::Result {
-        f.debug_struct("Entries").finish_non_exhaustive()
     }
 }
 

@@ -1,21 +1,25 @@
-ghost use Rattle.std.specs.Prelude.{◌≡◌, vec_len, vec_capacity, ◌<◌, ◌≤◌, ◌+◌, ◌∷◌, ◌++◌, [], length, map, take, drop, is_some, if◌then◌else◌, None, Some, IfOk, OnOk, OnErr, MatchResult};
+ghost use Rattle.std.specs.Prelude.{◌≡◌, vec_len, vec_capacity, ◌<◌, ◌≤◌, ◌+◌, ◌∷◌, ◌++◌, [], length, max, map, take, drop, is_some, if◌then◌else◌, T, None, Some, IfOk, OnOk, OnErr, MatchResult};
 ghost use Rattle.std.specs.BTreeMap.{insert_entry, is_at};
-ghost use Rattle.std.specs.FinMap.{find, put};
+ghost use Rattle.std.specs.FinMap.{find, is_sorted, put};
 ghost use Rattle.std.specs.List.{list_any, AllByRecursion};
 ghost use Rattle.std.specs.Map.{lookup};
 ghost use Rattle.std.specs.Ordering.{eq_by_cmp};
+ghost use Rattle.std.specs.declared.cmp.Ordering.TheVariants.{Less};
+ghost use Rattle.uca_weights.specs.declared.limits.TheConstants.{MAX_KEY};
+ghost use Rattle.uca_keys.specs.Fronts.{last_key};
+ghost use Rattle.uca_table.specs.Stored.{longest_of};
 ghost use Rattle.uca_model.specs.Table.{key_cmp, IsEntry};
 ghost use Rattle.uca_table.specs.Builder.{known_fault, reported_fault};
 ghost use Rattle.uca_table.specs.EntryMap.{entry_in, is_key_at, pair_cmp, IsPlaced};
 ghost use Rattle.uca_table.specs.declared.fault.InsertFault.TheVariants.{Repeated};
 
 use crate::fault::InsertFault;
-use crate::flat::Flat;
 use arrayvec::ArrayVec;
 use std::alloc::{AllocError, Global};
 use std::collections::BTreeMap;
 use std::collections::btree_map::Entry;
 use std::marker::Model;
+use uca_keys::Nodes;
 use uca_weights::{Element, MAX_KEY};
 
 /// The first code point of a key, and the others. Most keys have no others, and take no memory of their own.
@@ -109,12 +113,21 @@ impl EntryMap {
         Ok(())
     }
 
-    /// Copies of the entries, side by side.
-    pub(crate) fn flat(&self, alloc: Global) -> Result<Flat, AllocError>
+    /// The length of the longest key, 1 where there is none.
+    pub(crate) fn longest_key(&self) -> usize
         requires { AllByRecursion IsEntry self.now }
-        ensures { IfOk result (λ f. f ≡ self.now) }
+        ensures { result ≡ longest_of self.now }
     {
-        flat_entries(alloc, &self.places, &self.elements)
+        longest_key(&self.places, &self.elements)
+    }
+
+    /// The nodes of the entries.
+    pub(crate) fn nodes(&self, alloc: Global) -> Result<Nodes, AllocError>
+        requires sorted { T (is_sorted key_cmp self.now) }
+        requires entries { AllByRecursion IsEntry self.now }
+        ensures { IfOk result (λ n. n ≡ self.now) }
+    {
+        nodes_of(alloc, &self.places, &self.elements)
     }
 }
 
@@ -173,42 +186,81 @@ fn elements_at(all: &[Element], place: Place) -> &[Element]
     &all[place.start..place.start + place.count]
 }
 
-/// How many code points the keys of a map have.
-fn points_of(places: &BTreeMap<Key, Place>) -> usize {
-    let mut points = places.len();
+/// The length of the longest key of a map, 1 where there is none.
+fn longest_key(places: &BTreeMap<Key, Place>, elements: &[Element]) -> usize
+    requires { AllByRecursion IsEntry (map (entry_in elements.now) places.now.entries) }
+    ensures { result ≡ longest_of (map (entry_in elements.now) places.now.entries) }
+{
+    let mut longest = 1;
     for (key, _) in places.iter() {
-        points = points.saturating_add(key.1.len());
+        longest = longer(longest, key.1.len());
     }
-    points
+    longest
 }
 
-/// Copies of the entries of a map, side by side.
-fn flat_entries(
+/// The greater of a number and the length of a key with so many code points after its first.
+fn longer(longest: usize, others: usize) -> usize
+    requires { others < MAX_KEY }
+    ensures { result ≡ max longest (others + 1) }
+{
+    longest.max(others + 1)
+}
+
+/// How many code points a key has beyond those that it begins with as another one does.
+fn new_points(before: &Key, key: &Key) -> usize {
+    if before.0 != key.0 {
+        return key.1.len().saturating_add(1);
+    }
+    let mut common = 0;
+    while common < before.1.len() && common < key.1.len() && before.1[common] == key.1[common] {
+        common += 1;
+    }
+    key.1.len() - common
+}
+
+/// How many nodes the keys of a map have.
+fn count_nodes(places: &BTreeMap<Key, Place>) -> usize {
+    let mut nodes = 0_usize;
+    let mut before = None;
+    for (key, _) in places.iter() {
+        let new = match before {
+            Some(last) => new_points(last, key),
+            None => key.1.len().saturating_add(1),
+        };
+        nodes = nodes.saturating_add(new);
+        before = Some(key);
+    }
+    nodes
+}
+
+/// The nodes of the entries of a map.
+fn nodes_of(
     alloc: Global,
     places: &BTreeMap<Key, Place>,
     elements: &[Element],
-) -> Result<Flat, AllocError>
+) -> Result<Nodes, AllocError>
+    requires sorted { T (is_sorted key_cmp (map (entry_in elements.now) places.now.entries)) }
     requires entries { AllByRecursion IsEntry (map (entry_in elements.now) places.now.entries) }
     requires placed { AllByRecursion (IsPlaced (length elements.now)) places.now.entries }
-    ensures { IfOk result (λ f. f ≡ map (entry_in elements.now) places.now.entries) }
+    ensures { IfOk result (λ n. n ≡ map (entry_in elements.now) places.now.entries) }
 {
-    let points = points_of(places);
-    let mut copies = Flat::with_capacity(alloc, places.len(), points, elements.len())?;
+    let mut nodes = Nodes::with_capacity(alloc, count_nodes(places), elements.len())?;
     for (key, place) in places.iter() {
         let of_key = elements_at(elements, *place);
-        push_entry(&mut copies, key.0, key.1.as_slice(), of_key)?;
+        push_entry(&mut nodes, key.0, key.1.as_slice(), of_key)?;
     }
-    Ok(copies)
+    Ok(nodes)
 }
 
-/// Appends an entry to others.
+/// Appends an entry to others, which all have lower keys.
 fn push_entry(
-    entries: &mut Flat,
+    entries: &mut Nodes,
     first: char,
     others: &[char],
     elements: &[Element],
 ) -> Result<(), AllocError>
-    requires { IsEntry (first ∷ others.now, elements.now) }
+    requires after { key_cmp (last_key entries.old) (first ∷ others.now) ≡ Less }
+    requires entry { IsEntry (first ∷ others.now, elements.now) }
     ensures { OnOk result (entries.new ≡ entries.old ++ (first ∷ others.now, elements.now) ∷ []) }
 {
     if others.is_empty() {

@@ -18,18 +18,18 @@ pub(crate) const BLOCKS: u32 = 0x2200;
 /// Code points below this one have flags of their own: all planes of scripts and ideographs.
 const FLAGGED: usize = 0x3_4000;
 
-/// A table of fewer entries is small.
+/// A table whose keys have fewer nodes is small.
 const FEW: usize = 256;
 
 /// Characters of a small table below this one have cells.
 const LIMIT_OF_FEW: usize = 0x1000;
 
-/// Where the cells end of a table of so many entries, and the index of its first code points. Those of a small table end
-/// early, since all of them would take longer than its reading.
-pub(crate) fn limit_for(entries: usize) -> u32
+/// Where the cells end of a table whose keys have so many nodes. Those of a small table end early, since all of them would take
+/// longer than its reading.
+pub(crate) fn limit_for(nodes: usize) -> u32
     ensures { result ≤ 65536 }
 {
-    let limit = if entries < FEW { LIMIT_OF_FEW } else { LIMIT };
+    let limit = if nodes < FEW { LIMIT_OF_FEW } else { LIMIT };
     limit as u32
 }
 

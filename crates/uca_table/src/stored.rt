@@ -1,32 +1,23 @@
 ghost use Rattle.std.specs.Prelude.{◌≡◌, ◌+◌, ◌==◌, ◌≤◌, ◌<◌, ◌^◌, ◌∷◌, [], length, All, option_copied, IfSome, IfOk, OnOk, OnErr, MatchResult, None};
 
-use crate::entries::Entries;
 use crate::fault::RangeFault;
-use crate::firsts::Firsts;
-use crate::flat::{Flat, Span};
 use crate::ranges::Ranges;
-use crate::search::elements_of;
-use crate::trie::{NodeNumber, Reached, Trie};
 use crate::walk::Walk;
 use crate::{ideographs, implicit_weights};
 use std::alloc::{AllocError, Global};
 use std::marker::Model;
+use uca_keys::{Entries, Nodes, Trie};
 use uca_weights::{Element, Ideographs, Range};
 
 /// A collation element table: a finite map from keys to their elements, with ranges of implicit weights and of
 /// ideographs.
 #[derive(Drop)]
 pub struct Stored {
-    // By key order.
-    pub(crate) entries: Flat,
+    pub(crate) keys: Trie,
     pub(crate) ranges: Ranges,
     // By their first code points.
     pub(crate) ideographs: Vec<Ideographs>,
     pub(crate) longest_key: usize,
-    // Where the entries begin with a code point; none where memory was refused.
-    pub(crate) firsts: Firsts,
-    // Where longer keys that begin alike go on; none where memory was refused.
-    pub(crate) trie: Trie,
 }
 
 impl Model for Stored {
@@ -35,16 +26,15 @@ impl Model for Stored {
     ghost use Rattle.uca_model.specs.UnifiedIdeographs.{AreIdeographs};
     ghost use Rattle.uca_table.specs.Stored.{AreStored, table_of, longest_of};
     ghost use Rattle.uca_table.specs.Coded.{coded_table};
-    ghost use Rattle.uca_table.specs.Firsts.{HoldsFirsts};
-    ghost use Rattle.uca_table.specs.Trie.{HoldsTrie};
+    ghost use Rattle.uca_keys.specs.Paths.{entries_of};
 
     ghost Value = { ElementTable };
 
     ghost coded = { coded_table };
 
-    ghost view = { λ t. with_ideographs (table_of t.entries t.ranges) t.ideographs.items };
+    ghost view = { λ t. with_ideographs (table_of (entries_of t.keys) t.ranges) t.ideographs.items };
 
-    ghost invariant = { λ t. AreStored t.entries t.ranges × (t.longest_key ≡ longest_of t.entries) × HoldsFirsts t.entries t.firsts × AreIdeographs t.ideographs.items × HoldsTrie t.entries t.trie };
+    ghost invariant = { λ t. AreStored (entries_of t.keys) t.ranges × (t.longest_key ≡ longest_of (entries_of t.keys)) × AreIdeographs t.ideographs.items };
 }
 
 impl Stored {
@@ -57,10 +47,6 @@ impl Stored {
     ghost use Rattle.uca_model.specs.ImplicitWeights.{implicit};
     ghost use Rattle.std.specs.FinMap.{entries, from_sorted};
     ghost use Rattle.uca_model.specs.Ranges.{AreByFirst};
-    ghost use Rattle.std.specs.FinMap.Entries.{where_key};
-    ghost use Rattle.std.specs.List.Sorted.{IsNonDecreasingBy};
-    ghost use Rattle.uca_table.specs.Fronts.{code_at, entries_from};
-    ghost use Rattle.uca_table.specs.Span.{entries_in};
     ghost use Rattle.uca_table.specs.Walk.{path_of, table_of_walk};
 
     /// The collation elements of a key, 1 to `MAX_ELEMENTS` of them (UTS #10, section 3). `None`: it is no key.
@@ -70,41 +56,7 @@ impl Stored {
         ensures few { IfSome result (λ es. length es.now ≤ MAX_ELEMENTS) }
         ensures elements { IfSome result (λ es. All IsElement es.now) }
     {
-        elements_of(&self.entries, key)
-    }
-
-    /// The entries by key order, where they lie.
-    fn in_order(&self) -> Span<'_>
-        ensures entries { entries_in result ≡ entries self.now.entries }
-        ensures flat { result.flat.now ≡ entries self.now.entries }
-    {
-        Span::all(&self.entries)
-    }
-
-    /// The entries whose keys begin with a code point.
-    pub(crate) fn beginning_with(&self, c: char) -> Reached<'_>
-        ensures entries { entries_in result.span ≡ entries_from self.now (c ∷ []) }
-        ensures flat { result.span.flat.now ≡ entries self.now.entries }
-    {
-        let span = self.firsts.beginning_with(&Span::all(&self.entries), c);
-        let node = self.trie.lead(&span, c);
-        Reached { span, node }
-    }
-
-    /// Those of some entries whose keys have a code point at a place.
-    pub(crate) fn beyond<'e>(
-        &self,
-        reached: &Span<'e>,
-        node: NodeNumber,
-        depth: usize,
-        c: char,
-    ) -> Reached<'e>
-        requires flat { reached.now.flat.now ≡ entries self.now.entries }
-        requires rising { IsNonDecreasingBy (λ e. code_at depth e.0) (entries_in reached.now) }
-        ensures entries { entries_in result.span ≡ where_key key_cmp (λ k. code_at depth k == c + 1) (entries_in reached.now) }
-        ensures flat { result.span.flat.now ≡ entries self.now.entries }
-    {
-        self.trie.beyond(reached, node, depth, c)
+        self.keys.get(key)
     }
 
     /// A walk along the keys that was not stepped yet.
@@ -112,7 +64,7 @@ impl Stored {
         ensures table { table_of_walk result ≡ self.now }
         ensures path { path_of result ≡ [] }
     {
-        Walk::new(self, &self.in_order())
+        Walk::new(self, &self.keys)
     }
 
     /// The length of the longest key in code points, or 1 where there is no key.
@@ -137,17 +89,14 @@ impl Stored {
         ensures value { result ≡ entries self.now.entries }
         ensures few { length (entries self.now.entries) < 2 ^ 64 }
     {
-        let _count = self.entries.len();
-        Entries {
-            rest: Span::all(&self.entries),
-        }
+        self.keys.entries()
     }
 
     /// A table with the same ranges and other entries.
     pub(crate) fn with_entries(
         &self,
         alloc: Global,
-        entries: Flat,
+        entries: Nodes,
         longest_key: usize,
     ) -> Result<Stored, AllocError>
         requires ascending { AreAscending entries }
@@ -156,16 +105,12 @@ impl Stored {
     {
         let ranges = self.ranges.try_clone(alloc)?;
         let ideographs = self.ideographs.as_slice().to_vec(alloc)?;
-        let all = Span::all(&entries);
-        let firsts = Firsts::of(alloc, &all);
-        let trie = Trie::of(alloc, &all, &firsts);
+        let keys = entries.finish(alloc)?;
         Ok(Stored {
-            entries,
+            keys,
             ranges,
             ideographs,
             longest_key,
-            firsts,
-            trie,
         })
     }
 

@@ -4,13 +4,13 @@ ghost use Rattle.uca_model.specs.CollationElements.{elements};
 ghost use Rattle.uca_model.specs.StandAlone.{joining};
 
 use crate::cells::{Cells, push_text};
-use crate::entries::Entries;
 use crate::fault::RangeFault;
 use crate::starters::Starters;
 use crate::stored::Stored;
 use crate::walk::Walk;
 use std::alloc::{AllocError, Global};
 use std::marker::Model;
+use uca_keys::Entries;
 use uca_weights::{Element, Ideographs, Range};
 
 /// A collation element table: a finite map from keys to their elements, with ranges of implicit weights and of

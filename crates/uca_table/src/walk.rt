@@ -2,13 +2,14 @@ ghost use Rattle.std.specs.Prelude.{◌≡◌, ◌++◌, ◌∷◌, [], ◌<◌,
 ghost use Rattle.std.specs.Coded.{Coded-set};
 ghost use Rattle.std.specs.FinMap.{entries};
 ghost use Rattle.uca_model.specs.Table.{IsTable};
-ghost use Rattle.uca_table.specs.Coded.{coded_entries};
-ghost use Rattle.uca_table.specs.Fronts.{begins_key, entries_from, first_path};
-ghost use Rattle.uca_table.specs.Span.{entries_in};
+ghost use Rattle.uca_keys.specs.Coded.{coded_entries};
+ghost use Rattle.uca_keys.specs.Fronts.{begins_entry};
+ghost use Rattle.uca_keys.specs.Paths.{entries_of, path_at};
+ghost use Rattle.uca_table.specs.Fronts.{begins_key};
 
-use crate::flat::Span;
 use crate::stored::Stored;
-use crate::trie::{NO_NODE, NodeNumber, Reached};
+use uca_keys::trie::ROOT;
+use uca_keys::{NodeNumber, Trie};
 use uca_weights::Element;
 
 /// A walk along the keys of a table, code point after code point. It has a path, empty at first, which is the front of
@@ -16,14 +17,15 @@ use uca_weights::Element;
 #[derive(Clone, Copy)]
 pub struct Walk<'t> {
     table: &'t Stored,
-    // The entries whose keys begin with the path. They stand side by side.
-    reached: Span<'t>,
+    keys: &'t Trie,
+    // The node that the path leads to.
+    node: NodeNumber,
     // The length of the path.
     depth: usize,
-    node: NodeNumber,
-    ghost flat: { reached.flat.now ≡ entries table.now.entries } by { Coded-set coded_entries _ _ },
-    ghost long: { length (first_path (entries_in reached) depth) ≡ depth },
-    ghost all: { entries_in reached ≡ entries_from table.now (first_path (entries_in reached) depth) } by { Coded-set coded_entries _ _ },
+    ghost same: { entries_of keys.now ≡ entries table.now.entries } by { Coded-set coded_entries _ _ },
+    ghost within: { node.number ≤ length keys.now.nodes },
+    ghost long: { length (path_at keys.now node.number) ≡ depth },
+    ghost begins: { 0 < depth → begins_entry (entries_of keys.now) (path_at keys.now node.number) ≡ true },
 }
 
 /// Shows that the keys and the elements of a table are within its limits.
@@ -39,29 +41,17 @@ impl<'t> Walk<'t> {
     ghost use Rattle.uca_table.specs.Walk.{path_of, table_of_walk};
 
     /// A walk that was not stepped yet.
-    pub(crate) fn new(table: &'t Stored, all: &Span<'t>) -> Walk<'t>
-        requires path { entries_in all.now ≡ entries_from table.now [] }
-        requires flat { all.now.flat.now ≡ entries table.now.entries }
+    pub(crate) fn new(table: &'t Stored, keys: &'t Trie) -> Walk<'t>
+        requires { entries_of keys.now ≡ entries table.now.entries }
         ensures table { table_of_walk result ≡ table.now }
         ensures path { path_of result ≡ [] }
     {
         Walk {
             table,
-            reached: *all,
+            keys,
+            node: ROOT,
             depth: 0,
-            node: NO_NODE,
         }
-    }
-
-    /// The entries whose keys begin with the path and one more code point.
-    fn entries_beyond(&self, c: char) -> Reached<'t>
-        ensures path { entries_in result.span ≡ entries_from (table_of_walk self.now) (path_of self.now ++ c ∷ []) }
-        ensures flat { result.span.flat.now ≡ entries (table_of_walk self.now).entries }
-    {
-        if self.depth == 0 {
-            return self.table.beginning_with(c);
-        }
-        self.table.beyond(&self.reached, self.node, self.depth, c)
     }
 
     /// Whether some key begins with the path and one more code point, or is they. If so they are the new path, and else
@@ -71,16 +61,15 @@ impl<'t> Walk<'t> {
         ensures path { path_of self.new ≡ cond result (path_of self.old ++ c ∷ []) (path_of self.old) }
         ensures table { table_of_walk self.new ≡ table_of_walk self.old }
     {
-        let next = self.entries_beyond(c);
-        if next.span.is_empty() {
+        let Some(node) = self.keys.child(self.node, c) else {
             return false;
-        }
+        };
         read_table(self.table);
         *self = Walk {
             table: self.table,
-            reached: next.span,
+            keys: self.keys,
+            node,
             depth: self.depth + 1,
-            node: next.node,
         };
         true
     }
@@ -100,13 +89,7 @@ impl<'t> Walk<'t> {
         ensures few { IfSome result (λ es. length es.now ≤ MAX_ELEMENTS) }
         ensures elements { IfSome result (λ es. All IsElement es.now) }
     {
-        if self.reached.is_empty() {
-            return None;
-        }
-        if self.reached.key(0).len() != self.depth {
-            return None;
-        }
         read_table(self.table);
-        Some(self.reached.elements(0))
+        self.keys.elements(self.node)
     }
 }

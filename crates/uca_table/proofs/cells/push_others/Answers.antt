@@ -1,6 +1,5 @@
 use Rattle.std.proofs.Common.{◌≡◌, get_or}
 use Rattle.std.proofs.lemmas.List.{get_or_read}
-use Rattle.uca_model.specs.CollationElements.{elements}
 use Rattle.uca_table.proofs.CellLemmas.{one-further, run-further}
 use Rattle.uca_table.proofs.cells.push_others.Goals as goal
 

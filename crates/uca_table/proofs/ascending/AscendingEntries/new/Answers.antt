@@ -5,4 +5,4 @@ use Rattle.uca_table.proofs.EntryLemmas.{table_none}
 use Rattle.uca_table.proofs.ascending.AscendingEntries.new.Goals as goal
 
 pub returns : goal.returns
-returns c = ap (λ (t : ElementTable). t.entries) (ap (λ es. table_of es []) c.none.ensures ∙ table_none [])
+returns c = ap (λ (t : ElementTable). t.entries) (ap (λ es. table_of es []) c.new.ensures ∙ table_none [])

@@ -5,8 +5,12 @@ use Rattle.uca_model.specs.Table.{key_cmp, IsEntry}
 use Rattle.uca_table.specs.Ascending.{AreAscending, IsOrder}
 use Rattle.uca_table.specs.Stored.{longest_of}
 use Rattle.uca_table.proofs.AscendingLemmas.{append_fault_within, put_last, AreAscending-put, map_put}
+use Rattle.uca_table.proofs.KeyLemmas.{above_last}
 use Rattle.uca_table.proofs.PutLemmas.{longest-put}
 use Rattle.uca_table.proofs.ascending.AscendingEntries.push.Goals as goal
+
+pub push-requires-clause-after : goal.push-requires-clause-after
+push-requires-clause-after c = above_last c.self.inside.entries c.args.key.now (search rules) (c.order_after.ensures.after c.in-Greater.is)
 
 pub invariant_of-self : goal.invariant_of-self
 invariant_of-self c =

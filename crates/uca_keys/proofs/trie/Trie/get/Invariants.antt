@@ -1,0 +1,9 @@
+use Rattle.std.proofs.Common.{◌≡◌, ◌≤◌, length, take}
+use Rattle.uca_keys.specs.Paths.{path_at}
+use Rattle.uca_keys.proofs.trie.Trie.get.Given as goal
+
+abbrev pub invariant-loop-c : goal.invariant-loop-c
+invariant-loop-c l = record {
+  within : l.node.number ≤ length l.self.nodes;
+  path : path_at l.self l.node.number ≡ take l.c-index l.key;
+}

@@ -1,0 +1,5 @@
+pub mod Nodes
+pub mod Coded
+pub mod Fronts
+pub mod Paths
+pub mod Links

@@ -1,0 +1,15 @@
+//! Keys of code points with their collation elements, as one trie (UTS #10, section 3).
+//!
+//! [`Nodes`] take keys in their order, one after the other, and [`Trie::new`] makes them ready for look-ups. A node is a code
+//! point after those of the node before it, of which it keeps so many; so the nodes in their order are the keys in theirs.
+//! No look-up allocates.
+#![tactic(auto)]
+
+pub mod entries;
+pub mod node;
+pub mod nodes;
+pub mod trie;
+
+pub use entries::Entries;
+pub use nodes::Nodes;
+pub use trie::{NodeNumber, Trie};
