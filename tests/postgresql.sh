@@ -113,7 +113,10 @@ by_keys=$(milliseconds "uca_key(t)")
 by_texts=$(milliseconds "t uca_ops")
 echo "$script: an index of 100,000 texts is built in $by_texts ms, one of their keys in $by_keys ms"
 is "an index of texts takes at most 1.3 times the time of one of keys" "yes" "$(awk -v a="$by_texts" -v b="$by_keys" 'BEGIN { print a <= 1.3 * b ? "yes" : a / b }')"
-says "the sort of texts is that of their keys" "t" names "SELECT array_agg(uca_key(t)) = (SELECT array_agg(k) FROM (SELECT uca_key(t) AS k FROM long ORDER BY 1) AS b) FROM (SELECT t FROM long ORDER BY t USING <~) AS a"
+is "the sort of texts is that of their keys, in memory, in files, and of the first few" "t t t" "$(for settings in "work_mem = '256MB' LIMIT ALL" "work_mem = '64kB' LIMIT ALL" "work_mem = '256MB' LIMIT 1000"; do
+    sql one names -c "SET ${settings% LIMIT*}" -c "SELECT array_agg(uca_key(t)) = (SELECT array_agg(k) FROM (SELECT uca_key(t) AS k FROM long ORDER BY 1 LIMIT ${settings#*LIMIT }) AS b)
+        FROM (SELECT t FROM long ORDER BY t USING <~ LIMIT ${settings#*LIMIT }) AS a"
+done | paste -sd' ')"
 
 # ---- An index that cannot go stale in silence
 new_database stale
