@@ -92,8 +92,7 @@ in_python() {
     local tree=$work/tree python=$work/venv/bin/python has_pkg_config
     local -a installs=("$python" -m pip install -q --no-index --no-build-isolation)
     mkdir "$tree" && cp -r --parents bindings/python include "$tree" && "$1" -m venv --system-site-packages --without-pip "$work/venv" || return 1
-    PKG_CONFIG=false "${installs[@]}" --target "$work/site" "$tree/bindings/python" >"$work/log" 2>&1 || { cat "$work/log"; return 1; }
-    rm -r "$tree/bindings/python/build"
+    CFLAGS="-Wall -Wextra -Werror" PKG_CONFIG=false "${installs[@]}" --target "$work/site" "$tree/bindings/python" >"$work/log" 2>&1 || { cat "$work/log"; return 1; }
     PKG_CONFIG_PATH=$usr/lib/pkgconfig "${installs[@]}" "$tree/bindings/python" >"$work/log" 2>&1 || { cat "$work/log"; return 1; }
     is "Python" "well" "$(UCA_LIBRARY=$usr/lib/libuca.so.1 "$python" bindings/python/test.py "$table" "$work/lines" "$work/ordered" "$digest" 2>&1)"
     imports() { env -u UCA_LIBRARY -u LD_LIBRARY_PATH "$@" "$python" -c 'import uca; print(*uca.version())' 2>&1 | tail -n 1; }

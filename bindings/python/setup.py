@@ -31,11 +31,11 @@ setup(
             "uca._uca",
             ["src/uca/_uca.c"],
             include_dirs=[header],
-            depends=[os.path.join(header, "uca.h")],
             define_macros=[("Py_LIMITED_API", "0x030A0000"), ("LIBRARY_FOLDER", '"%s"' % installed("libdir"))],
             extra_compile_args=["-std=c11"],
             py_limited_api=True,
         )
     ],
-    options={"bdist_wheel": {"py_limited_api": "cp310"}},
+    # What an earlier build left may name another folder of the library.
+    options={"bdist_wheel": {"py_limited_api": "cp310"}, "build_ext": {"force": True}},
 )

@@ -7,6 +7,7 @@ import inspect
 import os
 import pickle
 import re
+import signal
 import sys
 import threading
 
@@ -200,6 +201,35 @@ def threads(collator):
     assert same == [True] * len(started)
 
 
+def interrupted(collator):
+    """A signal ends a call that makes many keys."""
+
+    def ends(*_):
+        raise KeyboardInterrupt
+
+    signal.signal(signal.SIGALRM, ends)
+    signal.setitimer(signal.ITIMER_REAL, 0.02)
+    refused(lambda: collator.sort_keys(lines * 20), KeyboardInterrupt)
+
+
+def database(collator):
+    """Python's own SQLite takes the calls as they are."""
+    try:
+        import sqlite3
+    except ImportError:
+        return
+    connection = sqlite3.connect(":memory:")
+    connection.create_collation("uca", collator.compare)
+    connection.create_function("uca_key", 1, collator.packed_key, deterministic=True)
+    connection.execute("CREATE TABLE words (t TEXT)")
+    connection.executemany("INSERT INTO words VALUES (?)", [(word,) for word in ("zorro", "Árbol", "arbol", "arce")])
+    connection.execute("CREATE INDEX by_key ON words (uca_key(t))")
+    wanted = [("arbol",), ("Árbol",), ("arce",), ("zorro",)]
+    assert connection.execute("SELECT t FROM words ORDER BY t COLLATE uca").fetchall() == wanted
+    found = connection.execute("SELECT t FROM words WHERE uca_key(t) >= ? AND uca_key(t) < ? ORDER BY uca_key(t)", collator.prefix_bounds("arb"))
+    assert found.fetchall() == wanted[:2]
+
+
 def resident():
     with open("/proc/self/statm") as file:
         return int(file.read().split()[1]) * os.sysconf("SC_PAGE_SIZE")
@@ -262,6 +292,8 @@ with uca.Collator(table) as collator:
     texts_at_fault(collator)
     hundreds_of_faults(collator)
     threads(collator)
+    interrupted(collator)
+    database(collator)
     refused(lambda: pickle.dumps(collator), TypeError)
     refused(lambda: copy.copy(collator), TypeError)
     clone = collator.clone()
