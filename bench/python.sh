@@ -1,6 +1,6 @@
 #!/usr/bin/env bash
 # Sorting in Python by keys of the package `uca` and of PyICU, in one run, over 200,000 lines of one to four words of Debian's lists, of
-# all scripts and of Latin ones. It brings the lists and python3-icu without installing them, and needs Debian's python3-dev,
+# all scripts and of Latin ones, and of one or two Latin words. It brings the lists and python3-icu without installing them, and needs Debian's python3-dev,
 # python3-setuptools, python3-wheel, python3-pip and libicu72. It is no test.
 uca=none # the program is not measured here
 source "$(dirname "${BASH_SOURCE[0]}")/shared.bash"
@@ -24,8 +24,9 @@ corpus() {
 
 corpus mixed 10000000
 corpus latin 8000000
+cut -d" " -f1,2 "$work/latin" >"$work/names"
 echo "$(nproc) processors, load $(cut -d' ' -f1-3 /proc/loadavg)"
-for name in mixed latin; do
+for name in mixed latin names; do
     echo "$name"
     PYTHONPATH=$work/site:$work/icu/usr/lib/python3/dist-packages /usr/bin/python3 bench/python.py "$published" "$work/$name" || refuses "python: status $?"
 done

@@ -9,6 +9,7 @@ import pickle
 import re
 import signal
 import sys
+import tempfile
 import threading
 
 import uca
@@ -307,7 +308,8 @@ with uca.Collator(table, "&h<ch") as czech:
 settings_at_fault()
 tables_and_rules()
 sentences()
-files(os.path.dirname(os.path.abspath(lines_path)))
+with tempfile.TemporaryDirectory() as work:
+    files(work)
 types()
 memory()
 print("well")
