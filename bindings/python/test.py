@@ -11,6 +11,7 @@ import signal
 import sys
 import tempfile
 import threading
+import typing
 
 import uca
 
@@ -282,6 +283,8 @@ def types():
     public = {name for name in dir(uca._uca.Collator) if not name.startswith("_")}
     named = {node.name for node in classes[0].body if isinstance(node, ast.FunctionDef)}
     assert public == {name for name in named if not name.startswith("_")}
+    for call in (uca.Collator.__init__, uca.Collator.from_files, uca.Collator.clone, uca.Collator.sorted, uca.Collator.sort):
+        assert typing.get_type_hints(call)["return"] is not None, call
     for name in uca.__all__:
         assert hasattr(uca, name) and (name.isupper() or getattr(uca, name).__doc__), name
 

@@ -68,6 +68,7 @@ class Error(ValueError):
     filename   the file at fault, where Collator.from_files read it
     """
 
+    __module__ = "uca"
     status: int = 0
     kind: int = 0
     text: int = 0
@@ -82,13 +83,19 @@ class Error(ValueError):
 class TextError(Error):
     """A text cannot be collated."""
 
+    __module__ = "uca"
+
 
 class TableError(Error):
     """A table is refused."""
 
+    __module__ = "uca"
+
 
 class RulesError(Error):
     """Rules are refused, or cannot tailor the table."""
+
+    __module__ = "uca"
 
 
 _TYPES = {

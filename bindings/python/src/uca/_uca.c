@@ -275,8 +275,8 @@ static PyMethodDef collator_methods[] = {
     {"compare", (PyCFunction)collator_compare, METH_VARARGS,
      "compare($self, a, b, /)\n--\n\n-1, 0 or 1 where `a` comes before, with or after `b`.\n\nRaises TextError, whose `text` is 1 or 2."},
     {"key", (PyCFunction)collator_key, METH_O,
-     "key($self, text, /)\n--\n\nThe sort key of a text: bytes that compare as the texts do. It is about 9 bytes a character.\n\nRaises "
-     "TextError."},
+     "key($self, text, /)\n--\n\nThe sort key of a text: bytes that compare as the texts do. At three levels it has some six bytes "
+     "for a letter.\n\nRaises TextError."},
     {"packed_key", (PyCFunction)collator_packed_key, METH_O,
      "packed_key($self, text, /)\n--\n\nThe packed sort key of a text: bytes in the same order, less than half as many for most texts. A "
      "packed key cannot be\ncompared with a sort key.\n\nRaises TextError."},
