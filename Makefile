@@ -16,6 +16,7 @@ install-program:
 		$(DESTDIR)$(PREFIX)/share/bash-completion/completions $(DESTDIR)$(PREFIX)/share/doc/uca
 	$(INSTALL) -m 755 crates/uca/out/uca $(DESTDIR)$(PREFIX)/bin/uca
 	$(INSTALL) -m 755 ucasort $(DESTDIR)$(PREFIX)/bin/ucasort
+	$(INSTALL) -m 644 tools/ucasort-keys.pl tools/ucasort-rules.pl $(DESTDIR)$(PREFIX)/share/uca
 	$(INSTALL) -m 644 man/uca.1 man/ucasort.1 $(DESTDIR)$(PREFIX)/share/man/man1
 	$(INSTALL) -m 644 rules/*.rules $(DESTDIR)$(PREFIX)/share/uca/rules
 	$(INSTALL) -m 644 docs/LICENSE-UNICODE.txt $(DESTDIR)$(PREFIX)/share/doc/uca/LICENSE-UNICODE.txt

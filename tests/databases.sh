@@ -99,7 +99,7 @@ if command -v sqlite3 >/dev/null && echo '#include <sqlite3ext.h>' | cc -E - >/d
     is "SQLite: other settings" "$others" "$(sqlite "SELECT uca_load('UCA', '$published', NULL, 'primary')" | sed 's/"UCA"/"uca"/')"
     { cat "$published"; echo '10FFFD ; [.1C47.0020.0002]'; } >"$work/newer"
     is "SQLite: another table" "$others" "$(sqlite "SELECT uca_load('uca', '$work/newer')")"
-    is "SQLite: other rules in another database of the connection" "${others/main/one}" "$(db=:memory: sqlite "ATTACH '$db' AS one" "SELECT uca_load('uca', '$published', 'rules/sv.rules')")"
+    is "SQLite: other rules in another database of the connection" "${others/main/one}" "$(fixed=$db; db=:memory:; sqlite "ATTACH '$fixed' AS one" "SELECT uca_load('uca', '$published', 'rules/sv.rules')")"
     is "SQLite: other rules under another name" "sv|uca|2" "$(sqlite "SELECT uca_load('sv', '$published', 'rules/sv.rules')" "$loads" "SELECT count(*) FROM uca_fixed")"
     is "SQLite: a database that can't be written" "$others|x|2" "$(sqlite3 -readonly -cmd ".load $work/uca_sqlite" "$db" "SELECT uca_load('uca', '$work/newer')" 2>&1 | sed 's/^Error: [a-z]*, //')|$(sqlite "PRAGMA query_only = 1" "SELECT uca_load('x', '$work/newer')" "SELECT count(*) FROM uca_fixed")"
     is "SQLite: a write without the extension fails" "no|2" "$(sqlite3 "$db" "INSERT INTO w VALUES ('a')" >/dev/null 2>&1 && echo yes || echo no)|$(sqlite3 "$db" 'SELECT count(*) FROM w')"

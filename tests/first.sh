@@ -77,7 +77,7 @@ new_copy() {
     SAYS=$1
     rm -rf "$work/new" "$ASKED"
     mkdir -p "$work/new/rules" "$work/new/crates/"{uca,uca_cli,uca_commands,uca_table}/src
-    cp uca crates.txt "$work/new"
+    cp uca ucasort crates.txt "$work/new"
     cp rules/sv.rules "$work/new/rules"
 }
 asked() { cut -d' ' -f1-3 "$ASKED" | paste -sd'|'; }
@@ -96,6 +96,11 @@ for where in elsewhere at_terminal; do
     is "$where: a table of the environment is handed on" \
         "uca: rt try --data handed-on-0=$work/new/rules/sv.rules -- table --table handed-on-0|uca: rt try --data handed-on-0=$work/new/crates.txt -- table --table handed-on-0|uca: rt try -- --help" \
         "$(paste -sd'|' "$ASKED")"
+
+    # That kit gives a text as its key.
+    new_copy "$ended"
+    $where "$work/new" "printf 'b\na\n' | ./ucasort --table crates.txt"
+    is "$where: ucasort takes an answer without a proof, which says so" "a|b|0|$before|$after" "$(paste -sd'|' "$work/out")|$status|$(said)"
 
     new_copy "$ended"
     $where "$work/new" "printf 'b\n' | ./uca key --rules <(cat rules/sv.rules)"

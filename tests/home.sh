@@ -96,7 +96,7 @@ is "files are completed for ucasort" "man/uca.1 man/ucasort.1" "$(completed_of u
 if command -v make >/dev/null; then
     make -s install-program DESTDIR="$work/root" PREFIX=/usr >"$work/out" 2>&1
     is "it is installed" "0" "$?"
-    is "the files that are installed" "bin/uca bin/ucasort share/bash-completion/completions/uca share/bash-completion/completions/ucasort share/doc/uca/LICENSE-UNICODE.txt share/man/man1/uca.1 share/man/man1/ucasort.1 share/uca/rules/ of $(find rules -name '*.rules' | wc -l)" \
+    is "the files that are installed" "bin/uca bin/ucasort share/bash-completion/completions/uca share/bash-completion/completions/ucasort share/doc/uca/LICENSE-UNICODE.txt share/man/man1/uca.1 share/man/man1/ucasort.1 share/uca/ucasort-keys.pl share/uca/ucasort-rules.pl share/uca/rules/ of $(find rules -name '*.rules' | wc -l)" \
         "$(cd "$work/root/usr" && find . -type f | grep -v '/rules/' | sort | sed 's/^\.\///' | paste -sd' ') share/uca/rules/ of $(find "$work/root/usr/share/uca/rules" -type f | wc -l)"
     is "the program that is installed" "a|b" "$(cd / && printf 'b\na\n' | "$work/root/usr/bin/uca" order --rules "$work/root/usr/share/uca/rules/es.rules" --table "$(published_table)" 2>&1 | paste -sd'|')"
     is "ucasort is installed with its languages" "zon|öra" "$(cd / && printf 'öra\nzon\n' | UCA_TABLE=$(published_table) "$work/root/usr/bin/ucasort" -l sv 2>&1 | paste -sd'|')"

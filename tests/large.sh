@@ -55,6 +55,9 @@ is "words that are refused" "0|2" "$(wc -c <"$work/out")|$status"
 sorts 4 --table "$work/none" <<<a
 is "a table that is not there" "0|ucasort: cannot open $work/none|2" "$(wc -c <"$work/out")|$(cat "$work/err")|$status"
 perl tests/texts.pl 30000 >"$work/texts"
+{ printf 'b\r\n'; cat "$work/texts"; } >"$work/some"
+sorts 50000 "$work/some"
+is "one CR before LF among many lines" "same|0" "$(LC_ALL=C sort "$work/some" | cmp -s - <(LC_ALL=C sort "$work/out") && echo same)|$status"
 for way in '' '-k 1'; do
     # shellcheck disable=SC2086
     { UCA_TABLE=$work/table UCASORT_PART=50000 ./ucasort $way <"$work/texts"; echo $? >"$work/status"; } | head -n 1 >/dev/null

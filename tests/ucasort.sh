@@ -207,11 +207,21 @@ is "fields that are no text" "|a|b|E+58|z+60|B?|c+61|E+59|?|0" "$(shown)$status"
 printf 'x,b\n\xff,a\nx,\xff\n' >"$work/fields"
 sorts -t, -k2,2 "$work/fields"
 is "a field that is text beside one that is not" "?,a|x,b|x,?|0" "$(shown)$status"
+sorts -k 1,1r "$work/lines"
+is "a reversed key that is no text" "z+60|E+58|b|a||?|E+59|c+61|B?|0" "$(shown)$status"
 sorts --bad refuse "$work/lines"
 is "a line that is refused" "2|0|ucasort: $work/lines:2: byte 0: NotUtf8" "$status|$(wc -c <"$work/out")|$(cat "$work/err")"
 printf 'a\n' >"$work/good"
 sorts --bad refuse "$work/good" - "$work/good" < <(printf 'a\nb\nc'; marks 61; printf '\n')
 is "a line that is refused, of several files" "2|0|ucasort: -:3: byte 121: LongRun" "$status|$(wc -c <"$work/out")|$(cat "$work/err")"
+for way in -s -u '-k 1' ''; do
+    # shellcheck disable=SC2086
+    sorts --bad refuse $way <(printf 'c\nb') <(printf 'a') <(printf 'd\n')
+    is "lines of several files without an end, $way" "a|b|c|d|0" "$(in_one "$work/out")|$status"
+    # shellcheck disable=SC2086
+    sorts -z --bad refuse $way <(printf 'c\0b') <(printf 'a') <(printf 'd\0')
+    is "names of several files without an end, $way" "a|b|c|d||0" "$(tr '\0' '|' <"$work/out")|$status"
+done
 sorts --bad refuse -t, -k1,1 -k2,2 "$work/fields"
 is "a field that is refused" "2|0|ucasort: $work/fields:2: byte 0: NotUtf8 in key 1" "$status|$(wc -c <"$work/out")|$(cat "$work/err")"
 perl -e 'print "x\xcc\x81" . "\xcc\x80" x (58 + $_ % 4), "\n" for 1 .. 3000' >"$work/runs"
@@ -232,6 +242,12 @@ is "articles with blanks between" "A|\"The Cat\"|L’ami|l'an|Le chat|an owl|The
 printf '2¦The b\n1¦a\n10¦c\n' >"$work/fields"
 sorts -t ¦ -k2 --skip-articles the "$work/fields"
 is "a separator past ASCII" "1¦a|2¦The b|10¦c|0" "$(in_one "$work/out")|$status"
+sorts -l sr_RS@latin "$work/fields"
+is "a script as locales name it" "0" "$status"
+sorts --rules <(printf '&z<a\n') --table <(cat "$published") -k1 "$work/fields" -o -
+is "rules and a table from pipes, and - as the output" "1¦a|10¦c|2¦The b|0" "$(in_one "$work/out")|$status"
+sorts --rules <(printf '&z<\n') "$work/fields"
+is "faulty rules from a pipe" "2|ucasort: rules byte 3: EmptyString" "$status|$(cat "$work/err")"
 sorts -t ¦ -k1n,1r "$work/fields"
 is "a number" "10¦c|2¦The b|1¦a|0" "$(in_one "$work/out")|$status"
 

@@ -13,7 +13,6 @@
 #include "commands/defrem.h"
 #include "common/hashfn.h"
 #include "fmgr.h"
-#include "lib/hyperloglog.h"
 #include "mb/pg_wchar.h"
 #include "miscadmin.h"
 #include "port/pg_bswap.h"
@@ -456,21 +455,20 @@ Datum uca_pg_hash_extended(PG_FUNCTION_ARGS) {
     return hash;
 }
 
+/* How many keys a sort remembers, and of how long texts. */
+#define MOST_REMEMBERED 32768
+#define LONGEST_REMEMBERED 255
+
 /* A text and its key, one after the other. */
 struct remembered {
     size_t text_size, key_size, room;
     uint8_t *bytes;
 };
 
-/* How many keys a sort remembers, and of how long texts. */
-#define MOST_REMEMBERED 32768
-#define LONGEST_REMEMBERED 256
-
 /* What a sort has beside its texts. */
 struct sorting {
     Oid function; /* by which the default collation is found, once there is a text: an empty index needs none */
     struct collation *collation;
-    hyperLogLogState distinct; /* of the abbreviated keys */
     struct remembered *remembered; /* null until one is; each at a place by the address of its text */
 };
 
@@ -489,8 +487,8 @@ static int compare_texts(Datum x, Datum y, SortSupport support) {
     return order;
 }
 
-/* The key of a text of a sort. A text lies where it lies for long, and is compared often. */
-static struct remembered *key_of_sorted(struct sorting *sorting, const text *given) {
+/* The key of a text. A text lies at one address for as long as its sort goes on in memory, and is compared several times. */
+static const struct remembered *remembered(struct sorting *sorting, const text *given) {
     MemoryContext context = GetMemoryChunkContext(sorting);
     size_t size = VARSIZE_ANY_EXHDR(given), room = 5 * size + 64;
     struct remembered *it;
@@ -499,63 +497,59 @@ static struct remembered *key_of_sorted(struct sorting *sorting, const text *giv
     if (!sorting->remembered) sorting->remembered = MemoryContextAllocZero(context, MOST_REMEMBERED * sizeof *it);
     it = sorting->remembered + DatumGetUInt32(hash_uint32((uint32)((uintptr_t)given >> 3))) % MOST_REMEMBERED;
     if (it->bytes && it->text_size == size && memcmp(it->bytes, VARDATA_ANY(given), size) == 0) return it;
-    for (;;) {
+    for (;; room = size + it->key_size) {
         if (it->room < room) {
-            if (it->bytes) pfree(it->bytes);
-            it->room = 0;
-            it->bytes = MemoryContextAlloc(context, room);
+            it->bytes = it->bytes ? repalloc(it->bytes, room) : MemoryContextAlloc(context, room);
             it->room = room;
         }
         status = uca_packed_key(&sorting->collation->collator, &sorting->collation->settings, (uint8_t *)VARDATA_ANY(given), size,
                                 it->bytes + size, it->room - size, &it->key_size, &fault);
         if (status != UCA_OK) report("uca_cmp", status, &fault);
         if (it->key_size <= it->room - size) break;
-        room = size + it->key_size;
     }
     memcpy(it->bytes, VARDATA_ANY(given), size);
     it->text_size = size;
     return it;
 }
 
+/* Whether a key of it is remembered: of a short text, as it lies in memory. */
+static bool is_short(const text *given) {
+    return (VARATT_IS_SHORT(given) || !VARATT_IS_EXTENDED(given)) && VARSIZE_ANY_EXHDR(given) <= LONGEST_REMEMBERED;
+}
+
 /* Compares texts whose abbreviated keys are equal. */
 static int compare_alike(Datum x, Datum y, SortSupport support) {
-    struct sorting *sorting = support->ssup_extra;
-    text *a = (text *)DatumGetPointer(x), *b = (text *)DatumGetPointer(y);
-    struct remembered *a_key, *b_key;
+    const text *a = (text *)DatumGetPointer(x), *b = (text *)DatumGetPointer(y);
+    const struct remembered *a_key, *b_key;
     int order;
-    if (VARATT_IS_EXTENDED(a) && !VARATT_IS_SHORT(a)) return compare_texts(x, y, support);
-    if (VARATT_IS_EXTENDED(b) && !VARATT_IS_SHORT(b)) return compare_texts(x, y, support);
-    if (VARSIZE_ANY_EXHDR(a) > LONGEST_REMEMBERED || VARSIZE_ANY_EXHDR(b) > LONGEST_REMEMBERED) return compare_texts(x, y, support);
+    if (!is_short(a) || !is_short(b)) return compare_texts(x, y, support);
     collation_of_sort(support);
-    a_key = key_of_sorted(sorting, a);
-    b_key = key_of_sorted(sorting, b);
-    if (a_key == b_key) return compare_texts(x, y, support);
+    a_key = remembered(support->ssup_extra, a);
+    b_key = remembered(support->ssup_extra, b);
+    if (a_key == b_key) return compare_texts(x, y, support); /* the second took the first one's place */
     order = memcmp(a_key->bytes + a_key->text_size, b_key->bytes + b_key->text_size, Min(a_key->key_size, b_key->key_size));
     return order ? order : (a_key->key_size > b_key->key_size) - (a_key->key_size < b_key->key_size);
 }
 
-/* The first eight bytes of a key as a number. */
+/* The first eight bytes of a key as a number. Where the key at primary has so many, they are its own, and it takes less time. */
 static Datum abbreviated(Datum original, SortSupport support) {
-    struct sorting *sorting = support->ssup_extra;
     struct collation *collation = collation_of_sort(support);
     text *given = DatumGetTextPP(original);
+    uint8_t *bytes = (uint8_t *)VARDATA_ANY(given);
+    size_t size = VARSIZE_ANY_EXHDR(given), needed;
+    uca_settings settings = UCA_SETTINGS(UCA_PRIMARY, collation->settings.variable);
     uint64 front = 0;
-    size_t needed;
     uca_fault fault;
-    uint32_t status = uca_packed_key(&collation->collator, &collation->settings, (uint8_t *)VARDATA_ANY(given), VARSIZE_ANY_EXHDR(given),
-                                     (uint8_t *)&front, sizeof front, &needed, &fault);
+    uint32_t status = uca_packed_key(&collation->collator, &settings, bytes, size, (uint8_t *)&front, sizeof front, &needed, &fault);
+    if (status == UCA_OK && needed < sizeof front)
+        status = uca_packed_key(&collation->collator, &collation->settings, bytes, size, (uint8_t *)&front, sizeof front, &needed, &fault);
     if (status != UCA_OK) report("uca_cmp", status, &fault);
     if (PointerGetDatum(given) != original) pfree(given);
-    front = pg_ntoh64(front);
-    addHyperLogLog(&sorting->distinct, DatumGetUInt32(hash_uint32((uint32)front ^ (uint32)(front >> 32))));
-    return UInt64GetDatum(front);
+    return UInt64GetDatum(pg_ntoh64(front));
 }
 
-/* Keys that mostly begin alike are not worth their time. */
-static bool are_too_alike(int count, SortSupport support) {
-    struct sorting *sorting = support->ssup_extra;
-    return count > 10000 && estimateHyperLogLog(&sorting->distinct) < count / 100;
-}
+/* An abbreviated key takes no more time than a comparison or two of texts, so it is worth it even where many are alike. */
+static bool is_aborted(int count, SortSupport support) { return false; }
 
 #if PG_VERSION_NUM < 150000
 static int ssup_datum_unsigned_cmp(Datum x, Datum y, SortSupport support) { return (x > y) - (x < y); }
@@ -573,11 +567,10 @@ Datum uca_pg_sort_support(PG_FUNCTION_ARGS) {
     support->comparator = compare_texts;
 #ifdef USE_FLOAT8_BYVAL
     if (support->abbreviate) {
-        initHyperLogLog(&sorting->distinct, 10);
         support->comparator = ssup_datum_unsigned_cmp;
         support->abbrev_full_comparator = compare_alike;
         support->abbrev_converter = abbreviated;
-        support->abbrev_abort = are_too_alike;
+        support->abbrev_abort = is_aborted;
     }
 #endif
     MemoryContextSwitchTo(before);
