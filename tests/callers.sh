@@ -4,6 +4,7 @@
 source "$(dirname "${BASH_SOURCE[0]}")/checks.bash"
 source tests/debian.bash
 source tests/postgres.bash
+source tests/python.bash
 
 is_built
 chmod 755 "$work"
@@ -86,10 +87,29 @@ is "the example of C" "lomo luna llano mano" "$(printf 'mano\nluna\nllano\nlomo\
 keys_in_order() { ./uca key --table "$table" | md5sum; }
 is "lines by keys in C" "$(keys_in_order <"$work/ordered")" "$("$work/example" "$table" <"$work/lines" | keys_in_order)"
 
-if command -v python3 >/dev/null && python3 -c 'import ctypes' 2>/dev/null; then
-    is "Python" "well" "$(UCA_LIBRARY=$usr/lib/libuca.so.1 PYTHONDONTWRITEBYTECODE=1 python3 bindings/python/test.py "$table" "$work/lines" "$work/ordered" "$digest" 2>&1)"
+# in_python PYTHON: the package, installed with the library that pkg-config finds, and without one
+in_python() {
+    local tree=$work/tree python=$work/venv/bin/python has_pkg_config
+    local -a installs=("$python" -m pip install -q --no-index --no-build-isolation)
+    mkdir "$tree" && cp -r --parents bindings/python include "$tree" && "$1" -m venv --system-site-packages --without-pip "$work/venv" || return 1
+    CFLAGS="-Wall -Wextra -Werror" PKG_CONFIG=false "${installs[@]}" --target "$work/site" "$tree/bindings/python" >"$work/log" 2>&1 || { cat "$work/log"; return 1; }
+    PKG_CONFIG_PATH=$usr/lib/pkgconfig "${installs[@]}" "$tree/bindings/python" >"$work/log" 2>&1 || { cat "$work/log"; return 1; }
+    is "Python" "well" "$(UCA_LIBRARY=$usr/lib/libuca.so.1 "$python" bindings/python/test.py "$table" "$work/lines" "$work/ordered" "$digest" 2>&1)"
+    imports() { env -u UCA_LIBRARY -u LD_LIBRARY_PATH "$@" "$python" -c 'import uca; print(*uca.version())' 2>&1 | tail -n 1; }
+    has_pkg_config=$(command -v pkg-config)
+    [ -z "$has_pkg_config" ] || is "Python: the library that pkg-config named" "${version//./ }" "$(imports)"
+    is "Python: the library that UCA_LIBRARY names is not there" "ImportError: $work/none: cannot open shared object file: No such file or directory" \
+        "$(imports UCA_LIBRARY="$work/none")"
+    is "Python: another library" "ImportError" "$(imports UCA_LIBRARY=libc.so.6 | cut -d: -f1)"
+    is "Python: the library that the loader finds" "${version//./ }" "$(imports PYTHONPATH="$work/site" LD_LIBRARY_PATH="$usr/lib")"
+    cp "$usr/lib/libuca.so.1" "$work/site/uca/"
+    is "Python: the library beside the package" "${version//./ }" "$(imports PYTHONPATH="$work/site")"
+}
+python=$(python_that_builds)
+if [ -n "$python" ]; then
+    in_python "$python" || { echo "$script: the package of Python could not be installed"; failed=$((failed + 1)); }
 else
-    left_out "Python, since there is no python3 with ctypes"
+    left_out "Python, since no python3 has its header, pip, setuptools, wheel and venv"
 fi
 
 if command -v cargo >/dev/null && cargo --version >/dev/null 2>&1; then

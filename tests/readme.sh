@@ -1,6 +1,7 @@
 #!/usr/bin/env bash
 # README.md, docs/EXAMPLES.md and docs/CATALOGUES.md are true: their programs are parts of what the gate builds, and their commands print what they say.
 source "$(dirname "${BASH_SOURCE[0]}")/checks.bash"
+source tests/python.bash
 
 is_built
 pages=(README.md docs/EXAMPLES.md docs/CATALOGUES.md)
@@ -9,6 +10,7 @@ is "the example in Rattle is a part of its crate" "yes" "$(perl -0777 -e '
     my ($example) = $page =~ /^```rust\n(.*?)^```$/ms;
     print defined $example && index($code, $example) >= 0 ? "yes" : "no"' docs/EXAMPLES.md crates/uca_example/src/main.rt)"
 is "the C program is that of bindings/c" "yes" "$(perl -0777 -ne '/^```c\n(.*?)^```$/ms and print $1' docs/EXAMPLES.md | cmp -s - bindings/c/compare.c && echo yes)"
+is "the Python program is that of bindings/python" "yes" "$(perl -0777 -ne '/^```python\n(.*?)^```$/ms and print $1' docs/EXAMPLES.md | cmp -s - bindings/python/example.py && echo yes)"
 is "README has 120 lines at most" "yes" "$([ "$(wc -l <README.md)" -le 120 ] && echo yes)"
 is "the pages that README and docs link to are there" "" "$(for page in README.md CHANGELOG.md docs/*.md examples/*/README.md; do
     grep -o '](\([^):#]*\)' "$page" | sed 's/^](//' | while read -r link; do
@@ -35,7 +37,7 @@ perl -e '
 # runs_with_compiler LINE WANTED: make says much; SQLite gets what stands after its prompt
 runs_with_compiler() {
     case $1 in
-    make*)
+    make* | *"pip install"*)
         eval "$1" >"$work/out" 2>&1
         is "$1" "0" "$?"
         ;;
@@ -62,10 +64,13 @@ if [ -n "$published" ]; then
     command -v python3 >/dev/null || { has_python= && echo "tests/readme.sh: left out: the commands with python3, which is not there"; }
     echo '#include <sqlite3ext.h>' | cc -E - >/dev/null 2>&1 || has_compiler=
     [ -n "$has_compiler" ] || echo "tests/readme.sh: left out: C and SQLite, since their compiler, headers or programs are not there"
+    builds=${has_compiler:+$(python_that_builds)}
+    [ -n "$builds" ] || echo "tests/readme.sh: left out: the package of Python, since the library or python3's header, pip, setuptools, wheel or venv is not there"
     for command in $(find "$work" -name '*.command' | sort -V); do
         line=$(cat "$command")
         case $line in
         .ci/run | psql* | "make -C bindings/postgresql"*) ;; # those of PostgreSQL: tests/callers.sh
+        "python3 -m venv"* | venv/*) [ -z "$builds" ] || runs_with_compiler "${line/#python3/$builds}" "${command%.command}.wanted" ;;
         *python3*) [ -z "$has_python" ] || runs_with_compiler "$line" "${command%.command}.wanted" ;;
         table=*)
             eval "$line"

@@ -1,0 +1,41 @@
+"""Builds the extension of the package. pyproject.toml has all else.
+
+uca.h is that of the installed library, which pkg-config finds, or that of this checkout. The folder of the library is kept in the
+extension, which looks there when it is imported.
+"""
+
+import os
+import subprocess
+
+from setuptools import Extension, setup
+
+
+def installed(variable):
+    """What pkg-config says of the installed library, or nothing."""
+    words = [os.environ.get("PKG_CONFIG", "pkg-config"), "--variable=" + variable, "uca"]
+    try:
+        return subprocess.run(words, check=True, stdout=subprocess.PIPE, stderr=subprocess.DEVNULL, text=True).stdout.strip()
+    except (OSError, subprocess.CalledProcessError):
+        return ""
+
+
+here = os.path.dirname(os.path.abspath(__file__))
+folders = [installed("includedir"), os.path.join(here, "..", "..", "include"), "/usr/local/include", "/usr/include"]
+header = next((folder for folder in folders if folder and os.path.exists(os.path.join(folder, "uca.h"))), None)
+if not header:
+    raise SystemExit("uca.h was not found: install libuca, and name the folder of its uca.pc in PKG_CONFIG_PATH")
+
+setup(
+    ext_modules=[
+        Extension(
+            "uca._uca",
+            ["src/uca/_uca.c"],
+            include_dirs=[header],
+            define_macros=[("Py_LIMITED_API", "0x030A0000"), ("LIBRARY_FOLDER", '"%s"' % installed("libdir"))],
+            extra_compile_args=["-std=c11"],
+            py_limited_api=True,
+        )
+    ],
+    # What an earlier build left may name another folder of the library.
+    options={"bdist_wheel": {"py_limited_api": "cp310"}, "build_ext": {"force": True}},
+)

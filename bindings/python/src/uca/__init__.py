@@ -1,0 +1,151 @@
+"""Text in the order that the readers of a language expect: a binding of libuca.
+
+    collator = uca.Collator.from_files("allkeys.txt", "sv.rules")
+    words.sort(key=collator.key)
+
+Texts are `str`, or UTF-8 as `bytes`. The library is the file that UCA_LIBRARY names in the environment, or else `libuca.so.1` in the
+folder that pkg-config named when this package was installed, beside this package, or where the loader looks.
+"""
+
+from __future__ import annotations
+
+import operator
+import os
+from collections.abc import Callable, Iterable
+from functools import partial
+from typing import Any, Final, TypeVar
+
+from . import _uca
+from ._errors import (
+    BAD_RULES,
+    BAD_SETTINGS,
+    BAD_TABLE,
+    BAD_TAILORING,
+    INCOMPLETE,
+    LONG_RUN,
+    NOT_OPEN,
+    NOT_UTF8,
+    Error,
+    RulesError,
+    TableError,
+    TextError,
+    error_of,
+)
+from ._uca import check, unicode_version, version
+
+PRIMARY: Final = 1
+SECONDARY: Final = 2
+TERTIARY: Final = 3
+QUATERNARY: Final = 4
+IDENTICAL: Final = 5
+NON_IGNORABLE: Final = 0
+BLANKED: Final = 1
+SHIFTED: Final = 2
+
+__all__ = [
+    "PRIMARY", "SECONDARY", "TERTIARY", "QUATERNARY", "IDENTICAL", "NON_IGNORABLE", "BLANKED", "SHIFTED",
+    "NOT_UTF8", "LONG_RUN", "NOT_OPEN", "BAD_SETTINGS", "BAD_TABLE", "BAD_RULES", "BAD_TAILORING", "INCOMPLETE",
+    "Collator", "Error", "RulesError", "TableError", "TextError", "check", "unicode_version", "version",
+]  # fmt: skip
+
+_NAME = "libuca.so.1"
+_Item = TypeVar("_Item")
+
+
+def _load() -> None:
+    named = os.environ.get("UCA_LIBRARY")
+    if named:
+        _uca.load(named, error_of)
+        return
+    for folder in (_uca.LIBRARY_FOLDER, os.path.dirname(__file__)):
+        path = os.path.join(folder, _NAME)
+        if folder and os.path.exists(path):
+            _uca.load(path, error_of)
+            return
+    try:
+        _uca.load(_NAME, error_of)
+    except ImportError as error:
+        raise ImportError("libuca was not found: name its file in UCA_LIBRARY (%s)" % error) from None
+
+
+_load()
+
+
+def _number(name: str, value: int, first: int, last: int) -> int:
+    number = operator.index(value)
+    if not first <= number <= last:
+        raise ValueError("%s has to be %d to %d, and is %d" % (name, first, last, number))
+    return number
+
+
+class Collator(_uca.Collator):
+    """A table, rules that tailor it, and settings.
+
+    table     the text of a table in the format of allkeys.txt; the published one takes 12 MB of memory
+    rules     the text of rules in the profile of UTS #35 that docs/FORMATS.md describes, or nothing
+    strength  how many levels are compared: PRIMARY (letters), SECONDARY (and accents), TERTIARY (and case), QUATERNARY (and
+              punctuation, where it is SHIFTED) or IDENTICAL (and the texts themselves in NFD)
+    variable  how punctuation counts: NON_IGNORABLE (as letters, before all others), BLANKED (not at all) or SHIFTED (at the fourth
+              level alone)
+
+    Raises TableError and RulesError, which say where the fault is; ValueError for a strength or option that does not exist; TypeError
+    for what is no text.
+
+    Several threads may use one collator. A call keeps the interpreter's lock until it returns, so that one call at a time runs and more
+    threads make no more keys in a second.
+    """
+
+    def __init__(self, table: str | bytes, rules: str | bytes = b"", strength: int = TERTIARY, variable: int = NON_IGNORABLE) -> None:
+        super().__init__(table, rules, _number("strength", strength, 1, 5), _number("variable", variable, 0, 2))
+
+    @classmethod
+    def from_files(
+        cls,
+        table: str | os.PathLike[str],
+        rules: str | os.PathLike[str] | None = None,
+        strength: int = TERTIARY,
+        variable: int = NON_IGNORABLE,
+    ) -> Collator:
+        """A collator of the files of a table and of rules. Raises OSError where a file cannot be read, and otherwise what the class
+        raises, with the file in `filename` and in the message."""
+        with open(table, "rb") as file:
+            table_text = file.read()
+        rules_text = b""
+        if rules is not None:
+            with open(rules, "rb") as file:
+                rules_text = file.read()
+        try:
+            return cls(table_text, rules_text, strength, variable)
+        except (TableError, RulesError) as error:
+            error.filename = os.fspath(table if isinstance(error, TableError) or rules is None else rules)
+            error.args = ("%s: %s" % (error.filename, error),)
+            raise
+
+    def clone(self, *, strength: int | None = None, variable: int | None = None) -> Collator:
+        """Another collator over the same table, in little time and memory, with these settings or the same ones."""
+        return self._share(
+            _number("strength", self.strength if strength is None else strength, 1, 5),
+            _number("variable", self.variable if variable is None else variable, 0, 2),
+        )
+
+    def sorted(self, items: Iterable[_Item], *, key: Callable[[_Item], str | bytes] | None = None, reverse: bool = False) -> list[_Item]:
+        """A new list of texts in order, in the time of `sorted` with packed_key. With `key`, a list of other things by the text that it
+        gives of each. Things that come with one another keep their order. Raises TextError, whose `text` is the number of the text at
+        fault, counted from 1."""
+        listed: list[Any] = list(items)
+        keys = iter(self.packed_keys(listed if key is None else map(key, listed)))
+        # `sorted` asks for the key of each item once, from the first to the last: each gets the next key. A call of Python's own costs more.
+        return sorted(listed, key=partial(next, keys), reverse=reverse)
+
+    def sort(self, items: list[_Item], *, key: Callable[[_Item], str | bytes] | None = None, reverse: bool = False) -> None:
+        """Sorts a list in place, as `sorted` would. At an error the list is as it was."""
+        items[:] = self.sorted(items, key=key, reverse=reverse)
+
+    def __enter__(self) -> Collator:
+        return self
+
+    def __exit__(self, *_: object) -> None:
+        self.close()
+
+    def __repr__(self) -> str:
+        return "<uca.Collator strength=%d variable=%d>" % (self.strength, self.variable)

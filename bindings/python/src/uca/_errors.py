@@ -1,0 +1,199 @@
+"""What a call is refused with: where the fault is, and its cause in a sentence."""
+
+from __future__ import annotations
+
+import re
+
+NOT_UTF8, LONG_RUN, NOT_OPEN, BAD_SETTINGS, _NO_MEMORY, BAD_TABLE, BAD_RULES, BAD_TAILORING, INCOMPLETE = range(1, 10)
+
+_STATUSES = {
+    NOT_UTF8: "this is not UTF-8",
+    LONG_RUN: "this is the 61st nonstarter (combining mark) in a row, and a text may have 60",
+    NOT_OPEN: "the collator is closed",
+    BAD_SETTINGS: "the strength or the option for variable elements has no meaning",
+    INCOMPLETE: "the text is not complete: what follows it may change its primary weights",
+}
+
+# By the numbers of uca_kind.
+_KINDS = {
+    1: "a line may have 4096 bytes",
+    2: "this directive is unknown or not in its form, or it is a second version",
+    3: "a code point is wanted: four to six hexadecimal digits, at most 10FFFF and no surrogate",
+    4: "this is the 33rd code point of a key, and a key may have 32",
+    5: "a semicolon is wanted after the key",
+    6: "a collation element is wanted, such as [.1C47.0020.0002]",
+    7: "the entry has no collation element",
+    8: "this is the 65th collation element, and an entry may have 64",
+    9: "an earlier line has this key",
+    10: "this range ends before it begins, has a base below 8000, or does not fit beside an earlier range",
+    11: "a table may have 67108864 bytes",
+    21: "this has no meaning here: rules begin with &, and a sign that is a character of a string needs quotes or a backslash",
+    22: "this part of the syntax of UTS #35 is left out; as a character of a string it needs quotes or a backslash",
+    23: "a string is wanted here",
+    24: "this string has more than 60 nonstarters (combining marks) in a row",
+    25: "this string has more than 32 code points in NFD",
+    26: "rules may have 20000 relations",
+    27: "this is not UTF-8",
+    41: "what the item comes after has no weight at this level that can be raised",
+    42: "what the item comes after has an implicit weight, as ideographs have: nothing can come after it at the first level",
+    43: "no weight is left at the first level",
+    44: "no weight is left at the second level",
+    45: "no weight is left at the third level",
+    46: "the item would have more than 64 collation elements",
+}
+
+# An operator of a relation, or what an operator may be in without being one.
+_OPERATOR = re.compile(r"'[^']*'|\\.|#[^\n\f\r\x85\u2028\u2029]*|(<{1,3}|=)", re.DOTALL)
+
+_CODE_POINT = rb"(?!0{0,2}D[89A-F])(?:10|0?[0-9A-F])?[0-9A-F]{4}"
+_ELEMENT = rb"\[[.*](?:[0-9A-F]{4}\.){2}[0-9A-F]{4}(?:\.[0-9A-F]{4,6})?\]"
+# The front of an entry of a table, as far as it is in its form.
+_ENTRY = re.compile(
+    rb"[ \t]*(?:%b(?:[ \t]+|(?=;)|$)){0,32}(?:(?<=[0-9A-F \t]);[ \t]*(?:%b[ \t]*){0,64})?" % (_CODE_POINT, _ELEMENT), re.IGNORECASE
+)
+_RANGE = re.compile(rb"[ \t]*@implicitweights[ \t]+(?:%b(?:\.\.%b)?)?" % (_CODE_POINT, _CODE_POINT), re.IGNORECASE)
+
+
+class Error(ValueError):
+    """A call was refused, and changed nothing.
+
+    status     the uca_status of uca.h: NOT_UTF8, LONG_RUN, NOT_OPEN, BAD_SETTINGS, BAD_TABLE, BAD_RULES, BAD_TAILORING or INCOMPLETE
+    kind       the uca_kind of uca.h, why a table or rules are refused; else 0
+    text       which text of the call is at fault, from 1; 0 for a table and rules
+    at         as in uca.h: a byte of the text in UTF-8 or of the rules, from 0; a line or a relation, from 1
+    line       the line, from 1, or None where the fault has no place
+    column     the character of that line, from 1, or None
+    character  the character there, "" at the end of the line; a byte that is not UTF-8 as "\\\\xff"
+    cause      why, in a sentence
+    filename   the file at fault, where Collator.from_files read it
+    """
+
+    __module__ = "uca"
+    status: int = 0
+    kind: int = 0
+    text: int = 0
+    at: int = 0
+    line: int | None = None
+    column: int | None = None
+    character: str = ""
+    cause: str = ""
+    filename: str | None = None
+
+
+class TextError(Error):
+    """A text cannot be collated."""
+
+    __module__ = "uca"
+
+
+class TableError(Error):
+    """A table is refused."""
+
+    __module__ = "uca"
+
+
+class RulesError(Error):
+    """Rules are refused, or cannot tailor the table."""
+
+    __module__ = "uca"
+
+
+_TYPES = {
+    NOT_UTF8: TextError,
+    LONG_RUN: TextError,
+    INCOMPLETE: TextError,
+    BAD_TABLE: TableError,
+    BAD_RULES: RulesError,
+    BAD_TAILORING: RulesError,
+}
+
+
+def _encoded(text: str | bytes) -> bytes:
+    return text if isinstance(text, bytes) else text.encode("utf-8", "surrogatepass")
+
+
+def _decoded(text: bytes) -> str:
+    """As many characters as there are, a byte that is not UTF-8 being one."""
+    try:
+        return text.decode("utf-8", "surrogatepass")
+    except UnicodeDecodeError:
+        return text.decode("utf-8", "surrogateescape")
+
+
+def _character(text: bytes, at: int, whole: bool) -> str:
+    """The character that begins at a byte. `whole` says that the text was a str, which may have lone surrogates."""
+    front = text[at : at + 4]
+    for size in range(1, len(front) + 1):
+        try:
+            return front[:size].decode("utf-8", "surrogatepass" if whole else "strict")
+        except UnicodeDecodeError:
+            pass
+    return "\\x%02x" % front[0] if front else ""
+
+
+def _byte_of_line(table: bytes, line: int, kind: int) -> tuple[int, int]:
+    """Where a line of a table begins, and the byte of it that is at fault."""
+    begin = 0
+    for _ in range(line - 1):
+        begin = table.find(b"\n", begin) + 1
+    end = table.find(b"\n", begin)
+    row = table[begin : end if end >= 0 else len(table)].split(b"#")[0].rstrip(b" \t\r")
+    if kind == 1:
+        return begin, 4096
+    if kind in (2, 9):
+        return begin, len(row) - len(row.lstrip(b" \t"))
+    if kind == 10:
+        return begin, row.find(b"@implicitweights") + len(b"@implicitweights ")
+    front = _RANGE.match(row) or _ENTRY.match(row)
+    return begin, front.end() if front else 0
+
+
+def _byte_of_relation(rules: bytes, number: int) -> int:
+    """The byte of the operator of a relation, counted from 1."""
+    text = rules.decode("utf-8")
+    operators = (found.start() for found in _OPERATOR.finditer(text) if found.group(1))
+    for _ in range(number - 1):
+        next(operators, None)
+    return len(text[: next(operators, len(text))].encode("utf-8"))
+
+
+def _place(status: int, kind: int, at: int, source: str | bytes) -> tuple[int, int, str]:
+    """The line, the column and the character of a fault."""
+    data = _encoded(source)
+    if status == BAD_TABLE:
+        begin, column = _byte_of_line(data, at, kind)
+        at = begin + column
+    elif status == BAD_TAILORING:
+        at = _byte_of_relation(data, at)
+    at = min(at, len(data))
+    begin = data.rfind(b"\n", 0, at) + 1
+    character = _character(data, at, isinstance(source, str))
+    return data.count(b"\n", 0, at) + 1, len(_decoded(data[begin:at])) + 1, "" if character in ("\n", "\r") else character
+
+
+def _shown(character: str) -> str:
+    """A character for a message: by itself, unless it cannot be seen or joins what stands before it."""
+    if len(character) != 1:
+        return character or "the end of the line"
+    number = "U+%04X" % ord(character)
+    is_seen = character.isalnum() or character.isascii() and character.isprintable()
+    return "%s (%s)" % (repr(character), number) if is_seen else number
+
+
+def error_of(status: int, kind: int, text: int, at: int, source: str | bytes | None) -> Error:
+    """The exception of a status and a fault, for the extension."""
+    cause = _KINDS.get(kind) or _STATUSES.get(status, "status %d, kind %d" % (status, kind))
+    if isinstance(source, str) and (status == NOT_UTF8 or kind == 27):
+        cause = "a lone surrogate is no character"
+    type_of = _TYPES.get(status, Error)
+    what = "the table: " if type_of is TableError else "the rules: " if type_of is RulesError else "text %d: " % text if text else ""
+    line, column, character = None, None, ""
+    place = ""
+    if source is not None and status not in (NOT_OPEN, BAD_SETTINGS, INCOMPLETE) and kind != 11:
+        line, column, character = _place(status, kind, at, source)
+        place = "line %d, column %d, %s: " % (line, column, _shown(character))
+    hint = " (Collator.from_files reads files)" if status == BAD_TABLE and isinstance(source, str) and "\n" not in source else ""
+    error = type_of(what + place + cause + hint)
+    error.status, error.kind, error.text, error.at, error.cause = status, kind, text, at, cause
+    error.line, error.column, error.character = line, column, character
+    return error
