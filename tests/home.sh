@@ -118,7 +118,7 @@ if command -v make >/dev/null; then
         is "another table is installed" "0|2" "$?|$(grep -cE 'version [0-9.]+, [0-9]+ entries|stored' "$work/out")"
         is "ucasort takes that one" "a|b" "$(cd / && printf 'b\na\n' | "$work/root/usr/bin/ucasort" 2>&1 | paste -sd'|')"
     fi
-    is "nothing else is left there" "allkeys.txt allkeys.txt.sha256 rules" "$(ls -A "$work/root/usr/share/uca" | paste -sd' ')"
+    is "nothing else is left there" "allkeys.txt allkeys.txt.sha256 rules ucasort-keys.pl ucasort-rules.pl" "$(ls -A "$work/root/usr/share/uca" | paste -sd' ')"
 else
     echo "$script: there is no make, so nothing was installed"
 fi
