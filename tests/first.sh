@@ -78,6 +78,8 @@ new_copy() {
     rm -rf "$work/new" "$ASKED"
     mkdir -p "$work/new/rules" "$work/new/crates/"{uca,uca_cli,uca_commands,uca_table}/src
     cp uca ucasort crates.txt "$work/new"
+    mkdir -p "$work/new/tools"
+    cp tools/ucasort-*.pl "$work/new/tools"
     cp rules/sv.rules "$work/new/rules"
 }
 asked() { cut -d' ' -f1-3 "$ASKED" | paste -sd'|'; }
@@ -149,7 +151,8 @@ FAILS=
 # A build says how far it is, and ends with the script.
 new_copy "$ended"
 (cd "$work/new" && SECONDS_OF_LIB=32 exec timeout --foreground 40 ./uca --prove) >"$work/out" 2>"$work/err"
-is "each half minute of a build has a line" "$building|uca: building: N of 16 crates proved, 30 s" "$(said | sed 's/building: [0-9]*/building: N/; s/3[0-9] s/30 s/')"
-is "what was begun ends with it" "" "$(sleep 1; kill -0 "$(cat "$ASKED.process")" 2>/dev/null && echo "it goes on")"
+is "each half minute of a build has a line" "$building|uca: building: N of 17 crates proved, 30 s" "$(said | sed 's/building: [0-9]*/building: N/; s/3[0-9] s/30 s/')"
+# A process that has ended may stay in the list of processes for a while, as a zombie.
+is "what was begun ends with it" "" "$(sleep 1; ps -o stat= -p "$(cat "$ASKED.process")" | grep -qv '^Z' && echo "it goes on")"
 
 sum_up
