@@ -278,10 +278,10 @@ done <<'END'
 [first regular]<b:a place that has a name
 END
 is "a quote without an end" "mine.rules:1:4: this quote is not ended (Syntax)|    &a<'b|       ^|1" "$(says "&a<'b")"
-is "before the first reset" "mine.rules:2:1: this stands before the first reset; rules begin with & and a string (Syntax)|    b<c|    ^|1" "$(says '# b & c\nb<c')"
+is "before the first reset" "mine.rules:2:1: this comes before the first reset; rules begin with & and a string (Syntax)|    b<c|    ^|1" "$(says '# b & c\nb<c')"
 is "a sign without quotes" "mine.rules:1:5: \$ is no character of a string; it needs quotes or a backslash (Syntax)|    &a<b\$|        ^|1" "$(says '&a<b$')"
 is "rules that are not UTF-8" "mine.rules:1:4: these bytes are not UTF-8 (NotUtf8)|1" "$(says '&a<\xff' | sed 's/|.*|/|/')"
-is "a relation that finds no place" "mine.rules:3:3: what stands before this item has an implicit weight, as ideographs have; nothing can come after it at the first level (HighReset)|    &一<q|       ^|1" "$(says "# &a<b\n&a='<'<c\n&一<q")"
+is "a relation that finds no place" "mine.rules:3:3: what comes before this item has an implicit weight, as ideographs have; nothing can come after it at the first level (HighReset)|    &一<q|       ^|1" "$(says "# &a<b\n&a='<'<c\n&一<q")"
 is "an item that is tailored twice" "mine.rules:2:3: å is tailored twice; its place at 1:3 is given up for this one|    &z<å|      ^|1" "$(says '&a<å\n&z<a\xcc\x8a')"
 is "an item without its front" "mine.rules:1:3: xyé ends in a combining mark, and what comes before that mark is no item and no key of the table (WF5); with another mark between them it is not found|    &a<xyé|      ^|1" "$(says '&a<xye\xcc\x81')"
 is "an item with its front" "0" "$(says '&a<xye<xye\xcc\x81')"

@@ -43,7 +43,7 @@ sub find_stand_in {
 }
 my $stand_in_digits = find_stand_in();
 
-# An article, with what may stand before it, where something follows it.
+# An article, with what may come before it, where something follows it.
 my $article;
 if ($articles ne "") {
     my (@apart, @joined);

@@ -62,8 +62,8 @@ my %sentences = (
     NotUtf8 => "these bytes are not UTF-8",
     TooLarge => "the rules have more than 1,048,576 bytes",
     Read => "the rules could not be read",
-    SmallWeight => "what stands before this item has no weight at the level of its operator, so nothing can come after it there",
-    HighReset => "what stands before this item has an implicit weight, as ideographs have; nothing can come after it at the first level",
+    SmallWeight => "what comes before this item has no weight at the level of its operator, so nothing can come after it there",
+    HighReset => "what comes before this item has an implicit weight, as ideographs have; nothing can come after it at the first level",
     "Full 1" => "there is no room for another weight at the first level",
     "Full 2" => "there is no room for another weight at the second level",
     "Full 3" => "there is no room for another weight at the third level",
@@ -79,7 +79,7 @@ sub sentence_of {
     if ($cause eq "Syntax") {
         my $before = substr($bytes, 0, $at);
         $before =~ s/#[^\n]*//g;
-        return "this stands before the first reset; rules begin with & and a string" if $before !~ /&/;
+        return "this comes before the first reset; rules begin with & and a string" if $before !~ /&/;
         return "this quote is not ended" if $rest =~ /\A'/;
         return "this escape is none; those are \\uhhhh, \\Uhhhhhhhh, and a backslash before any other character" if $rest =~ /\A\\/;
         return "this / follows no item" if $rest =~ m{\A/};

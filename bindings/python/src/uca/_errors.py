@@ -172,7 +172,7 @@ def _place(status: int, kind: int, at: int, source: str | bytes) -> tuple[int, i
 
 
 def _shown(character: str) -> str:
-    """A character for a message: by itself, unless it cannot be seen or joins what stands before it."""
+    """A character for a message: by itself, unless it cannot be seen or joins what comes before it."""
     if len(character) != 1:
         return character or "the end of the line"
     number = "U+%04X" % ord(character)
