@@ -126,17 +126,17 @@ sql one postgres -c "ALTER DATABASE stale SET uca.rules_file = '$swedish'"
 says "other rules after an index was built" "ERROR:  uca: uca.rules_file is \"files/sv.rules\", and the collation \"uca\" has \"\"" stale "SET enable_seqscan = off" "SELECT count(*) FROM w WHERE uca_key(t) = uca_key('öl')"
 says "uca_fix says what depends on it" "ERROR:  uca: the files or settings of the collation uca are not those that were fixed" stale "SELECT uca_fix()"
 is "and names it" "What depends on it: index by_key, index by_text." "$(sql one stale -v VERBOSITY=default -c "SELECT uca_fix()" | sed -n 's/^DETAIL:  //p')"
-says "with force it makes it anew, without a search path too" "NOTICE:  uca: index public.by_key is made anew|NOTICE:  uca: index public.by_text is made anew|t|1|oas zon öl" stale "SET search_path = ''" "SELECT public.uca_fix(force => true) IS NOT NULL" \
+says "with force it rebuilds it, without a search path too" "NOTICE:  uca: index public.by_key is rebuilt|NOTICE:  uca: index public.by_text is rebuilt|t|1|oas zon öl" stale "SET search_path = ''" "SELECT public.uca_fix(force => true) IS NOT NULL" \
     "SET search_path = public" "SET enable_seqscan = off" "SELECT count(*) FROM w WHERE uca_key(t) = uca_key('öl')" "SELECT string_agg(t, ' ' ORDER BY uca_key(t)) FROM w"
 cat "$work/files/es.rules" >>"$swedish" # other rules, in a file of the same name
 says "other rules in the file" "ERROR:  uca: the files or settings of the collation \"sv\" are not those that were fixed|ERROR:  uca: the files or settings of the collation \"sv\" are not those that were fixed|ERROR:  uca: the files or settings of the collation sv are not those that were fixed" \
     stale "SELECT count(*) FROM w WHERE uca_key(t, 'sv') = uca_key('öl', 'sv')" "INSERT INTO w (t) VALUES ('anka')" "SELECT uca_fix('sv')"
-is "they are fixed for all collations at once" "NOTICE:  uca: index by_key is made anew|NOTICE:  uca: index by_sv is made anew|NOTICE:  uca: index by_text is made anew|NOTICE:  uca: default value for column k of table w is made anew||t" \
+is "they are fixed for all collations at once" "NOTICE:  uca: index by_key is rebuilt|NOTICE:  uca: index by_sv is rebuilt|NOTICE:  uca: index by_text is rebuilt|NOTICE:  uca: default value for column k of table w is rebuilt||t" \
     "$(sql one stale -c "SELECT uca_fix_all(force => true)" -c "SELECT bool_and(k = uca_key(t, 'sv')) FROM w" | paste -sd'|')"
 cp rules/sv.rules "$swedish"
 says "the old file again is another one now" "ERROR:  uca: the files or settings of the collation \"sv\" are not those that were fixed" stale "SELECT uca_key('a', 'sv')"
 sql one stale -c "SELECT uca_fix_all(force => true)" >/dev/null 2>&1
-# A session that is open, and has keys and a plan of before, sees that another one has fixed anew.
+# A session that is open, and has keys and a plan of before, sees that another one has fixed again.
 sql one stale -c "SELECT uca_create('es', '$table', '$work/files/es.rules')" -c "CREATE INDEX by_es ON w (uca_key(t, 'es'))" >/dev/null
 opens stale
 typed "PREPARE p AS SELECT bool_and(uca_key('zon', 'es') = uca_key(t, 'es')) FROM w WHERE t = 'zon';" "EXECUTE p;"
@@ -147,7 +147,7 @@ typed "INSERT INTO w (t) VALUES ('zon'); SELECT string_agg(t, ' ' ORDER BY uca_k
 closed
 is "an open session takes the new rules" "zon zon oas öl|t" "$(tail -n 2 "$work/session" | paste -sd'|')"
 says "a collation with an index can't be dropped" "ERROR:  cannot drop text search dictionary es because other objects depend on it" stale "DROP TEXT SEARCH DICTIONARY es"
-says "the default one, dropped and made anew, makes its indexes anew" "ERROR:  uca: there is no collation \"uca\"|NOTICE:  uca: index by_key is made anew|NOTICE:  uca: index by_text is made anew|uca" stale \
+says "the default one, dropped and made again, rebuilds its indexes" "ERROR:  uca: there is no collation \"uca\"|NOTICE:  uca: index by_key is rebuilt|NOTICE:  uca: index by_text is rebuilt|uca" stale \
     "SET uca.table_file = ''" "DROP TEXT SEARCH DICTIONARY uca" "SELECT uca_key('a')" "SELECT uca_create('uca', '$table')"
 cp rules/es.rules "$work/files/es.rules"
 
@@ -184,7 +184,7 @@ cp "$published" "$table"
 # ---- The upgrade of the extension
 new_database upgrade
 sql one upgrade -c "CREATE EXTENSION uca VERSION '1.0'" -c "CREATE TABLE w (t text)" -c "CREATE INDEX by_key ON w (uca_key(t))" -c "CREATE INDEX by_text ON w (t uca_ops)" -c "INSERT INTO uca_fixed VALUES ('\\x00')"
-says "keys that 1.0 fixed stay fixed" "ERROR:  uca: the files or settings of the collation \"uca\" are not those that were fixed|NOTICE:  uca: index by_key is made anew|NOTICE:  uca: index by_text is made anew|t|a b" upgrade \
+says "keys that 1.0 fixed stay fixed" "ERROR:  uca: the files or settings of the collation \"uca\" are not those that were fixed|NOTICE:  uca: index by_key is rebuilt|NOTICE:  uca: index by_text is rebuilt|t|a b" upgrade \
     "SET uca.table_file = '$table'" "ALTER EXTENSION uca UPDATE" "SELECT uca_key('a')" "SELECT uca_fix(force => true) IS NOT NULL" "INSERT INTO w VALUES ('b'), ('a')" "SELECT string_agg(t, ' ' ORDER BY uca_key(t)) FROM w"
 is "an upgraded extension has what a new one has" "" "$(cmp <(sql one upgrade -c '\dx+ uca') <(sql one names -c '\dx+ uca') 2>&1)"
 new_database again
@@ -268,8 +268,8 @@ start_server three && stop_server three
 # The copied server runs in a folder of its own, where pg_upgrade writes.
 as_nobody env -C "$work/upgraded" "$bin/pg_upgrade" -b "$bin" -B "$bin" -d "$work/two" -D "$new" -U tester >"$work/log" 2>&1 || cat "$work/log"
 start_server three || echo "$script: the upgraded server does not start"
-is "indexes that pg_upgrade has copied are refused by a newer table, and made anew" \
-    "ERROR:  uca: the files or settings of the collation \"uca\" are not those that were fixed|NOTICE:  uca: index names_2_uca_key_idx is made anew|t|Öster" \
+is "indexes that pg_upgrade has copied are refused by a newer table, and rebuilt" \
+    "ERROR:  uca: the files or settings of the collation \"uca\" are not those that were fixed|NOTICE:  uca: index names_2_uca_key_idx is rebuilt|t|Öster" \
     "$(sql three shard -c "SET enable_seqscan = off" -c "SELECT name FROM names_2 WHERE uca_key(name) = uca_key('Öster')" -c "SELECT uca_fix(force => true) IS NOT NULL" -c "SELECT name FROM names_2 WHERE uca_key(name) = uca_key('Öster')" | paste -sd'|')"
 is "and new collations are fixed there" "sv|t" "$(sql three shard -c "SELECT uca_create('sv', '$table', '$swedish')" -c "SELECT uca_fixed('sv') = uca_found('sv')" | paste -sd'|')"
 

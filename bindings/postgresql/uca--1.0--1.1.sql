@@ -81,7 +81,7 @@ CREATE FUNCTION uca_dependents(dictionary regdictionary) RETURNS TABLE (classid 
                                     AND p.oid = m.objid AND 'pg_catalog.regdictionary'::pg_catalog.regtype = ANY (p.proargtypes))))
 $$;
 
--- Fixes the fingerprints that files have now, and then makes anew what depends on these collations: indexes, and generated columns.
+-- Fixes the fingerprints that files have now, and then rebuilds what depends on these collations: indexes, and generated columns.
 CREATE FUNCTION uca_fix_and_rebuild(dictionaries regdictionary[]) RETURNS void LANGUAGE plpgsql AS $$
 DECLARE
     dictionary regdictionary;
@@ -110,7 +110,7 @@ BEGIN
             RAISE WARNING 'uca: % depends on keys that are others now', stale.description;
             CONTINUE;
         END IF;
-        RAISE NOTICE 'uca: % is made anew', stale.description;
+        RAISE NOTICE 'uca: % is rebuilt', stale.description;
     END LOOP;
 END $$;
 
@@ -148,7 +148,7 @@ BEGIN
     IF dependents IS NOT NULL AND force IS NOT TRUE THEN
         RAISE EXCEPTION 'uca: the files or settings of the collation % are not those that were fixed', array_to_string(changed, ' and of ')
             USING ERRCODE = 'dependent_objects_still_exist', DETAIL = format('What depends on it: %s.', dependents),
-                HINT = 'With force => true what they are now is fixed, and indexes and generated columns are made anew.';
+                HINT = 'With force => true what they are now is fixed, and indexes and generated columns are rebuilt.';
     END IF;
     PERFORM @extschema@.uca_fix_and_rebuild(changed);
 END $$;
