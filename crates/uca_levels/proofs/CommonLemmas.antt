@@ -1,22 +1,21 @@
 -- Two texts in step: what one more character, the weight of one more element and the first difference do.
-use Rattle.std.proofs.Common.{◌⊎◌, ◌≡◌, ℕ, suc, ◌+◌, ◌-◌, ◌<◌, ◌≤◌, Bool, true, false, cond, not, ◌&&◌, ◌==◌, nat_lt, nat_eq, List, [], ◌∷◌, ◌++◌, length, drop, slice_index, get_or, Option, Some, None, MatchOption, unwrap_or, refl, sym, ap, ap₂, subst, ◌∙◌, arith, inl, inr, append_assoc, length-append, ltb-false, ne_eqb}
+use Rattle.std.proofs.Common.{◌⊎◌, ◌≡◌, ℕ, suc, ◌+◌, ◌-◌, ◌<◌, ◌≤◌, Bool, true, false, cond, not, ◌&&◌, ◌==◌, nat_lt, nat_eq, List, [], ◌∷◌, ◌++◌, length, drop, slice_index, Option, Some, None, MatchOption, unwrap_or, refl, sym, ap, ap₂, subst, ◌∙◌, arith, inl, inr, append_assoc, length-append, ltb-false, ne_eqb}
 use Rattle.std.proofs.lemmas.Bool.{cond-true, cond-false}
 use Rattle.std.specs.Option.{option_map_or}
 use Rattle.uca_weights.specs.declared.element.Element.{Element}
-use Rattle.unicode_normalization.specs.Decompose.{decompose_canonical}
 use Rattle.uca_weights.specs.VariableWeighting.{weights}
 use Rattle.uca_model.specs.Table.{ElementTable, IsTable, elements_at, longest}
 use Rattle.uca_weights.specs.declared.range.Range.{Range}
 use Rattle.uca_model.specs.ImplicitWeights.{implicit_over, is_assigned, in_range, range_of, in_two_parts, two_parts_base}
 use Rattle.uca_model.proofs.TableLemmas.{IsEntry-elements_at}
 use Rattle.uca_model.specs.CollationElements.{elements_or_implicit}
-use Rattle.uca_model.specs.SafeCut.{is_safe_starter, begins_apart, is_cut, last_cut, cut_of}
+use Rattle.uca_model.specs.SafeCut.{is_cut, last_cut, cut_of}
 use Rattle.uca_model.specs.SafeText.{IsSafe}
 use Rattle.uca_weights.specs.declared.settings.Variable.{Variable}
 use Rattle.uca_model.specs.Source.{SourceState, unread, GivesNext, marked}
 use Rattle.uca_model.specs.Window.{WindowState, empty_window, ReadsOn, credit, is_wanting}
 use Rattle.uca_model.proofs.LongestKey.{longest-some}
-use Rattle.uca_model.proofs.SafeCutLemmas.{is_cut-parts, DiffersFirst, common_front-is, last_cut-more}
+use Rattle.uca_model.proofs.SafeCutLemmas.{DiffersFirst, common_front-is, last_cut-more}
 use Rattle.uca_match.specs.Yields.{Yields}
 use Rattle.uca_match.specs.RemainingElements.{ElementsState, is_asking, yielded_held, after_held, first_of, elements_held, window_held}
 use Rattle.uca_match.specs.WindowMatch.{key_held}
@@ -244,15 +243,6 @@ module _ (t : ElementTable) (was wus : SourceState) (xs ys : List ℕ) (left rig
         where
           weight_of : Element → ℕ
           weight_of e = slice_index (weights left.weigher.weighting left.weigher.after e) (left.level - 1)
-
--- ---- the test of a character
-
-first_apart : (t : ElementTable) (ds : List ℕ) (x : ℕ) → (length ds ≡ 0 → ⊥) → x ≡ get_or ds 0 x → is_safe_starter t x ≡ begins_apart t ds
-first_apart t [] x some is = absurd (some refl)
-first_apart t (d ∷ ds) x some is = ap (is_safe_starter t) is
-
-pub cut-first : (t : ElementTable) (c x : ℕ) (ds : List ℕ) (tested : Bool) → ds ≡ decompose_canonical c → (length ds ≡ 0 → ⊥) → x ≡ get_or ds 0 x → tested ≡ is_safe_starter t x → tested ≡ is_cut t c
-cut-first t c x ds tested parts some is test = test ∙ first_apart t ds x some is ∙ ap (begins_apart t) parts ∙ sym (is_cut-parts t c)
 
 -- both were read on, by what the code names
 pub ReadsBoth-char : (left right : WeightsState) (a b : SourceState) (x y : Option ℕ) (c : ℕ) (now_left now_right : WeightsState) (now_a now_b : SourceState) → ReadsBoth left right a b x y now_left now_right now_a now_b → x ≡ Some c → x ≡ y

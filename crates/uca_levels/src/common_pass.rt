@@ -10,7 +10,6 @@ ghost use Rattle.uca_model.specs.DecidingLevel.{OrdersLevel};
 ghost use Rattle.uca_model.specs.SafeCut.{cut_of};
 ghost use Rattle.uca_model.specs.SafeText.{IsSafe};
 
-use crate::cut::may_cut;
 use crate::first_weight::order_by_first;
 use crate::level_order::order_of_remaining;
 use crate::weights::Weights;
@@ -56,7 +55,7 @@ fn goes_on<'t, S: Source, T: Source>(
     match x {
         None => false,
         Some(c) => {
-            if may_cut(t, c) {
+            if t.is_cut(c) {
                 a.mark();
                 b.mark();
                 *marked = true;

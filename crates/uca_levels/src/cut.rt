@@ -6,30 +6,16 @@ ghost use Rattle.uca_levels.specs.WithoutFront.{AreWithoutFront, MayFollow};
 
 use std::simd::prelude::*;
 use uca_table::Table;
-use unicode_normalization::Form;
-use unicode_normalization::char::decomposition;
 
 /// How many bytes are looked at together.
 const LANES: usize = 16;
-
-/// Whether a text may be cut before a character.
-pub(crate) fn may_cut(t: &Table, c: char) -> bool
-    ensures { result ≡ is_cut t.now c }
-{
-    let mut room = [c; 3];
-    let points = decomposition(c, Form::Nfd, &mut room);
-    if points.is_empty() {
-        return false;
-    }
-    t.safe_starter(points[0])
-}
 
 // Whether a text may be cut before these characters.
 fn may_follow(t: &Table, left: &str) -> bool
     ensures { IsTrue result → MayFollow t.now (chars left.now) }
 {
     match left.chars().next() {
-        Some(c) => may_cut(t, c),
+        Some(c) => t.is_cut(c),
         None => true,
     }
 }

@@ -16,7 +16,7 @@ use unicode_normalization::char::{canonical_combining_class, decomposition};
 ///
 /// A text that ends in `c` is not complete where `ch` is a key of other primary weights. In doubt the answer is no: where
 /// the last starter stands between others in some key, and where a nonstarter after it has a primary weight. The empty
-/// text is complete. It takes no memory, and for the last segment of the text time by the size of the table.
+/// text is complete. It does not allocate.
 pub fn is_complete(t: &Table, p: &Passage) -> bool
     ensures { result ≡ is_complete t.now (text_of p.now) }
 {
@@ -53,153 +53,11 @@ fn ends_complete(t: &Table, points: &[char]) -> Option<bool>
         let c = points[n];
         let class = canonical_combining_class(c);
         if class == 0 {
-            return Some(is_closed(t, c));
+            return Some(t.is_closed(c));
         }
-        if !is_silent(t, c) {
+        if !t.is_silent(c) {
             return Some(false);
         }
     }
     None
-}
-
-// Whether the primary weights up to a starter are the same, whatever follows it.
-fn is_closed(t: &Table, s: char) -> bool
-    ensures { result ≡ is_closed t.now s }
-{
-    ends_matches(t, s) && keeps_primaries(t, s)
-}
-
-// Whether a code point has no primary weight, whatever follows it.
-fn is_silent(t: &Table, c: char) -> bool
-    ensures { result ≡ is_silent t.now c }
-{
-    has_no_primary(t, c) && keeps_primaries(t, c)
-}
-
-// Whether the elements of a code point alone have no primary weight.
-fn has_no_primary(t: &Table, c: char) -> bool
-    ensures { result ≡ lack_primary (elements_or_implicit t.now (c ∷ [])) }
-{
-    match t.get(&[c]) {
-        Some(own) => lack_primary(own),
-        None => lack_primary(&t.implicit(c)),
-    }
-}
-
-// Whether every key that begins with a code point has its primary weights.
-fn keeps_primaries(t: &Table, c: char) -> bool
-    ensures { result ≡ keeps_primaries t.now c }
-{
-    match t.get(&[c]) {
-        Some(own) => all_keep_primaries(t, c, own),
-        None => all_keep_primaries(t, c, &t.implicit(c)),
-    }
-}
-
-// The same, by the elements of the code point.
-fn all_keep_primaries(t: &Table, c: char, own: &[Element]) -> bool
-    requires { own.now ≡ elements_or_implicit t.now (c ∷ []) }
-    ensures { result ≡ keeps_primaries t.now c }
-{
-    for (key, elements) in t.entries() {
-        if !keeps_primary(c, own, key.as_slice(), elements) {
-            return false;
-        }
-    }
-    true
-}
-
-// Whether a key does not begin with a code point, or has its primary weights.
-fn keeps_primary(c: char, own: &[Element], key: &[char], elements: &[Element]) -> bool
-    ensures { result ≡ (not (is_first c key.now) || have_primaries_of own.now elements.now) }
-{
-    if key.is_empty() || key[0] != c {
-        return true;
-    }
-    have_primaries_of(own, elements)
-}
-
-// Whether no key has a code point after its first place and before its last.
-fn ends_matches(t: &Table, s: char) -> bool
-    ensures { result ≡ ends_matches t.now s }
-{
-    for (key, _) in t.entries() {
-        if is_between(s, key.as_slice()) {
-            return false;
-        }
-    }
-    true
-}
-
-// Whether a key has a code point after its first place and before its last.
-fn is_between(s: char, key: &[char]) -> bool
-    ensures { result ≡ is_before_last s (drop 1 key.now) }
-{
-    if key.is_empty() {
-        return false;
-    }
-    is_before_last(s, &key[1..])
-}
-
-// Whether a code point stands before the last place.
-#[tactic(auto, using(crate::proofs::CompletenessLemmas::before_last_here, crate::proofs::CompletenessLemmas::before_last_other, crate::proofs::CompletenessLemmas::before_last_end))]
-fn is_before_last(s: char, key: &[char]) -> bool
-    ensures { result ≡ is_before_last s key.now }
-{
-    if key.is_empty() {
-        return false;
-    }
-    let last = key.len() - 1;
-    let mut at = 0;
-    while at < last {
-        let c = key[at];
-        if c == s {
-            return true;
-        }
-        at += 1;
-    }
-    false
-}
-
-// Whether an element has the primary weight and the mark of another.
-fn is_primary_of(own: Element, element: Element) -> bool
-    ensures { result ≡ is_primary_of own element }
-{
-    if own.starred {
-        element.l1 == own.l1 && element.starred
-    } else {
-        element.l1 == own.l1 && !element.starred
-    }
-}
-
-// Whether the first elements have these primary weights, and the others none.
-#[tactic(auto, using(crate::proofs::CompletenessLemmas::primaries_few, crate::proofs::CompletenessLemmas::primaries_other, crate::proofs::CompletenessLemmas::primaries_same, crate::proofs::CompletenessLemmas::primaries_done))]
-fn have_primaries_of(own: &[Element], elements: &[Element]) -> bool
-    ensures { result ≡ have_primaries_of own.now elements.now }
-{
-    if elements.len() < own.len() {
-        return false;
-    }
-    let mut at = 0;
-    while at < own.len() {
-        let first = own[at];
-        let element = elements[at];
-        if !is_primary_of(first, element) {
-            return false;
-        }
-        at += 1;
-    }
-    lack_primary(&elements[own.len()..])
-}
-
-// Whether no element has a primary weight.
-fn lack_primary(elements: &[Element]) -> bool
-    ensures { result ≡ lack_primary elements.now }
-{
-    for element in elements {
-        if element.l1 != 0 {
-            return false;
-        }
-    }
-    true
 }

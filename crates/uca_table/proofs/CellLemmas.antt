@@ -1,10 +1,9 @@
 -- Cells of characters, and texts that go character by character where the elements stand alone.
-use Rattle.std.proofs.Common.{◌≡◌, ℕ, zero, suc, ◌+◌, ◌-◌, ◌*◌, ◌/◌, ◌%◌, ◌≤◌, ◌<◌, Bool, true, false, not, ◌||◌, ◌&&◌, cond, List, [], ◌∷◌, ◌++◌, length, take, drop, get_or, refl, sym, ap, ap₂, subst, ◌∙◌, arith, inl, inr, append_assoc, append-nil, length-append}
-use Rattle.std.proofs.lemmas.Bool.{le-leb, cases_lt}
-use Rattle.std.proofs.lemmas.Nat.{div-add-mod'}
+use Rattle.std.proofs.Common.{◌≡◌, ℕ, ◌+◌, ◌-◌, ◌/◌, ◌≤◌, ◌<◌, Bool, true, false, not, ◌||◌, ◌&&◌, cond, List, [], ◌∷◌, ◌++◌, length, take, drop, get_or, set, refl, sym, ap, ap₂, subst, ◌∙◌, arith, inl, inr, append_assoc, append-nil, length-append}
+use Rattle.std.proofs.lemmas.Bool.{le-leb, cases_eq, cases_lt}
 use Rattle.std.specs.List.{list_any}
 use Rattle.std.specs.FinMap.{entries}
-use Rattle.std.proofs.lemmas.List.{get_or_append_left, get_or-append-add, take-append-le, drop-append-le, length-drop, take-append-drop, drop_more, drop-drop, drop_all, drop_at}
+use Rattle.std.proofs.lemmas.List.{get_or-set_same, get_or-set_other, take-append-le, drop-append-le, length-drop, take-append-drop, drop_more, drop-drop, drop_all, drop_at, take_all}
 use Rattle.std.specs.Prelude.{Result, Ok, Err}
 use Rattle.std.specs.Result.{OnOk, is_ok}
 use Rattle.unicode_normalization.specs.Decompose.{decompose_canonical}
@@ -16,11 +15,10 @@ use Rattle.uca_model.specs.CollationElements.{elements}
 use Rattle.uca_model.specs.ImplicitWeights.{implicit}
 use Rattle.uca_model.specs.StandAlone.{is_first, is_longer_from, begins, leads, bearing_of, stands_alone, joining, bearing}
 use Rattle.uca_model.proofs.StandAloneLemmas.{apart-alone, apart-before, apart-end, elements_none, elements-unknown, nfd-single, joining-most}
-use Rattle.uca_table.specs.declared.cells.Block.{Block}
-use Rattle.uca_table.specs.declared.cells.Block.TheVariants.{Own, WithoutKey, Unknown}
 use Rattle.uca_table.specs.declared.cells.Cell.{Cell}
-use Rattle.uca_table.specs.declared.cells.Cells.{Cells}
-use Rattle.uca_table.specs.Cells.{IsCell, IsOwn, IsBlock, AreCells, AreCellsFrom, AreBlocks, HoldsCells, Grows}
+use Rattle.uca_table.specs.Cells.{IsCell, AreCells, Grows, unknown}
+use Rattle.uca_table.specs.Marks.{IsIndex, place}
+use Rattle.uca_table.specs.declared.marks.Marks.{Marks}
 
 -- ---- cells
 
@@ -33,6 +31,12 @@ Grows-from old more new e = e ∙ ap (λ l. old ++ l) (sym (drop-old old more ne
 pub Grows-same : (old : List Element) → Grows old old
 Grows-same old = Grows-from old [] old (sym (append-nil old))
 
+-- what was appended lies where the rest began
+pub taken-fresh : (old more new : List Element) (start count : ℕ) → new ≡ old ++ more → start ≡ length old → start + count ≡ length new → take count (drop start new) ≡ more
+taken-fresh old more new start count e at end =
+    let size : length new ≡ length old + length more = ap length e ∙ length-append old more in
+    ap (λ n. take count (drop n new)) at ∙ ap (take count) (drop-old old more new e) ∙ take_all count more (omega arith)
+
 -- a cell stays sound where more elements follow
 pub IsCell-grown : (t : ElementTable) (es more : List Element) (c : ℕ) (cell : Cell) → Grows es more → IsCell t es c cell → IsCell t more c cell
 IsCell-grown t es more c cell grows h =
@@ -41,7 +45,7 @@ IsCell-grown t es more c cell grows h =
     record {
       joining = h.joining;
       bearing = h.bearing;
-      begins = h.begins;
+      cut = h.cut;
       within = omega (arith, h.within);
       elements = λ some.
           ap (λ l. take cell.count (drop cell.start l)) grows
@@ -51,78 +55,47 @@ IsCell-grown t es more c cell grows h =
       few : cell.start + cell.count ≤ length es → cell.count ≤ length (drop cell.start es)
       few within = let n : length (drop cell.start es) ≡ length es - cell.start = length-drop cell.start es in omega arith
 
-push_at : {A : Type 0} (cells : List A) (cell : A) (P : ℕ → A → Type 0) → ((c : ℕ) (d : A) → c < length cells → P c (get_or cells c d)) → P (length cells) cell → (c : ℕ) (d : A) → c < length (cells ++ cell ∷ []) → P c (get_or (cells ++ cell ∷ []) c d)
-push_at [] cell P each here zero d within = here
-push_at [] cell P each here (suc c) d within = absurd (omega arith)
-push_at (x ∷ cells) cell P each here zero d within = each 0 d (omega arith)
-push_at (x ∷ cells) cell P each here (suc c) d within = push_at cells cell (λ n y. P (suc n) y) (λ n e lt. each (suc n) e (omega arith)) here c d (omega arith)
+-- all cells stay sound where more elements follow
+pub AreCells-grown : (t : ElementTable) (es more : List Element) (blocks : List ℕ) (cells : List Cell) → Grows es more → AreCells t es blocks cells → AreCells t more blocks cells
+AreCells-grown t es more blocks cells grows h = record { each = λ c within. IsCell-grown t es more c (get_or cells (place blocks c) unknown) grows (h.each c within) }
 
-pub AreCells-push : (t : ElementTable) (es more : List Element) (cells : List Cell) (cell : Cell) → AreCells t es cells → Grows es more → IsCell t more (length cells) cell → AreCells t more (cells ++ cell ∷ [])
-AreCells-push t es more cells cell old grows here =
-    let P : ℕ → Cell → Type 0 = λ c x. IsCell t more c x in
-    record { each = push_at cells cell P (λ c d within. IsCell-grown t es more c (get_or cells c d) grows (old.each c d within)) here }
+-- a cell that says nothing is sound
+pub unknown-cell : (t : ElementTable) (es : List Element) (c : ℕ) (cell : Cell) → cell ≡ unknown → IsCell t es c cell
+unknown-cell t es c cell is = subst (IsCell t es c) (sym is) (record {
+  joining = joining-most t (decompose_canonical c);
+  bearing = omega arith;
+  cut = λ e. absurd (cc);
+  within = omega arith;
+  elements = λ some. absurd (omega arith);
+})
 
--- the same of the cells of a block
-pub AreCellsFrom-push : (t : ElementTable) (es more : List Element) (first : ℕ) (cells : List Cell) (cell : Cell) → AreCellsFrom t es first cells → Grows es more → IsCell t more (first + length cells) cell → AreCellsFrom t more first (cells ++ cell ∷ [])
-AreCellsFrom-push t es more first cells cell old grows here =
-    let P : ℕ → Cell → Type 0 = λ i x. IsCell t more (first + i) x in
-    record { each = push_at cells cell P (λ i d within. IsCell-grown t es more (first + i) (get_or cells i d) grows (old.each i d within)) here }
+-- cells without one of a character are sound
+pub AreCells-none : (t : ElementTable) (es : List Element) (blocks : List ℕ) (cells : List Cell) → length blocks ≡ 0 → AreCells t es blocks cells
+AreCells-none t es blocks cells none = record { each = λ c within. absurd (omega (arith, none)) }
 
--- ---- blocks
+-- so are those that say nothing
+pub AreCells-unknown : (t : ElementTable) (es : List Element) (blocks : List ℕ) (cells : List Cell) → ((i : ℕ) → get_or cells i unknown ≡ unknown) → AreCells t es blocks cells
+AreCells-unknown t es blocks cells says = record { each = λ c within. unknown-cell t es c (get_or cells (place blocks c) unknown) (says (place blocks c)) }
 
--- a block stays sound where more elements and more cells follow
-IsBlock-grown : (t : ElementTable) (es more : List Element) (others fresh : List Cell) (first : ℕ) (block : Block) → Grows es more → IsBlock t es others first block → IsBlock t more (others ++ fresh) first block
-IsBlock-grown t es more others fresh first (Own start) grows h = record {
-  within = let size : length (others ++ fresh) ≡ length others + length fresh = length-append others fresh in omega (arith, h.within);
-  each = λ i d few.
-      subst (IsCell t more (first + i)) (sym (get_or_append_left others fresh d (start + i) (omega (arith, h.within))))
-      (IsCell-grown t es more (first + i) (get_or others (start + i) d) grows (h.each i d few));
-}
-IsBlock-grown t es more others fresh first WithoutKey grows h = h
-IsBlock-grown t es more others fresh first Unknown grows h = h
+-- two code points with one place, which their block does not share, are one
+same_point : (blocks : List ℕ) (ms : List Marks) (c d : ℕ) → IsIndex blocks ms → c / 128 < length blocks → d / 128 < length blocks → 0 < get_or blocks (c / 128) 0 → place blocks d ≡ place blocks c → d ≡ c
+same_point blocks ms c d index in_c in_d own same =
+    let number : get_or blocks (c / 128) 0 ≡ get_or blocks (d / 128) 0 = omega arith in
+    let block : c / 128 ≡ d / 128 = index.single (c / 128) (d / 128) in_c in_d number own in
+    omega arith
 
-pub AreBlocks-grown : (t : ElementTable) (es more : List Element) (blocks : List Block) (others fresh : List Cell) → Grows es more → AreBlocks t es blocks others → AreBlocks t more blocks (others ++ fresh)
-AreBlocks-grown t es more blocks others fresh grows h = record { each = λ b d within. IsBlock-grown t es more others fresh (b * 128) (get_or blocks b d) grows (h.each b d within) }
-
-AreCells-grown : (t : ElementTable) (es more : List Element) (cells : List Cell) → Grows es more → AreCells t es cells → AreCells t more cells
-AreCells-grown t es more cells grows h = record { each = λ c d within. IsCell-grown t es more c (get_or cells c d) grows (h.each c d within) }
-
--- the cells of a table where more elements, and more cells that lie in blocks, follow
-pub HoldsCells-grown : (t : ElementTable) (old new : Cells) (fresh : List Cell) → new.cells.items ≡ old.cells.items → new.blocks.items ≡ old.blocks.items → new.others.items ≡ old.others.items ++ fresh → Grows old.elements.items new.elements.items → HoldsCells t old → HoldsCells t new
-HoldsCells-grown t old new fresh cells blocks others grows h = (
-  subst (AreCells t new.elements.items) (sym cells) (AreCells-grown t old.elements.items new.elements.items old.cells.items grows h.0),
-  subst (λ bs. AreBlocks t new.elements.items bs new.others.items) (sym blocks)
-      (subst (AreBlocks t new.elements.items old.blocks.items) (sym others) (AreBlocks-grown t old.elements.items new.elements.items old.blocks.items old.others.items fresh grows h.1)),
-)
-
--- and where only elements do
-pub HoldsCells-same : (t : ElementTable) (old new : Cells) → new.cells.items ≡ old.cells.items → new.blocks.items ≡ old.blocks.items → new.others.items ≡ old.others.items → Grows old.elements.items new.elements.items → HoldsCells t old → HoldsCells t new
-HoldsCells-same t old new cells blocks others grows h = HoldsCells-grown t old new [] cells blocks (others ∙ sym (append-nil old.others.items)) grows h
-
--- one more cell below the blocks
-pub HoldsCells-push : (t : ElementTable) (old new : Cells) (cell : Cell) → new.cells.items ≡ old.cells.items ++ cell ∷ [] → new.blocks.items ≡ old.blocks.items → new.others.items ≡ old.others.items → Grows old.elements.items new.elements.items → IsCell t new.elements.items (length old.cells.items) cell → HoldsCells t old → HoldsCells t new
-HoldsCells-push t old new cell cells blocks others grows here h = (
-  subst (AreCells t new.elements.items) (sym cells) (AreCells-push t old.elements.items new.elements.items old.cells.items cell h.0 grows here),
-  subst (λ bs. AreBlocks t new.elements.items bs new.others.items) (sym blocks)
-      (subst (AreBlocks t new.elements.items old.blocks.items) (sym (others ∙ sym (append-nil old.others.items))) (AreBlocks-grown t old.elements.items new.elements.items old.blocks.items old.others.items [] grows h.1)),
-)
-
--- one more block
-pub AreBlocks-push : (t : ElementTable) (es : List Element) (blocks : List Block) (others : List Cell) (block : Block) → AreBlocks t es blocks others → IsBlock t es others (length blocks * 128) block → AreBlocks t es (blocks ++ block ∷ []) others
-AreBlocks-push t es blocks others block old here =
-    let P : ℕ → Block → Type 0 = λ b x. IsBlock t es others (b * 128) x in
-    record { each = push_at blocks block P old.each here }
-
--- the cells of a block lie after the others
-pub IsOwn-last : (t : ElementTable) (es : List Element) (others fresh : List Cell) (first : ℕ) → length fresh ≡ 128 → AreCellsFrom t es first fresh → IsOwn t es (others ++ fresh) first (length others)
-IsOwn-last t es others fresh first size are = record {
-  within = let all : length (others ++ fresh) ≡ length others + length fresh = length-append others fresh in omega arith;
-  each = λ i d few. subst (IsCell t es (first + i)) (sym (get_or-append-add others fresh i d)) (are.each i d (omega arith));
-}
-
--- the cell of a character of a block
-pub own-cell : (t : ElementTable) (es : List Element) (others : List Cell) (c start : ℕ) (d : Cell) → IsOwn t es others (c / 128 * 128) start → IsCell t es c (get_or others (start + c % 128) d)
-own-cell t es others c start d own = subst (λ n. IsCell t es n (get_or others (start + c % 128) d)) (div-add-mod' c 128) (own.each (c % 128) d (omega arith))
+-- and they stay so with one more cell at the place of its character
+pub AreCells-put : (t : ElementTable) (es : List Element) (blocks : List ℕ) (ms : List Marks) (cells : List Cell) (c at : ℕ) (cell : Cell) → IsIndex blocks ms → c / 128 < length blocks → 0 < get_or blocks (c / 128) 0 → at ≡ place blocks c
+    → at < length cells → IsCell t es c cell → AreCells t es blocks cells → AreCells t es blocks (set cells at cell)
+AreCells-put t es blocks ms cells c at cell index inside own is within here old = record { each = each } where
+  each : (d : ℕ) → d / 128 < length blocks → IsCell t es d (get_or (set cells at cell) (place blocks d) unknown)
+  each d in_d = elim (cases_eq (place blocks d) at) [
+    | inl same ↦
+        let one : d ≡ c = same_point blocks ms c d index inside in_d own (same ∙ is) in
+        subst (λ k. IsCell t es d (get_or (set cells at cell) k unknown)) (sym same)
+        (subst (IsCell t es d) (sym (get_or-set_same cells at cell unknown within)) (subst (λ p. IsCell t es p cell) (sym one) here))
+    | inr other ↦ subst (IsCell t es d) (sym (get_or-set_other cells at (place blocks d) cell unknown other)) (old.each d in_d)
+  ]
 
 -- ---- a character without key
 
@@ -220,19 +193,6 @@ text-done t text at out whole past same =
     sym (append-nil out) ∙ ap (λ l. out ++ l) (sym none) ∙ same where
       none : elements t (nfd (drop at text)) ≡ []
       none = ap (λ l. elements t (nfd l)) (drop_all at text past) ∙ elements_none t
-
--- ---- the flags of keys
-
-pub flag-none : (a b : Bool) → a ≡ false → (a || b) ≡ b
-flag-none a b e = ap (λ x. x || b) e
-
-pub flag-more : (a b c whole : Bool) (new : Bool) → new ≡ (a || b) → (a || (b || c)) ≡ whole → (new || c) ≡ whole
-flag-more true b c whole new e h = ap (λ x. x || c) e ∙ h
-flag-more false b c whole new e h = ap (λ x. x || c) e ∙ h
-
-pub flag-done : (a whole : Bool) → (a || false) ≡ whole → a ≡ whole
-flag-done true whole h = h
-flag-done false whole h = h
 
 -- ---- a single code point
 

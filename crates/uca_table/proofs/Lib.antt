@@ -17,3 +17,5 @@ pub mod WalkLemmas
 pub mod EntryMapLemmas
 pub mod AscendingLemmas
 pub mod KeyLemmas
+pub mod PrimaryLemmas
+pub mod MarkLemmas

@@ -6,7 +6,7 @@ pub mod Extents
 pub mod Bounds
 pub mod Running
 pub mod Cells
-pub mod Starters
+pub mod Marks
 pub mod Fronts
 pub mod Walk
 pub mod EntryMap

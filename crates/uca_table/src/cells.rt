@@ -1,22 +1,39 @@
-ghost use Rattle.std.specs.Prelude.{◌≡◌, true, ◌+◌, ◌*◌, ◌/◌, ◌∷◌, ◌++◌, [], ◌<◌, ◌≤◌, ◌^◌, ℕ, List, false, not, length, take, drop, get_or, chars, slice_index, IfOk, IfSome, OnOk, OnErr, IsTrue, IsFalse};
+ghost use Rattle.std.specs.Prelude.{◌≡◌, true, ◌+◌, ◌*◌, ◌/◌, ◌∷◌, ◌++◌, [], ◌<◌, ◌≤◌, ℕ, List, false, not, length, take, drop, get_or, chars, slice_index, IfOk, IfSome, IfNone, OnOk, IsTrue, IsFalse};
 ghost use Rattle.std.specs.List.{list_all};
 ghost use Rattle.unicode_normalization.specs.Decompose.{decompose_canonical};
 ghost use Rattle.unicode_normalization.specs.Forms.{nfd};
 ghost use Rattle.unicode_normalization.specs.Order.{is_starter};
 ghost use Rattle.uca_model.specs.CollationElements.{elements};
-ghost use Rattle.uca_model.specs.StandAlone.{begins, leads, continues, joining_of, bearing_of, joining, bearing, ends_in_starter, stands_alone};
-ghost use Rattle.uca_table.specs.Cells.{AreKeyFlags, AreHeldBlocks, IsCell, IsBlock, AreCells, AreCellsFrom, AreBlocks, HoldsCells, Grows};
+ghost use Rattle.uca_model.specs.SafeCut.{begins_apart, is_cut};
+ghost use Rattle.uca_model.specs.StandAlone.{begins, leads, continues, joining_of, bearing_of, joining, bearing, ends_in_starter};
+ghost use Rattle.uca_table.specs.Cells.{IsCell, HoldsCells, Grows, unknown};
+ghost use Rattle.uca_table.specs.Marks.{HoldsMarks, keep_apart, marks, place};
 
 use crate::collation::{push_elements, push_found, push_matches};
-use crate::key_flags::{BLOCK, BLOCKS, KeyFlags, key_flags_of, limit_for};
+use crate::marks::{BLOCK, BLOCKS, MarkTable, Marks};
 use crate::stored::Stored;
 use std::alloc::{AllocError, Global};
 use uca_weights::Element;
 use unicode_normalization::char::{canonical_combining_class, decomposition};
 use unicode_normalization::{Form, slice};
 
-/// The elements of a character by itself, and whether they stay so within a text. Eight bytes, since a table has a cell
-/// for each of 65,536 characters and each character of a text is looked up.
+/// Characters below this one have cells, whether they have a key or not.
+const LIMIT: usize = 0x1_0000;
+
+/// A table whose keys have fewer nodes is small.
+const FEW: usize = 256;
+
+/// Characters of a small table below this one have cells. All those below `LIMIT` would take longer than its reading.
+const LIMIT_OF_FEW: usize = 0x1000;
+
+/// So many blocks of cells has any table with so many blocks of keys.
+const FEW_BLOCKS: usize = 64;
+
+/// And one more for so many nodes of its keys.
+const NODES_OF_A_BLOCK: usize = 8;
+
+/// The elements of a character by itself, and whether they stay so within a text. Eight bytes, since each character of a text is
+/// looked up.
 #[derive(Clone, Copy)]
 pub(crate) struct Cell {
     // Where its elements begin among those of all cells.
@@ -27,8 +44,8 @@ pub(crate) struct Cell {
     joining: u8,
     // The greatest of these that it bears after it.
     bearing: u8,
-    // Whether a key may begin with it.
-    begins: bool,
+    // Whether a text may be cut before it. `false`: that is not known.
+    cut: bool,
 }
 
 /// The cell of a character of which nothing is known.
@@ -37,97 +54,63 @@ const UNKNOWN: Cell = Cell {
     count: 0,
     joining: 2,
     bearing: 0,
-    begins: true,
+    cut: false,
 };
 
-/// The cell of a character of which only this is known: no key begins with it.
-const WITHOUT_KEY: Cell = Cell {
-    start: 0,
-    count: 0,
-    joining: 2,
-    bearing: 0,
-    begins: false,
-};
-
-/// The cells of a block of characters, from a multiple of `BLOCK` on. Only a block with a key takes memory.
-#[derive(Clone, Copy)]
-pub(crate) enum Block {
-    /// They lie by themselves from this place on.
-    Own(u32),
-    /// No key begins with one of the characters.
-    WithoutKey,
-    /// Nothing is known of the characters.
-    Unknown,
-}
-
-/// So many blocks of cells has any table with so many blocks of keys.
-const FEW_BLOCKS: usize = 64;
-
-/// And one more for so many nodes of its keys.
-const NODES_OF_A_BLOCK: usize = 8;
-
-/// A number that fits thirty-two bits.
-fn small(n: usize) -> Option<u32>
-    ensures { IfSome result (λ m. m ≡ n) }
-{
-    match u32::try_from(n) {
-        Ok(m) => Some(m),
-        Err(_) => None,
-    }
-}
-
-/// The elements of characters, each by itself, and whether they stand alone in a text.
+/// What a table says of single characters, by blocks of them: what its keys say of each, and its cell. Blocks in which no key has
+/// a code point share one.
 #[derive(Drop)]
 pub struct Cells {
-    // Those of the characters below a limit.
+    marks: MarkTable,
+    // At the places of the marks.
     cells: Vec<Cell>,
-    // By block, where those of the other characters are.
-    blocks: Vec<Block>,
-    others: Vec<Cell>,
     elements: Vec<Element>,
 }
 
-impl KeyFlags {
-    // Whether a key of two code points or more begins with a code point.
-    fn leads(&self, p: char) -> bool
-        ensures { (t : _) → AreKeyFlags t self.now.leads.items self.now.continues.items self.now.begins.items → IsFalse result → leads t p ≡ false }
-    {
-        match self.leads.get(p as usize) {
-            Some(flag) => *flag,
-            None => true,
-        }
-    }
+/// So many cells of characters of which nothing is known.
+fn unknown(alloc: Global, n: usize) -> Result<Vec<Cell>, AllocError>
+    ensures { IfOk result (λ v. (i : ℕ) → get_or v.items i unknown ≡ unknown) }
+{
+    vec![in alloc; UNKNOWN; n]
+}
 
-    // Whether a code point stands in a key at the second place or later.
-    fn continues(&self, p: char) -> bool
-        ensures { (t : _) → AreKeyFlags t self.now.leads.items self.now.continues.items self.now.begins.items → IsFalse result → continues t p ≡ false }
-    {
-        match self.continues.get(p as usize) {
-            Some(flag) => *flag,
-            None => true,
-        }
+// Whether a key begins with a code point.
+fn begins(marks: &MarkTable, p: char) -> bool
+    ensures { (t : _) → HoldsMarks t marks.now → IsFalse result → begins t p ≡ false }
+{
+    match marks.find(p) {
+        Some(marks) => marks.begins,
+        None => true,
     }
 }
 
-impl KeyFlags {
-    // Whether a key begins in a block of code points.
-    fn holds(&self, block: u32) -> bool
-        ensures { (t : _) → AreHeldBlocks t self.now.held.items → IsFalse result → (p : ℕ) → p / 128 ≡ block → begins t p ≡ false }
-    {
-        match self.held.get(block as usize) {
-            Some(flag) => *flag,
-            None => true,
-        }
+// Whether a key of two code points or more begins with a code point.
+fn leads(marks: &MarkTable, p: char) -> bool
+    ensures { (t : _) → HoldsMarks t marks.now → IsFalse result → leads t p ≡ false }
+{
+    match marks.find(p) {
+        Some(marks) => marks.leads,
+        None => true,
     }
+}
 
-    // Whether a key begins with a code point.
-    fn begins(&self, p: char) -> bool
-        ensures { (t : _) → AreKeyFlags t self.now.leads.items self.now.continues.items self.now.begins.items → IsFalse result → begins t p ≡ false }
-    {
-        match self.begins.get(p as usize) {
-            Some(flag) => *flag,
-            None => true,
-        }
+// Whether a code point is in a key after the first place.
+fn continues(marks: &MarkTable, p: char) -> bool
+    ensures { (t : _) → HoldsMarks t marks.now → IsFalse result → continues t p ≡ false }
+{
+    match marks.find(p) {
+        Some(marks) => marks.continues,
+        None => true,
+    }
+}
+
+// Whether every key keeps a code point apart.
+fn keep_apart(marks: &MarkTable, p: char) -> bool
+    ensures { (t : _) → HoldsMarks t marks.now → IsTrue result → keep_apart t p ≡ true }
+{
+    match marks.find(p) {
+        Some(marks) => marks.apart,
+        None => false,
     }
 }
 
@@ -153,23 +136,23 @@ fn is_own_nfd(c: char) -> bool
 }
 
 // How code points may join the text before them, at most.
-fn joining_of(t: &Stored, key_flags: &KeyFlags, points: &[char]) -> u8
-    requires { AreKeyFlags t.now key_flags.now.leads.items key_flags.now.continues.items key_flags.now.begins.items }
+fn joining_of(t: &Stored, marks: &MarkTable, points: &[char]) -> u8
+    requires { HoldsMarks t.now marks.now }
     ensures value { joining_of t.now points.now ≤ result }
 {
     if points.is_empty() || !is_starter(points[0]) {
         return 2;
     }
-    if key_flags.continues(points[0]) { 1 } else { 0 }
+    if continues(marks, points[0]) { 1 } else { 0 }
 }
 
 // Whether no code point begins a key of two or more.
-fn is_plain(t: &Stored, key_flags: &KeyFlags, points: &[char]) -> bool
-    requires { AreKeyFlags t.now key_flags.now.leads.items key_flags.now.continues.items key_flags.now.begins.items }
+fn is_plain(t: &Stored, marks: &MarkTable, points: &[char]) -> bool
+    requires { HoldsMarks t.now marks.now }
     ensures { IsTrue result → list_all (λ p. not (leads t.now p)) points.now ≡ true }
 {
     for p in points {
-        if key_flags.leads(*p) {
+        if leads(marks, *p) {
             return false;
         }
     }
@@ -186,14 +169,26 @@ fn ends_in_starter(points: &[char]) -> bool
 }
 
 // Which joining code points bear after them, at least.
-fn bearing_of(t: &Stored, key_flags: &KeyFlags, points: &[char]) -> u8
-    requires { AreKeyFlags t.now key_flags.now.leads.items key_flags.now.continues.items key_flags.now.begins.items }
+fn bearing_of(t: &Stored, marks: &MarkTable, points: &[char]) -> u8
+    requires { HoldsMarks t.now marks.now }
     ensures { result ≤ bearing_of t.now points.now }
 {
-    if !is_plain(t, key_flags, points) {
+    if !is_plain(t, marks, points) {
         return 0;
     }
     if ends_in_starter(points) { 2 } else { 1 }
+}
+
+// Whether a text may be cut before the character whose decomposition this is.
+fn begins_apart(t: &Stored, marks: &MarkTable, points: &[char]) -> bool
+    requires { HoldsMarks t.now marks.now }
+    ensures { IsTrue result → begins_apart t.now points.now ≡ true }
+{
+    if points.is_empty() {
+        return false;
+    }
+    let first = points[0];
+    is_starter(first) && keep_apart(marks, first)
 }
 
 // Where elements lie from `start` on, as numbers that a cell has room for; no elements where it has none.
@@ -212,13 +207,13 @@ fn extent(start: usize, end: usize) -> (u32, u8)
 fn push_single(
     out: &mut Vec<Element>,
     t: &Stored,
-    key_flags: &KeyFlags,
+    marks: &MarkTable,
     p: char,
 ) -> Result<(), AllocError>
-    requires { AreKeyFlags t.now key_flags.now.leads.items key_flags.now.continues.items key_flags.now.begins.items }
+    requires { HoldsMarks t.now marks.now }
     ensures { OnOk result (out.new.items ≡ out.old.items ++ elements t.now (p ∷ [])) }
 {
-    if !key_flags.begins(p) {
+    if !begins(marks, p) {
         return out.extend_from_slice(&t.implicit(p));
     }
     let mut walk = t.walk();
@@ -234,20 +229,18 @@ impl Cells {
         &mut self,
         alloc: Global,
         t: &Stored,
-        key_flags: &KeyFlags,
         c: char,
         points: &[char],
     ) -> Result<(), AllocError>
         requires cells { HoldsCells t.now self.old }
-        requires key_flags { AreKeyFlags t.now key_flags.now.leads.items key_flags.now.continues.items key_flags.now.begins.items }
         requires points { points.now ≡ decompose_canonical c }
         ensures elements { OnOk result (self.new.elements.items ≡ self.old.elements.items ++ elements t.now (nfd (c ∷ []))) }
         ensures cells { OnOk result (self.new.cells.items ≡ self.old.cells.items) }
-        ensures blocks { OnOk result (self.new.blocks.items ≡ self.old.blocks.items) }
-        ensures others { OnOk result (self.new.others.items ≡ self.old.others.items) }
+        ensures blocks { OnOk result (self.new.marks.blocks.items ≡ self.old.marks.blocks.items) }
+        ensures marks { OnOk result (self.new.marks.marks.items ≡ self.old.marks.marks.items) }
     {
         if points.len() == 1 {
-            return push_single(&mut self.elements, t, key_flags, points[0]);
+            return push_single(&mut self.elements, t, &self.marks, points[0]);
         }
         let mut fresh = Vec::new(alloc);
         push_text(alloc, &mut fresh, t, self, points)?;
@@ -255,194 +248,75 @@ impl Cells {
     }
 
     // The cell of a character, whose elements are appended to the others.
-    fn cell_of(
-        &mut self,
-        alloc: Global,
-        t: &Stored,
-        key_flags: &KeyFlags,
-        c: char,
-    ) -> Result<Cell, AllocError>
-        requires cells { HoldsCells t.now self.old }
-        requires key_flags { AreKeyFlags t.now key_flags.now.leads.items key_flags.now.continues.items key_flags.now.begins.items }
+    fn cell_of(&mut self, alloc: Global, t: &Stored, c: char) -> Result<Cell, AllocError>
+        requires { HoldsCells t.now self.old }
         ensures cell { IfOk result (λ cell. IsCell t.now self.new.elements.items c cell) }
         ensures cells { OnOk result (self.new.cells.items ≡ self.old.cells.items) }
-        ensures blocks { OnOk result (self.new.blocks.items ≡ self.old.blocks.items) }
-        ensures others { OnOk result (self.new.others.items ≡ self.old.others.items) }
+        ensures blocks { OnOk result (self.new.marks.blocks.items ≡ self.old.marks.blocks.items) }
+        ensures marks { OnOk result (self.new.marks.marks.items ≡ self.old.marks.marks.items) }
         ensures grows { OnOk result (Grows self.old.elements.items self.new.elements.items) }
     {
         let mut room = ['\0'; 3];
         let points = decomposition(c, Form::Nfd, &mut room);
-        let joining = joining_of(t, key_flags, points);
-        let bearing = bearing_of(t, key_flags, points);
+        let joining = joining_of(t, &self.marks, points);
+        let bearing = bearing_of(t, &self.marks, points);
+        let cut = begins_apart(t, &self.marks, points);
         let before = self.elements.len();
-        self.push_elements(alloc, t, key_flags, c, points)?;
+        self.push_elements(alloc, t, c, points)?;
         let (start, count) = extent(before, self.elements.len());
         Ok(Cell {
             start,
             count,
             joining,
             bearing,
-            begins: true,
+            cut,
         })
     }
 
-    // The cell of a number, with nothing known where it is no scalar value.
-    fn cell_at(
-        &mut self,
-        alloc: Global,
-        t: &Stored,
-        key_flags: &KeyFlags,
-        point: u32,
-    ) -> Result<Cell, AllocError>
+    // Makes the cell of a character whose block has its own.
+    fn fill(&mut self, alloc: Global, t: &Stored, c: char) -> Result<(), AllocError>
         requires cells { HoldsCells t.now self.old }
-        requires key_flags { AreKeyFlags t.now key_flags.now.leads.items key_flags.now.continues.items key_flags.now.begins.items }
-        ensures cell { IfOk result (λ cell. IsCell t.now self.new.elements.items point cell) }
-        ensures cells { OnOk result (self.new.cells.items ≡ self.old.cells.items) }
-        ensures blocks { OnOk result (self.new.blocks.items ≡ self.old.blocks.items) }
-        ensures others { OnOk result (self.new.others.items ≡ self.old.others.items) }
-        ensures grows { OnOk result (Grows self.old.elements.items self.new.elements.items) }
-    {
-        match char::from_u32(point) {
-            Some(c) => self.cell_of(alloc, t, key_flags, c),
-            None => Ok(UNKNOWN),
-        }
-    }
-
-    // One more cell.
-    fn push_point(
-        &mut self,
-        alloc: Global,
-        t: &Stored,
-        key_flags: &KeyFlags,
-        point: u32,
-    ) -> Result<(), AllocError>
-        requires cells { HoldsCells t.now self.old }
-        requires next { length self.old.cells.items ≡ point }
-        requires key_flags { AreKeyFlags t.now key_flags.now.leads.items key_flags.now.continues.items key_flags.now.begins.items }
+        requires own { c / 128 < length self.old.marks.blocks.items → 0 < get_or self.old.marks.blocks.items (c / 128) 0 }
         ensures cells { OnOk result (HoldsCells t.now self.new) }
-        ensures more { OnOk result (length self.new.cells.items ≡ point + 1) }
-        ensures blocks { OnOk result (self.new.blocks.items ≡ self.old.blocks.items) }
+        ensures blocks { OnOk result (self.new.marks.blocks.items ≡ self.old.marks.blocks.items) }
     {
-        let cell = self.cell_at(alloc, t, key_flags, point)?;
-        self.cells.push(cell)?;
-        Ok(())
-    }
-
-    // The cells of a block of characters, from a number on. Their elements are appended to the others.
-    fn block_from(
-        &mut self,
-        alloc: Global,
-        t: &Stored,
-        key_flags: &KeyFlags,
-        first: u32,
-    ) -> Result<Vec<Cell>, AllocError>
-        requires cells { HoldsCells t.now self.old }
-        requires within { first ≤ 1114112 }
-        requires key_flags { AreKeyFlags t.now key_flags.now.leads.items key_flags.now.continues.items key_flags.now.begins.items }
-        ensures fresh { IfOk result (λ fresh. AreCellsFrom t.now self.new.elements.items first fresh.items) }
-        ensures size { IfOk result (λ fresh. length fresh.items ≡ 128) }
-        ensures cells { OnOk result (HoldsCells t.now self.new) }
-        ensures blocks { OnOk result (self.new.blocks.items ≡ self.old.blocks.items) }
-        ensures others { OnOk result (self.new.others.items ≡ self.old.others.items) }
-    {
-        let mut fresh = Vec::with_capacity(alloc, BLOCK)?;
-        for point in first..first + BLOCK as u32 {
-            let cell = self.cell_at(alloc, t, key_flags, point)?;
-            fresh.push(cell)?;
-        }
-        Ok(fresh)
-    }
-
-    // Makes cells of a block of characters, from a number on.
-    fn own_block(
-        &mut self,
-        alloc: Global,
-        t: &Stored,
-        key_flags: &KeyFlags,
-        first: u32,
-    ) -> Result<Block, AllocError>
-        requires cells { HoldsCells t.now self.old }
-        requires within { first ≤ 1114112 }
-        requires key_flags { AreKeyFlags t.now key_flags.now.leads.items key_flags.now.continues.items key_flags.now.begins.items }
-        ensures cells { OnOk result (HoldsCells t.now self.new) }
-        ensures blocks { OnOk result (self.new.blocks.items ≡ self.old.blocks.items) }
-        ensures block { IfOk result (IsBlock t.now self.new.elements.items self.new.others.items first) }
-    {
-        let Some(start) = small(self.others.len()) else {
-            return Ok(Block::Unknown);
+        let cell = self.cell_of(alloc, t, c)?;
+        let Some(at) = self.marks.place(c) else {
+            return Ok(());
         };
-        let fresh = self.block_from(alloc, t, key_flags, first)?;
-        self.others.extend_from_slice(&fresh)?;
-        Ok(Block::Own(start))
-    }
-
-    // Whether there is room for one more block. They take at most 128 bytes for each node of the table's keys.
-    fn has_room(&self, t: &Stored) -> bool {
-        self.others.len() / BLOCK < FEW_BLOCKS + t.keys.len() / NODES_OF_A_BLOCK
-    }
-
-    // What there is of a block of characters, from a number on. One that has a key gets cells.
-    fn block_of(
-        &mut self,
-        alloc: Global,
-        t: &Stored,
-        key_flags: &KeyFlags,
-        block: u32,
-    ) -> Result<Block, AllocError>
-        requires cells { HoldsCells t.now self.old }
-        requires within { block ≤ 8704 }
-        requires key_flags { AreKeyFlags t.now key_flags.now.leads.items key_flags.now.continues.items key_flags.now.begins.items }
-        requires held { AreHeldBlocks t.now key_flags.now.held.items }
-        ensures cells { OnOk result (HoldsCells t.now self.new) }
-        ensures blocks { OnOk result (self.new.blocks.items ≡ self.old.blocks.items) }
-        ensures block { IfOk result (IsBlock t.now self.new.elements.items self.new.others.items (block * 128)) }
-    {
-        if !key_flags.holds(block) {
-            return Ok(Block::WithoutKey);
+        if at < self.cells.len() {
+            self.cells[at] = cell;
         }
-        let first = block * BLOCK as u32;
-        if (first as usize) < self.cells.len() || !self.has_room(t) {
-            return Ok(Block::Unknown);
-        }
-        self.own_block(alloc, t, key_flags, first)
-    }
-
-    // One more block.
-    fn push_block(
-        &mut self,
-        alloc: Global,
-        t: &Stored,
-        key_flags: &KeyFlags,
-        block: u32,
-    ) -> Result<(), AllocError>
-        requires cells { HoldsCells t.now self.old }
-        requires within { block ≤ 8704 }
-        requires next { length self.old.blocks.items ≡ block }
-        requires key_flags { AreKeyFlags t.now key_flags.now.leads.items key_flags.now.continues.items key_flags.now.begins.items }
-        requires held { AreHeldBlocks t.now key_flags.now.held.items }
-        ensures cells { OnOk result (HoldsCells t.now self.new) }
-        ensures more { OnOk result (length self.new.blocks.items ≡ block + 1) }
-    {
-        let made = self.block_of(alloc, t, key_flags, block)?;
-        self.blocks.push(made)?;
         Ok(())
     }
 
-    // Adds the blocks of all characters to the cells of those below a limit.
-    fn push_blocks(
-        &mut self,
-        alloc: Global,
-        t: &Stored,
-        key_flags: &KeyFlags,
-    ) -> Result<(), AllocError>
+    // Makes the cells of a block of characters that has its own.
+    fn fill_block(&mut self, alloc: Global, t: &Stored, block: u32) -> Result<(), AllocError>
         requires cells { HoldsCells t.now self.old }
-        requires none { length self.old.blocks.items ≡ 0 }
-        requires key_flags { AreKeyFlags t.now key_flags.now.leads.items key_flags.now.continues.items key_flags.now.begins.items }
-        requires held { AreHeldBlocks t.now key_flags.now.held.items }
+        requires within { block < 8704 }
+        requires own { 0 < get_or self.old.marks.blocks.items block 0 }
         ensures { OnOk result (HoldsCells t.now self.new) }
     {
+        let first = block * BLOCK as u32;
+        for point in first..first + BLOCK as u32 {
+            if let Some(c) = char::from_u32(point) {
+                self.fill(alloc, t, c)?;
+            }
+        }
+        Ok(())
+    }
+
+    // Makes the cells of all blocks that have their own, as far as they take at most 256 bytes for each node of the table's keys.
+    fn fill_blocks(&mut self, alloc: Global, t: &Stored) -> Result<(), AllocError>
+        requires { HoldsCells t.now self.old }
+        ensures { OnOk result (HoldsCells t.now self.new) }
+    {
+        let mut left = LIMIT / BLOCK + FEW_BLOCKS + t.keys.len() / NODES_OF_A_BLOCK;
         for block in 0..BLOCKS {
-            self.push_block(alloc, t, key_flags, block)?;
+            if left > 0 && self.marks.has_own(block as usize) {
+                self.fill_block(alloc, t, block)?;
+                left -= 1;
+            }
         }
         Ok(())
     }
@@ -451,25 +325,29 @@ impl Cells {
     pub fn new(alloc: Global, t: &Stored) -> Result<Cells, AllocError>
         ensures { IfOk result (λ cells. HoldsCells t.now cells) }
     {
-        let key_flags = key_flags_of(alloc, t)?;
-        let mut made = Cells::none(alloc);
-        for point in 0..limit_for(t.keys.len()) {
-            made.push_point(alloc, t, &key_flags, point)?;
-        }
-        made.push_blocks(alloc, t, &key_flags)?;
+        let limit = if t.keys.len() < FEW {
+            LIMIT_OF_FEW
+        } else {
+            LIMIT
+        };
+        let marks = MarkTable::new(alloc, t, limit / BLOCK)?;
+        let cells = unknown(alloc, marks.marks.len())?;
+        let mut made = Cells {
+            marks,
+            cells,
+            elements: Vec::new(alloc),
+        };
+        made.fill_blocks(alloc, t)?;
         Ok(made)
     }
 
     // No cells.
     pub(crate) fn none(alloc: Global) -> Cells
-        ensures cells { (t : _) → HoldsCells t result }
-        ensures none { length result.cells.items ≡ 0 }
-        ensures no_block { length result.blocks.items ≡ 0 }
+        ensures { (t : _) → HoldsCells t result }
     {
         Cells {
+            marks: MarkTable::none(alloc),
             cells: Vec::new(alloc),
-            blocks: Vec::new(alloc),
-            others: Vec::new(alloc),
             elements: Vec::new(alloc),
         }
     }
@@ -478,8 +356,7 @@ impl Cells {
     pub(crate) fn clear(&mut self)
         ensures { (t : _) → HoldsCells t self.new }
     {
-        self.cells.clear();
-        self.blocks.clear();
+        self.marks.clear();
     }
 
     /// The cells of a table, or none where memory is refused.
@@ -492,45 +369,30 @@ impl Cells {
         }
     }
 
-    // What there is of the block of a character.
-    fn block(&self, c: char) -> Block
-        ensures { (t : _) → HoldsCells t self.now → IsBlock t self.now.elements.items self.now.others.items (c / 128 * 128) result }
+    /// What the keys of a table say of a code point. `None`: that is not known.
+    pub(crate) fn marks(&self, c: char) -> Option<Marks>
+        ensures { (t : _) → HoldsCells t self.now → IfSome result (λ m. m ≡ marks t c) }
     {
-        match self.blocks.get(c as usize / BLOCK) {
-            Some(block) => *block,
-            None => Block::Unknown,
-        }
+        self.marks.find(c)
     }
 
-    // The cell at a place of those that lie in blocks.
-    fn other(&self, place: usize) -> Cell
-        ensures { (place < length self.now.others.items → (d : _) → result ≡ get_or self.now.others.items place d) }
+    /// Whether a text may be cut before a character. `false`: that is not known.
+    pub(crate) fn is_cut(&self, c: char) -> bool
+        ensures { (t : _) → HoldsCells t self.now → IsTrue result → is_cut t c ≡ true }
     {
-        match self.others.get(place) {
-            Some(cell) => *cell,
-            None => UNKNOWN,
-        }
-    }
-
-    // The cell of a character by its block. It is seldom asked for, and would keep the look-up of the others from being inlined.
-    #[inline(never)]
-    fn cell_in_block(&self, c: char) -> Cell
-        ensures { (t : _) → HoldsCells t self.now → IsCell t self.now.elements.items c result }
-    {
-        match self.block(c) {
-            Block::Own(start) => self.other(start as usize + c as usize % BLOCK),
-            Block::WithoutKey => WITHOUT_KEY,
-            Block::Unknown => UNKNOWN,
-        }
+        self.cell(c).cut
     }
 
     #[inline(always)]
     fn cell(&self, c: char) -> Cell
         ensures { (t : _) → HoldsCells t self.now → IsCell t self.now.elements.items c result }
     {
-        match self.cells.get(c as usize) {
+        let Some(at) = self.marks.place(c) else {
+            return UNKNOWN;
+        };
+        match self.cells.get(at) {
             Some(cell) => *cell,
-            None => self.cell_in_block(c),
+            None => UNKNOWN,
         }
     }
 
@@ -623,7 +485,7 @@ impl Cells {
         requires cells { HoldsCells t.now self.now }
         ensures { IfSome result (λ es. (after : List ℕ) → es ++ elements t.now (nfd after) ≡ elements t.now (nfd (c ∷ after))) }
     {
-        if self.cell(c).begins {
+        if begins(&self.marks, c) {
             return None;
         }
         if !is_own_nfd(c) {

@@ -5,7 +5,7 @@ ghost use Rattle.uca_model.specs.StandAlone.{joining};
 
 use crate::cells::{Cells, push_text};
 use crate::fault::RangeFault;
-use crate::starters::Starters;
+use crate::scan;
 use crate::stored::Stored;
 use crate::walk::Walk;
 use std::alloc::{AllocError, Global};
@@ -18,16 +18,13 @@ use uca_weights::{Element, Ideographs, Range};
 #[derive(Drop)]
 pub struct Table {
     stored: Stored,
-    // The elements of single characters; none after ranges of ideographs were added.
+    // What is known of single characters; nothing after ranges of ideographs were added.
     cells: Cells,
-    // Which code points are safe starters.
-    starters: Starters,
 }
 
 impl Model for Table {
     ghost use Rattle.uca_model.specs.Table.{ElementTable};
     ghost use Rattle.uca_table.specs.Cells.{HoldsCells};
-    ghost use Rattle.uca_table.specs.Starters.{HoldsStarters};
     ghost use Rattle.uca_table.specs.Coded.{coded_table};
 
     ghost Value = { ElementTable };
@@ -36,7 +33,7 @@ impl Model for Table {
 
     ghost view = { λ t. t.stored };
 
-    ghost invariant = { λ t. HoldsCells t.stored t.cells × HoldsStarters t.stored t.starters };
+    ghost invariant = { λ t. HoldsCells t.stored t.cells };
 }
 
 impl Table {
@@ -45,7 +42,8 @@ impl Table {
     ghost use Rattle.uca_model.specs.UnifiedIdeographs.{AreIdeographs};
     ghost use Rattle.uca_table.specs.Builder.{ideographs_fault, reported_range_fault, with_more_ideographs};
     ghost use Rattle.uca_model.specs.ImplicitWeights.{implicit};
-    ghost use Rattle.uca_model.specs.SafeCut.{is_safe_starter};
+    ghost use Rattle.uca_model.specs.Prefix.{is_closed, is_silent};
+    ghost use Rattle.uca_model.specs.SafeCut.{is_cut, is_safe_starter};
     ghost use Rattle.std.specs.FinMap.{entries};
     ghost use Rattle.uca_model.specs.Ranges.{AreByFirst};
     ghost use Rattle.uca_table.specs.Walk.{path_of, table_of_walk};
@@ -138,7 +136,28 @@ impl Table {
     pub fn safe_starter(&self, c: char) -> bool
         ensures { result ≡ is_safe_starter self.now c }
     {
-        self.starters.is_safe(&self.stored, c)
+        scan::is_safe_starter(&self.stored, &self.cells, c)
+    }
+
+    /// Whether a text may be cut before a character: the NFD of the character begins with a safe starter.
+    pub fn is_cut(&self, c: char) -> bool
+        ensures { result ≡ is_cut self.now c }
+    {
+        scan::is_cut(&self.stored, &self.cells, c)
+    }
+
+    /// Whether no match that began before a starter goes on after it, and every key that begins with it has its primary weights.
+    pub fn is_closed(&self, s: char) -> bool
+        ensures { result ≡ is_closed self.now s }
+    {
+        scan::is_closed(&self.stored, &self.cells, s)
+    }
+
+    /// Whether a code point has no primary weight, and no key that begins with it has one.
+    pub fn is_silent(&self, c: char) -> bool
+        ensures { result ≡ is_silent self.now c }
+    {
+        scan::is_silent(&self.stored, &self.cells, c)
     }
 
     /// Makes the cells anew, which quick look-ups use and `add_ideographs` drops. Call it after the last change of a
@@ -155,12 +174,7 @@ impl Table {
         ensures { result ≡ stored }
     {
         let cells = Cells::of(alloc, &stored);
-        let starters = Starters::of(alloc, &stored);
-        Table {
-            stored,
-            cells,
-            starters,
-        }
+        Table { stored, cells }
     }
 
     /// The entries and ranges, for matching code point by code point.

@@ -9,7 +9,7 @@ returns-in-Some c = λ cut. inr (record {
   c = c.in-Some.c;
   later = chars (chars_rest c.next.new.self);
   same = chars_past_char _ _ _ c.utf8.left (sym c.chars.ensures.rest ∙ c.in-Some.ensures.steps.0);
-  cut = sym c.may_cut.ensures ∙ cut;
+  cut = sym c.is_cut.ensures ∙ cut;
 })
 
 pub returns-in-None : goal.returns-in-None

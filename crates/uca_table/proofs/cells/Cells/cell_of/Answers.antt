@@ -1,0 +1,16 @@
+use Rattle.std.proofs.Common.{rules, arith, ap, sym, ◌∙◌}
+use Rattle.uca_model.specs.SafeCut.{begins_apart}
+use Rattle.uca_model.proofs.SafeCutLemmas.{is_cut-parts}
+use Rattle.uca_table.proofs.CellLemmas.{taken-fresh}
+use Rattle.uca_table.proofs.cells.Cells.cell_of.Goals as goal
+
+pub returns-clause-cell : goal.returns-clause-cell
+returns-clause-cell c = record {
+  joining = search rules;
+  bearing = search rules;
+  cut = λ holds. is_cut-parts c.args.t.now c.args.c ∙ ap (begins_apart c.args.t.now) (sym c.decomposition-points.ensures.value) ∙ c.begins_apart-cut.ensures holds;
+  within = search rules;
+  elements = λ some.
+      taken-fresh c.args.self.now.elements.items _ c.push_elements.new.self.elements.items c.extent-start.result.0 c.extent-start.result.1 c.in_ok-push_elements.ensures.elements
+      (omega (arith, (c.extent-start.ensures.place some).0)) (omega (arith, (c.extent-start.ensures.place some).1));
+}

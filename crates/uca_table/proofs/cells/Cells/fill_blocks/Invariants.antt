@@ -1,0 +1,5 @@
+use Rattle.uca_table.specs.Cells.{HoldsCells}
+use Rattle.uca_table.proofs.cells.Cells.fill_blocks.Given as goal
+
+abbrev pub invariant-loop-block : goal.invariant-loop-block
+invariant-loop-block l = HoldsCells l.t l.self
