@@ -1,14 +1,25 @@
 -- The first byte string after all that begin with another, from its last byte on; and what the ends of a prefix say.
-use Rattle.std.proofs.Common.{◌≡◌, ℕ, zero, suc, ◌+◌, ◌-◌, ◌≤◌, ◌<◌, cond, true, ◌==◌, List, [], ◌∷◌, ◌++◌, length, take, get_or, Option, Some, None, refl, sym, ap, subst, ◌∙◌, arith, eq-eqb, ne_eqb, Fits, w8}
+use Rattle.std.proofs.Common.{◌≡◌, ◌↔◌, ℕ, zero, suc, ◌+◌, ◌-◌, ◌≤◌, ◌<◌, cond, true, ◌==◌, List, [], ◌∷◌, ◌++◌, length, take, get_or, Option, Some, None, All, flat_map, append_assoc, refl, sym, ap, subst, ◌∙◌, arith, eq-eqb, ne_eqb, Fits, w8}
 use Rattle.std.proofs.lemmas.Bool.{cond-true, cond-false}
+use Rattle.std.proofs.lemmas.List.Concat.{flat_map-append}
+use Rattle.std.specs.Char.{IsScalar}
+use Rattle.std.specs.List.{AllByRecursion}
+use Rattle.unicode_normalization.specs.Forms.{nfd}
 use Rattle.std.specs.Option.{option_map_or}
 use Rattle.uca_weights.specs.declared.settings.Settings.{Settings}
 use Rattle.uca_weights.specs.declared.settings.Variable.{Variable}
-use Rattle.uca_model.specs.Table.{ElementTable}
-use Rattle.uca_model.specs.SortKey.{sort_key}
+use Rattle.uca_weights.specs.declared.settings.Strength.{Strength}
+use Rattle.uca_weights.specs.declared.settings.Strength.TheVariants.{Primary, Secondary, Tertiary, Quaternary, Identical}
+use Rattle.uca_weights.specs.Settings.{levels}
+use Rattle.uca_weights.specs.VariableWeighting.{weighted}
+use Rattle.uca_model.specs.CollationElements.{elements}
+use Rattle.uca_model.specs.Table.{ElementTable, IsTable}
+use Rattle.uca_model.specs.SortKey.{all_levels, code_point_bytes, joined, sort_key, weight_bytes}
 use Rattle.uca_model.specs.Prefix.{end_of_prefix, is_complete, primary_key, IsBetween}
+use Rattle.uca_model.specs.LevelWeights.{level_list, level_weights}
 use Rattle.uca_model.specs.Laws.{AreBytes, BeginsWith}
-use Rattle.uca_model.proofs.PrefixKeys.{keys-begin, begins-between, between-begins}
+use Rattle.uca_model.proofs.GrowingLemmas.{keys-grow}
+use Rattle.uca_model.proofs.PrefixKeys.{keys-begin, begins-between, between-begins, keys-alike, primary_key-is}
 
 end-last : (xs : List ℕ) (b : ℕ) → b ≡ 255 → end_of_prefix (xs ++ b ∷ []) ≡ end_of_prefix xs
 unfolding end_of_prefix
@@ -50,6 +61,72 @@ between_longer t v p lower upper complete first last s x same =
     let begins = keys-begin t s p x complete in
     let whole : sort_key t s (p ++ x) ≡ lower ++ begins.rest = begins.parts ∙ ap (λ l. l ++ begins.rest) (ap (λ w. primary_key t w p) same ∙ sym first) in
     subst (λ u. IsBetween lower u (sort_key t s (p ++ x))) (sym last) (subst (IsBetween lower (end_of_prefix lower)) (sym whole) (begins-between lower begins.rest))
+
+some_levels : (s : Strength) → levels Primary ≤ levels s
+some_levels Primary = omega arith
+some_levels Secondary = omega arith
+some_levels Tertiary = omega arith
+some_levels Quaternary = omega arith
+some_levels Identical = omega arith
+
+-- a sort key has bytes
+bytes-append : (xs ys : List ℕ) → AreBytes xs → AreBytes ys → AreBytes (xs ++ ys)
+bytes-append [] ys h g = g
+bytes-append (x ∷ xs) ys h g = (h.0, bytes-append xs ys h.1 g)
+
+weights-bytes : (ws : List ℕ) → AreBytes (flat_map weight_bytes ws)
+weights-bytes [] = tt
+weights-bytes (w ∷ ws) = (omega arith, (omega arith, weights-bytes ws))
+
+points-bytes : (cs : List ℕ) → AreBytes (flat_map code_point_bytes cs)
+points-bytes [] = tt
+points-bytes (c ∷ cs) = (omega arith, (omega arith, (omega arith, points-bytes cs)))
+
+joined-bytes : (ls : List (List ℕ)) → AllByRecursion AreBytes ls → AreBytes (joined ls)
+joined-bytes [] h = tt
+joined-bytes (x ∷ []) h = h.0
+joined-bytes (x ∷ y ∷ ls) h = bytes-append x (0 ∷ 0 ∷ joined (y ∷ ls)) h.0 (omega arith, (omega arith, joined-bytes (y ∷ ls) h.1))
+
+take-bytes : (n : ℕ) (ls : List (List ℕ)) → AllByRecursion AreBytes ls → AllByRecursion AreBytes (take n ls)
+take-bytes zero ls h = tt
+take-bytes (suc n) [] h = tt
+take-bytes (suc n) (l ∷ ls) h = (h.0, take-bytes n ls h.1)
+
+key-bytes : (t : ElementTable) (s : Settings) (x : List ℕ) → AreBytes (sort_key t s x)
+unfolding sort_key
+key-bytes t s x =
+    let ws : List (List ℕ) = weighted s.weighting (elements t (nfd x)) in
+    joined-bytes (take (levels s.strength) (all_levels ws (nfd x)))
+    (take-bytes (levels s.strength) (all_levels ws (nfd x)) (weights-bytes (level_weights 1 ws), (weights-bytes (level_weights 2 ws), (weights-bytes (level_weights 3 ws), (weights-bytes (level_weights 4 ws), (points-bytes (nfd x), tt))))))
+
+-- a text whose primary weights begin with those of another has a key that begins with the key of the other
+begins-key : (t : ElementTable) (s : Settings) (p x : List ℕ) → BeginsWith (level_list t s.weighting x 1) (level_list t s.weighting p 1) → BeginsWith (sort_key t s x) (primary_key t s.weighting p)
+begins-key t s p x begins =
+    let grown = keys-grow t s.weighting Primary s.strength x (some_levels s.strength) in
+    let later : List ℕ = flat_map weight_bytes begins.rest in
+    let longer : primary_key t s.weighting x ≡ primary_key t s.weighting p ++ later =
+    primary_key-is t s.weighting x ∙ ap (flat_map weight_bytes) begins.parts ∙ flat_map-append weight_bytes (level_list t s.weighting p 1) begins.rest ∙ ap (λ l. l ++ later) (sym (primary_key-is t s.weighting p)) in
+    record {
+      rest = later ++ grown.rest;
+      parts = grown.parts ∙ ap (λ l. l ++ grown.rest) longer ∙ append_assoc (primary_key t s.weighting p) later grown.rest;
+    }
+
+-- and it lies between the ends then, and only then
+exactly_of : (t : ElementTable) (s : Settings) (p x lower : List ℕ) (upper : Option (List ℕ)) → IsTable t → All IsScalar p → All IsScalar x → lower ≡ primary_key t s.weighting p → upper ≡ end_of_prefix lower
+    → IsBetween lower upper (sort_key t s x) ↔ BeginsWith (level_list t s.weighting x 1) (level_list t s.weighting p 1)
+exactly_of t s p x lower upper table of_p of_x first last = (
+  λ between. keys-alike t s p x table of_p of_x (subst (BeginsWith (sort_key t s x)) first (between-begins lower (sort_key t s x) (key-bytes t s x) (subst (λ u. IsBetween lower u (sort_key t s x)) last between))),
+  λ begins.
+      let key = begins-key t s p x begins in
+      let whole : sort_key t s x ≡ lower ++ key.rest = key.parts ∙ ap (λ l. l ++ key.rest) (sym first) in
+      subst (λ u. IsBetween lower u (sort_key t s x)) (sym last) (subst (IsBetween lower (end_of_prefix lower)) (sym whole) (begins-between lower key.rest)),
+)
+
+pub between_exactly : (t : ElementTable) (v : Variable) (p lower : List ℕ) (upper : Option (List ℕ)) → IsTable t → All IsScalar p → lower ≡ primary_key t v p → upper ≡ end_of_prefix lower
+    → (s : Settings) (x : List ℕ) → s.weighting ≡ v → All IsScalar x → IsBetween lower upper (sort_key t s x) ↔ BeginsWith (level_list t v x 1) (level_list t v p 1)
+between_exactly t v p lower upper table of_p first last s x same of_x =
+    subst (λ w. IsBetween lower upper (sort_key t s x) ↔ BeginsWith (level_list t w x 1) (level_list t w p 1)) same
+    (exactly_of t s p x lower upper table of_p of_x (first ∙ ap (λ w. primary_key t w p) (sym same)) last)
 
 -- what lies between the ends begins with the lower one
 pub begins_lower : (lower : List ℕ) (upper : Option (List ℕ)) → upper ≡ end_of_prefix lower → (bytes : List ℕ) → AreBytes bytes → IsBetween lower upper bytes → BeginsWith bytes lower

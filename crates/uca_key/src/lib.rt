@@ -13,7 +13,7 @@ mod levels;
 mod packed;
 pub mod streaming;
 
-pub use bounds::{PrefixBounds, PrefixFault, prefix_bounds};
+pub use bounds::{PrefixBounds, prefix_bounds};
 pub use key_maker::KeyMaker;
 pub use keys::{key_of, packed_key_of};
 pub use streaming::{KeyFault, write_key};

@@ -1,7 +1,7 @@
 use super::table;
 use std::alloc::Global;
 use std::process::Abort;
-use uca_key::{PrefixBounds, PrefixFault, prefix_bounds};
+use uca_key::{PrefixBounds, prefix_bounds};
 use uca_table::Table;
 use uca_testing::table_from;
 use uca_weights::Variable;
@@ -14,22 +14,21 @@ fn bounds_again(
     t: &Table,
     v: Variable,
     text: &str,
-) -> Result<PrefixBounds, PrefixFault> {
+) -> PrefixBounds {
     let p = Passage::check(text).ok().expect(rt, "a safe text");
     match prefix_bounds(alloc, t, v, &p) {
-        Err(PrefixFault::OutOfMemory) => prefix_bounds(alloc, t, v, &p),
-        answer => answer,
+        Err(_) => prefix_bounds(alloc, t, v, &p).ok().expect(rt, "bounds"),
+        Ok(bounds) => bounds,
     }
 }
 
 /// Checks the two ends of a safe text.
 fn assert_ends(
     rt: &impl Abort,
-    found: Result<PrefixBounds, PrefixFault>,
+    bounds: PrefixBounds,
     lower: &[u8],
     upper: Option<&[u8]>,
 ) {
-    let bounds = found.ok().expect(rt, "bounds");
     assert!(rt; bounds.lower.as_slice() == lower);
     match (&bounds.upper, upper) {
         (Some(end), Some(wanted)) => assert!(rt; end.as_slice() == wanted),
@@ -54,17 +53,25 @@ const BOUNDS: [(&'static str, Variable, &'static [u8], Option<&'static [u8]>); 5
 fn complete_texts_have_bounds(rt: HostRuntime) {
     let t = table(&rt, rt.alloc());
     for (text, v, lower, upper) in &BOUNDS {
-        let found = bounds_again(&rt, rt.alloc(), &t, *v, text);
-        assert_ends(&rt, found, lower, *upper);
+        let bounds = bounds_again(&rt, rt.alloc(), &t, *v, text);
+        assert!(rt; bounds.complete, "{text:?}");
+        assert_ends(&rt, bounds, lower, *upper);
     }
 }
 
 #[test]
-fn a_text_that_may_be_joined_has_no_bounds(rt: HostRuntime) {
+fn a_text_that_may_be_joined_is_not_complete(rt: HostRuntime) {
     let t = table(&rt, rt.alloc());
-    for text in ["c", "chc"] {
-        let found = bounds_again(&rt, rt.alloc(), &t, Variable::Shifted, text);
-        assert!(rt; found.err() == Some(PrefixFault::Incomplete), "{text:?}");
+    let ends = [
+        ("c", [0x10u8, 2], [0x10u8, 3]),
+        ("chc", [0x10, 2], [0x10, 3]),
+    ];
+    for (text, last, end) in &ends {
+        let bounds = bounds_again(&rt, rt.alloc(), &t, Variable::Shifted, text);
+        assert!(rt; !bounds.complete, "{text:?}");
+        assert!(rt; bounds.lower.ends_with(last.as_slice()), "{text:?}");
+        let upper = bounds.upper.expect(&rt, "an upper end");
+        assert!(rt; upper.ends_with(end.as_slice()), "{text:?}");
     }
 }
 
