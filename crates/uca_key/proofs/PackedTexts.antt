@@ -1,5 +1,5 @@
 -- Which texts have one packed key.
-use Rattle.std.proofs.Common.{◌≡◌, ℕ, List, take, ap}
+use Rattle.std.proofs.Common.{ℕ, List, take, ap}
 use Rattle.std.specs.List.{concat}
 use Rattle.unicode_normalization.specs.Forms.{nfd}
 use Rattle.uca_weights.specs.declared.element.Element.{Element}

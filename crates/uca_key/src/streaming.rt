@@ -1,4 +1,4 @@
-ghost use Rattle.std.specs.Prelude.{◌≡◌, ◌+◌, ◌<◌, ◌≤◌, ◌^◌, [], ◌∷◌, length, MatchResult};
+ghost use Rattle.std.specs.Prelude.{◌≡◌, ◌+◌, ◌<◌, ◌≤◌, ◌^◌, [], ◌∷◌, chars, length, MatchResult};
 ghost use Rattle.uca_io.specs.OutputBuffer.{accepted, Accepts, FailsPartway};
 ghost use Rattle.uca_io.specs.Writer.{WritesAll, WritesFront};
 ghost use Rattle.uca_model.specs.LevelWeights.{level_list};
@@ -10,7 +10,7 @@ ghost use Rattle.uca_window.specs.Passage.{text_of};
 ghost use Rattle.uca_key.specs.Faults.{write_fault};
 
 use uca_io::OutputBuffer;
-use uca_levels::{Points, Weights};
+use uca_levels::{Points, TextWeights};
 use uca_table::Table;
 use uca_weights::{Settings, Variable, WriteCause, WriteFault, Writer};
 use uca_window::{Passage, PassageSource, Source};
@@ -74,26 +74,25 @@ fn send_separator<W: Writer>(w: &mut W, out: &mut OutputBuffer) -> Result<(), Wr
     out.write(w, &[0, 0])
 }
 
-// Has the weights of a level go out, of what a source has not given yet.
-fn send_weights<W: Writer, S: Source>(
+// Has the weights of a level of a text go out.
+fn send_weights<W: Writer>(
     w: &mut W,
     out: &mut OutputBuffer,
     t: &Table,
     v: Variable,
     level: u8,
-    source: &mut S,
+    text: &str,
 ) -> Result<(), WriteFault>
     requires first { 1 ≤ level }
     requires last { level ≤ 4 }
-    requires safe { IsSafe (unread (S.state source.old)) }
-    requires room { accepted out.old + length (bytes_at level (level_list t.now v (unread (S.state source.old)) level)) < 2 ^ 128 }
-    ensures bytes { MatchResult result
-        (λ _. Accepts (W.state w.old) out.old (W.state w.new) out.new (bytes_at level (level_list t.now v (unread (S.state source.old)) level)))
-        (λ f. FailsPartway (W.state w.old) out.old (W.state w.new) (bytes_at level (level_list t.now v (unread (S.state source.old)) level)) f) }
-    ensures text { (S.state source.new).text ≡ (S.state source.old).text }
+    requires safe { IsSafe (chars text.now) }
+    requires room { accepted out.old + length (bytes_at level (level_list t.now v (chars text.now) level)) < 2 ^ 128 }
+    ensures { MatchResult result
+        (λ _. Accepts (W.state w.old) out.old (W.state w.new) out.new (bytes_at level (level_list t.now v (chars text.now) level)))
+        (λ f. FailsPartway (W.state w.old) out.old (W.state w.new) (bytes_at level (level_list t.now v (chars text.now) level)) f) }
 {
-    let mut weights = Weights::new(t, v, level);
-    'each: while let Some(weight) = weights.next(source) {
+    let mut weights = TextWeights::new(t, v, level, text);
+    'each: while let Some(weight) = weights.next() {
         match send_weight(w, out, weight) {
             Ok(()) => {}
             Err(fault) => return Err(fault),
@@ -127,49 +126,48 @@ fn send_points<W: Writer, S: Source>(
     Ok(())
 }
 
-// Has one level go out, of what a source has not given yet.
-fn send_level<W: Writer, S: Source>(
+// Has one level of a text go out.
+fn send_level<W: Writer>(
     w: &mut W,
     out: &mut OutputBuffer,
     t: &Table,
     v: Variable,
     level: u8,
-    source: &mut S,
+    text: &str,
 ) -> Result<(), WriteFault>
     requires first { 1 ≤ level }
     requires last { level ≤ 5 }
-    requires safe { IsSafe (unread (S.state source.old)) }
-    requires room { accepted out.old + length (bytes_at level (level_list t.now v (unread (S.state source.old)) level)) < 2 ^ 128 }
-    ensures bytes { MatchResult result
-        (λ _. Accepts (W.state w.old) out.old (W.state w.new) out.new (bytes_at level (level_list t.now v (unread (S.state source.old)) level)))
-        (λ f. FailsPartway (W.state w.old) out.old (W.state w.new) (bytes_at level (level_list t.now v (unread (S.state source.old)) level)) f) }
-    ensures text { (S.state source.new).text ≡ (S.state source.old).text }
+    requires safe { IsSafe (chars text.now) }
+    requires room { accepted out.old + length (bytes_at level (level_list t.now v (chars text.now) level)) < 2 ^ 128 }
+    ensures { MatchResult result
+        (λ _. Accepts (W.state w.old) out.old (W.state w.new) out.new (bytes_at level (level_list t.now v (chars text.now) level)))
+        (λ f. FailsPartway (W.state w.old) out.old (W.state w.new) (bytes_at level (level_list t.now v (chars text.now) level)) f) }
 {
     if level == 5 {
-        return send_points(w, out, t, v, source);
+        let mut source = PassageSource::new(&Passage::of_safe(text));
+        return send_points(w, out, t, v, &mut source);
     }
-    send_weights(w, out, t, v, level, source)
+    send_weights(w, out, t, v, level, text)
 }
 
-// Has the sort key of a source's text go out, level after level.
-fn send_key<W: Writer, S: Source>(
+// Has the sort key of a text go out, level after level.
+fn send_key<W: Writer>(
     w: &mut W,
     out: &mut OutputBuffer,
     t: &Table,
     s: Settings,
-    source: &mut S,
+    text: &str,
 ) -> Result<(), WriteFault>
-    requires safe { IsSafe (S.state source.old).text }
-    requires room { accepted out.old + length (sort_key t.now s (S.state source.old).text) < 2 ^ 128 }
+    requires safe { IsSafe (chars text.now) }
+    requires room { accepted out.old + length (sort_key t.now s (chars text.now)) < 2 ^ 128 }
     ensures { MatchResult result
-        (λ _. Accepts (W.state w.old) out.old (W.state w.new) out.new (sort_key t.now s (S.state source.old).text))
-        (λ f. FailsPartway (W.state w.old) out.old (W.state w.new) (sort_key t.now s (S.state source.old).text) f) }
+        (λ _. Accepts (W.state w.old) out.old (W.state w.new) out.new (sort_key t.now s (chars text.now)))
+        (λ f. FailsPartway (W.state w.old) out.old (W.state w.new) (sort_key t.now s (chars text.now)) f) }
 {
     let last = s.levels();
     let mut level = 1;
     'each: loop {
-        source.restart();
-        match send_level(w, out, t, s.weighting, level, source) {
+        match send_level(w, out, t, s.weighting, level, text) {
             Ok(()) => {}
             Err(fault) => return Err(fault),
         }
@@ -201,11 +199,10 @@ fn show_room(t: &Table, s: Settings, p: &Passage)
 }
 
 /// Writes the sort key of a text, and returns its length in bytes (UTS #10, section 7.3). On a fault exactly the first
-/// `written` bytes of the key went out. It takes no memory, and does not flush the writer.
+/// `written` bytes of the key went out. It does not allocate, and does not flush the writer.
 ///
-/// The text is read level after level, through a [`Weights`] or through [`Points`]. So at most `MAX_LOOKAHEAD` of its code
-/// points more than the longest key has are held at a time: the clauses `bound` of `Weights::new` and `next`, and of
-/// `Points::new` and `next`, say so.
+/// The text is read level after level, through [`TextWeights`] or through [`Points`]. So at most `MAX_LOOKAHEAD` of its code
+/// points more than the longest key has are held at a time.
 pub fn write_key<W: Writer>(
     w: &mut W,
     t: &Table,
@@ -218,8 +215,7 @@ pub fn write_key<W: Writer>(
 {
     show_room(t, s, p);
     let mut out = OutputBuffer::new();
-    let mut source = PassageSource::new(p);
-    match send_key(w, &mut out, t, s, &mut source) {
+    match send_key(w, &mut out, t, s, p.as_str()) {
         Ok(()) => {}
         Err(fault) => return Err(stopped(fault)),
     }

@@ -44,7 +44,7 @@ primaries-character t v rest after c es utf8 step alone =
 
 -- ---- two texts
 
-elements-apart : (t : ElementTable) (front left : List ℕ) → JoinsNothing t left → elements t (nfd (front ++ left)) ≡ elements t (nfd front) ++ elements t (nfd left)
+pub elements-apart : (t : ElementTable) (front left : List ℕ) → JoinsNothing t left → elements t (nfd (front ++ left)) ≡ elements t (nfd front) ++ elements t (nfd left)
 elements-apart t front left joins =
     elim joins [
       | inl none ↦ ap (λ l. elements t (nfd (front ++ l))) none ∙ apart-end t front ∙ ap (λ l. elements t (nfd front) ++ elements t (nfd l)) (sym none)

@@ -136,7 +136,7 @@ left-none t s a b x y h none_x none_y =
 -- ---- their bytes
 
 -- the characters before a place and those after it
-parts-at : (text left : List ℕ) (at : ℕ) → IsUtf8 text → IsCharBoundary text at → left ≡ drop at text → chars text ≡ chars (take at text) ++ chars left
+pub parts-at : (text left : List ℕ) (at : ℕ) → IsUtf8 text → IsCharBoundary text at → left ≡ drop at text → chars text ≡ chars (take at text) ++ chars left
 parts-at text left at utf8 inside e =
     ap chars (sym (take-append-drop at text)) ∙ chars-append (take at text) (drop at text) (IsUtf8-take text at utf8 inside) ∙ ap (λ l. chars (take at text) ++ chars l) (sym e)
 

@@ -3,6 +3,7 @@ pub mod Reads
 pub mod InCommon
 pub mod FromCut
 pub mod WithoutFront
+pub mod TextElements
 pub mod TextWeights
 pub mod PrimaryWeights
 pub mod FirstWeight

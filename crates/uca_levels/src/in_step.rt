@@ -6,14 +6,13 @@ ghost use Rattle.uca_levels.specs.Reads.{InStep};
 ghost use Rattle.uca_levels.specs.WithoutFront.{AreApart, JoinsNothing};
 
 use crate::cut::{are_whole, common_front};
-use crate::primary_weights::PrimaryWeights;
-use crate::text_elements::NotAlone;
+use crate::primary_weights::{NotAlone, PrimaryWeights};
 use std::cmp::Ordering;
 use uca_table::Table;
 use uca_weights::Variable;
 
-// Whether a text joins nothing that stands before it.
-fn joins_nothing(t: &Table, text: &str) -> bool
+/// Whether a text joins nothing that stands before it.
+pub(crate) fn joins_nothing(t: &Table, text: &str) -> bool
     ensures { IsTrue result → JoinsNothing t.now (chars text.now) }
 {
     match text.chars().next() {

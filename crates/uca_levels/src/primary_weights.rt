@@ -4,10 +4,13 @@ ghost use Rattle.uca_model.specs.LevelWeights.{level_list};
 ghost use Rattle.uca_match.specs.Yields.{YieldsFirst};
 ghost use Rattle.uca_levels.specs.PrimaryWeights.{primaries, primaries_left};
 
-use crate::text_elements::NotAlone;
 use crate::weights::at_level;
 use uca_table::Table;
 use uca_weights::{Element, Variable, Weigher};
+
+/// The next element of a text depends on more than the next character.
+#[derive(Clone, Copy)]
+pub(crate) struct NotAlone;
 
 /// The weights of a text in memory at the first level one by one, for as long as its characters stand alone. It takes no
 /// memory.

@@ -1,4 +1,4 @@
-use Rattle.std.proofs.Common.{rules, ◌≡◌, All, chars, sym, ap, subst, ◌∙◌}
+use Rattle.std.proofs.Common.{All, chars, sym, ap, subst, ◌∙◌}
 use Rattle.std.specs.Char.{IsScalar}
 use Rattle.uca_levels.proofs.WithoutFront.{scalars-text}
 use Rattle.uca_model.specs.Prefix.{end_of_prefix}

@@ -1,7 +1,6 @@
-use Rattle.std.proofs.Common.{subst, sym}
+use Rattle.std.proofs.Common.{ℕ, List, chars, subst, sym}
 use Rattle.uca_io.specs.Writer.{WritesFront}
 use Rattle.uca_io.specs.declared.writer.WriteFault.{WriteFault}
-use Rattle.uca_model.specs.Source.{SourceState}
 use Rattle.uca_model.specs.SortKey.{sort_key}
 use Rattle.uca_window.specs.Passage.{text_of}
 use Rattle.uca_key.proofs.KeyPieces.{stopped_last}
@@ -10,5 +9,5 @@ use Rattle.uca_key.proofs.streaming.write_key.Goals as goal
 pub returns-in-Err-flush : goal.returns-in-Err-flush
 returns-in-Err-flush g c =
     subst (λ (fault : WriteFault). WritesFront (g.W.Writer.state c.args.w.now) (g.W.Writer.state c.flush.new.w) (sort_key c.args.t.now c.args.s (text_of c.args.p.now)) fault) (sym c.stopped-in-Err-flush.ensures)
-    (subst (λ (source : SourceState). WritesFront (g.W.Writer.state c.args.w.now) (g.W.Writer.state c.flush.new.w) (sort_key c.args.t.now c.args.s source.text) c.in-Err-flush.fault) c.new-source.ensures.value
+    (subst (λ (bytes : List ℕ). WritesFront (g.W.Writer.state c.args.w.now) (g.W.Writer.state c.flush.new.w) (sort_key c.args.t.now c.args.s (chars bytes)) c.in-Err-flush.fault) c.as_str.ensures.text
     (stopped_last _ _ _ c.new-out.result c.send_key.new.out _ _ c.new-out.ensures.waiting c.new-out.ensures.written c.in-Ok.ensures c.in-Err-flush.ensures.all))

@@ -2,7 +2,7 @@ use Rattle.std.proofs.Common.{◌≡◌, length, chars}
 use Rattle.uca_model.specs.LevelWeights.{level_list}
 use Rattle.uca_levels.specs.Reads.{InStep}
 use Rattle.uca_levels.specs.TextWeights.{weights_left}
-use Rattle.uca_levels.proofs.text_order.order_of_alone.Given as goal
+use Rattle.uca_levels.proofs.text_order.order_of_weights.Given as goal
 
 abbrev pub invariant-loop-x : goal.invariant-loop-x
 invariant-loop-x l = record {
