@@ -16,9 +16,17 @@ use uca_window::Passage;
 pub(crate) fn passage_of(bytes: &[u8]) -> Result<Passage<'_>, TextFault>
     ensures { MatchResult result (λ p. IsTextLine bytes.now × (text_of p ≡ chars bytes.now)) (IsFault bytes.now) }
 {
-    if let Some(passage) = Passage::of_ascii(bytes) {
-        return Ok(passage);
+    match Passage::of_ascii(bytes) {
+        Some(passage) => Ok(passage),
+        None => checked(bytes),
     }
+}
+
+/// The text that bytes are after a look for faults. It is not inlined, so that a text in ASCII doesn't pay for its room.
+#[inline(never)]
+fn checked(bytes: &[u8]) -> Result<Passage<'_>, TextFault>
+    ensures { MatchResult result (λ p. IsTextLine bytes.now × (text_of p ≡ chars bytes.now)) (IsFault bytes.now) }
+{
     match from_utf8(bytes) {
         Ok(text) => match Passage::check(text) {
             Ok(passage) => Ok(passage),

@@ -7,6 +7,7 @@
 //! and what it has still to show are together the NFD of the whole text.
 #![tactic(auto)]
 
+mod ascii;
 pub mod decomposition;
 pub mod passage;
 pub mod passage_source;

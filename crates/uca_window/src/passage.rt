@@ -6,6 +6,7 @@ ghost use Rattle.uca_model.specs.SafeText.{IsSafe, IsLongRunAt, longest_run_afte
 ghost use Rattle.uca_window.specs.Passing.{ending};
 ghost use Rattle.uca_window.specs.Scan.{run_after, Fits};
 
+use crate::ascii::is_ascii;
 use crate::passing::{STRIDE, is_passed, pass, skip};
 use std::str::from_utf8_unchecked;
 use thiserror::Error;
@@ -54,7 +55,7 @@ impl<'t> Passage<'t> {
         ensures same { IfSome result (λ p. bytes_of p ≡ bytes.now) }
         ensures safe { IfSome result (λ _. IsTextLine bytes.now) }
     {
-        if !bytes.is_ascii() {
+        if !is_ascii(bytes) {
             return None;
         }
         Some(Passage::of_safe(unsafe { from_utf8_unchecked(bytes) }))

@@ -67,6 +67,19 @@ fn ascii_alone_is_taken_without_a_check(rt: HostRuntime) {
 }
 
 #[test]
+fn one_byte_that_is_not_ascii_is_seen(rt: HostRuntime) {
+    let mut bytes = [b'a'; 70];
+    for n in 1..71 {
+        assert!(rt; Passage::of_ascii(&bytes[..n]).is_some(), "{n}");
+        for at in 0..n {
+            bytes[at] = 0x80;
+            assert!(rt; Passage::of_ascii(&bytes[..n]).is_none(), "{at} of {n}");
+            bytes[at] = b'a';
+        }
+    }
+}
+
+#[test]
 fn runs_up_to_the_limit_are_accepted(rt: HostRuntime) -> Result<(), Fail> {
     for (pieces, want) in &RUNS {
         assert_refused_at(&rt, rt.alloc(), pieces, *want)?;
