@@ -6,3 +6,4 @@ pub mod Opening
 pub mod Placing
 pub mod Texts
 pub mod FingerprintLaws
+pub mod Lending
