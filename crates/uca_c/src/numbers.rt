@@ -18,8 +18,6 @@ pub const BAD_RULES: u32 = 7;
 
 pub const BAD_TAILORING: u32 = 8;
 
-pub const INCOMPLETE: u32 = 9;
-
 pub const TABLE_LINE_TOO_LONG: u32 = 1;
 
 pub const TABLE_BAD_DIRECTIVE: u32 = 2;

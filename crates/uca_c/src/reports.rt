@@ -230,7 +230,6 @@ pub(crate) fn of_bounds(outcome: Result<BoundsSize, BoundsFault>) -> Report
         Ok(_) => Report::plain(OK),
         Err(BoundsFault::Closed) => Report::plain(CLOSED),
         Err(BoundsFault::Text(fault)) => Report::of_text(1, fault),
-        Err(BoundsFault::Incomplete) => Report::plain(INCOMPLETE),
         Err(BoundsFault::OutOfMemory) => Report::plain(NO_MEMORY),
     }
 }

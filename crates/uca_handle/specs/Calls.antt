@@ -120,10 +120,10 @@ end_bytes end = option_map_or (λ bytes. bytes) end []
 abbrev pub upper_end : ElementTable → Variable → List ℕ → Option (List ℕ)
 upper_end t v text = end_of_prefix (primary_key t v text)
 
--- the two ends of the keys of all texts that begin with a text are in the fronts of two buffers, and these are their lengths
+-- the two ends of the keys of all texts whose primary weights begin with those of a text are in the fronts of two buffers, these are their lengths, and whether the text is complete
 pub record AreBoundsIn (t : ElementTable) (v : Variable) (text lower_before lower_after upper_before upper_after : List ℕ) (size : BoundsSize) : Type 0 where
   pub safe : IsTextLine text
-  pub complete : is_complete t (chars text) ≡ true
+  pub complete : size.complete ≡ is_complete t (chars text)
   pub lower_is : size.lower ≡ length (primary_key t v (chars text))
   pub lower_written : lower_after ≡ with_front (primary_key t v (chars text)) lower_before
   pub upper_is : size.upper ≡ option_map length (upper_end t v (chars text))
@@ -135,8 +135,7 @@ abbrev pub PutsBoundsBy : ElementTable → Variable → List ℕ → List ℕ �
 PutsBoundsBy t v text lower lower_after upper upper_after (Ok size) = AreBoundsIn t v text lower lower_after upper upper_after size
 PutsBoundsBy t v text lower lower_after upper upper_after (Err bounds.Closed) = ⊥
 PutsBoundsBy t v text lower lower_after upper upper_after (Err (bounds.Text f)) = IsFault text f × (lower_after ≡ lower) × (upper_after ≡ upper)
-PutsBoundsBy t v text lower lower_after upper upper_after (Err bounds.Incomplete) = IsTextLine text × (is_complete t (chars text) ≡ false) × (lower_after ≡ lower) × (upper_after ≡ upper)
-PutsBoundsBy t v text lower lower_after upper upper_after (Err bounds.OutOfMemory) = IsTextLine text × (is_complete t (chars text) ≡ true) × (lower_after ≡ lower) × (upper_after ≡ upper)
+PutsBoundsBy t v text lower lower_after upper upper_after (Err bounds.OutOfMemory) = IsTextLine text × (lower_after ≡ lower) × (upper_after ≡ upper)
 
 -- the same by a collator, which may have no table
 abbrev pub PutsBounds : Option ElementTable → Variable → List ℕ → List ℕ → List ℕ → List ℕ → List ℕ → Result BoundsSize BoundsFault → Type 0

@@ -5,21 +5,23 @@ use crate::faults::BoundsFault;
 use crate::keys::copy_front;
 use crate::texts::passage_of;
 use std::alloc::Global;
-use uca_key::{PrefixFault, prefix_bounds};
+use uca_key::prefix_bounds;
 use uca_table::Table;
 use uca_weights::Variable;
 
-/// How many bytes the two ends of a range of keys have.
+/// How many bytes the two ends of a range of keys have, and of what text they are.
 #[derive(Clone, Copy, Debug, PartialEq, Eq)]
 pub struct BoundsSize {
     /// Those of the lower end, which the keys begin with.
     pub lower: usize,
     /// Those of the upper end, which all the keys come before. `None` where there is no such end.
     pub upper: Option<usize>,
+    /// Whether the text is complete: then every text that begins with it has its key in the range.
+    pub complete: bool,
 }
 
-/// Puts the two ends of the keys of all texts that begin with a text into the fronts of two buffers, or as many of their
-/// bytes as fit.
+/// Puts the two ends of the keys of all texts whose primary weights begin with those of a text into the fronts of two buffers, or
+/// as many of their bytes as fit.
 #[tactic(auto, using(crate::proofs::UpperEndLemmas::end_has_a_byte))]
 pub(crate) fn put_bounds(
     alloc: Global,
@@ -35,11 +37,10 @@ pub(crate) fn put_bounds(
         Ok(passage) => passage,
         Err(fault) => return Err(BoundsFault::Text(fault)),
     };
-    let bounds = match prefix_bounds(alloc, t, v, &passage) {
-        Ok(bounds) => bounds,
-        Err(PrefixFault::Incomplete) => return Err(BoundsFault::Incomplete),
-        Err(PrefixFault::OutOfMemory) => return Err(BoundsFault::OutOfMemory),
+    let Ok(bounds) = prefix_bounds(alloc, t, v, &passage) else {
+        return Err(BoundsFault::OutOfMemory);
     };
+    let complete = bounds.complete;
     copy_front(bounds.lower.as_slice(), lower);
     let lower_size = bounds.lower.len();
     match &bounds.upper {
@@ -48,11 +49,13 @@ pub(crate) fn put_bounds(
             Ok(BoundsSize {
                 lower: lower_size,
                 upper: Some(end.len()),
+                complete,
             })
         }
         None => Ok(BoundsSize {
             lower: lower_size,
             upper: None,
+            complete,
         }),
     }
 }

@@ -69,8 +69,6 @@ pub enum BoundsFault {
     Closed,
     /// The text is at fault.
     Text(TextFault),
-    /// The text is not complete: what follows it may change its primary weights.
-    Incomplete,
     /// An allocation failed.
     OutOfMemory,
 }

@@ -148,6 +148,7 @@ fn a_complete_text_has_two_ends(rt: HostRuntime) {
     let both = BoundsSize {
         lower: 4,
         upper: Some(4),
+        complete: true,
     };
     assert!(rt; found == Ok(both));
     assert!(rt; lower == [0x10, 7, 0x10, 3, 9, 9, 9, 9]);
@@ -156,23 +157,34 @@ fn a_complete_text_has_two_ends(rt: HostRuntime) {
     let none = BoundsSize {
         lower: 0,
         upper: None,
+        complete: true,
     };
     assert!(rt; found == Ok(none));
 }
 
 #[test]
-fn other_texts_have_no_bounds(rt: HostRuntime) {
+fn a_text_that_may_be_joined_has_two_ends(rt: HostRuntime) {
     let alloc = rt.alloc();
     let mut collator = opened(&rt, alloc, b"&c<ch");
     let (mut lower, mut upper) = ([9; 8], [9; 8]);
-    let cases: [(&[u8], BoundsFault); 2] = [
-        (b"ac", BoundsFault::Incomplete),
-        (b"a\xFF", BoundsFault::Text(TextFault::NotUtf8(1))),
-    ];
-    for (text, fault) in cases {
-        let found = bounds(alloc, &mut collator, text, &mut lower, &mut upper);
-        assert!(rt; found == Err(fault), "{text:?}");
-    }
+    let found = bounds(alloc, &mut collator, b"c", &mut lower, &mut upper);
+    let both = BoundsSize {
+        lower: 2,
+        upper: Some(2),
+        complete: false,
+    };
+    assert!(rt; found == Ok(both));
+    assert!(rt; lower == [0x10, 2, 9, 9, 9, 9, 9, 9]);
+    assert!(rt; upper == [0x10, 3, 9, 9, 9, 9, 9, 9]);
+}
+
+#[test]
+fn a_faulty_text_has_no_bounds(rt: HostRuntime) {
+    let alloc = rt.alloc();
+    let mut collator = opened(&rt, alloc, b"&c<ch");
+    let (mut lower, mut upper) = ([9; 8], [9; 8]);
+    let found = bounds(alloc, &mut collator, b"a\xFF", &mut lower, &mut upper);
+    assert!(rt; found == Err(BoundsFault::Text(TextFault::NotUtf8(1))));
     collator.close(alloc);
     let found = bounds(alloc, &mut collator, b"a", &mut lower, &mut upper);
     assert!(rt; found == Err(BoundsFault::Closed));
