@@ -3,4 +3,5 @@ mod HandleValues
 mod OpeningLemmas
 mod PlacingLemmas
 mod Values
+mod LevelSteps
 pub mod FingerprintLemmas

@@ -2,6 +2,7 @@ pub mod Calls
 pub mod Collator
 pub mod Fingerprint
 pub mod Held
+pub mod Levels
 pub mod Opening
 pub mod Placing
 pub mod Texts

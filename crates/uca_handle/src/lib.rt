@@ -15,6 +15,7 @@ pub mod faults;
 pub mod handle;
 mod keys;
 pub mod laws;
+pub mod levels;
 mod loose;
 mod opening;
 mod placing;
