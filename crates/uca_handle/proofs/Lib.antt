@@ -4,4 +4,5 @@ mod OpeningLemmas
 mod PlacingLemmas
 mod Values
 mod LevelSteps
+mod MatchLists
 pub mod FingerprintLemmas

@@ -3,6 +3,8 @@ pub mod Collator
 pub mod Fingerprint
 pub mod Held
 pub mod Levels
+pub mod Listed
+pub mod Matches
 pub mod Opening
 pub mod Placing
 pub mod Texts

@@ -17,6 +17,7 @@ mod keys;
 pub mod laws;
 pub mod levels;
 mod loose;
+pub mod matches;
 mod opening;
 mod placing;
 pub mod texts;
