@@ -9,11 +9,13 @@ ghost use Rattle.uca_handle.specs.Collator.{held};
 ghost use Rattle.uca_c.specs.Reports.{IsRefused, Reports, ReportsStatus, bounds_report, check_report, compare_report, digest_after, fingerprint_status, key_report, lower_size_after, open_report, order_after, share_status, size_after, upper_size_after};
 ghost use Rattle.uca_c.specs.Settings.{settings_named};
 
+mod looks;
 mod numbers;
 mod reports;
 mod settings;
 
 use numbers::BAD_SETTINGS;
+pub use looks::MatchesNeeded;
 pub use reports::{Digest, Fault};
 use reports::{
     NO_FAULT, of_bounds, of_check, of_comparison, of_fingerprint, of_opening, of_sharing,
