@@ -1,8 +1,8 @@
 -- The matches of a text as they are listed, one after the other.
-use Rattle.std.proofs.Common.{◌≡◌, ℕ, ◌+◌, ◌<◌, ◌≤◌, List, [], ◌++◌, ◌∷◌, length, map, drop, get_or, refl, sym, ap, ◌∙◌, append_assoc, append-nil}
+use Rattle.std.proofs.Common.{◌≡◌, ℕ, ◌+◌, ◌<◌, ◌≤◌, List, [], ◌++◌, ◌∷◌, length, map, drop, get_or, sym, ap, ◌∙◌, append_assoc, append-nil}
 use Rattle.std.proofs.lemmas.List.{drop_all, drop_more}
 use Rattle.std.specs.FinSet.{contains}
-use Rattle.uca_model.specs.CollationElements.{matches, elements}
+use Rattle.uca_model.specs.CollationElements.{matches}
 use Rattle.uca_model.specs.Match as model
 use Rattle.uca_model.specs.Table.{ElementTable, is_key}
 use Rattle.uca_match.specs.Keys.{key_set}

@@ -1,5 +1,5 @@
 -- Matches that are listed one after the other.
-use Rattle.std.specs.Prelude.{◌≡◌, ℕ, List, [], ◌∷◌, ◌++◌, map}
+use Rattle.std.specs.Prelude.{◌≡◌, [], ◌∷◌, ◌++◌, map}
 use Rattle.uca_model.specs.CollationElements.{elements_or_implicit}
 use Rattle.uca_model.specs.Match.{Match}
 use Rattle.uca_model.specs.Table.{ElementTable}

@@ -5,7 +5,7 @@ const FIRST_WORDS = ["cote", "côte", "coté", "côté", "lomo", "llama", "luz",
 
 const at = (id) => document.getElementById(id);
 const field = Object.fromEntries(["table", "language", "strength", "variable", "rules", "words", "other"].map((id) => [id, at(id)]));
-const state = { languages: [], table: "", opened: null, chosen: null, order: [], words: [], asked: 0, askedWord: 0, longest: 200 };
+const state = { languages: [], table: "", opened: null, chosen: null, order: [], words: [], asked: 0, askedWord: 0, fault: null, longest: 200 };
 
 /* An element with classes, attributes and children. Text only ever becomes text. */
 function make(name, { cls, text, kids, ...attributes } = {}) {
@@ -25,7 +25,8 @@ function glyph(point) {
 }
 
 const label = (point) => `${point.point}${point.name ? " " + point.name : ""}`;
-const shown = (word) => (word === "" ? "(no character)" : word);
+const onCircle = (text) => (/^\p{M}/u.test(text) ? "\u25cc" + text : text);
+const shown = (word) => (word === "" ? "(no character)" : onCircle(word));
 const isRightToLeft = (text) => /^[^\p{L}]*[\p{Script=Arabic}\p{Script=Hebrew}\p{Script=Syriac}\p{Script=Thaana}\p{Script=Nko}\p{Script=Adlam}]/u.test(text);
 const levelName = (level) => (level ? `level ${level}: ${LEVELS[level]}` : LEVELS[0]);
 
@@ -85,6 +86,8 @@ function showRulesFault(fault) {
   const marks = at("rules-marks");
   const text = field.rules.value;
   field.rules.setAttribute("aria-invalid", fault ? "true" : "false");
+  at("to-fault").hidden = !fault;
+  state.fault = null;
   marks.replaceChildren();
   if (!fault) {
     at("rules-fault").textContent = "";
@@ -96,7 +99,15 @@ function showRulesFault(fault) {
   const isSeen = begin < text.length && character !== "\n";
   marks.append(text.slice(0, begin), make("mark", { text: isSeen ? character : "\u00a0" }), text.slice(isSeen ? end : begin) + "\n");
   marks.scrollTop = field.rules.scrollTop;
+  state.fault = begin;
   at("rules-fault").textContent = `Line ${fault.line}, column ${fault.column}${isSeen ? `, ${character}` : ""}: ${fault.cause}.`;
+}
+
+/* Puts the caret at the fault, where the browser scrolls to it. */
+function goToFault() {
+  field.rules.focus();
+  field.rules.setSelectionRange(state.fault, state.fault);
+  field.rules.scrollTop = at("rules-marks").querySelector("mark").offsetTop - field.rules.clientHeight / 2;
 }
 
 function showWordsFault(fault) {
@@ -110,7 +121,10 @@ function show(asked, answer, isOfChosen) {
   showRulesFault(answer.rules);
   showWordsFault(answer.words);
   document.body.classList.toggle("is-stale", !answer.order);
-  if (!answer.order) return;
+  if (!answer.order) {
+    at("count").textContent = "This is how it was before the fault.";
+    return;
+  }
   state.words = asked.words;
   state.order = answer.order;
   if (state.chosen !== null && !asked.words.includes(state.chosen)) state.chosen = null;
@@ -251,7 +265,7 @@ function showMatches(word) {
   let column = 1;
   for (const match of word.matches) {
     const cls = `match${match.points.length > 1 ? " joined" : ""}${match.is_key ? "" : " implicit"}`;
-    const text = match.points.map(match.points.length > 1 && match.points[0].kind !== "M" ? (p) => p.text : glyph).join("");
+    const text = match.points.length === 1 ? glyph(match.points[0]) : onCircle(match.points.map((point) => point.text).join(""));
     const made = make("div", { cls, kids: [
       make("bdi", { cls: "glyph", text }), make("span", { cls: "what", text: kindOf(match) }),
       make("div", { cls: "elements", kids: match.elements.map(elementOf) }),
@@ -267,7 +281,7 @@ function weightCell(weight, owner, differs) {
   return make("td", { cls: `weight${differs ? " differs" : ""}`, kids: [...kids, weight] });
 }
 
-const ownerText = (owner) => (/^\p{M}/u.test(owner) ? "\u25cc" + owner : /^[\p{Z}\p{C}]/u.test(owner) ? "\u2423" : owner);
+const ownerText = (owner) => (/^[\p{Z}\p{C}]/u.test(owner) ? "\u2423" : onCircle(owner));
 
 function weightRow(level, row) {
   const kids = [make("th", { scope: "row", cls: "level", text: `${level} ${LEVELS[level]}` })];
@@ -382,6 +396,7 @@ field.table.addEventListener("change", () => { state.table = field.table.value; 
 at("table-file").addEventListener("change", openTable);
 at("rules-file").addEventListener("change", openRulesFile);
 at("save").addEventListener("click", saveRules);
+at("to-fault").addEventListener("click", goToFault);
 at("ask").addEventListener("submit", (event) => event.preventDefault());
 at("order").addEventListener("click", (event) => {
   const row = event.target.closest("li");

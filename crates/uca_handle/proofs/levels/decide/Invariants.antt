@@ -1,4 +1,4 @@
-use Rattle.std.proofs.Common.{◌-◌, ◌≤◌, chars}
+use Rattle.std.proofs.Common.{◌-◌, ◌≤◌}
 use Rattle.uca_weights.specs.Settings.{levels}
 use Rattle.uca_window.specs.Passage.{text_of}
 use Rattle.uca_handle.proofs.LevelSteps.{NoneBefore}

@@ -1,4 +1,4 @@
-use Rattle.std.proofs.Common.{◌≡◌, ◌<◌, ◌++◌, ◌∷◌, [], List, get_or, length, map, flat_map, refl, sym, ap, subst, ◌∙◌}
+use Rattle.std.proofs.Common.{◌<◌, ◌++◌, ◌∷◌, [], List, get_or, length, map, flat_map, refl, sym, ap, subst, ◌∙◌}
 use Rattle.std.proofs.lemmas.List.{map-append}
 use Rattle.std.specs.FinSet.{contains}
 use Rattle.unicode_normalization.specs.Forms.{nfd}
@@ -10,7 +10,7 @@ use Rattle.uca_tailor.proofs.RenumberedLemmas.{matched_some}
 use Rattle.uca_handle.specs.Listed.{ListsMatch}
 use Rattle.uca_handle.specs.Matches.{element_form, match_form, match_points}
 use Rattle.uca_match.specs.Matches.{match_of}
-use Rattle.uca_handle.proofs.MatchLists.{AreListed, AreListed-more, AreListed-all, found-by_keys}
+use Rattle.uca_handle.proofs.MatchLists.{AreListed-more, AreListed-all, found-by_keys}
 use Rattle.uca_handle.proofs.matches.list_matches.Goals as goal
 
 pub loop-matched-init : goal.loop-matched-init
