@@ -5,7 +5,7 @@ const FIRST_WORDS = ["cote", "côte", "coté", "côté", "lomo", "llama", "luz",
 
 const at = (id) => document.getElementById(id);
 const field = Object.fromEntries(["table", "language", "strength", "variable", "rules", "words", "other"].map((id) => [id, at(id)]));
-const state = { languages: [], table: "", opened: null, chosen: null, order: [], words: [], asked: 0, askedWord: 0, fault: null, longest: 200 };
+const state = { languages: [], table: "", opened: null, chosen: null, order: [], words: [], asked: 0, askedWord: 0, busy: 0, waiting: 0, fault: null, longest: 200 };
 
 /* An element with classes, attributes and children. Text only ever becomes text. */
 function make(name, { cls, text, kids, ...attributes } = {}) {
@@ -33,9 +33,14 @@ const levelName = (level) => (level ? `level ${level}: ${LEVELS[level]}` : LEVEL
 /* ---- asking */
 
 async function post(path, body, kind) {
-  const answer = await fetch(path, { method: "POST", headers: { "Content-Type": kind }, body });
-  if (!answer.ok) throw Object.assign(new Error(await answer.text()), { status: answer.status });
-  return answer.json();
+  state.busy++;
+  try {
+    const answer = await fetch(path, { method: "POST", headers: { "Content-Type": kind }, body });
+    if (!answer.ok) throw Object.assign(new Error(await answer.text()), { status: answer.status });
+    return await answer.json();
+  } finally {
+    state.busy--;
+  }
 }
 
 function listed(text) {
@@ -66,10 +71,9 @@ async function ask() {
   }
 }
 
-let waiting = 0;
 function askSoon() {
-  clearTimeout(waiting);
-  waiting = setTimeout(ask, 60);
+  clearTimeout(state.waiting);
+  state.waiting = setTimeout(() => { state.waiting = 0; ask(); }, 60);
 }
 
 /* ---- faults */
