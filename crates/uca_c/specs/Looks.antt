@@ -1,5 +1,5 @@
 -- What the exports report that show why texts are in their order.
-use Rattle.std.specs.Prelude.{◌≡◌, ℕ, ℤ, Result, Ok, Err}
+use Rattle.std.specs.Prelude.{ℕ, ℤ, Result, Ok, Err}
 use Rattle.uca_handle.specs.declared.faults.CompareFault.{CompareFault}
 use Rattle.uca_handle.specs.declared.faults.CompareFault.TheVariants as compare
 use Rattle.uca_handle.specs.declared.faults.KeyFault.{KeyFault}

@@ -14,8 +14,8 @@ mod numbers;
 mod reports;
 mod settings;
 
-use numbers::BAD_SETTINGS;
 pub use looks::MatchesNeeded;
+use numbers::BAD_SETTINGS;
 pub use reports::{Digest, Fault};
 use reports::{
     NO_FAULT, of_bounds, of_check, of_comparison, of_fingerprint, of_opening, of_sharing,
