@@ -18,7 +18,7 @@ class Failed(Exception):
 class Browser:
     """Headless Chromium with a window of this size."""
 
-    def __init__(self, driver, chromium, folder, environment, size=(1440, 1000)):
+    def __init__(self, driver, chromium, folder, environment, size=(1280, 820)):
         self.process = subprocess.Popen([driver, "--port=0"], stdout=subprocess.PIPE, stderr=subprocess.STDOUT, text=True, env=environment)
         self.base = "http://127.0.0.1:%d" % self._port()
         arguments = ["--headless", "--no-sandbox", "--disable-gpu", "--disable-dev-shm-usage", "--hide-scrollbars", "--lang=en",

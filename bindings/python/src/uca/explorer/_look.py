@@ -27,13 +27,12 @@ class Look:
         points = _pieces(self.identical.key(text), uca.IDENTICAL)[4]
         return "".join(chr(int.from_bytes(points[at : at + 3], "big")) for at in range(0, len(points), 3))
 
-    def order(self, words: Sequence[str]) -> list[dict[str, Any]]:
-        """Words in their order, each with the level at which it differs from the one before: 0 where it does not differ."""
-        rows: list[dict[str, Any]] = []
+    def order(self, words: Sequence[str]) -> list[tuple[int, int | None]]:
+        """Words in their order, by their numbers, each with the level at which it differs from the one before: 0 where it does not."""
+        rows: list[tuple[int, int | None]] = []
         before = None
         for at in self.collator.sorted(range(len(words)), key=words.__getitem__):
-            level = self._level(before, words[at])
-            rows.append({"at": at, "level": level})
+            rows.append((at, self._level(before, words[at])))
             before = words[at]
         return rows
 

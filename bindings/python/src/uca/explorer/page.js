@@ -5,7 +5,7 @@ const FIRST_WORDS = ["cote", "côte", "coté", "côté", "lomo", "llama", "luz",
 
 const at = (id) => document.getElementById(id);
 const field = Object.fromEntries(["table", "language", "strength", "variable", "rules", "words", "other"].map((id) => [id, at(id)]));
-const state = { languages: [], table: "", opened: null, chosen: null, order: [], words: [], asked: 0, askedWord: 0, busy: 0, waiting: 0, fault: null, longest: 200 };
+const state = { languages: [], table: "", opened: null, chosen: null, order: [], words: [], place: -1, drawn: "", asked: 0, askedWord: 0, busy: 0, waiting: 0, fault: null, longest: 200 };
 
 /* An element with classes, attributes and children. Text only ever becomes text. */
 function make(name, { cls, text, kids, ...attributes } = {}) {
@@ -121,6 +121,10 @@ function showWordsFault(fault) {
 
 /* ---- the list */
 
+/* A list of more rows than this is drawn as far as it can be seen, with so many rows more at both ends: to lay out thousands takes long. */
+const ALL_ROWS = 200;
+const MORE_ROWS = 20;
+
 function show(asked, answer, isOfChosen) {
   showRulesFault(answer.rules);
   showWordsFault(answer.words);
@@ -131,44 +135,58 @@ function show(asked, answer, isOfChosen) {
   }
   state.words = asked.words;
   state.order = answer.order;
-  if (state.chosen !== null && !asked.words.includes(state.chosen)) state.chosen = null;
-  showOrder();
-  if (state.chosen === null && answer.order.length) choose(0);
+  state.place = state.chosen === null ? -1 : state.order.findIndex(([number]) => state.words[number] === state.chosen);
+  const same = state.order.filter(([, level]) => level === 0).length;
+  at("count").textContent = `${state.order.length} words${same ? `, ${same} the same as the one before` : ""}`;
+  drawRows(true);
+  if (state.place < 0) choose(0);
   else if (isOfChosen) showWord(answer);
 }
 
-function showOrder() {
-  const rows = document.createDocumentFragment();
-  let chosenRow = -1;
-  state.order.forEach(({ at: number, level }, place) => {
-    const word = state.words[number];
-    const isChosen = word === state.chosen && chosenRow < 0;
-    if (isChosen) chosenRow = place;
-    const kids = level === null ? [] : [make("span", { cls: "gap", "data-level": level, text: level ? `${level} ${LEVELS[level]}` : LEVELS[0] })];
-    kids.push(make("bdi", { cls: "entry", dir: "auto", text: shown(word) }));
-    rows.append(make("li", { id: `row-${place}`, role: "option", "aria-selected": isChosen, kids }));
+const wordAt = (place) => state.words[state.order[place][0]];
+
+function rowOf(place) {
+  const word = wordAt(place);
+  const level = state.order[place][1];
+  const kids = level === null ? [] : [make("span", { cls: "gap", "data-level": level, text: level ? `${level} ${LEVELS[level]}` : LEVELS[0] })];
+  kids.push(make("span", { cls: "entry", dir: isRightToLeft(word) ? "rtl" : "ltr", text: shown(word), title: word.length > 30 ? word : null }));
+  const row = make("div", {
+    id: `row-${place}`, cls: "row", role: "option", "aria-selected": place === state.place, "aria-setsize": state.order.length, "aria-posinset": place + 1, kids,
   });
-  at("order").replaceChildren(rows);
-  const same = state.order.filter((row) => row.level === 0).length;
-  at("count").textContent = `${state.order.length} words${same ? `, ${same} the same as the one before` : ""}`;
-  if (chosenRow >= 0) at("order").setAttribute("aria-activedescendant", `row-${chosenRow}`);
-  else at("order").removeAttribute("aria-activedescendant");
+  row.style.setProperty("--place", place);
+  return row;
 }
 
-const chosenPlace = () => [...at("order").children].findIndex((row) => row.getAttribute("aria-selected") === "true");
+/* Draws the rows that can be seen, and the chosen one. `isNew` says that the rows are others than before. */
+function drawRows(isNew) {
+  const list = at("order");
+  const count = state.order.length;
+  if (isNew) at("rows").style.setProperty("--count", count);
+  let first = 0, last = count;
+  if (count > ALL_ROWS) {
+    const height = at("rows").getBoundingClientRect().height / count;
+    first = Math.max(0, Math.floor(list.scrollTop / height) - MORE_ROWS);
+    last = Math.min(count, Math.ceil((list.scrollTop + list.clientHeight) / height) + MORE_ROWS);
+  }
+  const drawn = `${first} ${last} ${state.place}`;
+  if (!isNew && drawn === state.drawn) return;
+  state.drawn = drawn;
+  const places = Array.from({ length: last - first }, (_, n) => first + n);
+  if (state.place >= last) places.push(state.place);
+  if (state.place >= 0 && state.place < first) places.unshift(state.place);
+  at("rows").replaceChildren(...places.map(rowOf));
+  if (state.place >= 0) list.setAttribute("aria-activedescendant", `row-${state.place}`);
+  else list.removeAttribute("aria-activedescendant");
+}
 
 /* Chooses a row of the list, and asks for what its word is made of. The word beside it is the next one. */
 function choose(place) {
-  const rows = at("order").children;
-  if (place < 0 || place >= rows.length) return;
-  const before = chosenPlace();
-  if (before >= 0) rows[before].setAttribute("aria-selected", "false");
-  rows[place].setAttribute("aria-selected", "true");
-  at("order").setAttribute("aria-activedescendant", `row-${place}`);
-  rows[place].scrollIntoView({ block: "nearest" });
-  state.chosen = state.words[state.order[place].at];
-  const beside = state.order[place + 1] ?? state.order[place - 1];
-  field.other.value = beside ? state.words[beside.at] : "";
+  state.place = place < state.order.length ? place : -1;
+  state.chosen = state.place < 0 ? null : wordAt(place);
+  drawRows(false);
+  at(`row-${place}`)?.scrollIntoView({ block: "nearest" });
+  const beside = place + 1 < state.order.length ? place + 1 : place - 1;
+  field.other.value = beside in state.order ? wordAt(beside) : "";
   askWord();
 }
 
@@ -180,12 +198,12 @@ async function askWord() {
 }
 
 function move(event) {
-  const place = chosenPlace();
+  const place = state.place;
   const last = state.order.length - 1;
   const to = { ArrowDown: Math.min(place + 1, last), ArrowUp: Math.max(place - 1, 0), PageDown: Math.min(place + 10, last), PageUp: Math.max(place - 10, 0), Home: 0, End: last }[event.key];
   if (to === undefined) return;
   event.preventDefault();
-  choose(to);
+  if (last >= 0) choose(to);
 }
 
 /* ---- the word */
@@ -403,8 +421,10 @@ at("save").addEventListener("click", saveRules);
 at("to-fault").addEventListener("click", goToFault);
 at("ask").addEventListener("submit", (event) => event.preventDefault());
 at("order").addEventListener("click", (event) => {
-  const row = event.target.closest("li");
-  if (row) choose([...at("order").children].indexOf(row));
+  const row = event.target.closest(".row");
+  if (row) choose(+row.getAttribute("aria-posinset") - 1);
 });
+at("order").addEventListener("scroll", () => requestAnimationFrame(() => drawRows(false)));
+addEventListener("resize", () => drawRows(false));
 at("order").addEventListener("keydown", move);
 begin();
