@@ -311,6 +311,10 @@ def marks_faults(steered):
     browser.wait("return document.querySelector('#rules-fault').textContent === ''")
     steered.settle()
     assert browser.run("return document.querySelector('#rules').getAttribute('aria-invalid')") == "false" and not steered.text("#rules-marks")
+    steered.give(["a"] * 20001)
+    assert steered.text("#words-fault").startswith("This is more than can be shown: 20000 words")
+    steered.give(["a" * (1 << 20)])
+    assert steered.text("#words-fault").startswith("This is more than can be shown")
     steered.give(["a", RUN])
     assert steered.text("#words-fault").startswith("Word 2, character 62: this is the 61st nonstarter")
 

@@ -67,7 +67,7 @@ class Explorer:
             "languages": self.files.languages(),
             "version": ".".join(map(str, uca.version())),
             "unicode": ".".join(map(str, uca.unicode_version())),
-            "longest": LONGEST_WORD,
+            "limits": {"characters": LONGEST_WORD, "words": MOST_WORDS, "bytes": MOST_BYTES},
         }
 
     def take_table(self, table: bytes) -> dict[str, Any]:

@@ -1,11 +1,15 @@
 "use strict";
 
 const LEVELS = ["the same", "letters", "accents", "case", "punctuation", "code points"];
-const FIRST_WORDS = ["cote", "côte", "coté", "côté", "lomo", "llama", "luz", "Llano", "co-op", "coop", "CO-OP", "naïve", "שלום", "سلام", "日本"];
+const FIRST_WORDS = "cote côte coté côté lomo llama luz Llano co-op coop CO-OP naïve שלום سلام 日本".split(" ");
 
 const at = (id) => document.getElementById(id);
 const field = Object.fromEntries(["table", "language", "strength", "variable", "rules", "words", "other"].map((id) => [id, at(id)]));
-const state = { languages: [], table: "", opened: null, chosen: null, order: [], words: [], place: -1, drawn: "", asked: 0, askedWord: 0, busy: 0, waiting: 0, fault: null, longest: 200 };
+const state = {
+  languages: [], limits: {}, table: "", opened: null, fault: null, // the name of a table, rules that were opened, and where the rules are at fault
+  words: [], order: [], place: -1, chosen: null, drawn: "", // the list, the chosen row and its word, and which rows are drawn
+  asked: 0, askedWord: 0, busy: 0, waiting: 0, // questions that were asked, those without an answer yet, and the timer of the next one
+};
 
 /* An element with classes, attributes and children. Text only ever becomes text. */
 function make(name, { cls, text, kids, ...attributes } = {}) {
@@ -27,7 +31,8 @@ function glyph(point) {
 const label = (point) => `${point.point}${point.name ? " " + point.name : ""}`;
 const onCircle = (text) => (/^\p{M}/u.test(text) ? "\u25cc" + text : text);
 const shown = (word) => (word === "" ? "(no character)" : onCircle(word));
-const isRightToLeft = (text) => /^[^\p{L}]*[\p{Script=Arabic}\p{Script=Hebrew}\p{Script=Syriac}\p{Script=Thaana}\p{Script=Nko}\p{Script=Adlam}]/u.test(text);
+const RIGHT_TO_LEFT = /^[^\p{L}]*[\p{sc=Hebr}\p{sc=Arab}\p{sc=Syrc}\p{sc=Thaa}\p{sc=Nkoo}\p{sc=Adlm}\p{sc=Samr}\p{sc=Mand}\p{sc=Rohg}]/u;
+const isRightToLeft = (text) => RIGHT_TO_LEFT.test(text);
 const levelName = (level) => (level ? `level ${level}: ${LEVELS[level]}` : LEVELS[0]);
 
 /* ---- asking */
@@ -60,14 +65,17 @@ async function ask() {
   const number = ++state.asked;
   const numberOfWord = ++state.askedWord;
   const asked = question();
+  const body = JSON.stringify(asked);
+  if (asked.words.length > state.limits.words || new Blob([body]).size > state.limits.bytes) {
+    showWordsFault(`this is more than can be shown: ${state.limits.words} words, and ${state.limits.bytes} bytes of words and rules`);
+    return;
+  }
   try {
-    const answer = await post("look", JSON.stringify(asked), "application/json");
+    const answer = await post("look", body, "application/json");
     if (number === state.asked) show(asked, answer, numberOfWord === state.askedWord);
   } catch (error) {
     if (number !== state.asked) return;
-    at("words-fault").textContent = error.status === 413 ? "The words and the rules are more than can be shown: a mebibyte at most."
-      : error.status === 410 ? "The table that was opened is gone: open it again."
-      : error.status === 400 ? "This is more than can be shown: 20,000 words at most." : "The explorer does not answer: start it again.";
+    showWordsFault(error.status === 410 ? "the table that was opened is gone: open it again" : "the explorer does not answer: start it again");
   }
 }
 
@@ -114,9 +122,9 @@ function goToFault() {
   field.rules.scrollTop = at("rules-marks").querySelector("mark").offsetTop - field.rules.clientHeight / 2;
 }
 
-function showWordsFault(fault) {
-  field.words.setAttribute("aria-invalid", fault ? "true" : "false");
-  at("words-fault").textContent = fault ? `Word ${fault.line}, character ${fault.column}: ${fault.cause}.` : "";
+function showWordsFault(what) {
+  field.words.setAttribute("aria-invalid", what ? "true" : "false");
+  at("words-fault").textContent = what ? `${what[0].toUpperCase()}${what.slice(1)}.` : "";
 }
 
 /* ---- the list */
@@ -127,7 +135,7 @@ const MORE_ROWS = 20;
 
 function show(asked, answer, isOfChosen) {
   showRulesFault(answer.rules);
-  showWordsFault(answer.words);
+  showWordsFault(answer.words ? `word ${answer.words.line}, character ${answer.words.column}: ${answer.words.cause}` : "");
   document.body.classList.toggle("is-stale", !answer.order);
   if (!answer.order) {
     at("count").textContent = "This is how it was before the fault.";
@@ -151,7 +159,8 @@ function rowOf(place) {
   const kids = level === null ? [] : [make("span", { cls: "gap", "data-level": level, text: level ? `${level} ${LEVELS[level]}` : LEVELS[0] })];
   kids.push(make("span", { cls: "entry", dir: isRightToLeft(word) ? "rtl" : "ltr", text: shown(word), title: word.length > 30 ? word : null }));
   const row = make("div", {
-    id: `row-${place}`, cls: "row", role: "option", "aria-selected": place === state.place, "aria-setsize": state.order.length, "aria-posinset": place + 1, kids,
+    id: `row-${place}`, cls: "row", role: "option", kids,
+    "aria-selected": place === state.place, "aria-setsize": state.order.length, "aria-posinset": place + 1,
   });
   row.style.setProperty("--place", place);
   return row;
@@ -200,10 +209,10 @@ async function askWord() {
 function move(event) {
   const place = state.place;
   const last = state.order.length - 1;
-  const to = { ArrowDown: Math.min(place + 1, last), ArrowUp: Math.max(place - 1, 0), PageDown: Math.min(place + 10, last), PageUp: Math.max(place - 10, 0), Home: 0, End: last }[event.key];
+  const to = { ArrowDown: place + 1, ArrowUp: place - 1, PageDown: place + 10, PageUp: place - 10, Home: 0, End: last }[event.key];
   if (to === undefined) return;
   event.preventDefault();
-  if (last >= 0) choose(to);
+  if (last >= 0) choose(Math.min(Math.max(to, 0), last));
 }
 
 /* ---- the word */
@@ -213,11 +222,11 @@ function showWord(answer) {
   at("other-fault").textContent = answer.other ? `Character ${answer.other.column}: ${answer.other.cause}.` : "";
   at("word").hidden = state.chosen === null;
   if (state.chosen === null) return;
-  at("word-title").replaceChildren(make("bdi", { dir: "auto", text: shown([...state.chosen].slice(0, state.longest).join("")) }));
+  at("word-title").replaceChildren(make("bdi", { dir: "auto", text: shown([...state.chosen].slice(0, state.limits.characters).join("")) }));
   for (const id of ["characters", "weights", "pair"]) at(id).tBodies[0].replaceChildren();
   for (const id of ["matches", "key", "packed", "verdict"]) at(id).replaceChildren();
   if (!word) {
-    at("verdict").textContent = `Words of more than ${state.longest} characters are not drawn.`;
+    at("verdict").textContent = `Words of more than ${state.limits.characters} characters are not drawn.`;
     return;
   }
   at("characters").tBodies[0].append(...word.characters.map(characterRow));
@@ -279,7 +288,8 @@ function showMatches(word) {
   const box = at("matches");
   box.dir = isRightToLeft(word.text) ? "rtl" : "ltr";
   word.decomposed.forEach((point, n) => {
-    const made = make("span", { cls: "source", title: label(point), kids: [make("bdi", { cls: "glyph", text: glyph(point) }), make("br"), make("span", { cls: "point", text: point.point })] });
+    const kids = [make("bdi", { cls: "glyph", text: glyph(point) }), make("br"), make("span", { cls: "point", text: point.point })];
+    const made = make("span", { cls: "source", title: label(point), kids });
     made.style.gridColumn = `${n + 1}`;
     box.append(made);
   });
@@ -333,7 +343,8 @@ function side(word, row, same, isLast) {
 
 function showPair(pair) {
   const sign = ["comes before", "is the same as", "comes after"][pair.order + 1];
-  at("verdict").append(make("bdi", { text: shown(pair.a) }), ` ${sign} `, make("bdi", { text: shown(pair.b) }), pair.level ? `, by ${levelName(pair.level)}.` : ", at all levels.");
+  const why = pair.level ? `, by ${levelName(pair.level)}.` : ", at all levels.";
+  at("verdict").append(make("bdi", { text: shown(pair.a) }), ` ${sign} `, make("bdi", { text: shown(pair.b) }), why);
   for (const { level, a, b, same } of pair.levels) {
     const isLast = level === pair.level;
     const head = make("th", { scope: "rowgroup", rowspan: 2, cls: "level", text: `${level} ${LEVELS[level]}` });
@@ -366,7 +377,8 @@ function chooseLanguage() {
 }
 
 function saveRules() {
-  const link = make("a", { href: URL.createObjectURL(new Blob([currentRules()], { type: "text/plain" })), download: state.opened?.name ?? "my.rules" });
+  const file = new Blob([currentRules()], { type: "text/plain" });
+  const link = make("a", { href: URL.createObjectURL(file), download: state.opened?.name ?? "my.rules" });
   link.click();
   setTimeout(() => URL.revokeObjectURL(link.href), 10000);
 }
@@ -400,7 +412,7 @@ async function openTable(event) {
 async function begin() {
   const start = await (await fetch("start")).json();
   state.languages = start.languages;
-  state.longest = start.longest;
+  state.limits = start.limits;
   at("about").textContent = `libuca ${start.version}, decompositions of Unicode ${start.unicode}`;
   field.table.append(make("option", { value: "", text: start.table.split("/").pop(), title: start.table }));
   field.language.append(make("option", { value: "", text: "none, or my own rules" }));
