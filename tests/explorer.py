@@ -273,6 +273,11 @@ def has_the_elements_of_the_program(steered):
 
 def draws_marks_and_directions(steered):
     browser = steered.browser
+    steered.give(["سلام عليكم ورحمة الله", "a"])
+    steered.choose("سلام عليكم ورحمة الله")
+    seen = """const e = document.querySelector('#matches .source').getBoundingClientRect(), s = document.querySelector('#matches').parentElement.getBoundingClientRect();
+        return e.left >= s.left && e.right <= s.right && document.querySelector('#matches').scrollWidth > s.width"""
+    assert browser.run(seen)
     steered.give(["שָׁלוֹם", "e\u0301", "<img src=x onerror=alert(1)>", "&amp;"])
     assert browser.run("return [...document.querySelectorAll('#order .entry')].map((e) => e.matches(':dir(rtl)'))").count(True) == 1
     assert browser.run("return document.querySelectorAll('img').length") == 0 and "&amp;" in steered.order()
@@ -409,6 +414,7 @@ def first_rules_of_a_language(steered):
     steered.write("#rules", "&a<ã<<<Ã\n&m<mb<<<Mb<<<MB\n&n<nd<<<Nd<<<ND<ng<<<Ng<<<NG<nt<<<Nt<<<NT<ñ<<<Ñ\n&r<rr<<<Rr<<<RR\n&y<'")
     steered.browser.wait("return document.querySelector('#rules-marks mark')")
     assert steered.text("#rules-fault").startswith("Line 5, column 4, ': this has no meaning here")
+    assert steered.order().index("mba'e") < steered.order().index("mitã") and steered.order().index("rrépe") < steered.order().index("ryguasu")
     steered.browser.develop("Emulation.setEmulatedMedia", features=[{"name": "prefers-color-scheme", "value": "dark"}])
     steered.picture("fault")
     steered.browser.develop("Emulation.setEmulatedMedia", features=[{"name": "prefers-color-scheme", "value": "light"}])
@@ -417,6 +423,8 @@ def first_rules_of_a_language(steered):
     steered.browser.wait("return document.querySelector('#rules-fault').textContent === ''")
     steered.settle()
     assert steered.order() == ["ava", "ãva", "cha", "ha'e", "kuña", "mitã", "mokõi", "mba'e", "na'ẽ", "ndaje", "ñe'ẽ", "ro'y", "ryguasu", "rrépe"]
+    steered.choose("ãva")
+    assert steered.browser.run("return [...document.querySelectorAll('#matches .match')].map((e) => e.querySelector('.what').textContent)") == ["contraction, line 1 of the rules", "key", "key"]
 
 
 def a_wrong_order_that_a_reader_reports(steered):

@@ -287,6 +287,7 @@ function kindOf(match) {
 function showMatches(word) {
   const box = at("matches");
   box.dir = isRightToLeft(word.text) ? "rtl" : "ltr";
+  box.parentElement.dir = box.dir; // so that a long word is scrolled to its beginning
   word.decomposed.forEach((point, n) => {
     const kids = [make("bdi", { cls: "glyph", text: glyph(point) }), make("br"), make("span", { cls: "point", text: point.point })];
     const made = make("span", { cls: "source", title: label(point), kids });
