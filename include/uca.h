@@ -24,9 +24,10 @@
  * realloc and free.
  * All other calls allocate nothing. No call keeps a pointer that it was given.
  *
- * Threads: one call at a time may use a collator. A collator may go from thread to thread. To use one table in several
- * threads at once, give each thread a collator of its own by uca_clone: they share the table. No call may be made from a
- * signal handler, or in the child of a fork of a process with several threads.
+ * Threads: a call that takes a const uca_collator only reads it, and any number of threads may make such calls on one
+ * collator at once. No other call may use a collator while uca_open, uca_close or uca_clone changes it. A collator may be
+ * opened in one thread and closed in another. No call may be made from a signal handler, or in the child of a fork of a
+ * process with several threads.
  *
  * Link with -luca (pkg-config --cflags --libs uca).
  */
@@ -184,7 +185,7 @@ void uca_close(uca_collator *collator);
  * may not be one collator.
  * Returns UCA_OK, UCA_NOT_OPEN or UCA_NO_MEMORY.
  */
-uint32_t uca_clone(uca_collator *collator, uca_collator *other);
+uint32_t uca_clone(const uca_collator *collator, uca_collator *other);
 
 /*
  * Checks whether bytes are a text that can be compared. It needs no collator and allocates nothing.
@@ -197,15 +198,15 @@ uint32_t uca_check(const uint8_t *text, size_t size, uca_fault *fault);
  * nothing.
  * Returns UCA_OK, UCA_BAD_SETTINGS, UCA_NOT_OPEN, UCA_NOT_UTF8 or UCA_LONG_RUN.
  */
-uint32_t uca_compare(uca_collator *collator, const uca_settings *settings, const uint8_t *a, size_t a_size, const uint8_t *b,
-                     size_t b_size, int32_t *order, uca_fault *fault);
+uint32_t uca_compare(const uca_collator *collator, const uca_settings *settings, const uint8_t *a, size_t a_size,
+                     const uint8_t *b, size_t b_size, int32_t *order, uca_fault *fault);
 
 /*
  * Compares two texts as uca_compare does, and writes to `level` which level decides: the first at which they differ, or the last
  * that is compared where `order` is 0. It allocates nothing, and takes longer than uca_compare.
  * Returns UCA_OK, UCA_BAD_SETTINGS, UCA_NOT_OPEN, UCA_NOT_UTF8 or UCA_LONG_RUN.
  */
-uint32_t uca_compare_levels(uca_collator *collator, const uca_settings *settings, const uint8_t *a, size_t a_size, const uint8_t *b,
+uint32_t uca_compare_levels(const uca_collator *collator, const uca_settings *settings, const uint8_t *a, size_t a_size, const uint8_t *b,
                             size_t b_size, int32_t *order, uint32_t *level, uca_fault *fault);
 
 /*
@@ -213,8 +214,8 @@ uint32_t uca_compare_levels(uca_collator *collator, const uca_settings *settings
  * `needed`. If `needed` is more than `capacity`, call again with as much room. Bytes of `out` after the key are not written.
  * Returns UCA_OK, UCA_BAD_SETTINGS, UCA_NOT_OPEN, UCA_NOT_UTF8, UCA_LONG_RUN or UCA_NO_MEMORY.
  */
-uint32_t uca_sort_key(uca_collator *collator, const uca_settings *settings, const uint8_t *text, size_t size, uint8_t *out,
-                      size_t capacity, size_t *needed, uca_fault *fault);
+uint32_t uca_sort_key(const uca_collator *collator, const uca_settings *settings, const uint8_t *text, size_t size,
+                      uint8_t *out, size_t capacity, size_t *needed, uca_fault *fault);
 
 /*
  * Writes the first bytes of a text's packed sort key to `out`, as uca_sort_key does of its sort key. Packed keys are for indexes:
@@ -224,8 +225,8 @@ uint32_t uca_sort_key(uca_collator *collator, const uca_settings *settings, cons
  * compared with a sort key (at the strength UCA_PRIMARY the two are the same bytes).
  * Returns UCA_OK, UCA_BAD_SETTINGS, UCA_NOT_OPEN, UCA_NOT_UTF8, UCA_LONG_RUN or UCA_NO_MEMORY.
  */
-uint32_t uca_packed_key(uca_collator *collator, const uca_settings *settings, const uint8_t *text, size_t size, uint8_t *out,
-                        size_t capacity, size_t *needed, uca_fault *fault);
+uint32_t uca_packed_key(const uca_collator *collator, const uca_settings *settings, const uint8_t *text, size_t size,
+                        uint8_t *out, size_t capacity, size_t *needed, uca_fault *fault);
 
 /*
  * Writes the sort key that uca_sort_key writes, and its number of bytes, without allocating. It reads the text once for each level, so
@@ -233,8 +234,8 @@ uint32_t uca_packed_key(uca_collator *collator, const uca_settings *settings, co
  * bytes, `needed` would be SIZE_MAX.
  * Returns UCA_OK, UCA_BAD_SETTINGS, UCA_NOT_OPEN, UCA_NOT_UTF8 or UCA_LONG_RUN.
  */
-uint32_t uca_write_key(uca_collator *collator, const uca_settings *settings, const uint8_t *text, size_t size, uint8_t *out,
-                       size_t capacity, size_t *needed, uca_fault *fault);
+uint32_t uca_write_key(const uca_collator *collator, const uca_settings *settings, const uint8_t *text, size_t size,
+                       uint8_t *out, size_t capacity, size_t *needed, uca_fault *fault);
 
 /*
  * The range in which an index has the keys, packed or not, of all texts that begin with a text: each such key, of whatever
@@ -246,8 +247,8 @@ uint32_t uca_write_key(uca_collator *collator, const uca_settings *settings, con
  * A text is not complete where some character that follows it can change its primary weights, as `c` where `ch` is a letter.
  * Returns UCA_OK, UCA_BAD_SETTINGS, UCA_NOT_OPEN, UCA_NOT_UTF8, UCA_LONG_RUN, UCA_INCOMPLETE or UCA_NO_MEMORY.
  */
-uint32_t uca_prefix_bounds(uca_collator *collator, const uca_settings *settings, const uint8_t *text, size_t size, uint8_t *lower,
-                           size_t lower_capacity, uint8_t *upper, size_t upper_capacity, size_t *lower_needed,
+uint32_t uca_prefix_bounds(const uca_collator *collator, const uca_settings *settings, const uint8_t *text, size_t size,
+                           uint8_t *lower, size_t lower_capacity, uint8_t *upper, size_t upper_capacity, size_t *lower_needed,
                            size_t *upper_needed, uca_fault *fault);
 
 /*
@@ -258,7 +259,7 @@ uint32_t uca_prefix_bounds(uca_collator *collator, const uca_settings *settings,
  * these go to `needed`. If one of them is more than the capacity, call again with as much room. The settings do not matter here.
  * Returns UCA_OK, UCA_NOT_OPEN, UCA_NOT_UTF8, UCA_LONG_RUN or UCA_NO_MEMORY.
  */
-uint32_t uca_matches(uca_collator *collator, const uint8_t *text, size_t size, uca_match *matches, size_t matches_capacity,
+uint32_t uca_matches(const uca_collator *collator, const uint8_t *text, size_t size, uca_match *matches, size_t matches_capacity,
                      uint32_t *points, size_t points_capacity, uca_element *elements, size_t elements_capacity,
                      uca_matches_needed *needed, uca_fault *fault);
 
@@ -269,7 +270,7 @@ uint32_t uca_matches(uca_collator *collator, const uint8_t *text, size_t size, u
  * keys; that is proved, and SHA-256 is trusted for the rest. It takes about as long as uca_open.
  * Returns UCA_OK, UCA_BAD_SETTINGS, UCA_NOT_OPEN or UCA_NO_MEMORY.
  */
-uint32_t uca_fingerprint(uca_collator *collator, const uca_settings *settings, uca_digest *out);
+uint32_t uca_fingerprint(const uca_collator *collator, const uca_settings *settings, uca_digest *out);
 
 /* The name of a status. */
 static inline const char *uca_status_name(uint32_t status) {
@@ -293,45 +294,45 @@ static inline uint32_t uca_private_check(const uint8_t *text, size_t size, uca_f
     return uca_check(uca_private_bytes(text), size, fault);
 }
 
-static inline uint32_t uca_private_compare(uca_collator *collator, const uca_settings *settings, const uint8_t *a, size_t a_size,
-                                           const uint8_t *b, size_t b_size, int32_t *order, uca_fault *fault) {
+static inline uint32_t uca_private_compare(const uca_collator *collator, const uca_settings *settings, const uint8_t *a,
+                                           size_t a_size, const uint8_t *b, size_t b_size, int32_t *order, uca_fault *fault) {
     return uca_compare(collator, settings, uca_private_bytes(a), a_size, uca_private_bytes(b), b_size, order, fault);
 }
 
-static inline uint32_t uca_private_compare_levels(uca_collator *collator, const uca_settings *settings, const uint8_t *a,
+static inline uint32_t uca_private_compare_levels(const uca_collator *collator, const uca_settings *settings, const uint8_t *a,
                                                   size_t a_size, const uint8_t *b, size_t b_size, int32_t *order, uint32_t *level,
                                                   uca_fault *fault) {
     return uca_compare_levels(collator, settings, uca_private_bytes(a), a_size, uca_private_bytes(b), b_size, order, level, fault);
 }
 
-static inline uint32_t uca_private_sort_key(uca_collator *collator, const uca_settings *settings, const uint8_t *text,
+static inline uint32_t uca_private_sort_key(const uca_collator *collator, const uca_settings *settings, const uint8_t *text,
                                             size_t size, uint8_t *out, size_t capacity, size_t *needed, uca_fault *fault) {
     uint8_t none[1];
     return uca_sort_key(collator, settings, uca_private_bytes(text), size, out ? out : none, capacity, needed, fault);
 }
 
-static inline uint32_t uca_private_packed_key(uca_collator *collator, const uca_settings *settings, const uint8_t *text,
+static inline uint32_t uca_private_packed_key(const uca_collator *collator, const uca_settings *settings, const uint8_t *text,
                                               size_t size, uint8_t *out, size_t capacity, size_t *needed, uca_fault *fault) {
     uint8_t none[1];
     return uca_packed_key(collator, settings, uca_private_bytes(text), size, out ? out : none, capacity, needed, fault);
 }
 
-static inline uint32_t uca_private_write_key(uca_collator *collator, const uca_settings *settings, const uint8_t *text,
+static inline uint32_t uca_private_write_key(const uca_collator *collator, const uca_settings *settings, const uint8_t *text,
                                              size_t size, uint8_t *out, size_t capacity, size_t *needed, uca_fault *fault) {
     uint8_t none[1];
     return uca_write_key(collator, settings, uca_private_bytes(text), size, out ? out : none, capacity, needed, fault);
 }
 
-static inline uint32_t uca_private_prefix_bounds(uca_collator *collator, const uca_settings *settings, const uint8_t *text,
-                                                 size_t size, uint8_t *lower, size_t lower_capacity, uint8_t *upper,
-                                                 size_t upper_capacity, size_t *lower_needed, size_t *upper_needed,
-                                                 uca_fault *fault) {
+static inline uint32_t uca_private_prefix_bounds(const uca_collator *collator, const uca_settings *settings,
+                                                 const uint8_t *text, size_t size, uint8_t *lower, size_t lower_capacity,
+                                                 uint8_t *upper, size_t upper_capacity, size_t *lower_needed,
+                                                 size_t *upper_needed, uca_fault *fault) {
     uint8_t none[2];
     return uca_prefix_bounds(collator, settings, uca_private_bytes(text), size, lower ? lower : none, lower_capacity,
                              upper ? upper : none + 1, upper_capacity, lower_needed, upper_needed, fault);
 }
 
-static inline uint32_t uca_private_matches(uca_collator *collator, const uint8_t *text, size_t size, uca_match *matches,
+static inline uint32_t uca_private_matches(const uca_collator *collator, const uint8_t *text, size_t size, uca_match *matches,
                                            size_t matches_capacity, uint32_t *points, size_t points_capacity,
                                            uca_element *elements, size_t elements_capacity, uca_matches_needed *needed,
                                            uca_fault *fault) {

@@ -65,6 +65,8 @@ is "stack that calls take" "0|12 calls, uca_open and uca_fingerprint at most 24 
 echo "$script: bytes of stack: $(paste -sd' ' "$work/stacks")"
 compiles threads bindings/c/tests/threads.c "$usr/lib/libuca.a" -lpthread
 is "clones in threads" "well" "$("$work/threads" 2>&1)"
+compiles shared bindings/c/tests/shared.c "$usr/lib/libuca.a" -lpthread
+is "one collator in eight threads, a million calls" "well" "$("$work/shared" 900 2>&1)"
 if command -v c++ >/dev/null; then
     printf '#include <uca.h>\nint main() { return uca_version() != UCA_VERSION || uca_status_name(0)[0] != 0x6F; }\n' >"$work/plus.cc"
     c++ -Wall -Wextra -Werror -I"$usr/include" -o "$work/plus" "$work/plus.cc" "$usr/lib/libuca.a" && "$work/plus"
@@ -75,6 +77,8 @@ if command -v valgrind >/dev/null; then
     is "every call under valgrind" "0|well" "$?|$(cat "$work/out")"
     valgrind -q --error-exitcode=9 --leak-check=full "$work/looks" >"$work/out" 2>&1
     is "levels and matches under valgrind" "0|well" "$?|$(sed 's/,.*//' "$work/out")"
+    valgrind -q --tool=helgrind --error-exitcode=9 "$work/shared" 2 >"$work/out" 2>&1
+    is "one collator in eight threads, under helgrind" "0|well" "$?|$(cat "$work/out")"
 else
     left_out "valgrind"
 fi
@@ -118,8 +122,20 @@ fi
 
 if command -v cargo >/dev/null && cargo --version >/dev/null 2>&1; then
     cp -r bindings/rust "$work/rust"
-    (cd "$work/rust" && UCA_LIB_DIR=$usr/lib cargo build -q --offline --example check) >"$work/log" 2>&1 || cat "$work/log"
+    # in_rust WORDS..: cargo with these words of env and its own
+    in_rust() { (cd "$work/rust" && LD_LIBRARY_PATH=$usr/lib env "$@" --offline) >"$work/log" 2>&1 || { cat "$work/log"; return 1; }; }
+    in_rust UCA_LIB_DIR="$usr/lib" cargo build -q --example check
     is "Rust" "well" "$(LD_LIBRARY_PATH=$usr/lib "$work/rust/target/debug/examples/check" "$table" "$work/lines" "$work/ordered" "$digest" 2>&1)"
+    in_rust UCA_LIB_DIR="$usr/lib" RUSTFLAGS="-D warnings" cargo test -q
+    is "Rust: cargo test" "0" "$?"
+    in_rust UCA_LIB_DIR="$usr/lib" RUSTDOCFLAGS="-D warnings" cargo doc -q
+    is "Rust: cargo doc" "0" "$?"
+    if command -v pkg-config >/dev/null; then
+        in_rust -u UCA_LIB_DIR PKG_CONFIG_PATH="$usr/lib/pkgconfig" cargo test -q
+        is "Rust: the library that pkg-config finds" "0" "$?"
+    fi
+    is "Rust: no library" "UCA_LIB_DIR is \"/none\", which has no libuca.so and no libuca.a." \
+        "$(in_rust UCA_LIB_DIR=/none cargo build -q | sed -n 's/^ *\(UCA_LIB_DIR is .*\)/\1/p')"
 else
     left_out "Rust, since there is no cargo"
 fi

@@ -136,13 +136,13 @@ static void open_files(uca_collator *collator, const char *table_file, const cha
     report(psprintf("uca: \"%s\"", status == UCA_BAD_RULES || status == UCA_BAD_TAILORING ? rules_file : table_file), status, &fault);
 }
 
-static void digest_of(uca_collator *collator, const uca_settings *settings, uca_digest *digest) {
+static void digest_of(const uca_collator *collator, const uca_settings *settings, uca_digest *digest) {
     uca_fault none = {0, 0, 0};
     uint32_t status = uca_fingerprint(collator, settings, digest);
     if (status != UCA_OK) report("uca_fingerprint", status, &none);
 }
 
-static void digits_of(uca_collator *collator, const uca_settings *settings, char *digits) {
+static void digits_of(const uca_collator *collator, const uca_settings *settings, char *digits) {
     uca_digest digest;
     digest_of(collator, settings, &digest);
     hex_encode((char *)digest.bytes, sizeof digest.bytes, digits);
@@ -322,7 +322,7 @@ static struct collation *collation_of(FunctionCallInfo fcinfo, int place) {
 }
 
 /* A call of the library that makes a key: uca_packed_key for uca_key of SQL, and uca_sort_key for uca_sort_key. */
-typedef uint32_t key_call(uca_collator *, const uca_settings *, const uint8_t *, size_t, uint8_t *, size_t, size_t *, uca_fault *);
+typedef uint32_t key_call(const uca_collator *, const uca_settings *, const uint8_t *, size_t, uint8_t *, size_t, size_t *, uca_fault *);
 
 static bytea *key_of(struct collation *collation, const uca_settings *settings, const text *given, key_call *makes_key, const char *function,
                      size_t bytes_of_each) {

@@ -97,7 +97,7 @@ static struct collation *wanted(sqlite3_context *context, int count, sqlite3_val
 }
 
 /* A call of the library that makes a key: uca_packed_key for uca_key of SQL, and uca_sort_key for uca_sort_key. */
-typedef uint32_t key_call(uca_collator *, const uca_settings *, const uint8_t *, size_t, uint8_t *, size_t, size_t *, uca_fault *);
+typedef uint32_t key_call(const uca_collator *, const uca_settings *, const uint8_t *, size_t, uint8_t *, size_t, size_t *, uca_fault *);
 
 static void key_by(key_call *makes_key, const char *function, sqlite3_context *context, int count, sqlite3_value **values) {
     struct collation *collation = wanted(context, count, values, 1);

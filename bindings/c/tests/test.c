@@ -105,7 +105,7 @@ static void settings(void) {
 }
 
 /* A call that makes a key: uca_sort_key, uca_packed_key or uca_write_key. */
-typedef uint32_t key_call(uca_collator *, const uca_settings *, const uint8_t *, size_t, uint8_t *, size_t, size_t *, uca_fault *);
+typedef uint32_t key_call(const uca_collator *, const uca_settings *, const uint8_t *, size_t, uint8_t *, size_t, size_t *, uca_fault *);
 
 static const uint8_t sort_key[] = {0x10, 0, 0x10, 1, 0, 0, 0, 0x20, 0, 0x24, 0, 0x20, 0, 0, 0, 2, 0, 2, 0, 2};
 static const uint8_t packed_key[] = {0x10, 0, 0x10, 1, 0, 0, 0xFE, 0x24, 3, 7};

@@ -13,7 +13,7 @@ struct work {
     long sum;
 };
 
-static long sum_of(uca_collator *collator) {
+static long sum_of(const uca_collator *collator) {
     uca_settings settings = UCA_SETTINGS(UCA_QUATERNARY, UCA_SHIFTED);
     uca_fault fault;
     uint8_t key[256];

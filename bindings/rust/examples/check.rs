@@ -7,7 +7,7 @@ fn main() {
     let table = std::fs::read(&words[0]).unwrap();
     let lines = std::fs::read_to_string(&words[1]).unwrap();
     let ordered = std::fs::read_to_string(&words[2]).unwrap();
-    let mut collator = Collator::open(&table, b"", Settings::default()).unwrap();
+    let collator = Collator::open(&table, b"", Settings::default()).unwrap();
 
     let mut sorted: Vec<(Key, &str)> = lines.split_terminator('\n').map(|line| (collator.key(line).unwrap(), line)).collect();
     sorted.sort_by(|a, b| a.0.cmp(&b.0));
@@ -33,7 +33,7 @@ fn main() {
     let digits: String = collator.fingerprint().unwrap().iter().map(|byte| format!("{byte:02x}")).collect();
     assert_eq!(digits, words[3]);
 
-    let mut clone = collator.try_clone().unwrap();
+    let clone = collator.try_clone().unwrap();
     drop(collator);
     let handle = std::thread::spawn(move || clone.compare("b", "a"));
     assert_eq!(handle.join().unwrap(), Ok(Ordering::Greater));
@@ -41,10 +41,10 @@ fn main() {
     let refused = Collator::open(b"zzz", b"", Settings::default()).err().unwrap();
     assert_eq!((refused.status, refused.at), (6, 1));
     let settings = Settings { strength: Strength::Identical, variable: Variable::Shifted };
-    let mut empty = Collator::open(b"", b"", settings).unwrap();
+    let empty = Collator::open(b"", b"", settings).unwrap();
     assert_eq!(empty.compare("", ""), Ok(Ordering::Equal));
     assert_eq!(empty.prefix_bounds("").map(|ends| (ends.lower, ends.upper)), Ok((vec![], None)));
-    let mut joined = Collator::open(b"0063 ; [.1000.0020.0002]\n0063 0068 ; [.1001.0020.0002]\n", b"", settings).unwrap();
+    let joined = Collator::open(b"0063 ; [.1000.0020.0002]\n0063 0068 ; [.1001.0020.0002]\n", b"", settings).unwrap();
     assert_eq!(joined.prefix_bounds("c").err().map(|error| (error.status, error.text, error.at)), Some((9, 0, 0)));
     assert_eq!(empty.packed_key("").map(PackedKey::into_bytes), Ok(vec![0, 0, 1, 1, 1]));
     assert_eq!(empty.packed_key(&"\u{301}".repeat(61)).err().map(|error| (error.status, error.at)), Some((2, 120)));

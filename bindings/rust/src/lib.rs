@@ -1,15 +1,18 @@
 //! Text in the order that the readers of a language expect: a safe binding of libuca.
 //!
 //! ```no_run
-//! # fn main() -> Result<(), uca::Error> {
-//! let table = std::fs::read("allkeys.txt").unwrap();
-//! let mut collator = uca::Collator::open(&table, b"", uca::Settings::default())?;
+//! # fn main() -> Result<(), Box<dyn std::error::Error>> {
+//! let table = std::fs::read("allkeys.txt")?;
+//! let collator = uca::Collator::open(&table, b"", uca::Settings::default())?;
 //! let mut words = vec!["b", "á", "a"];
 //! words.sort_by_cached_key(|word| collator.key(word).unwrap());
 //! # Ok(())
 //! # }
 //! ```
+//!
+//! Any number of threads may use one [`Collator`] at once.
 
+use std::alloc::{handle_alloc_error, Layout};
 use std::cmp::Ordering;
 use std::ffi::c_void;
 use std::fmt;
@@ -28,14 +31,14 @@ mod ffi {
         pub fn uca_unicode_version() -> u32;
         pub fn uca_open(c: *mut RawCollator, table: *const u8, table_size: usize, rules: *const u8, rules_size: usize, fault: *mut RawFault) -> u32;
         pub fn uca_close(c: *mut RawCollator);
-        pub fn uca_clone(c: *mut RawCollator, other: *mut RawCollator) -> u32;
+        pub fn uca_clone(c: *const RawCollator, other: *mut RawCollator) -> u32;
         pub fn uca_check(text: *const u8, size: usize, fault: *mut RawFault) -> u32;
-        pub fn uca_compare(c: *mut RawCollator, s: *const RawSettings, a: *const u8, a_size: usize, b: *const u8, b_size: usize, order: *mut i32, fault: *mut RawFault) -> u32;
-        pub fn uca_sort_key(c: *mut RawCollator, s: *const RawSettings, text: *const u8, size: usize, out: *mut u8, capacity: usize, needed: *mut usize, fault: *mut RawFault) -> u32;
-        pub fn uca_packed_key(c: *mut RawCollator, s: *const RawSettings, text: *const u8, size: usize, out: *mut u8, capacity: usize, needed: *mut usize, fault: *mut RawFault) -> u32;
-        pub fn uca_write_key(c: *mut RawCollator, s: *const RawSettings, text: *const u8, size: usize, out: *mut u8, capacity: usize, needed: *mut usize, fault: *mut RawFault) -> u32;
-        pub fn uca_prefix_bounds(c: *mut RawCollator, s: *const RawSettings, text: *const u8, size: usize, lower: *mut u8, lower_capacity: usize, upper: *mut u8, upper_capacity: usize, lower_needed: *mut usize, upper_needed: *mut usize, fault: *mut RawFault) -> u32;
-        pub fn uca_fingerprint(c: *mut RawCollator, s: *const RawSettings, out: *mut [u8; 32]) -> u32;
+        pub fn uca_compare(c: *const RawCollator, s: *const RawSettings, a: *const u8, a_size: usize, b: *const u8, b_size: usize, order: *mut i32, fault: *mut RawFault) -> u32;
+        pub fn uca_sort_key(c: *const RawCollator, s: *const RawSettings, text: *const u8, size: usize, out: *mut u8, capacity: usize, needed: *mut usize, fault: *mut RawFault) -> u32;
+        pub fn uca_packed_key(c: *const RawCollator, s: *const RawSettings, text: *const u8, size: usize, out: *mut u8, capacity: usize, needed: *mut usize, fault: *mut RawFault) -> u32;
+        pub fn uca_write_key(c: *const RawCollator, s: *const RawSettings, text: *const u8, size: usize, out: *mut u8, capacity: usize, needed: *mut usize, fault: *mut RawFault) -> u32;
+        pub fn uca_prefix_bounds(c: *const RawCollator, s: *const RawSettings, text: *const u8, size: usize, lower: *mut u8, lower_capacity: usize, upper: *mut u8, upper_capacity: usize, lower_needed: *mut usize, upper_needed: *mut usize, fault: *mut RawFault) -> u32;
+        pub fn uca_fingerprint(c: *const RawCollator, s: *const RawSettings, out: *mut [u8; 32]) -> u32;
     }
 }
 
@@ -80,6 +83,12 @@ pub struct Settings {
     pub variable: Variable,
 }
 
+impl Settings {
+    fn raw(self) -> RawSettings {
+        RawSettings { strength: self.strength as u32, variable: self.variable as u32, reserved: [0; 6] }
+    }
+}
+
 impl Default for Settings {
     fn default() -> Settings {
         Settings { strength: Strength::Tertiary, variable: Variable::NonIgnorable }
@@ -114,6 +123,12 @@ fn answer<T>(status: u32, fault: RawFault, value: T) -> Result<T, Error> {
 #[derive(Clone, Debug, PartialEq, Eq, PartialOrd, Ord, Hash)]
 pub struct Key(Vec<u8>);
 
+impl AsRef<[u8]> for Key {
+    fn as_ref(&self) -> &[u8] {
+        &self.0
+    }
+}
+
 impl Key {
     pub fn as_bytes(&self) -> &[u8] {
         &self.0
@@ -128,6 +143,12 @@ impl Key {
 #[derive(Clone, Debug, PartialEq, Eq, PartialOrd, Ord, Hash)]
 pub struct PackedKey(Vec<u8>);
 
+impl AsRef<[u8]> for PackedKey {
+    fn as_ref(&self) -> &[u8] {
+        &self.0
+    }
+}
+
 impl PackedKey {
     pub fn as_bytes(&self) -> &[u8] {
         &self.0
@@ -139,7 +160,7 @@ impl PackedKey {
 }
 
 /// A call that makes a key.
-type MakesKey = unsafe extern "C" fn(*mut ffi::RawCollator, *const RawSettings, *const u8, usize, *mut u8, usize, *mut usize, *mut RawFault) -> u32;
+type MakesKey = unsafe extern "C" fn(*const ffi::RawCollator, *const RawSettings, *const u8, usize, *mut u8, usize, *mut usize, *mut RawFault) -> u32;
 
 /// The ends of the range that the keys of all texts that begin with a text are in: these keys are not before `lower`, and before
 /// `upper` where there is such an end.
@@ -149,20 +170,37 @@ pub struct PrefixBounds {
     pub upper: Option<Vec<u8>>,
 }
 
-/// A table and settings. One call at a time uses it, so each takes it by `&mut`; another thread takes a clone.
+/// A table and settings. Any number of threads may use one at once. A clone shares its table.
 pub struct Collator {
     raw: ffi::RawCollator,
-    settings: RawSettings,
+    settings: Settings,
 }
 
-// The library's type of a collator may go to another thread.
+// The library lets a collator go to another thread, and any number of threads read one at once.
 unsafe impl Send for Collator {}
+unsafe impl Sync for Collator {}
+
+impl fmt::Debug for Collator {
+    fn fmt(&self, f: &mut fmt::Formatter<'_>) -> fmt::Result {
+        f.debug_struct("Collator").field("settings", &self.settings).finish_non_exhaustive()
+    }
+}
+
+impl Clone for Collator {
+    /// Another collator over the same table. Where memory for it is refused, this ends as a refused `Box` does; `try_clone` reports it.
+    fn clone(&self) -> Collator {
+        self.try_clone().unwrap_or_else(|_| handle_alloc_error(Layout::new::<ffi::RawCollator>()))
+    }
+}
 
 impl Collator {
+    fn closed(settings: Settings) -> Collator {
+        Collator { raw: ffi::RawCollator { table: std::ptr::null_mut(), is_open: false }, settings }
+    }
+
     /// The table of a text in the format of `allkeys.txt`, tailored by rules.
     pub fn open(table: &[u8], rules: &[u8], settings: Settings) -> Result<Collator, Error> {
-        let settings = RawSettings { strength: settings.strength as u32, variable: settings.variable as u32, reserved: [0; 6] };
-        let mut collator = Collator { raw: ffi::RawCollator { table: std::ptr::null_mut(), is_open: false }, settings };
+        let mut collator = Collator::closed(settings);
         let mut fault = RawFault::default();
         // The pointers are those of slices, which are not null.
         let status = unsafe { ffi::uca_open(&mut collator.raw, table.as_ptr(), table.len(), rules.as_ptr(), rules.len(), &mut fault) };
@@ -170,35 +208,42 @@ impl Collator {
     }
 
     /// Another collator over the same table.
-    pub fn try_clone(&mut self) -> Result<Collator, Error> {
-        let mut other = Collator { raw: ffi::RawCollator { table: std::ptr::null_mut(), is_open: false }, settings: self.settings };
-        let status = unsafe { ffi::uca_clone(&mut self.raw, &mut other.raw) };
+    pub fn try_clone(&self) -> Result<Collator, Error> {
+        let mut other = Collator::closed(self.settings);
+        let status = unsafe { ffi::uca_clone(&self.raw, &mut other.raw) };
         answer(status, RawFault::default(), other)
     }
 
-    pub fn compare(&mut self, a: &str, b: &str) -> Result<Ordering, Error> {
+    /// Its settings.
+    pub fn settings(&self) -> Settings {
+        self.settings
+    }
+
+    /// The order of two texts. Texts in which more than 60 nonstarters stand in a row are refused, here and below.
+    pub fn compare(&self, a: &str, b: &str) -> Result<Ordering, Error> {
         let (mut order, mut fault) = (0, RawFault::default());
         let status = unsafe {
-            ffi::uca_compare(&mut self.raw, &self.settings, a.as_ptr(), a.len(), b.as_ptr(), b.len(), &mut order, &mut fault)
+            ffi::uca_compare(&self.raw, &self.settings.raw(), a.as_ptr(), a.len(), b.as_ptr(), b.len(), &mut order, &mut fault)
         };
         answer(status, fault, order.cmp(&0))
     }
 
-    pub fn key(&mut self, text: &str) -> Result<Key, Error> {
+    /// The sort key of a text.
+    pub fn key(&self, text: &str) -> Result<Key, Error> {
         self.key_by(ffi::uca_sort_key, text, 8).map(Key)
     }
 
     /// The packed sort key of a text, for an index.
-    pub fn packed_key(&mut self, text: &str) -> Result<PackedKey, Error> {
+    pub fn packed_key(&self, text: &str) -> Result<PackedKey, Error> {
         self.key_by(ffi::uca_packed_key, text, 4).map(PackedKey)
     }
 
-    fn key_by(&mut self, makes_key: MakesKey, text: &str, bytes_of_each: usize) -> Result<Vec<u8>, Error> {
+    fn key_by(&self, makes_key: MakesKey, text: &str, bytes_of_each: usize) -> Result<Vec<u8>, Error> {
         let mut out = vec![0; bytes_of_each * text.len() + 32];
         loop {
             let (mut needed, mut fault) = (0, RawFault::default());
             let status = unsafe {
-                makes_key(&mut self.raw, &self.settings, text.as_ptr(), text.len(), out.as_mut_ptr(), out.len(), &mut needed, &mut fault)
+                makes_key(&self.raw, &self.settings.raw(), text.as_ptr(), text.len(), out.as_mut_ptr(), out.len(), &mut needed, &mut fault)
             };
             answer(status, fault, ())?;
             let whole = needed <= out.len();
@@ -211,21 +256,21 @@ impl Collator {
 
     /// Writes the first bytes of a text's sort key, as many as fit, and returns how many the whole key has. It allocates nothing, and
     /// takes longer than `key`.
-    pub fn write_key(&mut self, text: &str, out: &mut [u8]) -> Result<usize, Error> {
+    pub fn write_key(&self, text: &str, out: &mut [u8]) -> Result<usize, Error> {
         let (mut needed, mut fault) = (0, RawFault::default());
         let status = unsafe {
-            ffi::uca_write_key(&mut self.raw, &self.settings, text.as_ptr(), text.len(), out.as_mut_ptr(), out.len(), &mut needed, &mut fault)
+            ffi::uca_write_key(&self.raw, &self.settings.raw(), text.as_ptr(), text.len(), out.as_mut_ptr(), out.len(), &mut needed, &mut fault)
         };
         answer(status, fault, needed)
     }
 
     /// The range of the keys of all texts that begin with a text. A text that what follows may change is refused: status 9.
-    pub fn prefix_bounds(&mut self, text: &str) -> Result<PrefixBounds, Error> {
+    pub fn prefix_bounds(&self, text: &str) -> Result<PrefixBounds, Error> {
         let (mut lower, mut upper) = (vec![0; 4 * text.len() + 32], vec![0; 4 * text.len() + 32]);
         loop {
             let (mut lower_needed, mut upper_needed, mut fault) = (0, 0, RawFault::default());
             let status = unsafe {
-                ffi::uca_prefix_bounds(&mut self.raw, &self.settings, text.as_ptr(), text.len(), lower.as_mut_ptr(), lower.len(), upper.as_mut_ptr(), upper.len(), &mut lower_needed, &mut upper_needed, &mut fault)
+                ffi::uca_prefix_bounds(&self.raw, &self.settings.raw(), text.as_ptr(), text.len(), lower.as_mut_ptr(), lower.len(), upper.as_mut_ptr(), upper.len(), &mut lower_needed, &mut upper_needed, &mut fault)
             };
             answer(status, fault, ())?;
             let whole = lower_needed <= lower.len() && upper_needed <= upper.len();
@@ -238,9 +283,9 @@ impl Collator {
     }
 
     /// The digest of all that keys depend on: store it with them.
-    pub fn fingerprint(&mut self) -> Result<[u8; 32], Error> {
+    pub fn fingerprint(&self) -> Result<[u8; 32], Error> {
         let mut out = [0; 32];
-        let status = unsafe { ffi::uca_fingerprint(&mut self.raw, &self.settings, &mut out) };
+        let status = unsafe { ffi::uca_fingerprint(&self.raw, &self.settings.raw(), &mut out) };
         answer(status, RawFault::default(), out)
     }
 }

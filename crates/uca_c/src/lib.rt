@@ -93,7 +93,6 @@ pub extern "C" fn uca_check(text: &[u8], fault: &mut Fault) -> u32
 /// Compares two texts. The order is -1, 0 or 1.
 #[unsafe(no_mangle)]
 pub extern "C" fn uca_compare(
-    alloc: Global,
     collator: &mut Collator,
     settings: &RawSettings,
     a: &[u8],
@@ -110,7 +109,7 @@ pub extern "C" fn uca_compare(
         *fault = NO_FAULT;
         return BAD_SETTINGS;
     };
-    let outcome = collator.compare(alloc, s, a, b);
+    let outcome = collator.compare(s, a, b);
     if let Ok(found) = outcome {
         *order = order_number(found);
     }
@@ -169,7 +168,6 @@ pub extern "C" fn uca_packed_key(
 /// takes no memory.
 #[unsafe(no_mangle)]
 pub extern "C" fn uca_write_key(
-    alloc: Global,
     collator: &mut Collator,
     settings: &RawSettings,
     text: &[u8],
@@ -186,7 +184,7 @@ pub extern "C" fn uca_write_key(
         *fault = NO_FAULT;
         return BAD_SETTINGS;
     };
-    report_key(collator.write_key(alloc, s, text, out), needed, fault)
+    report_key(collator.write_key(s, text, out), needed, fault)
 }
 
 /// Puts the two ends of the keys of all texts that begin with a text into the fronts of two buffers, or as many of their

@@ -50,7 +50,6 @@ fn of_matches(outcome: Result<MatchesSize, KeyFault>) -> Report
 /// they do not.
 #[unsafe(no_mangle)]
 pub extern "C" fn uca_compare_levels(
-    alloc: Global,
     collator: &mut Collator,
     settings: &RawSettings,
     a: &[u8],
@@ -68,7 +67,7 @@ pub extern "C" fn uca_compare_levels(
         *fault = NO_FAULT;
         return BAD_SETTINGS;
     };
-    let outcome = collator.compare_levels(alloc, s, a, b);
+    let outcome = collator.compare_levels(s, a, b);
     if let Ok(found) = outcome {
         *order = order_number(found.order);
         *level = u32::from(found.level);

@@ -1,6 +1,7 @@
 -- What a reader of known bytes that never fails has said of a table.
-use Rattle.std.proofs.Common.{◌≡◌, ℕ, List, ◌++◌, sym, ap, ◌∙◌, subst, append-nil, arith, inl, inr}
+use Rattle.std.proofs.Common.{◌≡◌, refl, ℕ, List, [], ◌∷◌, length, ◌++◌, sym, ap, ◌∙◌, subst, append-nil, arith, inl, inr}
 use Rattle.std.specs.Prelude.{Option, Some, None, Result, Ok, Err, MatchResult, IsErrAnd, chars, IsUtf8}
+use Rattle.std.proofs.lemmas.Str.{IsUtf8-nil, chars-nil}
 use Rattle.uca_io.specs.Counts.{one_more}
 use Rattle.std.specs.Io.KnownBytes.{Consumes, IsAtEnd}
 use Rattle.uca_io.specs.Reader.{ReaderState}
@@ -11,16 +12,16 @@ use Rattle.uca_model.specs.TableText.{Cause, ends, table_of_text}
 use Rattle.uca_allkeys.specs.Reading.{GivesTable, RefusedBy}
 use Rattle.uca_allkeys.specs.declared.faults.ReadCause.TheVariants.{LineTooLong, BadDirective, BadCodePoint, KeyTooLong, NoSemicolon, BadElement, NoElement, TooManyElements, Repeated, BadRange, TooLarge, Read, OutOfMemory}
 use Rattle.uca_allkeys.specs.declared.faults.ReadCause.{ReadCause}
-use Rattle.uca_model.specs.RuleText.{rules_of}
+use Rattle.uca_model.specs.RuleText.{rules_of, parts_within}
 use Rattle.uca_model.specs.Rules.{Chain}
-use Rattle.uca_model.specs.Tailoring.{tailored}
+use Rattle.uca_model.specs.Tailoring.{tailored, tailored_from}
 use Rattle.uca_tailor.specs.Faults.{RefusesText, RefusesRelation}
 use Rattle.uca_tailor.specs.declared.faults.RuleCause.{RuleCause}
 use Rattle.uca_tailor.specs.declared.faults.RuleCause.TheVariants as rule
 use Rattle.uca_tailor.specs.declared.faults.TailorCause.{TailorCause}
 use Rattle.uca_tailor.specs.declared.faults.TailorCause.TheVariants as tailor
 use Rattle.uca_handle.specs.declared.faults.OpenFault.{OpenFault}
-use Rattle.uca_handle.specs.Opening.{RefusesBaseBy, RefusesTable, SaysBase, SaysChains, rules_fault_by, table_fault_by, tailor_fault_by}
+use Rattle.uca_handle.specs.Opening.{RefusesBaseBy, RefusesTable, SaysBase, SaysChains, SaysTable, rules_fault_by, table_fault_by, tailor_fault_by}
 
 -- the bytes are all that were known
 all_known : (xs bytes : List ℕ) (left : Option (List ℕ)) → Consumes (Some xs) left bytes → IsAtEnd left → bytes ≡ xs
@@ -90,3 +91,20 @@ relation_opened table rules base says chains given relation tailor.HighReset ref
 relation_opened table rules base says chains given relation (tailor.Full level) refused = record { base = base; says_base = says; chains = chains; says_chains = given; fault = refused }
 relation_opened table rules base says chains given relation tailor.TooManyElements refused = record { base = base; says_base = says; chains = chains; says_chains = given; fault = refused }
 relation_opened table rules base says chains given relation tailor.OutOfMemory refused = tt
+
+-- ---- no rules
+
+-- a text without characters says no chains
+none_said : rules_of [] ≡ Ok []
+unfolding rules_of parts_within
+none_said = refl
+
+-- no bytes say no chains
+pub no_chains : (rules : List ℕ) → length rules ≡ 0 → SaysChains rules []
+no_chains [] none = record { utf8 = IsUtf8-nil; says = ap rules_of chars-nil ∙ none_said }
+no_chains (b ∷ bs) none = let never : ⊥ = omega (arith, none) in absurd never
+
+-- a table without rules is the table
+pub without_rules : (table rules : List ℕ) (base : ElementTable) → SaysBase table base → length rules ≡ 0 → SaysTable table rules base
+unfolding tailored_from
+without_rules table rules base says none = record { base = base; says_base = says; chains = []; says_chains = no_chains rules none; tailoring = refl }

@@ -9,3 +9,4 @@ pub mod Opening
 pub mod Placing
 pub mod Texts
 pub mod FingerprintLaws
+pub mod Lending

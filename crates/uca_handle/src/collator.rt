@@ -111,34 +111,24 @@ impl Collator {
         ensures shares { Shares (held self.old) (held other.old) (held other.new) result }
         ensures same { held self.new ≡ held self.old }
     {
-        let Some(table) = self.take(alloc) else {
+        if !self.is_open {
             return Err(ShareFault::Closed);
-        };
-        let copied = copy_of(alloc, &table);
-        self.fill(table);
-        let copy = copied?;
+        }
+        let copy = copy_of(alloc, self.handle.get_mut())?;
         let _before = other.take(alloc);
         other.fill(copy);
         Ok(())
     }
 
     /// The order of the sort keys of two texts, or the fault of the first of them that has one. It takes no memory.
-    pub fn compare(
-        &mut self,
-        alloc: Global,
-        s: Settings,
-        a: &[u8],
-        b: &[u8],
-    ) -> Result<Ordering, CompareFault>
+    pub fn compare(&mut self, s: Settings, a: &[u8], b: &[u8]) -> Result<Ordering, CompareFault>
         ensures compares { Compares (held self.old) s a.now b.now result }
         ensures same { held self.new ≡ held self.old }
     {
-        let Some(table) = self.take(alloc) else {
+        if !self.is_open {
             return Err(CompareFault::Closed);
-        };
-        let answer = order_of(table_in(&table), s, a, b);
-        self.fill(table);
-        answer
+        }
+        order_of(table_in(self.handle.get_mut()), s, a, b)
     }
 
     /// Puts the sort key of a text into the front of a buffer, or as many of its bytes as fit, and returns how many bytes it
@@ -153,12 +143,10 @@ impl Collator {
         ensures key { MakesKey (held self.old) s text.now out.old out.new result }
         ensures same { held self.new ≡ held self.old }
     {
-        let Some(table) = self.take(alloc) else {
+        if !self.is_open {
             return Err(KeyFault::Closed);
-        };
-        let answer = put_key(alloc, table_in(&table), s, text, out);
-        self.fill(table);
-        answer
+        }
+        put_key(alloc, table_in(self.handle.get_mut()), s, text, out)
     }
 
     /// Puts the packed sort key of a text into the front of a buffer, or as many of its bytes as fit, and returns how many bytes
@@ -174,32 +162,22 @@ impl Collator {
         ensures key { MakesPackedKey (held self.old) s text.now out.old out.new result }
         ensures same { held self.new ≡ held self.old }
     {
-        let Some(table) = self.take(alloc) else {
+        if !self.is_open {
             return Err(KeyFault::Closed);
-        };
-        let answer = put_packed_key(alloc, table_in(&table), s, text, out);
-        self.fill(table);
-        answer
+        }
+        put_packed_key(alloc, table_in(self.handle.get_mut()), s, text, out)
     }
 
     /// Writes the sort key of a text into the front of a buffer, or as many of its bytes as fit, and returns how many bytes it
     /// has. It takes no memory. The text is read once for each level, so a key takes longer than by [`Collator::sort_key`].
-    pub fn write_key(
-        &mut self,
-        alloc: Global,
-        s: Settings,
-        text: &[u8],
-        out: &mut [u8],
-    ) -> Result<usize, KeyFault>
+    pub fn write_key(&mut self, s: Settings, text: &[u8], out: &mut [u8]) -> Result<usize, KeyFault>
         ensures key { WritesKey (held self.old) s text.now out.old out.new result }
         ensures same { held self.new ≡ held self.old }
     {
-        let Some(table) = self.take(alloc) else {
+        if !self.is_open {
             return Err(KeyFault::Closed);
-        };
-        let answer = write_key_of(table_in(&table), s, text, out);
-        self.fill(table);
-        answer
+        }
+        write_key_of(table_in(self.handle.get_mut()), s, text, out)
     }
 
     /// Puts the two ends of the keys of all texts that begin with a text into the fronts of two buffers, or as many of their
@@ -216,12 +194,17 @@ impl Collator {
         ensures bounds { PutsBounds (held self.old) v text.now lower.old lower.new upper.old upper.new result }
         ensures same { held self.new ≡ held self.old }
     {
-        let Some(table) = self.take(alloc) else {
+        if !self.is_open {
             return Err(BoundsFault::Closed);
-        };
-        let answer = put_bounds(alloc, table_in(&table), v, text, lower, upper);
-        self.fill(table);
-        answer
+        }
+        put_bounds(
+            alloc,
+            table_in(self.handle.get_mut()),
+            v,
+            text,
+            lower,
+            upper,
+        )
     }
 
     /// The SHA-256 digest of what sort keys depend on: the canonical text of the table, the settings, and the version of
@@ -230,19 +213,16 @@ impl Collator {
         ensures digest { Fingerprints (held self.old) s result }
         ensures same { held self.new ≡ held self.old }
     {
-        let Some(table) = self.take(alloc) else {
+        if !self.is_open {
             return Err(FingerprintFault::Closed);
-        };
-        let answer = digest_of(alloc, table_in(&table), s);
-        self.fill(table);
-        answer
+        }
+        digest_of(alloc, table_in(self.handle.get_mut()), s)
     }
 
     /// The order of the sort keys of two texts, with the level that decides it, or the fault of the first of them that has one. It
     /// takes no memory. Both texts are read again for each level, so it takes longer than [`Collator::compare`].
     pub fn compare_levels(
         &mut self,
-        alloc: Global,
         s: Settings,
         a: &[u8],
         b: &[u8],
@@ -250,12 +230,10 @@ impl Collator {
         ensures compares { ComparesLevels (held self.old) s a.now b.now result }
         ensures same { held self.new ≡ held self.old }
     {
-        let Some(table) = self.take(alloc) else {
+        if !self.is_open {
             return Err(CompareFault::Closed);
-        };
-        let answer = decision_of(table_in(&table), s, a, b);
-        self.fill(table);
-        answer
+        }
+        decision_of(table_in(self.handle.get_mut()), s, a, b)
     }
 
     /// Puts the matches of a text into the fronts of three arrays, or as many of them as fit, and returns how much it is: the
@@ -272,12 +250,17 @@ impl Collator {
         ensures matches { PutsMatches (held self.old) text.now matches.old matches.new points.old points.new elements.old elements.new result }
         ensures same { held self.new ≡ held self.old }
     {
-        let Some(table) = self.take(alloc) else {
+        if !self.is_open {
             return Err(KeyFault::Closed);
-        };
-        let answer = put_matches(alloc, table_in(&table), text, matches, points, elements);
-        self.fill(table);
-        answer
+        }
+        put_matches(
+            alloc,
+            table_in(self.handle.get_mut()),
+            text,
+            matches,
+            points,
+            elements,
+        )
     }
 }
 
@@ -290,18 +273,16 @@ fn shared(alloc: Global, t: Table) -> Result<Shared, AllocError>
 }
 
 /// One more owner of a table.
-fn copy_of(alloc: Global, table: &Shared) -> Result<Shared, AllocError>
-    ensures { IfOk result (λ b. arc_value b.value ≡ arc_value table.now.value) }
+fn copy_of(alloc: Global, counted: &Arc<Table, Global>) -> Result<Shared, AllocError>
+    ensures { IfOk result (λ b. arc_value b.value ≡ arc_value counted.now) }
 {
-    let counted: &Arc<Table, Global> = table;
     let copy = Arc::try_clone(counted)?;
     Ok(Box::new(alloc, copy)?)
 }
 
 /// The table that an owner has.
-fn table_in(table: &Shared) -> &Table
-    ensures { result.now ≡ arc_value table.now.value }
+fn table_in(counted: &Arc<Table, Global>) -> &Table
+    ensures { result.now ≡ arc_value counted.now }
 {
-    let counted: &Arc<Table, Global> = table;
     counted
 }

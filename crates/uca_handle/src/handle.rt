@@ -4,6 +4,7 @@ ghost use Rattle.uca_model.specs.Table.{ElementTable};
 ghost use Rattle.std_alloc.specs.declared.arc.Arc.{Arc};
 ghost use Rattle.std.specs.Global.{Global};
 ghost use Rattle.uca_handle.specs.Held.{arc_coded};
+ghost use types.Logic.{sem};
 
 use crate::loose::Loose;
 use std::alloc::Global;
@@ -29,6 +30,7 @@ impl Model for Handle {
 
 impl Handle {
     ghost use Rattle.std.specs.Prelude.{is_some};
+    ghost use Rattle.uca_handle.specs.Lending.{LendsTable};
 
     pub fn none(alloc: Global) -> Handle
         ensures { result.table ≡ None }
@@ -47,6 +49,16 @@ impl Handle {
             at: at as *mut u8,
             alloc,
         }
+    }
+
+    /// The table, where there is one. The handle is not written.
+    pub(crate) fn get_mut(&mut self) -> &mut Arc<Table, Global>
+        requires { IsTrue (is_some self.old.table) }
+        ensures* writes_back { sem 𝓛 (LendsTable self.entry result) }
+        ensures value { Some result.now ≡ self.old.table }
+    {
+        let at = self.at as *mut Arc<Table, Global>;
+        unsafe { &mut *at }
     }
 
     pub(crate) fn into_loose(self) -> Loose<Arc<Table, Global>, Global>

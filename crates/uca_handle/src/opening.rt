@@ -34,5 +34,9 @@ pub(crate) fn table_of(alloc: Global, table: &[u8], rules: &[u8]) -> Result<Tabl
     ensures { MatchResult result (SaysTable table.now rules.now) (RefusesTable table.now rules.now) }
 {
     let base = base_of(alloc, table)?;
+    // Without rules it is the table, which need not be copied.
+    if rules.is_empty() {
+        return Ok(base);
+    }
     tailored_by(alloc, &base, rules)
 }

@@ -12,14 +12,21 @@ use uca_table::Table;
 use uca_weights::Settings;
 use uca_window::Passage;
 
-/// The text that bytes are.
+/// The text that bytes are. Most texts of databases are ASCII, and many are empty: these need no look for faults.
 pub(crate) fn passage_of(bytes: &[u8]) -> Result<Passage<'_>, TextFault>
     ensures { MatchResult result (λ p. IsTextLine bytes.now × (text_of p ≡ chars bytes.now)) (IsFault bytes.now) }
 {
-    // Databases have many empty texts, which the look for faults would take for long.
-    if bytes.is_empty() {
-        return Ok(Passage::of_safe(""));
+    match Passage::of_ascii(bytes) {
+        Some(passage) => Ok(passage),
+        None => checked(bytes),
     }
+}
+
+/// The text that bytes are after a look for faults. It is not inlined, so that a text in ASCII doesn't pay for its room.
+#[inline(never)]
+fn checked(bytes: &[u8]) -> Result<Passage<'_>, TextFault>
+    ensures { MatchResult result (λ p. IsTextLine bytes.now × (text_of p ≡ chars bytes.now)) (IsFault bytes.now) }
+{
     match from_utf8(bytes) {
         Ok(text) => match Passage::check(text) {
             Ok(passage) => Ok(passage),

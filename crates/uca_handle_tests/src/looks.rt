@@ -25,7 +25,7 @@ fn loads(alloc: Global, collator: &mut Collator) -> bool {
 fn the_level_that_decides(rt: HostRuntime) {
     let alloc = rt.alloc();
     let mut collator = Collator::closed(alloc);
-    let closed = collator.compare_levels(alloc, TERTIARY, b"a", b"c");
+    let closed = collator.compare_levels(TERTIARY, b"a", b"c");
     assert!(rt; closed == Err(CompareFault::Closed));
     assert!(rt; loads(alloc, &mut collator));
     let first = Decision {
@@ -36,10 +36,10 @@ fn the_level_that_decides(rt: HostRuntime) {
         order: Ordering::Equal,
         level: 3,
     };
-    assert!(rt; collator.compare_levels(alloc, TERTIARY, b"a", b"c") == Ok(first));
-    assert!(rt; collator.compare_levels(alloc, TERTIARY, b"ch", b"ch") == Ok(none));
+    assert!(rt; collator.compare_levels(TERTIARY, b"a", b"c") == Ok(first));
+    assert!(rt; collator.compare_levels(TERTIARY, b"ch", b"ch") == Ok(none));
     let fault = CompareFault::Second(TextFault::NotUtf8(0));
-    assert!(rt; collator.compare_levels(alloc, TERTIARY, b"a", b"\xFF") == Err(fault));
+    assert!(rt; collator.compare_levels(TERTIARY, b"a", b"\xFF") == Err(fault));
 }
 
 /// Room for the matches of a short text.

@@ -53,15 +53,14 @@ fn each_call_once(rt: HostRuntime) {
     let alloc = rt.alloc();
     let mut collator = Collator::closed(alloc);
     goes(&collator);
-    assert!(rt; collator.compare(alloc, TERTIARY, b"a", b"c") == Err(CompareFault::Closed));
+    assert!(rt; collator.compare(TERTIARY, b"a", b"c") == Err(CompareFault::Closed));
     assert!(rt; load(alloc, &mut collator, TABLE, b"&c<ch") == Ok(()));
     let mut other = Collator::closed(alloc);
     assert!(rt; share(alloc, &mut collator, &mut other) == Ok(()));
     collator.close(alloc);
-    assert!(rt; other.compare(alloc, TERTIARY, b"cz", b"ch") == Ok(Ordering::Less));
+    assert!(rt; other.compare(TERTIARY, b"cz", b"ch") == Ok(Ordering::Less));
     assert!(rt;
-        other.compare(alloc, TERTIARY, b"a", b"\xFF")
-            == Err(CompareFault::Second(TextFault::NotUtf8(0)))
+        other.compare(TERTIARY, b"a", b"\xFF") == Err(CompareFault::Second(TextFault::NotUtf8(0)))
     );
     assert!(rt; check(b"a\xC3") == Err(TextFault::NotUtf8(1)));
 }
@@ -190,6 +189,6 @@ fn what_is_refused_leaves_the_collator_as_it_was(rt: HostRuntime) {
     for (table, rules) in REFUSED {
         let answer = load(alloc, &mut collator, table, rules);
         assert!(rt; matches!(answer, Err(fault) if fault != OpenFault::OutOfMemory));
-        assert!(rt; collator.compare(alloc, TERTIARY, b"cz", b"ch") == Ok(Ordering::Greater));
+        assert!(rt; collator.compare(TERTIARY, b"cz", b"ch") == Ok(Ordering::Greater));
     }
 }

@@ -11,3 +11,4 @@ pub mod PassedRuns
 pub mod PassedBytes
 pub mod PassedLanes
 pub mod SkippedRuns
+pub mod AsciiTexts

@@ -24,7 +24,7 @@ pub record Scanned (front : List ℕ) (count : ℕ) : Type 0 where
   pub safe : IsSafe front
 
 -- no character is scanned yet
-scanned_none : Scanned [] 0
+pub scanned_none : Scanned [] 0
 scanned_none = record { ends = refl; within = omega arith; safe = safe_none }
 
 -- the longest run with one more character, by the count

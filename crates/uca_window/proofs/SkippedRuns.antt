@@ -14,7 +14,7 @@ use Rattle.uca_window.specs.Passing.{is_passed, ending, Passes, Skips}
 use Rattle.uca_window.specs.Scan.{Fits}
 use Rattle.uca_window.proofs.PassedCharacters.{decompose-short}
 use Rattle.uca_window.proofs.PassedRuns.{longest-short, run-longest, ending-passed}
-use Rattle.uca_window.proofs.RunScan.{Scanned, ScannedTo, scanned_more, scanned_one, all_safe}
+use Rattle.uca_window.proofs.RunScan.{Scanned, ScannedTo, scanned_none, scanned_more, scanned_one, all_safe}
 
 -- after few enough nonstarters a character makes no run longer than two code points a byte
 longest_by_bytes : (n c : ℕ) → longest_run_after n (decompose_canonical c) ≤ n + 2 * length (encode_utf8 c)
@@ -34,6 +34,12 @@ scanned_few front (c ∷ cs) n s few =
     let next : Scanned (front ++ c ∷ []) m = scanned_more front n c m s fits (omega arith) refl in
     let all = scanned_few (front ++ c ∷ []) cs m next (omega arith) in
     (all.0, subst (λ xs. Scanned xs all.0) (append_assoc front (c ∷ []) cs) all.1)
+
+-- few bytes are a safe text whatever they spell
+pub short_safe : (bs : List ℕ) → IsUtf8 bs → 2 * length bs ≤ MAX_RUN → IsSafe (chars bs)
+short_safe bs utf8 few =
+    let size : length (encode_utf8_all (chars bs)) ≡ length bs = ap length (encodes-chars bs utf8) in
+    (scanned_few [] (chars bs) 0 scanned_none (omega arith)).1.safe
 
 -- a passed character ends in few nonstarters
 ending-short : (last run : ℕ) → is_passed last ≡ true → ending last run ≤ MAX_DECOMPOSITION

@@ -1,11 +1,13 @@
 //! Texts that are safe to read with bounded memory, and the window in which they are read.
 //!
 //! [`Passage::check`] takes a text whose runs of nonstarters are short (compare UAX #15, section 13, Stream-Safe Text
-//! Format), and reports the place of the first long run in any other. [`nfd_of`] is the NFD of such a text, as one list.
+//! Format), and reports the place of the first long run in any other; [`Passage::of_ascii`] takes bytes that are all ASCII.
+//! [`nfd_of`] is the NFD of such a text, as one list.
 //! A [`Window`] reads the text character by character from a [`Source`] and shows its NFD piece by piece. What it shows
 //! and what it has still to show are together the NFD of the whole text.
 #![tactic(auto)]
 
+mod ascii;
 pub mod decomposition;
 pub mod passage;
 pub mod passage_source;

@@ -1,14 +1,21 @@
 ghost use Rattle.std.specs.Prelude.{◌≡◌, ◌≤◌, ◌<◌, ◌↔◌, length, chars, IfOk, IfErr, IsOk, IfSome, IfNone, IsSome};
+ghost use Rattle.std.specs.Str.{IsAscii};
 ghost use Rattle.unicode_normalization.specs.Decompose.{decompose_canonical};
+ghost use Rattle.uca_model.specs.Lines.{IsTextLine};
 ghost use Rattle.uca_model.specs.SafeText.{IsSafe, IsLongRunAt, longest_run_after};
 ghost use Rattle.uca_window.specs.Passing.{ending};
 ghost use Rattle.uca_window.specs.Scan.{run_after, Fits};
 
+use crate::ascii::is_ascii;
 use crate::passing::{STRIDE, is_passed, pass, skip};
+use std::str::from_utf8_unchecked;
 use thiserror::Error;
 use uca_weights::{MAX_DECOMPOSITION, MAX_RUN};
 use unicode_normalization::Form;
 use unicode_normalization::char::{canonical_combining_class, decomposition};
+
+/// How many bytes are a safe text whatever they spell: each brings at most two nonstarters.
+const SHORT: usize = MAX_RUN / 2;
 
 /// A text is not safe: a run of nonstarters in its NFD is longer than `MAX_RUN`, or the NFD of a character is
 /// longer than `MAX_DECOMPOSITION` code points.
@@ -35,8 +42,23 @@ impl<'t> Passage<'t> {
         ensures same { IfOk result (λ p. bytes_of p ≡ text.now) }
         ensures long { IfErr result (λ e. IsLongRunAt (chars text.now) e.at) }
     {
+        if text.len() <= SHORT {
+            return Ok(Passage::of_safe(text));
+        }
         scan(text)?;
         Ok(Passage { text })
+    }
+
+    /// Takes bytes if they are all ASCII: these characters are starters, so no run of nonstarters is long. It takes no memory.
+    pub fn of_ascii(bytes: &'t [u8]) -> Option<Passage<'t>>
+        ensures ascii { IsSome result ↔ IsAscii bytes.now }
+        ensures same { IfSome result (λ p. bytes_of p ≡ bytes.now) }
+        ensures safe { IfSome result (λ _. IsTextLine bytes.now) }
+    {
+        if !is_ascii(bytes) {
+            return None;
+        }
+        Some(Passage::of_safe(unsafe { from_utf8_unchecked(bytes) }))
     }
 
     /// A text that was found safe before.

@@ -50,6 +50,35 @@ static RUNS: [(Pieces, Option<usize>); 8] = [
     (&[("a", 1), ("\u{F73}", 31)], Some(91)),
 ];
 
+static ASCII: [(&[u8], bool); 6] = [
+    (b"", true),
+    (b"a", true),
+    (b"\x00 to \x7F", true),
+    (b"\x80", false),
+    (b"\xC3\xA1bcdefghi", false),
+    (b"abcdefghi\xC3", false),
+];
+
+#[test]
+fn ascii_alone_is_taken_without_a_check(rt: HostRuntime) {
+    for (bytes, want) in &ASCII {
+        assert!(rt; Passage::of_ascii(bytes).is_some() == *want, "{bytes:?}");
+    }
+}
+
+#[test]
+fn one_byte_that_is_not_ascii_is_seen(rt: HostRuntime) {
+    let mut bytes = [b'a'; 70];
+    for n in 1..71 {
+        assert!(rt; Passage::of_ascii(&bytes[..n]).is_some(), "{n}");
+        for at in 0..n {
+            bytes[at] = 0x80;
+            assert!(rt; Passage::of_ascii(&bytes[..n]).is_none(), "{at} of {n}");
+            bytes[at] = b'a';
+        }
+    }
+}
+
 #[test]
 fn runs_up_to_the_limit_are_accepted(rt: HostRuntime) -> Result<(), Fail> {
     for (pieces, want) in &RUNS {
