@@ -1,6 +1,8 @@
 -- Texts that are all ASCII: their characters are starters.
-use Rattle.std.proofs.Common.{ℕ, ◌<◌, List, [], ◌∷◌, ◌++◌, suc, sym, subst, append-nil, append_assoc, arith}
+use Rattle.std.proofs.Common.{ℕ, ◌<◌, List, [], ◌∷◌, ◌++◌, suc, length, slice_index, sym, subst, append-nil, append_assoc, arith, inl, inr}
 use Rattle.std.specs.Str.{chars, IsAscii}
+use Rattle.std.proofs.lemmas.Bool.{cases_lt}
+use Rattle.std.proofs.lemmas.List.{get_or_past}
 use Rattle.std.proofs.lemmas.Str.{IsUtf8-from_ascii, chars-IsAscii}
 use Rattle.uca_model.specs.Lines.{IsTextLine}
 use Rattle.uca_model.specs.SafeText.{IsSafe}
@@ -19,3 +21,10 @@ ascii_safe bs ascii = subst IsSafe (sym (chars-IsAscii bs ascii)) (ascii_scanned
 
 pub ascii_line : (bs : List ℕ) → IsAscii bs → IsTextLine bs
 ascii_line bs ascii = record { utf8 = IsUtf8-from_ascii bs ascii; safe = ascii_safe bs ascii }
+
+-- bytes that are ASCII at each place
+pub all_ascii : (bs : List ℕ) → ((k : ℕ) → k < length bs → slice_index bs k < 0x80) → IsAscii bs
+all_ascii bs all i = elim (cases_lt i (length bs)) [
+    inl l ↦ all i l
+  | inr g ↦ subst (λ b. b < 0x80) (sym (get_or_past bs i 0 g)) (omega arith)
+]

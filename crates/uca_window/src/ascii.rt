@@ -10,9 +10,6 @@ use std::simd::prelude::*;
 /// How many bytes are looked at together.
 const LANES: usize = 8;
 
-/// How many bytes are looked at here, at most.
-const MANY: usize = 64;
-
 /// Which bytes of a block are not ASCII, each as a bit.
 #[inline(always)]
 fn others(block: u8x8) -> u64
@@ -35,13 +32,24 @@ fn ascii_in(bytes: &[u8], at: usize) -> usize
     }
 }
 
-/// Whether bytes are all ASCII. The standard test looks at up to 64 bytes a second time where they are not, so it is asked only
-/// of fewer and of more.
+/// Whether bytes that are too few for a block are all ASCII.
+fn few_are_ascii(bytes: &[u8]) -> bool
+    ensures { MatchBool result (IsAscii bytes.now) (IsNotAscii bytes.now) }
+{
+    for b in bytes {
+        if *b >= 0x80 {
+            return false;
+        }
+    }
+    true
+}
+
+/// Whether bytes are all ASCII. The last block may begin in the one before it.
 pub(crate) fn is_ascii(bytes: &[u8]) -> bool
     ensures { MatchBool result (IsAscii bytes.now) (IsNotAscii bytes.now) }
 {
-    if bytes.len() < LANES || MANY < bytes.len() {
-        return bytes.is_ascii();
+    if bytes.len() < LANES {
+        return few_are_ascii(bytes);
     }
     let last = bytes.len() - LANES;
     let mut at = 0;

@@ -2,9 +2,8 @@
  * The calls of libuca for Python, by its stable ABI. The library is loaded when the package is imported, by `load`, so that the
  * environment can name it.
  *
- * Any number of calls may read a collator of the library at once, so threads need no lock of their own: `close` and `__init__` alone change it.
- * Every call here keeps the interpreter's lock from its beginning to its end, and none runs Python code while it is in the library, so these
- * two wait for the others.
+ * Any number of calls may read a collator of the library at once, and `close` and `__init__` alone change one. Every call here keeps the
+ * interpreter's lock from its beginning to its end, and none runs Python code while it is in the library, so these two run alone.
  */
 #define PY_SSIZE_T_CLEAN
 #include <Python.h>

@@ -1,10 +1,10 @@
-use Rattle.std.proofs.Common.{◌≡◌, ℕ, ◌+◌, ◌≤◌, ◌<◌, List, true, false, not, nat_le, length, slice_index, sym, subst, arith, inl, inr}
+use Rattle.std.proofs.Common.{◌≡◌, ℕ, ◌+◌, ◌≤◌, ◌<◌, List, true, false, not, nat_le, length, slice_index, arith, inl, inr}
 use Rattle.std.specs.List.{prefix_len}
 use Rattle.std.proofs.lemmas.Bool.{cases_lt}
 use Rattle.std.proofs.lemmas.Bool.Decides.{nat_tests}
-use Rattle.std.proofs.lemmas.List.{get_or_past}
 use Rattle.std.proofs.lemmas.Simd.{run_in_chunk_fails, run_in_chunk_stops}
 use lib.Lanes.{chunk}
+use Rattle.uca_window.proofs.AsciiTexts.{all_ascii}
 use Rattle.uca_window.proofs.ascii.is_ascii.Goals as goal
 
 low : (b : ℕ) → nat_le 0x80 b ≡ false → b < 0x80
@@ -20,13 +20,6 @@ joined bytes at r room before counted whole k h = elim (cases_lt k at) [
   | inr g ↦ low (slice_index bytes k) (run_in_chunk_fails (nat_le 0x80) bytes at 8 r 0 room counted k g (omega arith))
 ]
 
--- and so are all, where there are no more
-whole : (bytes : List ℕ) → ((k : ℕ) → k < length bytes → slice_index bytes k < 0x80) → (i : ℕ) → slice_index bytes i < 0x80
-whole bytes all i = elim (cases_lt i (length bytes)) [
-    inl l ↦ all i l
-  | inr g ↦ subst (λ b. b < 0x80) (sym (get_or_past bytes i 0 g)) (omega arith)
-]
-
 pub returns-then-ascii_in-lt-LANES : goal.returns-then-ascii_in-lt-LANES
 returns-then-ascii_in-lt-LANES c =
     let room : c.each.at + 8 ≤ length c.args.bytes.now = omega (arith, c.each.invariant.end, c.each.invariant.within) in
@@ -35,7 +28,7 @@ returns-then-ascii_in-lt-LANES c =
 pub returns-then-at-last : goal.returns-then-at-last
 returns-then-at-last c =
     let room : c.each.at + 8 ≤ length c.args.bytes.now = omega (arith, c.each.invariant.end, c.each.invariant.within) in
-    whole c.args.bytes.now (λ k h. joined c.args.bytes.now c.each.at c.ascii_in.result room c.each.invariant.ascii c.ascii_in.ensures c.if-ascii_in-lt-LANES.false k (omega (arith, h, c.if-at-last.true, c.each.invariant.end)))
+    all_ascii c.args.bytes.now (λ k h. joined c.args.bytes.now c.each.at c.ascii_in.result room c.each.invariant.ascii c.ascii_in.ensures c.if-ascii_in-lt-LANES.false k (omega (arith, h, c.if-at-last.true, c.each.invariant.end)))
 
 pub each-preserved : goal.each-preserved
 each-preserved c =
