@@ -63,7 +63,7 @@ class Look:
             ],
             "levels": self._levels(key, found),
             "key": [piece.hex().upper() for piece in _pieces(key, self.collator.strength)],
-            "packed": [piece.hex().upper() for piece in packed_pieces(packed, self.collator.strength)],
+            "packed": [piece.hex().upper() for piece in _packed_pieces(packed, self.collator.strength)],
         }
 
     def pair(self, a: str, b: str) -> dict[str, Any]:
@@ -110,7 +110,7 @@ def _pieces(key: bytes, strength: int) -> list[bytes]:
     return [*pieces, key]
 
 
-def packed_pieces(key: bytes, strength: int) -> list[bytes]:
+def _packed_pieces(key: bytes, strength: int) -> list[bytes]:
     """The levels of a packed key. What ends the first level, 0000, is left out; what ends a later one is part of it."""
     if strength == uca.PRIMARY:
         return [key]
