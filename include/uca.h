@@ -20,7 +20,8 @@
  * Every call returns a status, and most say in a uca_fault where a fault is. Where a call returns any status but UCA_OK,
  * it has changed nothing but the fault.
  *
- * Memory: uca_open, uca_clone, uca_sort_key, uca_packed_key, uca_prefix_bounds and uca_fingerprint call malloc, realloc and free.
+ * Memory: uca_open, uca_clone, uca_sort_key, uca_packed_key, uca_prefix_bounds, uca_matches and uca_fingerprint call malloc,
+ * realloc and free.
  * All other calls allocate nothing. No call keeps a pointer that it was given.
  *
  * Threads: a call that takes a const uca_collator only reads it, and any number of threads may make such calls on one
@@ -139,6 +140,28 @@ typedef struct uca_digest {
     uint8_t bytes[32];
 } uca_digest;
 
+/* Code points of a text that are taken together. They stand in another array, and so do the collation elements. */
+typedef struct uca_match {
+    uint32_t points;   /* how many code points it has, 1 to 32 */
+    uint32_t elements; /* how many collation elements it has, 1 to 64 */
+    uint32_t is_key;   /* 1: the table has the code points as a key; 0: it has not, and the elements are implicit ones */
+} uca_match;
+
+/* A collation element (UTS #10, section 3). */
+typedef struct uca_element {
+    uint16_t primary;
+    uint16_t secondary;
+    uint16_t tertiary;
+    uint16_t is_variable; /* 1 where a table writes it with *, else 0 */
+} uca_element;
+
+/* How many matches a text has, and how many code points and collation elements they have. */
+typedef struct uca_matches_needed {
+    size_t matches;
+    size_t points;
+    size_t elements;
+} uca_matches_needed;
+
 /* The version of the library: 65536 times the major number, 256 times the minor number, and the patch. */
 uint32_t uca_version(void);
 
@@ -177,6 +200,14 @@ uint32_t uca_check(const uint8_t *text, size_t size, uca_fault *fault);
  */
 uint32_t uca_compare(const uca_collator *collator, const uca_settings *settings, const uint8_t *a, size_t a_size,
                      const uint8_t *b, size_t b_size, int32_t *order, uca_fault *fault);
+
+/*
+ * Compares two texts as uca_compare does, and writes to `level` which level decides: the first at which they differ, or the last
+ * that is compared where `order` is 0. It allocates nothing, and takes longer than uca_compare.
+ * Returns UCA_OK, UCA_BAD_SETTINGS, UCA_NOT_OPEN, UCA_NOT_UTF8 or UCA_LONG_RUN.
+ */
+uint32_t uca_compare_levels(const uca_collator *collator, const uca_settings *settings, const uint8_t *a, size_t a_size, const uint8_t *b,
+                            size_t b_size, int32_t *order, uint32_t *level, uca_fault *fault);
 
 /*
  * Writes the first bytes of a text's sort key to `out`, at most `capacity`, and the number of bytes of the whole key to
@@ -221,6 +252,18 @@ uint32_t uca_prefix_bounds(const uca_collator *collator, const uca_settings *set
                            size_t *upper_needed, uca_fault *fault);
 
 /*
+ * Writes the matches of a text: the code points of the text in NFD that are taken together, one match after the other, and the
+ * collation elements that they have. A key may take marks that stand after others which it does not take, so the code points of
+ * all matches are those of the text, and not always in its order. Writes at most `matches_capacity` matches, the code points of
+ * all matches one after the other, at most `points_capacity`, and their collation elements in the same way. The numbers of all of
+ * these go to `needed`. If one of them is more than the capacity, call again with as much room. The settings do not matter here.
+ * Returns UCA_OK, UCA_NOT_OPEN, UCA_NOT_UTF8, UCA_LONG_RUN or UCA_NO_MEMORY.
+ */
+uint32_t uca_matches(const uca_collator *collator, const uint8_t *text, size_t size, uca_match *matches, size_t matches_capacity,
+                     uint32_t *points, size_t points_capacity, uca_element *elements, size_t elements_capacity,
+                     uca_matches_needed *needed, uca_fault *fault);
+
+/*
  * Writes the SHA-256 digest of all that sort keys and packed keys depend on: the table in its canonical form, the settings, the
  * form of keys, and the version of Unicode. Store it with an index of keys, packed or not: while it is the same, keys made now can
  * be compared with those of the index, if all are sort keys or all packed keys. Where the digested bytes are equal, so are all
@@ -256,6 +299,12 @@ static inline uint32_t uca_private_compare(const uca_collator *collator, const u
     return uca_compare(collator, settings, uca_private_bytes(a), a_size, uca_private_bytes(b), b_size, order, fault);
 }
 
+static inline uint32_t uca_private_compare_levels(const uca_collator *collator, const uca_settings *settings, const uint8_t *a,
+                                                  size_t a_size, const uint8_t *b, size_t b_size, int32_t *order, uint32_t *level,
+                                                  uca_fault *fault) {
+    return uca_compare_levels(collator, settings, uca_private_bytes(a), a_size, uca_private_bytes(b), b_size, order, level, fault);
+}
+
 static inline uint32_t uca_private_sort_key(const uca_collator *collator, const uca_settings *settings, const uint8_t *text,
                                             size_t size, uint8_t *out, size_t capacity, size_t *needed, uca_fault *fault) {
     uint8_t none[1];
@@ -283,13 +332,27 @@ static inline uint32_t uca_private_prefix_bounds(const uca_collator *collator, c
                              upper ? upper : none + 1, upper_capacity, lower_needed, upper_needed, fault);
 }
 
+static inline uint32_t uca_private_matches(const uca_collator *collator, const uint8_t *text, size_t size, uca_match *matches,
+                                           size_t matches_capacity, uint32_t *points, size_t points_capacity,
+                                           uca_element *elements, size_t elements_capacity, uca_matches_needed *needed,
+                                           uca_fault *fault) {
+    uca_match no_match[1];
+    uint32_t no_point[1];
+    uca_element no_element[1];
+    return uca_matches(collator, uca_private_bytes(text), size, matches ? matches : no_match, matches_capacity,
+                       points ? points : no_point, points_capacity, elements ? elements : no_element, elements_capacity, needed,
+                       fault);
+}
+
 #define uca_open uca_private_open
 #define uca_check uca_private_check
 #define uca_compare uca_private_compare
+#define uca_compare_levels uca_private_compare_levels
 #define uca_sort_key uca_private_sort_key
 #define uca_packed_key uca_private_packed_key
 #define uca_write_key uca_private_write_key
 #define uca_prefix_bounds uca_private_prefix_bounds
+#define uca_matches uca_private_matches
 
 #ifdef __cplusplus
 }

@@ -20,7 +20,7 @@ make -s -C bindings/c install OUT="$work/c" PREFIX="$work/usr" >"$work/log" 2>&1
 usr=$work/usr
 
 # What the library shows, and what it takes.
-names="uca_check uca_clone uca_close uca_compare uca_fingerprint uca_open uca_packed_key uca_prefix_bounds uca_sort_key uca_unicode_version uca_version uca_write_key"
+names="uca_check uca_clone uca_close uca_compare uca_compare_levels uca_fingerprint uca_matches uca_open uca_packed_key uca_prefix_bounds uca_sort_key uca_unicode_version uca_version uca_write_key"
 is "the names of the shared library" "$names" "$(nm -D --defined-only "$usr/lib/libuca.so.1" | awk '{ print $3 }' | sort | paste -sd' ')"
 is "the names of the archive" "$names" "$(nm --extern-only --defined-only "$usr/lib/libuca.a" 2>/dev/null | awk 'NF == 3 { print $3 }' | sort | paste -sd' ')"
 is "the functions of the header" "$names" "$(sed -n 's/^[a-z0-9_]* \(uca_[a-z_]*\)(.*/\1/p' include/uca.h | sort -u | paste -sd' ')"
@@ -56,9 +56,11 @@ compiles test_shared bindings/c/tests/test.c -L"$usr/lib" -luca
 is "every call of C, with the shared library" "well" "$(LD_LIBRARY_PATH=$usr/lib "$work/test_shared" "$small" 2>&1)"
 compiles refused bindings/c/tests/refused.c "$usr/lib/libuca.a" -Wl,--wrap=malloc,--wrap=realloc,--wrap=free
 is "allocations that are refused" "well" "$("$work/refused" 2>&1 | sed 's/,.*//')"
+compiles looks bindings/c/tests/looks.c "$usr/lib/libuca.a" -Wl,--wrap=malloc,--wrap=realloc
+is "levels and matches, and their allocations refused" "well" "$("$work/looks" 2>&1 | sed 's/,.*//')"
 compiles stack bindings/c/tests/stack.c "$usr/lib/libuca.a" -lpthread
 "$work/stack" "$table" rules/sv.rules >"$work/stacks"
-is "stack that calls take" "0|10 calls, uca_open and uca_fingerprint at most 24 KiB, the others at most 8" \
+is "stack that calls take" "0|12 calls, uca_open and uca_fingerprint at most 24 KiB, the others at most 8" \
     "$?|$(awk '$2 > ($1 == "uca_open" || $1 == "uca_fingerprint" ? 24576 : 8192) { print; bad = 1 } END { if (!bad) print NR " calls, uca_open and uca_fingerprint at most 24 KiB, the others at most 8" }' "$work/stacks")"
 echo "$script: bytes of stack: $(paste -sd' ' "$work/stacks")"
 compiles threads bindings/c/tests/threads.c "$usr/lib/libuca.a" -lpthread
@@ -73,6 +75,8 @@ fi
 if command -v valgrind >/dev/null; then
     valgrind -q --error-exitcode=9 --leak-check=full "$work/test" "$small" >"$work/out" 2>&1
     is "every call under valgrind" "0|well" "$?|$(cat "$work/out")"
+    valgrind -q --error-exitcode=9 --leak-check=full "$work/looks" >"$work/out" 2>&1
+    is "levels and matches under valgrind" "0|well" "$?|$(sed 's/,.*//' "$work/out")"
     valgrind -q --tool=helgrind --error-exitcode=9 "$work/shared" 2 >"$work/out" 2>&1
     is "one collator in eight threads, under helgrind" "0|well" "$?|$(cat "$work/out")"
 else

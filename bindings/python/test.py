@@ -52,10 +52,32 @@ def order(collator):
     assert collator.fingerprint().hex() == fingerprint
 
 
+def looks(collator):
+    """Why texts are in their order."""
+    few = lines[:3000]
+    for a, b in zip(few, few[1:]):
+        assert collator.explain(a, b).order == collator.compare(a, b)
+    assert collator.explain("a", "á") == uca.Comparison(-1, 2) and collator.explain(b"A", "a") == (1, 3) and collator.explain("", "") == (0, 3)
+    assert collator.clone(strength=uca.IDENTICAL, variable=uca.SHIFTED).explain("a-b", "ab") == (-1, 4)
+    for line in few:
+        found = collator.matches(line)
+        weights = [element.primary for match in found for element in match.elements if element.primary]
+        key = collator.clone(strength=uca.PRIMARY).key(line)
+        assert key == b"".join(weight.to_bytes(2, "big") for weight in weights)
+    assert collator.matches("") == [] and collator.matches(b"a") == collator.matches("a")
+    with uca.Collator(small + "0061 0301 ; [*0000.0024.0002][.0000.0025.0002]\n") as other:
+        first, second, third = other.matches("a\u0323\u0301\U00020000")
+        assert (first.text, first.is_key, [str(e) for e in first.elements]) == ("a\u0301", True, ["[*0000.0024.0002]", "[.0000.0025.0002]"])
+        assert second == uca.Match("\u0323", False, (uca.Element(0xFBC0, 0x20, 2, False), uca.Element(0x8323, 0, 0, False)))
+        assert third.text == "\U00020000" and type(third.elements[0]) is uca.Element and third.elements[0].primary == 0xFB84
+
+
 def long_texts(collator):
     assert len(collator.packed_key("\ufdfa" * 1000)) > 2 * 18 * 1000
     assert collator.key("a" * 10000) > collator.key("a" * 9999)
     assert collator.key("a" * 100000)[:200000] == collator.clone(strength=uca.PRIMARY).key("a" * 100000)
+    assert "".join(match.text for match in collator.matches("ab" * 50000)) == "ab" * 50000
+    assert collator.explain("a" * 100000, "a" * 99999 + "b") == (-1, 1)
     assert collator.prefix_bounds("") == (b"", None)
     lower, upper = collator.prefix_bounds("lo" * 3000)
     assert len(lower) == len(upper) == 12000 and lower < collator.key("LÓ" * 3000 + "x") < upper
@@ -69,12 +91,14 @@ def texts_at_fault(collator):
     place = {"status": uca.LONG_RUN, "kind": 0, "line": 2, "column": 62, "character": "\u0301"}
     error = refused(lambda: collator.compare("a", "é\n" + run), uca.TextError, text=2, at=3 + 1 + 120, **place)
     assert str(error) == "text 2: line 2, column 62, U+0301: this is the 61st nonstarter (combining mark) in a row, and a text may have 60"
-    for call in (collator.key, collator.packed_key, collator.sort_key, collator.prefix_bounds, uca.check):
+    for call in (collator.key, collator.packed_key, collator.sort_key, collator.prefix_bounds, collator.matches, uca.check):
         refused(lambda: call(b"a\xc3\xa9\xff"), uca.TextError, status=uca.NOT_UTF8, text=1, at=3, line=1, column=3, character="\\xff")
         refused(lambda: call("é\udc80"), uca.TextError, at=2, column=2, character="\udc80", cause="a lone surrogate is no character")
         refused(lambda: call(None), TypeError)
         refused(lambda: call(7), TypeError)
         refused(call, TypeError)
+    refused(lambda: collator.explain("a", "é\n" + run), uca.TextError, text=2, at=3 + 1 + 120, **place)
+    refused(lambda: collator.explain("a", 1), TypeError)
     refused(lambda: collator.sort_keys(["a", "b", "\ud800"]), uca.TextError, text=3)
     refused(lambda: collator.packed_keys([b"\xff"]), uca.TextError, text=1)
     assert "text 2 " in str(refused(lambda: collator.sort_keys(["a", None]), TypeError))
@@ -246,6 +270,9 @@ def memory():
         lambda: collator.compare(item, "b"),
         lambda: collator.prefix_bounds("ab" * 30),
         lambda: collator.clone(),
+        lambda: collator.matches(item),
+        lambda: collator.explain(item, "a"),
+        lambda: refused(lambda: collator.matches("a\udc80")),
         lambda: refused(lambda: collator.key("a\udc80")),
         lambda: refused(lambda: collator.compare("a", None), TypeError),
     )
@@ -283,7 +310,7 @@ def types():
     public = {name for name in dir(uca._uca.Collator) if not name.startswith("_")}
     named = {node.name for node in classes[0].body if isinstance(node, ast.FunctionDef)}
     assert public == {name for name in named if not name.startswith("_")}
-    for call in (uca.Collator.__init__, uca.Collator.from_files, uca.Collator.clone, uca.Collator.sorted, uca.Collator.sort):
+    for call in (uca.Collator.__init__, uca.Collator.from_files, uca.Collator.clone, uca.Collator.sorted, uca.Collator.sort, uca.Collator.matches, uca.Collator.explain):
         assert typing.get_type_hints(call)["return"] is not None, call
     for name in uca.__all__:
         assert hasattr(uca, name) and (name.isupper() or getattr(uca, name).__doc__), name
@@ -292,6 +319,7 @@ def types():
 assert uca.version() == (1, 0, 0) and uca.unicode_version() == (18, 0, 0)
 with uca.Collator(table) as collator:
     order(collator)
+    looks(collator)
     long_texts(collator)
     texts_at_fault(collator)
     hundreds_of_faults(collator)
@@ -301,7 +329,7 @@ with uca.Collator(table) as collator:
     refused(lambda: pickle.dumps(collator), TypeError)
     refused(lambda: copy.copy(collator), TypeError)
     clone = collator.clone()
-for call in (lambda: collator.key("a"), collator.fingerprint, collator.clone, lambda: collator.compare("a", "b")):
+for call in (lambda: collator.key("a"), lambda: collator.matches("a"), lambda: collator.explain("a", "b"), collator.fingerprint, collator.clone, lambda: collator.compare("a", "b")):
     refused(call, status=uca.NOT_OPEN, line=None, column=None)
 collator.close()
 assert sorted(lines, key=clone.key) == ordered

@@ -64,6 +64,21 @@ static void *compares(void *none) {
     return none;
 }
 
+static void *compares_levels(void *none) {
+    uca_fault fault;
+    int32_t order;
+    uint32_t level;
+    CHECK(uca_compare_levels(&collator, &settings, long_text.bytes, long_text.size, other_text.bytes, other_text.size, &order, &level, &fault) == UCA_OK);
+    return none;
+}
+
+static void *finds_matches(void *none) {
+    uca_fault fault;
+    uca_matches_needed needed;
+    CHECK(uca_matches(&collator, long_text.bytes, long_text.size, NULL, 0, NULL, 0, NULL, 0, &needed, &fault) == UCA_OK);
+    return none;
+}
+
 static void *makes_a_key(void *none) {
     uca_fault fault;
     size_t needed;
@@ -131,6 +146,8 @@ int main(int count, char **words) {
     printf("uca_clone %zu\n", taken(clones, &other) - own);
     printf("uca_check %zu\n", taken(checks, NULL) - own);
     printf("uca_compare %zu\n", taken(compares, NULL) - own);
+    printf("uca_compare_levels %zu\n", taken(compares_levels, NULL) - own);
+    printf("uca_matches %zu\n", taken(finds_matches, NULL) - own);
     printf("uca_sort_key %zu\n", taken(makes_a_key, NULL) - own);
     printf("uca_packed_key %zu\n", taken(packs_a_key, NULL) - own);
     printf("uca_write_key %zu\n", taken(writes_a_key, NULL) - own);

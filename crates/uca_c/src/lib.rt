@@ -9,10 +9,12 @@ ghost use Rattle.uca_handle.specs.Collator.{held};
 ghost use Rattle.uca_c.specs.Reports.{IsRefused, Reports, ReportsStatus, bounds_report, check_report, compare_report, digest_after, fingerprint_status, key_report, lower_size_after, open_report, order_after, share_status, size_after, upper_size_after};
 ghost use Rattle.uca_c.specs.Settings.{settings_named};
 
+mod looks;
 mod numbers;
 mod reports;
 mod settings;
 
+pub use looks::MatchesNeeded;
 use numbers::BAD_SETTINGS;
 pub use reports::{Digest, Fault};
 use reports::{

@@ -45,7 +45,7 @@ pub(crate) const NO_FAULT: Fault = Fault {
 
 impl Report {
     /// No fault.
-    fn plain(status: u32) -> Report
+    pub(crate) fn plain(status: u32) -> Report
         ensures { result ≡ plain status }
     {
         Report {
@@ -65,7 +65,7 @@ impl Report {
     }
 
     /// The fault of a text by its number.
-    fn of_text(text: u32, fault: TextFault) -> Report
+    pub(crate) fn of_text(text: u32, fault: TextFault) -> Report
         ensures { result ≡ text_report text fault }
     {
         let (status, byte) = match fault {

@@ -3,4 +3,6 @@ mod HandleValues
 mod OpeningLemmas
 mod PlacingLemmas
 mod Values
+mod LevelSteps
+mod MatchLists
 pub mod FingerprintLemmas

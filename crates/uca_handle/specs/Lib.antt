@@ -2,6 +2,9 @@ pub mod Calls
 pub mod Collator
 pub mod Fingerprint
 pub mod Held
+pub mod Levels
+pub mod Listed
+pub mod Matches
 pub mod Opening
 pub mod Placing
 pub mod Texts

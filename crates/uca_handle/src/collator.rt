@@ -7,7 +7,9 @@ use crate::digest::digest_of;
 use crate::faults::{BoundsFault, CompareFault, FingerprintFault, KeyFault, OpenFault, ShareFault};
 use crate::handle::Handle;
 use crate::keys::{put_key, put_packed_key};
+use crate::levels::{Decision, decision_of};
 use crate::loose::Loose;
+use crate::matches::{ElementForm, MatchForm, MatchesSize, put_matches};
 use crate::opening::table_of;
 use crate::placing::write_key_of;
 use crate::texts::order_of;
@@ -39,6 +41,8 @@ impl Drop for Collator {
 impl Collator {
     ghost use Rattle.uca_handle.specs.Calls.{Compares, Fingerprints, MakesKey, MakesPackedKey, Opens, PutsBounds, Shares, WritesKey};
     ghost use Rattle.uca_handle.specs.Collator.{held};
+    ghost use Rattle.uca_handle.specs.Levels.{ComparesLevels};
+    ghost use Rattle.uca_handle.specs.Matches.{PutsMatches};
 
     /// A collator without a table.
     pub fn closed(alloc: Global) -> Collator
@@ -213,6 +217,50 @@ impl Collator {
             return Err(FingerprintFault::Closed);
         }
         digest_of(alloc, table_in(self.handle.get_mut()), s)
+    }
+
+    /// The order of the sort keys of two texts, with the level that decides it, or the fault of the first of them that has one. It
+    /// takes no memory. Both texts are read again for each level, so it takes longer than [`Collator::compare`].
+    pub fn compare_levels(
+        &mut self,
+        s: Settings,
+        a: &[u8],
+        b: &[u8],
+    ) -> Result<Decision, CompareFault>
+        ensures compares { ComparesLevels (held self.old) s a.now b.now result }
+        ensures same { held self.new ≡ held self.old }
+    {
+        if !self.is_open {
+            return Err(CompareFault::Closed);
+        }
+        decision_of(table_in(self.handle.get_mut()), s, a, b)
+    }
+
+    /// Puts the matches of a text into the fronts of three arrays, or as many of them as fit, and returns how much it is: the
+    /// matches, and one match after the other their code points and their collation elements. The elements of a match are those
+    /// that the table has for its code points as a key, or else the implicit ones.
+    pub fn matches(
+        &mut self,
+        alloc: Global,
+        text: &[u8],
+        matches: &mut [MatchForm],
+        points: &mut [u32],
+        elements: &mut [ElementForm],
+    ) -> Result<MatchesSize, KeyFault>
+        ensures matches { PutsMatches (held self.old) text.now matches.old matches.new points.old points.new elements.old elements.new result }
+        ensures same { held self.new ≡ held self.old }
+    {
+        if !self.is_open {
+            return Err(KeyFault::Closed);
+        }
+        put_matches(
+            alloc,
+            table_in(self.handle.get_mut()),
+            text,
+            matches,
+            points,
+            elements,
+        )
     }
 }
 

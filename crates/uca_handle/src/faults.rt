@@ -51,7 +51,7 @@ pub enum CompareFault {
     Second(TextFault),
 }
 
-/// Why no sort key was made.
+/// Why no sort key was made, or no matches were found.
 #[derive(Clone, Copy, Debug, PartialEq, Eq)]
 pub enum KeyFault {
     /// The collator has no table.

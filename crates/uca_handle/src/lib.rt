@@ -4,7 +4,8 @@
 //! [`Collator::load`] gives it the table that two texts say, and [`Collator::share`] gives another collator the same
 //! table. The table is freed with the last collator that has it. [`Collator::compare`], [`Collator::sort_key`],
 //! [`Collator::packed_key`], [`Collator::write_key`] and [`Collator::prefix_bounds`] work on bytes: they check them, and
-//! report where a text ends or is not safe. [`Collator::fingerprint`] is of the table and the settings alone.
+//! report where a text ends or is not safe. [`Collator::compare_levels`] and [`Collator::matches`] show why texts are in
+//! their order. [`Collator::fingerprint`] is of the table and the settings alone.
 #![tactic(auto)]
 
 pub mod bounds;
@@ -15,7 +16,9 @@ pub mod faults;
 pub mod handle;
 mod keys;
 pub mod laws;
+pub mod levels;
 mod loose;
+pub mod matches;
 mod opening;
 mod placing;
 pub mod texts;
@@ -25,4 +28,6 @@ pub use collator::Collator;
 pub use faults::{
     BoundsFault, CompareFault, FingerprintFault, KeyFault, OpenFault, ShareFault, TextFault,
 };
+pub use levels::Decision;
+pub use matches::{ElementForm, MatchForm, MatchesSize};
 pub use texts::check;

@@ -2,4 +2,6 @@
 #![tactic(auto)]
 
 #[cfg(test)]
+mod looks;
+#[cfg(test)]
 mod tests;

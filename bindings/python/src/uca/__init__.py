@@ -13,7 +13,7 @@ import operator
 import os
 from collections.abc import Callable, Iterable
 from functools import partial
-from typing import Any, Final, TypeVar
+from typing import Any, Final, NamedTuple, TypeVar
 
 from . import _uca
 from ._errors import (
@@ -45,7 +45,7 @@ SHIFTED: Final = 2
 __all__ = [
     "PRIMARY", "SECONDARY", "TERTIARY", "QUATERNARY", "IDENTICAL", "NON_IGNORABLE", "BLANKED", "SHIFTED",
     "NOT_UTF8", "LONG_RUN", "NOT_OPEN", "BAD_SETTINGS", "BAD_TABLE", "BAD_RULES", "BAD_TAILORING", "INCOMPLETE",
-    "Collator", "Error", "RulesError", "TableError", "TextError", "check", "unicode_version", "version",
+    "Collator", "Comparison", "Element", "Error", "Match", "RulesError", "TableError", "TextError", "check", "unicode_version", "version",
 ]  # fmt: skip
 
 _NAME = "libuca.so.1"
@@ -76,6 +76,35 @@ def _number(name: str, value: int, first: int, last: int) -> int:
     if not first <= number <= last:
         raise ValueError("%s has to be %d to %d, and is %d" % (name, first, last, number))
     return number
+
+
+class Element(NamedTuple):
+    """A collation element. As a `str` it is as in a table, [.1C47.0020.0002]."""
+
+    primary: int
+    secondary: int
+    tertiary: int
+    is_variable: bool
+
+    def __str__(self) -> str:
+        return "[%s%04X.%04X.%04X]" % ("*" if self.is_variable else ".", *self[:3])
+
+
+class Match(NamedTuple):
+    """Characters of a text in NFD that are taken together: a key of the table with its elements, or a character that begins no key there,
+    with its implicit ones. A key may have marks after others that are not taken with it, so the matches have the characters of the text,
+    and not always in its order."""
+
+    text: str
+    is_key: bool
+    elements: tuple[Element, ...]
+
+
+class Comparison(NamedTuple):
+    """An order, -1, 0 or 1, and the level that decides it: the first at which the texts differ, or the last where they do not."""
+
+    order: int
+    level: int
 
 
 class Collator(_uca.Collator):
@@ -140,6 +169,14 @@ class Collator(_uca.Collator):
     def sort(self, items: list[_Item], *, key: Callable[[_Item], str | bytes] | None = None, reverse: bool = False) -> None:
         """Sorts a list in place, as `sorted` would. At an error the list is as it was."""
         items[:] = self.sorted(items, key=key, reverse=reverse)
+
+    def matches(self, text: str | bytes) -> list[Match]:
+        """The matches of a text one after the other, with their collation elements. The settings do not matter. Raises TextError."""
+        return [Match(points, is_key, tuple(map(Element._make, elements))) for points, is_key, elements in self._matches(text)]
+
+    def explain(self, a: str | bytes, b: str | bytes) -> Comparison:
+        """What `compare` says, and the level that decides it. Raises TextError, whose `text` is 1 or 2."""
+        return Comparison._make(self._explain(a, b))
 
     def __enter__(self) -> Collator:
         return self

@@ -17,9 +17,11 @@
 #undef uca_open
 #undef uca_check
 #undef uca_compare
+#undef uca_compare_levels
 #undef uca_sort_key
 #undef uca_packed_key
 #undef uca_prefix_bounds
+#undef uca_matches
 
 #ifndef LIBRARY_FOLDER
 #define LIBRARY_FOLDER ""
@@ -27,7 +29,7 @@
 
 #define EACH_CALL(use)                                                                                                          \
     use(uca_version) use(uca_unicode_version) use(uca_open) use(uca_close) use(uca_clone) use(uca_check) use(uca_compare)       \
-    use(uca_sort_key) use(uca_packed_key) use(uca_prefix_bounds) use(uca_fingerprint)
+    use(uca_sort_key) use(uca_packed_key) use(uca_prefix_bounds) use(uca_fingerprint) use(uca_compare_levels) use(uca_matches)
 
 #define member(name) __typeof__(name) *name;
 static struct {
@@ -175,6 +177,115 @@ static PyObject *collator_compare(Collator *self, PyObject *words) {
     return PyLong_FromLong(order);
 }
 
+/* The order of two texts and the level that decides it, as a pair. */
+static PyObject *collator_explain(Collator *self, PyObject *words) {
+    PyObject *a, *b;
+    Text a_text, b_text;
+    if (!PyArg_ParseTuple(words, "OO:explain", &a, &b) || !take(a, "a text has", 0, &a_text))
+        return NULL;
+    if (!take(b, "a text has", 0, &b_text)) {
+        Py_DECREF(a_text.held);
+        return NULL;
+    }
+    int32_t order = 0;
+    uint32_t level = 0;
+    uca_fault fault;
+    uint32_t status = library.uca_compare_levels(&self->collator, &self->settings, a_text.bytes, a_text.size, b_text.bytes, b_text.size,
+                                                 &order, &level, &fault);
+    Py_DECREF(a_text.held);
+    Py_DECREF(b_text.held);
+    if (status != UCA_OK) {
+        refuse(status, &fault, fault.text, fault.text == 2 ? b : a);
+        return NULL;
+    }
+    return Py_BuildValue("iI", (int)order, (unsigned)level);
+}
+
+/* Room for the matches of a text. */
+typedef struct {
+    uca_match *matches;
+    uint32_t *points;
+    uca_element *elements;
+    uca_matches_needed size;
+} Matches;
+
+static void free_room(Matches *found) {
+    PyMem_Free(found->matches);
+    PyMem_Free(found->points);
+    PyMem_Free(found->elements);
+}
+
+static bool make_room(Matches *found, const uca_matches_needed *size) {
+    free_room(found);
+    found->size = *size;
+    found->matches = PyMem_Malloc(sizeof *found->matches * size->matches + 1);
+    found->points = PyMem_Malloc(sizeof *found->points * size->points + 1);
+    found->elements = PyMem_Malloc(sizeof *found->elements * size->elements + 1);
+    return found->matches && found->points && found->elements;
+}
+
+static bool has_room(const Matches *found, const uca_matches_needed *size) {
+    return size->matches <= found->size.matches && size->points <= found->size.points && size->elements <= found->size.elements;
+}
+
+/* A match: its text, whether it is a key, and its elements, each as three weights and whether it is variable. */
+static PyObject *match_of(const uca_match *match, const uint32_t *points, const uca_element *elements) {
+    /* Code points as numbers of four bytes in the order of this machine's are UTF-32. */
+    const uint16_t one = 1;
+    int order = *(const uint8_t *)&one ? -1 : 1;
+    PyObject *text = PyUnicode_DecodeUTF32((const char *)points, 4 * (Py_ssize_t)match->points, NULL, &order);
+    PyObject *listed = text ? PyTuple_New(match->elements) : NULL;
+    for (uint32_t i = 0; listed && i < match->elements; i++) {
+        PyObject *element = Py_BuildValue("HHHO", elements[i].primary, elements[i].secondary, elements[i].tertiary,
+                                          elements[i].is_variable ? Py_True : Py_False);
+        if (!element || PyTuple_SetItem(listed, i, element) < 0)
+            Py_CLEAR(listed);
+    }
+    PyObject *made = listed ? Py_BuildValue("OOO", text, match->is_key ? Py_True : Py_False, listed) : NULL;
+    Py_XDECREF(text);
+    Py_XDECREF(listed);
+    return made;
+}
+
+static PyObject *list_of(const Matches *found, const uca_matches_needed *size) {
+    PyObject *list = PyList_New((Py_ssize_t)size->matches);
+    const uint32_t *points = found->points;
+    const uca_element *elements = found->elements;
+    for (size_t i = 0; list && i < size->matches; i++) {
+        PyObject *match = match_of(&found->matches[i], points, elements);
+        points += found->matches[i].points;
+        elements += found->matches[i].elements;
+        if (!match || PyList_SetItem(list, (Py_ssize_t)i, match) < 0)
+            Py_CLEAR(list);
+    }
+    return list;
+}
+
+/* The matches of a text. A first call, without room, says how many they are. */
+static PyObject *collator_matches(Collator *self, PyObject *from) {
+    Text text;
+    if (!take(from, "a text has", 0, &text))
+        return NULL;
+    Matches found = {NULL, NULL, NULL, {0, 0, 0}};
+    uca_matches_needed needed = {0, 0, 0};
+    uca_fault fault = {0, 0, 0};
+    uint32_t status;
+    PyObject *list = NULL;
+    do {
+        status = make_room(&found, &needed) ? library.uca_matches(&self->collator, text.bytes, text.size, found.matches, needed.matches,
+                                                                   found.points, needed.points, found.elements, needed.elements, &needed,
+                                                                   &fault)
+                                            : UCA_NO_MEMORY;
+    } while (status == UCA_OK && !has_room(&found, &needed));
+    Py_DECREF(text.held);
+    if (status == UCA_OK)
+        list = list_of(&found, &needed);
+    else
+        refuse(status, &fault, fault.text, from);
+    free_room(&found);
+    return list;
+}
+
 /* The key of a text, which is text `number` of a list where that is not 0. */
 static PyObject *key_of(Collator *self, MakeKey make, PyObject *from, size_t number) {
     uint8_t near[16384];
@@ -269,6 +380,8 @@ static PyObject *collator_strength(Collator *self, void *Py_UNUSED(none)) { retu
 static PyObject *collator_variable(Collator *self, void *Py_UNUSED(none)) { return PyLong_FromUnsignedLong(self->settings.variable); }
 
 static PyMethodDef collator_methods[] = {
+    {"_explain", (PyCFunction)collator_explain, METH_VARARGS, NULL},
+    {"_matches", (PyCFunction)collator_matches, METH_O, NULL},
     {"_share", (PyCFunction)collator_share, METH_VARARGS, NULL},
     {"close", (PyCFunction)collator_close, METH_NOARGS,
      "close($self, /)\n--\n\nGives up the table, which is freed with the last clone that has it. Every call but close and clone is then refused."},
