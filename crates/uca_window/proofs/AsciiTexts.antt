@@ -25,6 +25,6 @@ ascii_line bs ascii = record { utf8 = IsUtf8-from_ascii bs ascii; safe = ascii_s
 -- bytes that are ASCII at each place
 pub all_ascii : (bs : List ℕ) → ((k : ℕ) → k < length bs → slice_index bs k < 0x80) → IsAscii bs
 all_ascii bs all i = elim (cases_lt i (length bs)) [
-    inl l ↦ all i l
+  | inl l ↦ all i l
   | inr g ↦ subst (λ b. b < 0x80) (sym (get_or_past bs i 0 g)) (omega arith)
 ]

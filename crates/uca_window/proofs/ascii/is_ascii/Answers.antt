@@ -16,7 +16,7 @@ high b h = grind (arith, nat_tests)
 -- all bytes before a place and in the block there are ASCII
 joined : (bytes : List ℕ) (at r : ℕ) → at + 8 ≤ length bytes → ((k : ℕ) → k < at → slice_index bytes k < 0x80) → r ≡ prefix_len (λ b. not (nat_le 0x80 b)) (chunk at 8 bytes) → 8 ≤ r → (k : ℕ) → k < at + 8 → slice_index bytes k < 0x80
 joined bytes at r room before counted whole k h = elim (cases_lt k at) [
-    inl l ↦ before k l
+  | inl l ↦ before k l
   | inr g ↦ low (slice_index bytes k) (run_in_chunk_fails (nat_le 0x80) bytes at 8 r 0 room counted k g (omega arith))
 ]
 
