@@ -23,12 +23,7 @@ fn bounds_again(
 }
 
 /// Checks the two ends of a safe text.
-fn assert_ends(
-    rt: &impl Abort,
-    bounds: PrefixBounds,
-    lower: &[u8],
-    upper: Option<&[u8]>,
-) {
+fn assert_ends(rt: &impl Abort, bounds: PrefixBounds, lower: &[u8], upper: Option<&[u8]>) {
     assert!(rt; bounds.lower.as_slice() == lower);
     match (&bounds.upper, upper) {
         (Some(end), Some(wanted)) => assert!(rt; end.as_slice() == wanted),
