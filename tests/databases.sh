@@ -135,6 +135,9 @@ if command -v sqlite3 >/dev/null && echo '#include <sqlite3ext.h>' | cc -E - >/d
     is "SQLite: uca_begins says what is in the range, of each beginning" "sv|9 of 56" "$(db=:memory: sqlite "SELECT uca_load('sv', '$published', 'rules/sv.rules')" "CREATE TABLE w (t TEXT)" \
         "INSERT INTO w VALUES ('stora'), ('Storasyster'), ('storå'), ('apa'), ('åka'), ('ost'), ('öst'), ('über')" \
         "SELECT sum(uca_begins(t, b, 'sv')) || ' of ' || sum(uca_begins(t, b, 'sv') = (uca_key(t, 'sv') >= uca_prefix_lower(b, 'sv') AND uca_key(t, 'sv') < uca_prefix_upper(b, 'sv'))) FROM w, (SELECT 'stora' AS b UNION SELECT 'a' UNION SELECT 'å' UNION SELECT 'o' UNION SELECT 'u' UNION SELECT 'ö' UNION SELECT 'st')")"
+    printf '0061 ; [.10FF.0020.0002]\n0062 ; [.FFFF.0020.0002]\n' >"$work/full"
+    is "SQLite: an upper end where the lower one is all FF" "full|FFFF|4098|1 1 0" "$(db=:memory: sqlite "SELECT uca_load('full', '$work/full')" "SELECT hex(uca_prefix_lower('b', 'full'))" "SELECT length(uca_prefix_upper('b', 'full'))" \
+        "SELECT group_concat(uca_key(column1, 'full') >= uca_prefix_lower('b', 'full') AND uca_key(column1, 'full') < uca_prefix_upper('b', 'full'), ' ') FROM (VALUES ('b'), (printf('%.*c', 2047, 'b')), ('a'))")"
     is "SQLite: bad names and files by the thousand change nothing" "1000|2" "$(for i in $(seq 1000); do echo "SELECT uca_load('bad$((i % 7))', '/nowhere/$i', CASE $((i % 2)) WHEN 1 THEN 'rules/sv.rules' END);"; done | sqlite | tr '|' '\n' | grep -c 'could not be read')|$(sqlite3 "$db" 'SELECT count(*) FROM uca_fixed')"
 else
     echo "$script: left out: the extension of SQLite, since sqlite3 or its header is not there"

@@ -10,7 +10,7 @@
  *     SELECT uca_key(t, 'es') FROM words;                              -- by the collation of this name
  *     SELECT uca_sort_key(t) FROM words;                               -- the sort key of the standard, longer, in the same order
  *     SELECT t FROM words WHERE uca_key(t) >= uca_prefix_lower('l') AND uca_key(t) < uca_prefix_upper('l');
- *                                                                      -- the texts whose primary weights begin with those of a text; or by uca_sort_key
+ *                                                                      -- the texts whose primary weights begin so; or by uca_sort_key
  *     SELECT t FROM words WHERE uca_begins(t, 'l');                    -- the same without an index
  *     SELECT uca_fingerprint('uca');                                   -- of the table and the settings
  *
