@@ -37,7 +37,7 @@ PG_MODULE_MAGIC;
 
 /* The upper end of a range without one has this many bytes FF after those of the lower end, which are none or all FF. No byte string
  * comes after all keys of every table, since a weight can be FFFF and a text as long as one likes. A key that is not before this end is of
- * a text that goes on with 2048 characters of that weight in a row. */
+ * a text that goes on with 2048 primary weights FFFF in a row. */
 #define BYTES_OF_LAST_END 4096
 
 #define DIGITS (2 * sizeof(uca_digest))

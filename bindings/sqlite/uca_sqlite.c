@@ -126,7 +126,7 @@ static void sort_key(sqlite3_context *context, int count, sqlite3_value **values
 
 /* An upper end for a range without one, whose lower end has `size` bytes, none or all of them FF. No byte string comes after all keys of
  * every table, since a weight can be FFFF and a text as long as one likes. A key that is not before this end is of a text that goes on with
- * 2048 characters of that weight in a row. */
+ * 2048 primary weights FFFF in a row. */
 static void last_end(sqlite3_context *context, size_t size) {
     uint8_t *end = sqlite3_malloc64(size += 4096);
     if (!end) {
