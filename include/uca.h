@@ -67,7 +67,7 @@ typedef enum uca_status {
     UCA_BAD_TABLE = 6,     /* the text of the table is refused, at the line `at`, counted from 1 */
     UCA_BAD_RULES = 7,     /* the text of the rules is refused, at the byte `at`, counted from 0 */
     UCA_BAD_TAILORING = 8, /* the rules cannot tailor the table: the relation `at`, counted from 1, has no place */
-    UCA_INCOMPLETE = 9     /* the text is not complete: what follows it may change its primary weights */
+    UCA_INCOMPLETE = 9     /* no call returns this any more: uca_prefix_bounds gives the ends of every text */
 } uca_status;
 
 /* Why a table, rules or a tailoring are refused. The numbers never change. */
@@ -238,14 +238,15 @@ uint32_t uca_write_key(const uca_collator *collator, const uca_settings *setting
                        uint8_t *out, size_t capacity, size_t *needed, uca_fault *fault);
 
 /*
- * The range in which an index has the keys, packed or not, of all texts that begin with a text: each such key, of whatever
- * strength, is not before `lower` and is before `upper`, and no key of a text with other primary weights at its beginning is. `lower` is the
- * key of the text at strength UCA_PRIMARY, and `upper` the first byte string after all that begin with it. Of each the first
- * bytes are written, at most its capacity, and the number of bytes of the whole to `lower_needed` and `upper_needed`. An
- * upper end has at least one byte. Where `upper_needed` is 0 there is none, and all keys from `lower` on are in the range:
- * that is so where `lower` has no bytes, or none but FF. The strength of the settings does not matter.
- * A text is not complete where some character that follows it can change its primary weights, as `c` where `ch` is a letter.
- * Returns UCA_OK, UCA_BAD_SETTINGS, UCA_NOT_OPEN, UCA_NOT_UTF8, UCA_LONG_RUN, UCA_INCOMPLETE or UCA_NO_MEMORY.
+ * The range in which an index has the keys, packed or not, of all texts whose primary weights begin with those of a text: each
+ * such key, of whatever strength, is not before `lower` and is before `upper`, and no other key is. `lower` is the key of the text
+ * at strength UCA_PRIMARY, and `upper` the first byte string after all that begin with it. Of each the first bytes are
+ * written, at most its capacity, and the number of bytes of the whole to `lower_needed` and `upper_needed`. An upper end has at
+ * least one byte. Where `upper_needed` is 0 there is none, and all keys from `lower` on are in the range: that is so where `lower`
+ * has no bytes, or none but FF. The strength of the settings does not matter.
+ * A text that begins with the given one can be outside of the range: where the next character joins the last ones and changes their
+ * primary weights. So `cho` is not in the range of `c` where `ch` is a letter.
+ * Returns UCA_OK, UCA_BAD_SETTINGS, UCA_NOT_OPEN, UCA_NOT_UTF8, UCA_LONG_RUN or UCA_NO_MEMORY.
  */
 uint32_t uca_prefix_bounds(const uca_collator *collator, const uca_settings *settings, const uint8_t *text, size_t size,
                            uint8_t *lower, size_t lower_capacity, uint8_t *upper, size_t upper_capacity, size_t *lower_needed,

@@ -19,13 +19,13 @@ keys <"$work/words" >"$work/keys"
 keys --strength primary <"$work/words" >"$work/primary"
 is "keys at primary are the beginning of those at tertiary" "0" "$(paste "$work/primary" "$work/keys" | awk '$1 "0000" != substr($2, 1, length($1) + 4) { n++ } END { print n + 0 }')"
 
-# The two ends of the keys of all texts that begin with each line, by the C library
+# The two ends of the keys of all texts whose primary weights begin with those of each line, by the C library
 bounds() { "$work/bounds_of" "$published" "${1:-/dev/null}"; }
 
 # Each beginning of each word, cut before a letter that is no mark: its range has the word, and nothing but words whose primary weights begin so.
 perl -CSD -Mutf8 -MUnicode::Normalize=NFD -ne 'chomp; my $word = $_; for my $i (1 .. length($word) - 1) { my $rest = NFD(substr $word, $i); next if $rest =~ /^\p{M}/; print substr($word, 0, $i), "\t$word\n" }' "$work/words" >"$work/cuts"
 cut -f1 "$work/cuts" | bounds >"$work/ends"
-is "beginnings that are not complete" "0" "$(grep -c incomplete "$work/ends")"
+is "each beginning has two ends" "$(wc -l <"$work/cuts")" "$(grep -cE '^[0-9A-F]+ [0-9A-F]+$' "$work/ends")"
 is "the lower end is the key at primary" "" "$(cut -f1 "$work/cuts" | keys --strength primary | cmp - <(cut -d' ' -f1 "$work/ends") 2>&1)"
 cut -f2 "$work/cuts" | keys >"$work/own"
 is "a word is in the range of its beginnings" "$(wc -l <"$work/cuts") of $(wc -l <"$work/cuts")" \
@@ -54,18 +54,41 @@ is "the words of each language rise by their packed keys" "" "$(for rules in rul
     packed 3 "$rules" <"tests/rules/$(basename "$rules" .rules).words" | LC_ALL=C sort -cu 2>/dev/null || echo "$rules"
 done)"
 
-# The premise: where what follows may join the end of the text, there are no ends.
+# Where the next character may join the end of a text, the text has a range, too: what becomes another letter is outside of it.
+# in_range LANGUAGE BEGINNING WORDS..: which of the words are in the range of the beginning
 in_range() {
-    local low high key
-    read -r low high < <(printf '%s\n' "$1" | bounds "rules/$3.rules")
-    [ "$low" = incomplete ] && echo incomplete && return
-    key=$(printf '%s' "$2" | ./uca key --table "$published" --rules "rules/$3.rules" | tr -d ' ')
-    [[ ! $key < $low && $key < $high ]] && echo yes || echo no
+    local rules=rules/$1.rules low high key word
+    read -r low high < <(printf '%s\n' "$2" | bounds "$rules")
+    shift 2
+    while IFS=$'\t' read -r key word; do
+        [[ ! $key < $low && $key < $high ]] && echo "$word"
+    done < <(paste <(printf '%s\n' "$@" | keys --rules "$rules") <(printf '%s\n' "$@")) | paste -sd' '
 }
-is "chleba and cena in the ranges of c, ce and ch in Czech" "incomplete yes no no yes" \
-    "$(in_range c cena cs) $(in_range ce cena cs) $(in_range ce chleba cs) $(in_range ch cena cs) $(in_range ch chleba cs)"
-is "a and å have no range in Danish, where a with a ring is a letter; b has one" "incomplete incomplete yes no" \
-    "$(in_range a $'\u00E5' da) $(in_range $'\u00E5' $'a\u030A' da) $(in_range b $'b\u0301' da) $(in_range b a da)"
+is "c, ce and ch in Czech" "cena Cena|cena Cena|chleba" "$(for begin in c ce ch; do in_range cs $begin cena Cena chleba čas; done | paste -sd'|')"
+ring=$'a\u030Abe' acute=$'b\u0301'
+is "a, å and b in Danish" "abe|åbe aabe $ring|$acute" "$(for begin in a å b; do in_range da $begin abe åbe aabe "$ring" "$acute"; done | paste -sd'|')"
+is "stora in Swedish" "stora Storasyster" "$(in_range sv stora stora Storasyster storå storåldrig)"
+is "a, o and u in Swedish" "apa Álvaro|ost Óscar|ut" "$(for begin in a o u; do in_range sv $begin apa åka ära Álvaro ost öst Óscar ut über; done | paste -sd'|')"
+is "Juan and c in traditional Spanish" "Juan Juanita|casa Cid" "$(for begin in Juan c; do in_range es-u-co-trad $begin Juan Juanita Julia casa chico Cid; done | paste -sd'|')"
+is "Otto in a German phone book" "Otto Ottokar Ottö" "$(in_range de-u-co-phonebk Otto Otto Ottokar Ottö Ottilie)"
+is "Budapes in Hungarian" "Budapest budapesti" "$(in_range hu Budapes Budapest budapesti Budapesz)"
+is "c in Turkish" "cam Cami" "$(in_range tr c cam çam Cami)"
+
+# Each beginning of each word of a language, wherever it is cut, has those words in its range whose primary weights begin so, and no others.
+for language in sv es-u-co-trad de-u-co-phonebk hu tr da vi; do
+    rules=rules/$language.rules words=tests/rules/$language.words
+    perl -CSD -ne 'chomp; my $word = $_; print substr($word, 0, $_), "\n" for 1 .. length $word' "$words" >"$work/beginnings"
+    bounds "$rules" <"$work/beginnings" >"$work/their_ends"
+    paste -d' ' <(keys --rules "$rules" <"$words") <(packed 3 "$rules" <"$words") <(keys --strength primary --rules "$rules" <"$words") >"$work/their_keys"
+    is "the ranges of $language" "$(wc -l <"$work/beginnings") 0" "$(awk '
+        FNR == NR { key[FNR] = $1 ""; packed[FNR] = $2 ""; primary[FNR] = $3 ""; words = FNR; next }
+        { ends++; low = $1 ""; high = $2 "" }
+        { for (i = 1; i <= words; i++) {
+            begins = substr(primary[i], 1, length(low)) == low
+            if ((key[i] >= low && key[i] < high) != begins || (packed[i] >= low && packed[i] < high) != begins) wrong++
+        } }
+        END { print ends + 0, wrong + 0 }' "$work/their_keys" "$work/their_ends")"
+done
 is "the range of the empty text has no upper end" "- -" "$(echo | bounds)"
 
 # An index of SQLite is in this order, and answers the same.
@@ -109,6 +132,12 @@ if command -v sqlite3 >/dev/null && echo '#include <sqlite3ext.h>' | cc -E - >/d
     is "SQLite: a dump is restored under the rules of now" "uca|öl zon" "$(db=$work/restored.db sqlite "$loads" ".read $work/dump.sql" "SELECT group_concat(t, ' ') FROM (SELECT t FROM w ORDER BY uca_key(t))")"
     is "SQLite: uca_begins, and bounds without a null" "1 0 1|1|4096|1" "$(sqlite "SELECT uca_load('sv', '$published', 'rules/sv.rules')" "SELECT uca_begins('Öland', 'öl', 'sv') || ' ' || uca_begins('Öland', 'ol', 'sv') || ' ' || uca_begins('Öland', '', 'sv')" \
         "SELECT uca_begins(NULL, 'a', 'sv') IS NULL" "SELECT length(uca_prefix_upper('', 'sv'))" "SELECT uca_key('Öland', 'sv') < uca_prefix_upper('', 'sv')" | sed 's/^sv|//')"
+    is "SQLite: uca_begins says what is in the range, of each beginning" "sv|9 of 56" "$(db=:memory: sqlite "SELECT uca_load('sv', '$published', 'rules/sv.rules')" "CREATE TABLE w (t TEXT)" \
+        "INSERT INTO w VALUES ('stora'), ('Storasyster'), ('storå'), ('apa'), ('åka'), ('ost'), ('öst'), ('über')" \
+        "SELECT sum(uca_begins(t, b, 'sv')) || ' of ' || sum(uca_begins(t, b, 'sv') = (uca_key(t, 'sv') >= uca_prefix_lower(b, 'sv') AND uca_key(t, 'sv') < uca_prefix_upper(b, 'sv'))) FROM w, (SELECT 'stora' AS b UNION SELECT 'a' UNION SELECT 'å' UNION SELECT 'o' UNION SELECT 'u' UNION SELECT 'ö' UNION SELECT 'st')")"
+    printf '0061 ; [.10FF.0020.0002]\n0062 ; [.FFFF.0020.0002]\n' >"$work/full"
+    is "SQLite: an upper end where the lower one is all FF" "full|FFFF|4098|1 1 0" "$(db=:memory: sqlite "SELECT uca_load('full', '$work/full')" "SELECT hex(uca_prefix_lower('b', 'full'))" "SELECT length(uca_prefix_upper('b', 'full'))" \
+        "SELECT group_concat(uca_key(column1, 'full') >= uca_prefix_lower('b', 'full') AND uca_key(column1, 'full') < uca_prefix_upper('b', 'full'), ' ') FROM (VALUES ('b'), (printf('%.*c', 2047, 'b')), ('a'))")"
     is "SQLite: bad names and files by the thousand change nothing" "1000|2" "$(for i in $(seq 1000); do echo "SELECT uca_load('bad$((i % 7))', '/nowhere/$i', CASE $((i % 2)) WHEN 1 THEN 'rules/sv.rules' END);"; done | sqlite | tr '|' '\n' | grep -c 'could not be read')|$(sqlite3 "$db" 'SELECT count(*) FROM uca_fixed')"
 else
     echo "$script: left out: the extension of SQLite, since sqlite3 or its header is not there"

@@ -67,13 +67,18 @@ for language in "sv $swedish" "de $german --variable shifted"; do
         names "SET enable_seqscan = off" "SET enable_sort = off" "SET enable_bitmapscan = off" "EXPLAIN (COSTS OFF) SELECT t FROM w ORDER BY uca_key(t, '$name')" \
         "EXPLAIN (COSTS OFF) SELECT t FROM w WHERE uca_key(t, '$name') >= uca_prefix_lower('l', '$name') AND uca_key(t, '$name') < uca_prefix_upper('l', '$name')"
     says "uca_begins of $name finds what the range has" "t" names "SELECT count(*) = count(*) FILTER (WHERE uca_begins(t, b, '$name') =
-        (uca_key(t, '$name') >= uca_prefix_lower(b, '$name') AND uca_key(t, '$name') < uca_prefix_upper(b, '$name'))) FROM w, (VALUES (''), ('l'), ('mj'), ('b'), ('sk')) AS p (b)"
+        (uca_key(t, '$name') >= uca_prefix_lower(b, '$name') AND uca_key(t, '$name') < uca_prefix_upper(b, '$name'))) FROM w, (VALUES (''), ('l'), ('mj'), ('b'), ('sk'), ('a'), ('å'), ('o'), ('u'), ('c'), ('stora'), ('Otto'), ('Juan')) AS p (b)"
 done
 says "each call by name" "-1|1|t|f|f|t|t" names "SELECT uca_cmp('zon', 'ål', 'sv')" "SELECT uca_cmp('zon', 'ål', 'de')" "SELECT uca_begins('Ålen', 'ål', 'sv')" \
     "SELECT uca_begins('Ålen', 'al', 'sv')" "SELECT uca_fingerprint('sv') = uca_fingerprint('de')" "SELECT uca_fingerprint('sv') = decode(uca_found('sv'), 'hex')" \
     "SELECT uca_sort_key('ål', 'sv') > uca_sort_key('zon', 'sv')"
 says "bounds without a null" "0|4096|t" names "SELECT length(uca_prefix_lower('', 'sv'))" "SELECT length(uca_prefix_upper('', 'sv'))" \
     "SELECT count(*) = count(*) FILTER (WHERE uca_key(t, 'sv') < uca_prefix_upper('', 'sv')) FROM w"
+printf '0061 ; [.10FF.0020.0002]\n0062 ; [.FFFF.0020.0002]\n' >"$work/full"
+chmod 644 "$work/full"
+says "an upper end where the lower one is all FF" "ffff|\\xffff|4098|t|t|f" names "SELECT uca_create('ffff', '$work/full')" "SELECT uca_prefix_lower('b', 'ffff')" "SELECT length(uca_prefix_upper('b', 'ffff'))" \
+    "SELECT uca_key(b, 'ffff') >= uca_prefix_lower('b', 'ffff') AND uca_key(b, 'ffff') < uca_prefix_upper('b', 'ffff') FROM (VALUES ('b'), (repeat('b', 2047)), ('a')) AS t (b)" \
+    "DROP TEXT SEARCH DICTIONARY ffff"
 says "names, files and settings that are bad" \
     "ERROR:  uca: there is a text search dictionary \"sv\" already|ERROR:  uca: could not open \"/nowhere\": No such file or directory|ERROR:  uca: could not open \"/nowhere\": No such file or directory|ERROR:  uca: could not read \"/\": Is a directory|ERROR:  uca: \"files/sv.rules\": bad table, kind 3, at 3|ERROR:  uca: \"files/table\": bad rules, kind 22, at 539|ERROR:  uca: \"sixth\" is no value of strength|ERROR:  uca: \"none\" is no value of variable|ERROR:  uca: table_file is missing|ERROR:  text search dictionary \"none\" does not exist at character 21|ERROR:  uca: the text search dictionary \"english_stem\" is no collation of uca|ERROR:  uca: a collation has no option \"tabel\"|3" \
     names "SELECT uca_create('sv', '$table')" "SELECT uca_create('x', '/nowhere')" "SELECT uca_create('x', '$table', '/nowhere')" "SELECT uca_create('x', '/')" \

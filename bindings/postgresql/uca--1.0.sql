@@ -9,8 +9,8 @@ CREATE FUNCTION uca_key(text) RETURNS bytea
 CREATE FUNCTION uca_sort_key(text) RETURNS bytea
     AS 'MODULE_PATHNAME', 'uca_pg_sort_key' LANGUAGE C IMMUTABLE STRICT PARALLEL SAFE;
 
--- The ends of the range that the keys of all texts that begin with a text are in: none is before the lower one, and all are before
--- the upper one. That is null where there is no such end.
+-- The ends of the range that the keys of all texts are in whose primary weights begin with those of a text: none is before the lower one,
+-- and all are before the upper one.
 CREATE FUNCTION uca_prefix_lower(text) RETURNS bytea
     AS 'MODULE_PATHNAME', 'uca_pg_prefix_lower' LANGUAGE C IMMUTABLE STRICT PARALLEL SAFE;
 CREATE FUNCTION uca_prefix_upper(text) RETURNS bytea

@@ -35,7 +35,9 @@ PG_MODULE_MAGIC;
 /* A table has at most 64 MiB, and rules have less. */
 #define MOST_BYTES ((size_t)64 << 20)
 
-/* An upper end for a range without one: no key begins with so many bytes FF that a B-tree could hold it. */
+/* The upper end of a range without one has this many bytes FF after those of the lower end, which are none or all FF. No byte string
+ * comes after all keys of every table, since a weight can be FFFF and a text as long as one likes. A key that is not before this end is of
+ * a text that goes on with 2048 primary weights FFFF in a row. */
 #define BYTES_OF_LAST_END 4096
 
 #define DIGITS (2 * sizeof(uca_digest))
@@ -365,15 +367,18 @@ Datum uca_pg_begins(PG_FUNCTION_ARGS) {
     PG_RETURN_BOOL(VARSIZE(front) <= VARSIZE(whole) && memcmp(VARDATA(whole), VARDATA(front), VARSIZE(front) - VARHDRSZ) == 0);
 }
 
-/* An end after all keys that begin with bytes FF. */
-static bytea *last_end(void) {
-    bytea *end = palloc(VARHDRSZ + BYTES_OF_LAST_END);
-    memset(VARDATA(end), 0xFF, BYTES_OF_LAST_END);
-    SET_VARSIZE(end, VARHDRSZ + BYTES_OF_LAST_END);
+/* The upper end of a range without one, whose lower end has `size` bytes. */
+static bytea *last_end(size_t size) {
+    bytea *end;
+    size += BYTES_OF_LAST_END;
+    if (size > MaxAllocSize - VARHDRSZ) ereport(ERROR, (errcode(ERRCODE_PROGRAM_LIMIT_EXCEEDED), errmsg("uca: the key is too long")));
+    end = palloc(VARHDRSZ + size);
+    memset(VARDATA(end), 0xFF, size);
+    SET_VARSIZE(end, VARHDRSZ + size);
     return end;
 }
 
-/* One of the two ends of the keys of all texts that begin with a text. */
+/* One of the two ends of the keys of all texts whose primary weights begin with those of a text. */
 static Datum bound(FunctionCallInfo fcinfo, bool is_upper) {
     struct collation *collation = collation_of(fcinfo, 1);
     text *given = PG_GETARG_TEXT_PP(0);
@@ -392,7 +397,7 @@ static Datum bound(FunctionCallInfo fcinfo, bool is_upper) {
         pfree(end);
         room = needed[is_upper];
     }
-    if (is_upper && needed[1] == 0) PG_RETURN_BYTEA_P(last_end());
+    if (is_upper && needed[1] == 0) PG_RETURN_BYTEA_P(last_end(needed[0]));
     if (needed[is_upper] > MaxAllocSize - VARHDRSZ) ereport(ERROR, (errcode(ERRCODE_PROGRAM_LIMIT_EXCEEDED), errmsg("uca: the key is too long")));
     SET_VARSIZE(end, VARHDRSZ + needed[is_upper]);
     PG_RETURN_BYTEA_P(end);

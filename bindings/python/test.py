@@ -334,8 +334,10 @@ for call in (lambda: collator.key("a"), lambda: collator.matches("a"), lambda: c
 collator.close()
 assert sorted(lines, key=clone.key) == ordered
 with uca.Collator(table, "&h<ch") as czech:
-    refused(lambda: czech.prefix_bounds("ac"), uca.TextError, status=uca.INCOMPLETE)
-    assert czech.prefix_bounds("ach")[0] < czech.key("achát") < czech.prefix_bounds("ach")[1]
+    for begin, inside, outside in (("ac", "acá", "achát"), ("ach", "achát", "ac"), ("c", "Č", "chata")):
+        lower, upper = czech.prefix_bounds(begin)
+        for key in (czech.key, czech.packed_key):
+            assert lower <= key(inside) < upper and not lower <= key(outside) < upper, begin
 settings_at_fault()
 tables_and_rules()
 sentences()

@@ -10,7 +10,7 @@
  *     SELECT uca_key(t, 'es') FROM words;                              -- by the collation of this name
  *     SELECT uca_sort_key(t) FROM words;                               -- the sort key of the standard, longer, in the same order
  *     SELECT t FROM words WHERE uca_key(t) >= uca_prefix_lower('l') AND uca_key(t) < uca_prefix_upper('l');
- *                                                                      -- the texts that begin with a text; or by uca_sort_key
+ *                                                                      -- the texts whose primary weights begin so; or by uca_sort_key
  *     SELECT t FROM words WHERE uca_begins(t, 'l');                    -- the same without an index
  *     SELECT uca_fingerprint('uca');                                   -- of the table and the settings
  *
@@ -124,14 +124,20 @@ static void key(sqlite3_context *context, int count, sqlite3_value **values) { k
 
 static void sort_key(sqlite3_context *context, int count, sqlite3_value **values) { key_by(uca_sort_key, "uca_sort_key", context, count, values); }
 
-/* An upper end for a range without one: no key that an index is likely to have begins with so many bytes FF. */
-static void last_end(sqlite3_context *context) {
-    uint8_t end[4096];
-    memset(end, 0xFF, sizeof end);
-    sqlite3_result_blob(context, end, sizeof end, SQLITE_TRANSIENT);
+/* An upper end for a range without one, whose lower end has `size` bytes, none or all of them FF. No byte string comes after all keys of
+ * every table, since a weight can be FFFF and a text as long as one likes. A key that is not before this end is of a text that goes on with
+ * 2048 primary weights FFFF in a row. */
+static void last_end(sqlite3_context *context, size_t size) {
+    uint8_t *end = sqlite3_malloc64(size += 4096);
+    if (!end) {
+        sqlite3_result_error_nomem(context);
+        return;
+    }
+    memset(end, 0xFF, size);
+    sqlite3_result_blob64(context, end, size, sqlite3_free);
 }
 
-/* One of the two ends of the keys of all texts that begin with a text. */
+/* One of the two ends of the keys of all texts whose primary weights begin with those of a text. */
 static void bound(sqlite3_context *context, int count, sqlite3_value **values, int is_upper) {
     struct collation *collation = wanted(context, count, values, 1);
     if (!collation || sqlite3_value_type(values[0]) == SQLITE_NULL) return;
@@ -152,7 +158,7 @@ static void bound(sqlite3_context *context, int count, sqlite3_value **values, i
         }
     }
     if (status != UCA_OK) report(context, is_upper ? "uca_prefix_upper" : "uca_prefix_lower", status, &fault);
-    else if (is_upper && needed[1] == 0) last_end(context);
+    else if (is_upper && needed[1] == 0) last_end(context, needed[0]);
     else sqlite3_result_blob64(context, out, needed[is_upper], SQLITE_TRANSIENT);
     if (out != room) sqlite3_free(out);
 }

@@ -1,5 +1,5 @@
-/* The ends of the keys of all texts that begin with a line, for each line of standard input, as digits: bounds TABLE RULES. A line
- * of the output has both ends, of which the upper one is - where there is none, or the name of a status. With the number of a
+/* The ends of the keys of all texts whose primary weights begin with those of a line, for each line of standard input, as digits:
+ * bounds TABLE RULES. A line of the output has both ends, of which the upper one is - where there is none, or the name of a status. With the number of a
  * strength as a third word it has the packed sort key of the line at that strength instead. */
 #include "checks.h"
 

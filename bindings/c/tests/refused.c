@@ -77,9 +77,9 @@ static long refuses_the_rest(void) {
                 status = uca_fingerprint(&collator, &settings, &digest);
                 if (status == UCA_OK) CHECK(memcmp(&digest, &right, sizeof right) == 0);
             } else if (call == 2) {
-                status = uca_prefix_bounds(&collator, &settings, TEXT("\xC3\xA1" "b"), lower, sizeof lower, upper, sizeof upper,
+                status = uca_prefix_bounds(&collator, &settings, TEXT("\xC3\xA1" "c"), lower, sizeof lower, upper, sizeof upper,
                                            &lower_size, &upper_size, &fault);
-                if (status == UCA_OK) CHECK(lower_size == 4 && memcmp(lower, "\x10\0\x10\1", 4) == 0 && upper_size == 4 && memcmp(upper, "\x10\0\x10\2", 4) == 0);
+                if (status == UCA_OK) CHECK(lower_size == 4 && memcmp(lower, "\x10\0\x10\2", 4) == 0 && upper_size == 4 && memcmp(upper, "\x10\0\x10\3", 4) == 0);
             } else if (call == 3) {
                 status = uca_packed_key(&collator, &settings, TEXT(text), key, sizeof key, &needed, &fault);
                 if (status == UCA_OK) CHECK(needed == packed_size && memcmp(key, packed, packed_size) == 0);

@@ -45,7 +45,7 @@ fn main() {
     assert_eq!(empty.compare("", ""), Ok(Ordering::Equal));
     assert_eq!(empty.prefix_bounds("").map(|ends| (ends.lower, ends.upper)), Ok((vec![], None)));
     let joined = Collator::open(b"0063 ; [.1000.0020.0002]\n0063 0068 ; [.1001.0020.0002]\n", b"", settings).unwrap();
-    assert_eq!(joined.prefix_bounds("c").err().map(|error| (error.status, error.text, error.at)), Some((9, 0, 0)));
+    assert_eq!(joined.prefix_bounds("c").map(|ends| (ends.lower, ends.upper)), Ok((vec![0x10, 0], Some(vec![0x10, 1]))));
     assert_eq!(empty.packed_key("").map(PackedKey::into_bytes), Ok(vec![0, 0, 1, 1, 1]));
     assert_eq!(empty.packed_key(&"\u{301}".repeat(61)).err().map(|error| (error.status, error.at)), Some((2, 120)));
     assert_eq!(empty.key(&"\u{301}".repeat(61)).err().map(|error| (error.status, error.at)), Some((2, 120)));

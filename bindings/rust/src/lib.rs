@@ -162,8 +162,8 @@ impl PackedKey {
 /// A call that makes a key.
 type MakesKey = unsafe extern "C" fn(*const ffi::RawCollator, *const RawSettings, *const u8, usize, *mut u8, usize, *mut usize, *mut RawFault) -> u32;
 
-/// The ends of the range that the keys of all texts that begin with a text are in: these keys are not before `lower`, and before
-/// `upper` where there is such an end.
+/// The ends of the range that the keys of all texts are in whose primary weights begin with those of a text: just these keys are not
+/// before `lower`, and before `upper` where there is such an end.
 #[derive(Clone, Debug, PartialEq, Eq)]
 pub struct PrefixBounds {
     pub lower: Vec<u8>,
@@ -264,7 +264,8 @@ impl Collator {
         answer(status, fault, needed)
     }
 
-    /// The range of the keys of all texts that begin with a text. A text that what follows may change is refused: status 9.
+    /// The range of the keys, packed or not, of all texts whose primary weights begin with those of a text. A text that begins with it
+    /// can be outside, where the next character joins the last ones: as `cho` is outside of the range of `c` where `ch` is a letter.
     pub fn prefix_bounds(&self, text: &str) -> Result<PrefixBounds, Error> {
         let (mut lower, mut upper) = (vec![0; 4 * text.len() + 32], vec![0; 4 * text.len() + 32]);
         loop {

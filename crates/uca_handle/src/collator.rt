@@ -180,9 +180,9 @@ impl Collator {
         write_key_of(table_in(self.handle.get_mut()), s, text, out)
     }
 
-    /// Puts the two ends of the keys of all texts that begin with a text into the fronts of two buffers, or as many of their
-    /// bytes as fit, and returns how many bytes the ends have. The keys, of whatever strength, stand from the lower end up
-    /// to the upper one.
+    /// Puts the two ends of the keys of all texts whose primary weights begin with those of a text into the fronts of two buffers,
+    /// or as many of their bytes as fit. Returns how many bytes the ends have, and whether the text is complete. The keys, of
+    /// whatever strength, are from the lower end up to the upper one.
     pub fn prefix_bounds(
         &mut self,
         alloc: Global,

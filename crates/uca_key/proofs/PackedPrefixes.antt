@@ -1,5 +1,6 @@
 -- Packed keys of more levels, of texts that begin with a complete one, and packed keys that begin with the key of a text at the strength Primary.
 use Rattle.std.proofs.Common.{◌⊎◌, ◌≡◌, ℕ, zero, suc, ◌/◌, ◌%◌, ◌≤◌, List, [], ◌∷◌, ◌++◌, flat_map, take, refl, sym, ap, ap₂, ◌∙◌, arith, inl, inr, append_assoc}
+use Rattle.std.proofs.lemmas.List.Concat.{flat_map-append}
 use Rattle.std.specs.List.{concat}
 use Rattle.unicode_normalization.specs.Forms.{nfd}
 use Rattle.uca_weights.specs.declared.settings.Strength.{Strength}
@@ -16,7 +17,7 @@ use Rattle.uca_model.specs.SortKey.{weight_bytes}
 use Rattle.uca_model.proofs.PrefixKeys.{primary_key-is, keys-begin}
 use Rattle.uca_model.proofs.WeightLemmas.{HasWeights-IsTable}
 use Rattle.uca_key.specs.PackedKey.{packed_levels, packed_key}
-use Rattle.uca_key.specs.PackedLaws.{PackedKeysGrowByLevels, PackedKeysBeginWithCompleteTexts, PackedKeysBeginWithPrimaryWeights}
+use Rattle.uca_key.specs.PackedLaws.{PackedKeysGrowByLevels, PackedKeysBeginWithCompleteTexts, PackedKeysBeginWithPrimaryWeights, PackedKeysOfBeginnings}
 
 -- the first pieces, one after the other, begin with fewer of them
 begins-take : (m n : ℕ) (ls : List (List ℕ)) → m ≤ n → BeginsWith (concat (take n ls)) (concat (take m ls))
@@ -85,3 +86,14 @@ packed-alike t s p x table of_p of_x h =
     weights-begin (level_list t s.weighting x 1) (level_list t s.weighting p 1) level.tail h.rest
     ((HasWeights-IsTable t s x table of_x).weights 1 (omega arith) (omega arith)) ((HasWeights-IsTable t s p table of_p).weights 1 (omega arith) (omega arith))
     level.ends (sym level.same ∙ h.parts ∙ ap (λ l. l ++ h.rest) (primary_key-is t s.weighting p))
+
+pub packed-beginnings : PackedKeysOfBeginnings
+packed-beginnings t s p x begins =
+    let level = first-level t s.weighting s.strength x in
+    let later : List ℕ = flat_map weight_bytes begins.rest in
+    let longer : flat_map weight_bytes (level_list t s.weighting x 1) ≡ primary_key t s.weighting p ++ later =
+    ap (flat_map weight_bytes) begins.parts ∙ flat_map-append weight_bytes (level_list t s.weighting p 1) begins.rest ∙ ap (λ l. l ++ later) (sym (primary_key-is t s.weighting p)) in
+    record {
+      rest = later ++ level.tail;
+      parts = level.same ∙ ap (λ l. l ++ level.tail) longer ∙ append_assoc (primary_key t s.weighting p) later level.tail;
+    }

@@ -38,6 +38,10 @@ abbrev pub PackedKeysBeginWithPrimaryWeights : Type 0
 PackedKeysBeginWithPrimaryWeights = (t : ElementTable) (s : Settings) (p x : List ℕ) → IsTable t → All IsScalar p → All IsScalar x
     → BeginsWith (packed_key t s x) (primary_key t s.weighting p) → BeginsWith (level_list t s.weighting x 1) (level_list t s.weighting p 1)
 
+-- under every table, the packed key of a text whose primary weights begin with those of another begins with the sort key of the other at the strength Primary
+abbrev pub PackedKeysOfBeginnings : Type 0
+PackedKeysOfBeginnings = (t : ElementTable) (s : Settings) (p x : List ℕ) → BeginsWith (level_list t s.weighting x 1) (level_list t s.weighting p 1) → BeginsWith (packed_key t s x) (primary_key t s.weighting p)
+
 -- C1: canonically equivalent texts have one packed key, under every table and all settings
 abbrev pub EquivalentTextsHaveOnePackedKey : Type 0
 EquivalentTextsHaveOnePackedKey = (t : ElementTable) (s : Settings) (a b : List ℕ) → AreEquivalent a b → packed_key t s a ≡ packed_key t s b

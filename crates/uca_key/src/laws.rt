@@ -1,5 +1,5 @@
 //! Laws of packed sort keys: the contracts of functions that do nothing.
-ghost use Rattle.uca_key.specs.PackedLaws.{PackedKeysFollowKeys, PackedKeysTellTextsApart, PackedKeysGrowByLevels, PackedKeysBeginWithCompleteTexts, PackedKeysBeginWithPrimaryWeights, EquivalentTextsHaveOnePackedKey, PackedKeysOutliveTables};
+ghost use Rattle.uca_key.specs.PackedLaws.{PackedKeysFollowKeys, PackedKeysTellTextsApart, PackedKeysGrowByLevels, PackedKeysBeginWithCompleteTexts, PackedKeysBeginWithPrimaryWeights, PackedKeysOfBeginnings, EquivalentTextsHaveOnePackedKey, PackedKeysOutliveTables};
 
 /// Under every table, packed keys are in the byte order of the sort keys. So an index by either has its rows in the same
 /// order.
@@ -27,6 +27,12 @@ pub fn packed_keys_begin_with_complete_texts()
 /// begin with those of the other. So between the two ends stand no packed keys of other texts.
 pub fn packed_keys_begin_with_primary_weights()
     ensures { PackedKeysBeginWithPrimaryWeights }
+{}
+
+/// The packed key of a text whose primary weights begin with those of another begins with the sort key of the other at the
+/// strength `Primary`. So the ends of [`crate::prefix_bounds`] are those of packed keys for every text, complete or not.
+pub fn packed_keys_of_beginnings()
+    ensures { PackedKeysOfBeginnings }
 {}
 
 /// Canonically equivalent texts (UAX #15) have one packed key, under every table and all settings.

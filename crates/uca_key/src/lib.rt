@@ -1,8 +1,9 @@
 //! Sort keys (UTS #10, section 7.3, Form Sort Keys).
 //!
 //! [`key_of`] makes the key of a text at all strengths, and under all options of variable weighting; a [`KeyMaker`] makes
-//! the keys of many texts. [`packed_key_of`] makes shorter keys in the same order. [`write_key`] writes the same bytes to a writer, and takes no memory. [`prefix_bounds`] gives
-//! the two ends between which an index has the keys of all texts that begin with a text.
+//! the keys of many texts. [`packed_key_of`] makes shorter keys in the same order. [`write_key`] writes the same
+//! bytes to a writer, and does not allocate. [`prefix_bounds`] gives the two ends between which an index has the keys of all texts
+//! whose primary weights begin with those of a text.
 #![tactic(auto)]
 
 pub mod bounds;

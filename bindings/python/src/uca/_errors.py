@@ -4,14 +4,14 @@ from __future__ import annotations
 
 import re
 
-NOT_UTF8, LONG_RUN, NOT_OPEN, BAD_SETTINGS, _NO_MEMORY, BAD_TABLE, BAD_RULES, BAD_TAILORING, INCOMPLETE = range(1, 10)
+NOT_UTF8, LONG_RUN, NOT_OPEN, BAD_SETTINGS, _NO_MEMORY, BAD_TABLE, BAD_RULES, BAD_TAILORING = range(1, 9)
+INCOMPLETE = 9  # No call returns it any more.
 
 _STATUSES = {
     NOT_UTF8: "this is not UTF-8",
     LONG_RUN: "this is the 61st nonstarter (combining mark) in a row, and a text may have 60",
     NOT_OPEN: "the collator is closed",
     BAD_SETTINGS: "the strength or the option for variable elements has no meaning",
-    INCOMPLETE: "the text is not complete: what follows it may change its primary weights",
 }
 
 # By the numbers of uca_kind.
@@ -57,7 +57,7 @@ _RANGE = re.compile(rb"[ \t]*@implicitweights[ \t]+(?:%b(?:\.\.%b)?)?" % (_CODE_
 class Error(ValueError):
     """A call was refused, and changed nothing.
 
-    status     the uca_status of uca.h: NOT_UTF8, LONG_RUN, NOT_OPEN, BAD_SETTINGS, BAD_TABLE, BAD_RULES, BAD_TAILORING or INCOMPLETE
+    status     the uca_status of uca.h: NOT_UTF8, LONG_RUN, NOT_OPEN, BAD_SETTINGS, BAD_TABLE, BAD_RULES or BAD_TAILORING
     kind       the uca_kind of uca.h, why a table or rules are refused; else 0
     text       which text of the call is at fault, from 1; 0 for a table and rules
     at         as in uca.h: a byte of the text in UTF-8 or of the rules, from 0; a line or a relation, from 1
@@ -101,7 +101,6 @@ class RulesError(Error):
 _TYPES = {
     NOT_UTF8: TextError,
     LONG_RUN: TextError,
-    INCOMPLETE: TextError,
     BAD_TABLE: TableError,
     BAD_RULES: RulesError,
     BAD_TAILORING: RulesError,
@@ -189,7 +188,7 @@ def error_of(status: int, kind: int, text: int, at: int, source: str | bytes | N
     what = "the table: " if type_of is TableError else "the rules: " if type_of is RulesError else "text %d: " % text if text else ""
     line, column, character = None, None, ""
     place = ""
-    if source is not None and status not in (NOT_OPEN, BAD_SETTINGS, INCOMPLETE) and kind != 11:
+    if source is not None and status not in (NOT_OPEN, BAD_SETTINGS) and kind != 11:
         line, column, character = _place(status, kind, at, source)
         place = "line %d, column %d, %s: " % (line, column, _shown(character))
     hint = " (Collator.from_files reads files)" if status == BAD_TABLE and isinstance(source, str) and "\n" not in source else ""

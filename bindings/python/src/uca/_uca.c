@@ -400,9 +400,10 @@ static PyMethodDef collator_methods[] = {
     {"packed_keys", (PyCFunction)collator_packed_keys, METH_O,
      "packed_keys($self, texts, /)\n--\n\nThe packed keys of texts, as sort_keys makes the sort keys."},
     {"prefix_bounds", (PyCFunction)collator_prefix_bounds, METH_O,
-     "prefix_bounds($self, text, /)\n--\n\nThe ends of the range that the keys, packed or not, of all texts that begin with `text` are in: "
-     "those keys are not\nbefore the first end, and before the second. The second is None where there is no such end.\n\nRaises TextError, "
-     "also where `text` is not complete: where what follows it may change its primary weights,\nas `h` may after `c` where `ch` is a letter."},
+     "prefix_bounds($self, text, /)\n--\n\nThe ends of the range that the keys, packed or not, of all texts are in whose primary weights "
+     "begin with\nthose of `text`: just these keys are not before the first end, and before the second. The second is None where there is "
+     "no\nsuch end.\n\nA text that begins with `text` can be outside: where the next character joins the last ones, as in `cho` after `c` where "
+     "`ch`\nis a letter.\n\nRaises TextError."},
     {"fingerprint", (PyCFunction)collator_fingerprint, METH_NOARGS,
      "fingerprint($self, /)\n--\n\nThe 32 bytes of the SHA-256 digest of all that keys depend on. Store it with keys, and make them again where "
      "it differs.\nIt takes about as long as reading the table did."},
