@@ -83,7 +83,7 @@ typedef enum uca_kind {
     UCA_TABLE_NO_ELEMENT = 7,         /* an entry has no collation element */
     UCA_TABLE_TOO_MANY_ELEMENTS = 8,  /* an entry has more than 64 collation elements */
     UCA_TABLE_REPEATED = 9,           /* an earlier line has this key */
-    UCA_TABLE_BAD_RANGE = 10,         /* a range of implicit weights may not stand beside those of earlier lines */
+    UCA_TABLE_BAD_RANGE = 10,         /* a range of implicit weights conflicts with those of earlier lines */
     UCA_TABLE_TOO_LARGE = 11,         /* the text has more than 67108864 bytes */
     /* with UCA_BAD_RULES */
     UCA_RULES_SYNTAX = 21,             /* the text is not one of rules */
@@ -140,7 +140,7 @@ typedef struct uca_digest {
     uint8_t bytes[32];
 } uca_digest;
 
-/* Code points of a text that are taken together. They stand in another array, and so do the collation elements. */
+/* Code points of a text that are taken together. They are in another array, and so are the collation elements. */
 typedef struct uca_match {
     uint32_t points;   /* how many code points it has, 1 to 32 */
     uint32_t elements; /* how many collation elements it has, 1 to 64 */
@@ -254,7 +254,7 @@ uint32_t uca_prefix_bounds(const uca_collator *collator, const uca_settings *set
 
 /*
  * Writes the matches of a text: the code points of the text in NFD that are taken together, one match after the other, and the
- * collation elements that they have. A key may take marks that stand after others which it does not take, so the code points of
+ * collation elements that they have. A key may take marks that come after others which it does not take, so the code points of
  * all matches are those of the text, and not always in its order. Writes at most `matches_capacity` matches, the code points of
  * all matches one after the other, at most `points_capacity`, and their collation elements in the same way. The numbers of all of
  * these go to `needed`. If one of them is more than the capacity, call again with as much room. The settings do not matter here.

@@ -1,4 +1,4 @@
-/* Eight threads use one collator at once, by each call that only reads it. It stands in a page that can't be written meanwhile.
+/* Eight threads use one collator at once, by each call that only reads it. It is in a page that can't be written meanwhile.
  * shared ROUNDS: each thread makes 143 calls a round. */
 #define _DEFAULT_SOURCE
 #include "checks.h"

@@ -219,7 +219,7 @@ impl Collator {
         self.settings
     }
 
-    /// The order of two texts. Texts in which more than 60 nonstarters stand in a row are refused, here and below.
+    /// The order of two texts. Here and below, texts with more than 60 nonstarters in a row are refused.
     pub fn compare(&self, a: &str, b: &str) -> Result<Ordering, Error> {
         let (mut order, mut fault) = (0, RawFault::default());
         let status = unsafe {

@@ -99,7 +99,7 @@ def _point(c: str) -> dict[str, Any]:
 
 
 def _pieces(key: bytes, strength: int) -> list[bytes]:
-    """The levels of a sort key, without what stands between them."""
+    """The levels of a sort key, without the separators."""
     pieces = []
     for level in range(1, strength):
         end = 0
@@ -126,7 +126,7 @@ def _packed_pieces(key: bytes, strength: int) -> list[bytes]:
 
 
 def _places(points: str, found: Sequence[uca.Match]) -> list[list[int]]:
-    """Where the code points of each match stand in the text. A match takes the first of several that are the same."""
+    """Where the code points of each match are in the text. A match takes the first of several that are the same."""
     left: dict[str, list[int]] = {}
     for at in range(len(points) - 1, -1, -1):
         left.setdefault(points[at], []).append(at)

@@ -323,7 +323,7 @@ function weightRow(level, row) {
   return make("tr", { "data-level": level, kids });
 }
 
-/* A key with its levels apart. Between the levels of a sort key stands 0000; in a packed key it stands after the first alone. */
+/* A key with its levels apart. A sort key has 0000 between its levels, and a packed key only after the first. */
 function showBytes(box, pieces, isSortKey) {
   pieces.forEach((piece, n) => {
     if (n && (isSortKey || n === 1)) box.append(make("span", { cls: "between", text: "0000" }));
