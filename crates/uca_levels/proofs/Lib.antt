@@ -7,3 +7,4 @@ pub mod TextLemmas
 pub mod CommonFront
 pub mod FirstWeight
 pub mod PrimaryLemmas
+pub mod StreamLemmas

@@ -48,20 +48,3 @@ pub chars-split : (text front back : List ℕ) (at : ℕ) → IsUtf8 text → Is
 chars-split text front back at utf8 boundary first last =
     parts-at text back at utf8 boundary last ∙ ap (λ u. chars u ++ chars back) (sym first)
 
--- nothing was read that is left, and no character
-pub left-end : (t : ElementTable) (waiting stretch : List Element) (rest : List ℕ) → waiting ≡ [] → stretch ≡ [] → length rest ≡ 0 → waiting ++ (stretch ++ elements t (nfd (chars rest))) ≡ []
-left-end t waiting stretch rest none nothing end =
-    ap₂ (λ w s. w ++ (s ++ elements t (nfd (chars rest)))) none nothing ∙ ap (λ cs. elements t (nfd cs)) (ap chars (nil_from_length rest end) ∙ chars-nil) ∙ elements_none t
-
--- the next character has elements by itself
-pub left-character : (t : ElementTable) (waiting stretch now es : List Element) (rest after : List ℕ) (c : ℕ) → waiting ≡ [] → stretch ≡ [] → now ≡ [] → IsUtf8 rest → rest ≡ encode_utf8 c ++ after
-    → es ++ elements t (nfd (chars after)) ≡ elements t (nfd (c ∷ chars after)) → es ++ (now ++ elements t (nfd (chars after))) ≡ waiting ++ (stretch ++ elements t (nfd (chars rest)))
-left-character t waiting stretch now es rest after c none nothing still utf8 step alone =
-    ap (λ s. es ++ (s ++ elements t (nfd (chars after)))) still ∙ alone ∙ ap (λ cs. elements t (nfd cs)) (sym (chars_past_char rest after c utf8 step))
-    ∙ ap₂ (λ w s. w ++ (s ++ elements t (nfd (chars rest)))) (sym none) (sym nothing)
-
--- the next characters join each other
-pub left-stretch : (t : ElementTable) (waiting stretch own : List Element) (rest after : List ℕ) → waiting ≡ [] → stretch ≡ [] → elements t (nfd (chars rest)) ≡ own ++ elements t (nfd (chars after))
-    → waiting ++ (own ++ elements t (nfd (chars after))) ≡ waiting ++ (stretch ++ elements t (nfd (chars rest)))
-left-stretch t waiting stretch own rest after none nothing apart =
-    ap (λ l. waiting ++ l) (sym apart) ∙ ap (λ s. waiting ++ (s ++ elements t (nfd (chars rest)))) (sym nothing)

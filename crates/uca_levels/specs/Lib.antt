@@ -3,7 +3,8 @@ pub mod Reads
 pub mod InCommon
 pub mod FromCut
 pub mod WithoutFront
-pub mod TextElements
+pub mod Decides
+pub mod Streams
+pub mod CellWeights
 pub mod TextWeights
-pub mod PrimaryWeights
 pub mod FirstWeight

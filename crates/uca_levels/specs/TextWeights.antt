@@ -1,13 +1,23 @@
 -- The weights of a text in memory that are left.
-use Rattle.std.specs.Prelude.{ℕ, ◌-◌, not, ◌==◌, List, map, filter, slice_index}
-use Rattle.uca_weights.specs.Weigher.{weighted_from}
-use Rattle.uca_levels.specs.TextElements.{elements_left}
+use Rattle.std.specs.Prelude.{ℕ, Bool, true, false, List, [], ◌++◌, Option, Some, None}
+use Rattle.uca_weights.specs.declared.element.Element.{Element}
+use Rattle.uca_model.specs.Source.{unread}
+use Rattle.uca_match.specs.RemainingElements.{remaining_elements}
+use Rattle.uca_levels.specs.declared.stretch.Stretch.{Stretch}
 use Rattle.uca_levels.specs.declared.text_weights.TextWeights.{TextWeights}
+use Rattle.uca_levels.specs.CellWeights.{cell_elements_left}
+use Rattle.uca_levels.specs.Streams.{given_before, weights_from}
 
--- those of its level, zeros among them
-abbrev pub with_zeros_left : TextWeights → List ℕ
-with_zeros_left w = map (λ ws. slice_index ws (w.level - 1)) (weighted_from w.weigher (elements_left w.elements))
+-- the elements of a stretch that are left, where one is under way
+abbrev pub stretch_left : Bool → Option Stretch → List Element
+stretch_left true (Some s) = remaining_elements s.elements (unread s.source)
+stretch_left true None = []
+stretch_left false s = []
 
--- those that are not zero
+-- the weights of the stretch's elements, of those that wait, and of the rest of the text
+abbrev pub held_back : TextWeights → List ℕ
+held_back w = weights_from w.cells.weigher w.cells.level (stretch_left w.joined w.stretch ++ cell_elements_left w.cells)
+
+-- the same after a weight that was given before
 abbrev pub weights_left : TextWeights → List ℕ
-weights_left w = filter (λ weight. not (weight == 0)) (with_zeros_left w)
+weights_left w = given_before w.given (held_back w)

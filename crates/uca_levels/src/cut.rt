@@ -2,7 +2,7 @@ ghost use Rattle.std.specs.Prelude.{◌≡◌, IsTrue, chars, length, take, ◌+
 ghost use Rattle.std.specs.Str.{IsCharBoundary};
 ghost use Rattle.std.specs.Simd.Lanes.{chunk};
 ghost use Rattle.uca_model.specs.SafeCut.{is_cut};
-ghost use Rattle.uca_levels.specs.WithoutFront.{AreWithoutFront, MayFollow};
+ghost use Rattle.uca_levels.specs.WithoutFront.{AreApart, AreWithoutFront, JoinsNothing, MayFollow};
 
 use std::simd::prelude::*;
 use uca_table::Table;
@@ -55,8 +55,8 @@ fn common_len(a: &[u8], b: &[u8]) -> usize
     at
 }
 
-/// Whether no character of two texts lies on both sides of a place.
-pub(crate) fn are_whole(a: &str, b: &str, at: usize) -> bool
+// Whether no character of two texts lies on both sides of a place.
+fn are_whole(a: &str, b: &str, at: usize) -> bool
     ensures { IsTrue result → IsCharBoundary a.now at × IsCharBoundary b.now at }
 {
     a.is_char_boundary(at) && b.is_char_boundary(at)
@@ -95,6 +95,36 @@ pub(crate) fn without_front<'t>(
             let left_a = a.split_at(at).1;
             let left_b = b.split_at(at).1;
             if may_follow(t, left_a) && may_follow(t, left_b) {
+                return (left_a, left_b);
+            }
+        }
+        at -= 1;
+    }
+    (a, b)
+}
+
+/// Whether a text joins nothing before it.
+pub(crate) fn joins_nothing(t: &Table, text: &str) -> bool
+    ensures { IsTrue result → JoinsNothing t.now (chars text.now) }
+{
+    match text.chars().next() {
+        Some(c) => t.joins_nothing(c),
+        None => true,
+    }
+}
+
+/// What is left of two texts from the last place on at which neither joins what is before it, of those in the bytes that they
+/// have in common.
+pub(crate) fn apart_after<'t>(t: &Table, a: &'t str, b: &'t str, common: usize) -> (&'t str, &'t str)
+    requires { take common a.now ≡ take common b.now }
+    ensures { AreApart t.now (chars a.now) (chars b.now) (chars result.0.now) (chars result.1.now) }
+{
+    let mut at = common;
+    'back: while at > 0 {
+        if are_whole(a, b, at) {
+            let left_a = a.split_at(at).1;
+            let left_b = b.split_at(at).1;
+            if joins_nothing(t, left_a) && joins_nothing(t, left_b) {
                 return (left_a, left_b);
             }
         }

@@ -7,6 +7,7 @@ ghost use Rattle.uca_model.specs.Window.{Fits};
 ghost use Rattle.uca_levels.specs.RemainingWeights.{remaining_weights};
 ghost use Rattle.uca_levels.specs.Reads.{ReadsRest, ReadsUp};
 
+use crate::decided::{as_number, decided, widened};
 use crate::points::Points;
 use crate::weights::Weights;
 use std::cmp::Ordering;
@@ -31,15 +32,8 @@ pub(crate) fn order_of_remaining<'t, S: Source, T: Source>(
     loop {
         let x = left.next(a);
         let y = right.next(b);
-        match (x, y) {
-            (Some(x), Some(y)) => {
-                if x != y {
-                    return x.cmp(&y);
-                }
-            }
-            (None, None) => return Ordering::Equal,
-            (None, Some(_)) => return Ordering::Less,
-            (Some(_), None) => return Ordering::Greater,
+        if let Some(order) = decided(widened(x), widened(y)) {
+            return order;
         }
     }
 }
@@ -78,15 +72,8 @@ fn order_of_points<S: Source, T: Source>(t: &Table, v: Variable, a: &mut S, b: &
     loop {
         let x = one.next(a);
         let y = other.next(b);
-        match (x, y) {
-            (Some(x), Some(y)) => {
-                if x != y {
-                    return x.cmp(&y);
-                }
-            }
-            (None, None) => return Ordering::Equal,
-            (None, Some(_)) => return Ordering::Less,
-            (Some(_), None) => return Ordering::Greater,
+        if let Some(order) = decided(as_number(x), as_number(y)) {
+            return order;
         }
     }
 }

@@ -7,15 +7,16 @@
 //! window; [`TextWeights`] gives the weights of such a text. Nothing here allocates.
 #![tactic(auto)]
 
+mod cell_weights;
 mod common_pass;
 pub mod comparison;
 mod cut;
+mod decided;
 mod first_weight;
-mod in_step;
 mod level_order;
 pub mod points;
-mod primary_weights;
-mod text_elements;
+mod stream;
+mod stretch;
 pub mod text_order;
 pub mod text_weights;
 pub mod weights;

@@ -1,18 +1,38 @@
-ghost use Rattle.std.specs.Prelude.{◌≡◌, ◌≤◌, [], IfSome, IsTrue, chars};
+ghost use Rattle.std.specs.Prelude.{◌≡◌, ◌<◌, ◌≤◌, ◌^◌, [], IfSome, IsTrue, chars, take};
 ghost use Rattle.uca_model.specs.LevelWeights.{level_list};
 ghost use Rattle.uca_model.specs.DecidingLevel.{OrdersLevel};
 ghost use Rattle.uca_model.specs.SafeText.{IsSafe};
 ghost use Rattle.uca_model.specs.SortKey.{key_order, sort_key};
 ghost use Rattle.uca_window.specs.Passage.{text_of};
+ghost use Rattle.uca_levels.specs.CellWeights.{cell_weights_left};
+ghost use Rattle.uca_levels.specs.Decides.{IsOfLevel};
+ghost use Rattle.uca_levels.specs.Streams.{given_before};
 
 use crate::comparison::compare_sources;
-use crate::cut::{common_front, without_front};
-use crate::in_step::order_in_step;
+use crate::cell_weights::CellWeights;
+use crate::cut::{apart_after, common_front, without_front};
+use crate::stream::order_of;
 use crate::text_weights::TextWeights;
 use std::cmp::Ordering;
 use uca_table::Table;
 use uca_weights::{Settings, Variable};
 use uca_window::{Passage, PassageSource};
+
+// The order of two texts of which some characters do not stand alone. What the first gave and was not compared comes before its
+// other weights.
+#[inline(never)]
+fn order_of_joined(left: CellWeights, right: CellWeights, given: Option<u16>) -> Ordering
+    requires level { left.level ≡ right.level }
+    requires given { IfSome given (λ w. (0 < w) × (w < 2 ^ 16)) }
+    ensures { OrdersLevel left.entry.level (given_before given (cell_weights_left left.entry)) (cell_weights_left right.entry) result }
+{
+    let mut left = TextWeights::after(left, given);
+    let mut right = TextWeights::after(right, None);
+    match order_of(&mut left, &mut right) {
+        Ok(order) => order,
+        Err(_) => unreachable!(),
+    }
+}
 
 // The order of two texts at a level of weights.
 fn order_of_weights(t: &Table, v: Variable, level: u8, a: &str, b: &str) -> Ordering
@@ -22,33 +42,12 @@ fn order_of_weights(t: &Table, v: Variable, level: u8, a: &str, b: &str) -> Orde
     requires safe_b { IsSafe (chars b.now) }
     ensures { OrdersLevel level (level_list t.now v (chars a.now) level) (level_list t.now v (chars b.now) level) result }
 {
-    let mut left = TextWeights::new(t, v, level, a);
-    let mut right = TextWeights::new(t, v, level, b);
-    loop {
-        let x = left.next();
-        let y = right.next();
-        match (x, y) {
-            (Some(x), Some(y)) => {
-                if x != y {
-                    return x.cmp(&y);
-                }
-            }
-            (None, None) => return Ordering::Equal,
-            (None, Some(_)) => return Ordering::Less,
-            (Some(_), None) => return Ordering::Greater,
-        }
+    let mut left = CellWeights::new(t, v, level, a);
+    let mut right = CellWeights::new(t, v, level, b);
+    match order_of(&mut left, &mut right) {
+        Ok(order) => order,
+        Err(undecided) => order_of_joined(left, right, undecided.given),
     }
-}
-
-// The same at the first level, of what is left of the texts from the last place on at which both may be cut.
-fn order_of_primaries(t: &Table, v: Variable, a: &str, b: &str) -> Ordering
-    requires safe_a { IsSafe (chars a.now) }
-    requires safe_b { IsSafe (chars b.now) }
-    ensures { OrdersLevel 1 (level_list t.now v (chars a.now) 1) (level_list t.now v (chars b.now) 1) result }
-{
-    let _longest = t.longest();
-    let (left_a, left_b) = without_front(t, a, b, common_front(a, b));
-    order_of_weights(t, v, 1, left_a, left_b)
 }
 
 // Whether both texts are empty.
@@ -58,22 +57,21 @@ fn are_empty(a: &str, b: &str) -> bool
     a.is_empty() && b.is_empty()
 }
 
-// The order of two texts by the elements of their characters. Later levels begin at the last place at which both texts may be
-// cut. `None`: the fifth level is asked for.
-fn order_by_characters(t: &Table, s: Settings, a: &str, b: &str) -> Option<Ordering>
+// The order of two texts at the first four levels, as many of them as there are. Both begin with bytes in common: the first level
+// begins at the last place in them at which neither text joins what is before it, and later levels at the last one at which both may
+// be cut. `None`: the fifth level is asked for.
+fn order_by_weights(t: &Table, s: Settings, a: &str, b: &str, common: usize) -> Option<Ordering>
     requires safe_a { IsSafe (chars a.now) }
     requires safe_b { IsSafe (chars b.now) }
+    requires common { take common a.now ≡ take common b.now }
     ensures { IfSome result (λ order. order ≡ key_order (sort_key t.now s (chars a.now)) (sort_key t.now s (chars b.now))) }
 {
-    if are_empty(a, b) {
-        return Some(Ordering::Equal);
-    }
     let _longest = t.longest();
-    let order = first_order(t, s.weighting, a, b);
+    let (left_a, left_b) = apart_after(t, a, b, common);
+    let order = order_of_weights(t, s.weighting, 1, left_a, left_b);
     if order.is_ne() {
         return Some(order);
     }
-    let common = common_front(a, b);
     let (left_a, left_b) = without_front(t, a, b, common);
     if are_empty(left_a, left_b) {
         return Some(Ordering::Equal);
@@ -93,26 +91,15 @@ fn order_by_characters(t: &Table, s: Settings, a: &str, b: &str) -> Option<Order
     Some(Ordering::Equal)
 }
 
-// The order of two texts at the first level.
-fn first_order(t: &Table, v: Variable, a: &str, b: &str) -> Ordering
+// The order of two texts by windows over what is left of them from the last place on at which both may be cut.
+fn order_by_sources(t: &Table, s: Settings, a: &str, b: &str, common: usize) -> Ordering
     requires safe_a { IsSafe (chars a.now) }
     requires safe_b { IsSafe (chars b.now) }
-    ensures { OrdersLevel 1 (level_list t.now v (chars a.now) 1) (level_list t.now v (chars b.now) 1) result }
-{
-    match order_in_step(t, v, a, b) {
-        Ok(order) => order,
-        Err(_) => order_of_primaries(t, v, a, b),
-    }
-}
-
-// The order of two texts by windows over what is left of them from the last place on at which both may be cut.
-fn order_by_sources(t: &Table, s: Settings, a: &Passage, b: &Passage) -> Ordering
-    ensures { result ≡ key_order (sort_key t.now s (text_of a.now)) (sort_key t.now s (text_of b.now)) }
+    requires common { take common a.now ≡ take common b.now }
+    ensures { result ≡ key_order (sort_key t.now s (chars a.now)) (sort_key t.now s (chars b.now)) }
 {
     let _longest = t.longest();
-    let (text_a, text_b) = (a.as_str(), b.as_str());
-    let common = common_front(text_a, text_b);
-    let (left_a, left_b) = without_front(t, text_a, text_b, common);
+    let (left_a, left_b) = without_front(t, a, b, common);
     let mut left = PassageSource::new(&Passage::of_safe(left_a));
     let mut right = PassageSource::new(&Passage::of_safe(left_b));
     compare_sources(t, s, &mut left, &mut right)
@@ -120,13 +107,15 @@ fn order_by_sources(t: &Table, s: Settings, a: &Passage, b: &Passage) -> Orderin
 
 /// The order of the sort keys of two texts (UTS #10, section 7.4, step S4), without their keys. It does not allocate.
 ///
-/// The bytes that both texts begin with are passed over, and later levels begin at the last place at which both texts may be cut.
-/// Only where the fifth level decides, [`compare_sources`] compares what is left of the texts from there.
+/// The bytes that both texts begin with are passed over. Only where the fifth level decides, [`compare_sources`] compares what is
+/// left of the texts from the last place on at which both may be cut.
 pub fn compare(t: &Table, s: Settings, a: &Passage, b: &Passage) -> Ordering
     ensures { result ≡ key_order (sort_key t.now s (text_of a.now)) (sort_key t.now s (text_of b.now)) }
 {
-    match order_by_characters(t, s, a.as_str(), b.as_str()) {
+    let (a, b) = (a.as_str(), b.as_str());
+    let common = common_front(a, b);
+    match order_by_weights(t, s, a, b, common) {
         Some(order) => order,
-        None => order_by_sources(t, s, a, b),
+        None => order_by_sources(t, s, a, b, common),
     }
 }

@@ -1,0 +1,12 @@
+use Rattle.std.proofs.Common.{refl}
+use Rattle.uca_levels.specs.WithoutFront.{JoinsNothing}
+use Rattle.uca_levels.proofs.WithoutFront.{left-at, same-before}
+use Rattle.uca_levels.proofs.cut.apart_after.Goals as goal
+
+pub returns-then-joins_nothing-2 : goal.returns-then-joins_nothing-2
+returns-then-joins_nothing-2 c =
+    left-at (JoinsNothing c.args.t.now) c.args.a.now c.args.b.now _ _ c.back.at c.utf8.a c.utf8.b (c.if-are_whole.ensures refl).0 (c.if-are_whole.ensures refl).1 c.back.invariant c.split_at.ensures.back c.split_at-then-are_whole.ensures.back
+    (c.if-joins_nothing.ensures refl) (c.if-joins_nothing-2.ensures refl)
+
+pub back-preserved : goal.back-preserved
+back-preserved c = same-before c.args.a.now c.args.b.now c.back.at c.back.invariant

@@ -1,0 +1,71 @@
+use Rattle.std.proofs.Common.{◌≤◌, chars, sym, ◌∙◌, arith}
+use Rattle.std.specs.declared.cmp.Ordering.{Ordering}
+use Rattle.uca_weights.specs.Settings.{levels}
+use Rattle.uca_model.specs.LevelWeights.{level_list}
+use Rattle.uca_model.specs.DecidingLevel.{OrdersLevel}
+use Rattle.uca_model.proofs.LevelLemmas.{levels-within}
+use Rattle.uca_levels.proofs.ReadsLemmas.{from_ne, from_not_ne}
+use Rattle.uca_levels.proofs.LevelsFromCut.{undecided-first, undecided-next, decided-here}
+use Rattle.uca_levels.proofs.PrimaryLemmas.{orders-apart, safe-apart}
+use Rattle.uca_levels.proofs.WithoutFront.{orders-left, left-none, left-safe}
+use Rattle.uca_levels.proofs.text_order.order_by_weights.Goals as goal
+
+pub returns-then-is_ne : goal.returns-then-is_ne
+returns-then-is_ne c =
+    let o : Ordering = c.order_of_weights-order.result in
+    let some : 1 ≤ levels c.args.s.strength = (levels-within c.args.s.strength).0 in
+    let orders = orders-apart c.args.t.now c.args.s.weighting _ _ _ _ o c.apart_after.ensures c.order_of_weights-order.ensures in
+    sym (decided-here c.args.t.now c.args.s (chars c.args.a.now) (chars c.args.b.now) 1 o (undecided-first c.args.t.now c.args.s (chars c.args.a.now) (chars c.args.b.now)) some orders (from_ne o (sym c.is_ne.ensures ∙ c.if-is_ne.true))).0
+
+pub returns-then-are_empty : goal.returns-then-are_empty
+returns-then-are_empty c =
+    let none = c.are_empty.ensures c.if-are_empty.true in
+    sym (left-none c.args.t.now c.args.s _ _ _ _ c.without_front.ensures none.0 none.1)
+
+pub each-init : goal.each-init
+each-init c =
+    let o : Ordering = c.order_of_weights-order.result in
+    let some : 1 ≤ levels c.args.s.strength = (levels-within c.args.s.strength).0 in
+    let orders = orders-apart c.args.t.now c.args.s.weighting _ _ _ _ o c.apart_after.ensures c.order_of_weights-order.ensures in
+    record {
+      first = omega arith;
+      last = omega (arith, some);
+      undecided = undecided-next c.args.t.now c.args.s (chars c.args.a.now) (chars c.args.b.now) 1 o (undecided-first c.args.t.now c.args.s (chars c.args.a.now) (chars c.args.b.now)) some orders (from_not_ne o (sym c.is_ne.ensures ∙ c.if-is_ne.false));
+    }
+
+pub returns-then-is_ne-2 : goal.returns-then-is_ne-2
+returns-then-is_ne-2 c =
+    let t = c.args.t.now in
+    let a = chars c.args.a.now in
+    let b = chars c.args.b.now in
+    let o : Ordering = c.order_of_weights-order-in-each.result in
+    let orders : OrdersLevel c.each.level (level_list t c.args.s.weighting a c.each.level) (level_list t c.args.s.weighting b c.each.level) o =
+    orders-left t c.args.s.weighting a b (chars c.without_front.result.0.now) (chars c.without_front.result.1.now) c.each.level o c.longest-longest.ensures.valid c.without_front.ensures c.order_of_weights-order-in-each.ensures in
+    sym (decided-here t c.args.s a b c.each.level o c.each.invariant.undecided (omega (arith, c.each-test.true, c.levels-last.ensures)) orders (from_ne o (sym c.is_ne-in-each.ensures ∙ c.if-is_ne-2.true))).0
+
+pub each-preserved : goal.each-preserved
+each-preserved c =
+    let t = c.args.t.now in
+    let a = chars c.args.a.now in
+    let b = chars c.args.b.now in
+    let o : Ordering = c.order_of_weights-order-in-each.result in
+    let inside : c.each.level ≤ levels c.args.s.strength = omega (arith, c.each-test.true, c.levels-last.ensures) in
+    let orders : OrdersLevel c.each.level (level_list t c.args.s.weighting a c.each.level) (level_list t c.args.s.weighting b c.each.level) o =
+    orders-left t c.args.s.weighting a b (chars c.without_front.result.0.now) (chars c.without_front.result.1.now) c.each.level o c.longest-longest.ensures.valid c.without_front.ensures c.order_of_weights-order-in-each.ensures in
+    record {
+      first = omega (arith, c.each.invariant.first);
+      last = omega (arith, inside);
+      undecided = undecided-next t c.args.s a b c.each.level o c.each.invariant.undecided inside orders (from_not_ne o (sym c.is_ne-in-each.ensures ∙ c.if-is_ne-2.false));
+    }
+
+pub order_of_weights-order-requires-clause-safe_a : goal.order_of_weights-order-requires-clause-safe_a
+order_of_weights-order-requires-clause-safe_a c = (safe-apart c.args.t.now _ _ _ _ c.apart_after.ensures c.requires.safe_a c.requires.safe_b).0
+
+pub order_of_weights-order-requires-clause-safe_b : goal.order_of_weights-order-requires-clause-safe_b
+order_of_weights-order-requires-clause-safe_b c = (safe-apart c.args.t.now _ _ _ _ c.apart_after.ensures c.requires.safe_a c.requires.safe_b).1
+
+pub order_of_weights-order-requires-in-each-clause-safe_a : goal.order_of_weights-order-requires-in-each-clause-safe_a
+order_of_weights-order-requires-in-each-clause-safe_a c = (left-safe c.args.t.now (chars c.args.a.now) (chars c.args.b.now) _ _ c.without_front.ensures c.requires.safe_a c.requires.safe_b).0
+
+pub order_of_weights-order-requires-in-each-clause-safe_b : goal.order_of_weights-order-requires-in-each-clause-safe_b
+order_of_weights-order-requires-in-each-clause-safe_b c = (left-safe c.args.t.now (chars c.args.a.now) (chars c.args.b.now) _ _ c.without_front.ensures c.requires.safe_a c.requires.safe_b).1

@@ -1,0 +1,61 @@
+ghost use Rattle.std.specs.Prelude.{◌≡◌, ◌++◌, ◌<◌, chars, length};
+ghost use Rattle.unicode_normalization.specs.Forms.{nfd};
+ghost use Rattle.uca_model.specs.CollationElements.{elements};
+ghost use Rattle.uca_model.specs.SafeText.{IsSafe};
+ghost use Rattle.uca_model.specs.Source.{unread};
+ghost use Rattle.uca_model.specs.Window.{Fits};
+ghost use Rattle.uca_match.specs.RemainingElements.{remaining_elements};
+ghost use Rattle.uca_match.specs.Yields.{YieldsFirst};
+
+use crate::cut::joins_nothing;
+use uca_match::Elements;
+use uca_table::Table;
+use uca_weights::Element;
+use uca_window::{Passage, PassageSource};
+
+/// The elements of some characters of a text that join each other, one by one over a window.
+#[derive(Drop)]
+pub(crate) struct Stretch<'t> {
+    pub(crate) elements: Elements<'t>,
+    pub(crate) source: PassageSource<'t>,
+    ghost fits: { Fits elements.window (unread source) },
+}
+
+impl<'t> Stretch<'t> {
+    pub(crate) fn new(t: &'t Table, text: &'t str) -> Stretch<'t>
+        requires { IsSafe (chars text.now) }
+        ensures { remaining_elements result.elements (unread result.source) ≡ elements t.now (nfd (chars text.now)) }
+    {
+        Stretch {
+            elements: Elements::new(t),
+            source: PassageSource::new(&Passage::of_safe(text)),
+        }
+    }
+
+    /// The next element, or `None` at the end.
+    pub(crate) fn next(&mut self) -> Option<Element>
+        ensures { YieldsFirst (remaining_elements self.old.elements (unread self.old.source)) result (remaining_elements self.new.elements (unread self.new.source)) }
+    {
+        self.elements.next(&mut self.source)
+    }
+}
+
+/// The first characters of a text, up to the next that joins nothing before it, and the text after them.
+pub(crate) fn split_stretch<'t>(t: &Table, text: &'t str) -> (&'t str, &'t str)
+    requires some { 0 < length text.now }
+    ensures parts { chars text.now ≡ chars result.0.now ++ chars result.1.now }
+    ensures apart { elements t.now (nfd (chars text.now)) ≡ elements t.now (nfd (chars result.0.now)) ++ elements t.now (nfd (chars result.1.now)) }
+    ensures fewer { length result.1.now < length text.now }
+{
+    let mut at = 1;
+    while at < text.len() {
+        if text.is_char_boundary(at) {
+            let (front, back) = text.split_at(at);
+            if joins_nothing(t, back) {
+                return (front, back);
+            }
+        }
+        at += 1;
+    }
+    (text, "")
+}
