@@ -1,5 +1,5 @@
-// A sort key that is put into a buffer piece by piece, without memory. Its levels are read from the text one after the other.
-ghost use Rattle.std.specs.Prelude.{◌≡◌, ◌<◌, ◌≤◌, ◌^◌, length};
+// A sort key that is put into a buffer piece by piece. Its levels are read from the text one after the other.
+ghost use Rattle.std.specs.Prelude.{◌≡◌, ◌<◌, ◌≤◌, ◌^◌, chars, length};
 ghost use Rattle.uca_model.specs.DecidingLevel.{bytes_at};
 ghost use Rattle.uca_model.specs.LevelWeights.{level_list};
 ghost use Rattle.uca_model.specs.SafeText.{IsSafe};
@@ -11,10 +11,10 @@ ghost use Rattle.uca_handle.specs.Placing.{PutsAt};
 use crate::faults::KeyFault;
 use crate::keys::copy_front;
 use crate::texts::passage_of;
-use uca_levels::{Points, Weights};
+use uca_levels::{Points, TextWeights};
 use uca_table::Table;
 use uca_weights::{Settings, Variable};
-use uca_window::{PassageSource, Source};
+use uca_window::{Passage, PassageSource, Source};
 
 /// Puts bytes at a place of a buffer, or as many of them as fit there, and returns the place after them.
 fn put_bytes(bytes: &[u8], at: usize, out: &mut [u8]) -> usize
@@ -40,25 +40,24 @@ fn put_point(point: char, at: usize, out: &mut [u8]) -> usize
     put_bytes(&(point as u32).to_be_bytes()[1..], at, out)
 }
 
-/// Puts the weights of a level, of what a source has not given yet.
-fn put_weights<S: Source>(
+/// Puts the weights of a level of a text.
+fn put_weights(
     t: &Table,
     v: Variable,
     level: u8,
-    source: &mut S,
+    text: &str,
     at: usize,
     out: &mut [u8],
 ) -> usize
     requires first { 1 ≤ level }
     requires last { level ≤ 4 }
-    requires safe { IsSafe (unread (S.state source.old)) }
+    requires safe { IsSafe (chars text.now) }
     requires room { length out.old < 2 ^ 64 }
-    ensures bytes { PutsAt at (bytes_at level (level_list t.now v (unread (S.state source.old)) level)) out.old out.new result }
-    ensures text { (S.state source.new).text ≡ (S.state source.old).text }
+    ensures { PutsAt at (bytes_at level (level_list t.now v (chars text.now) level)) out.old out.new result }
 {
-    let mut weights = Weights::new(t, v, level);
+    let mut weights = TextWeights::new(t, v, level, text);
     let mut next = at;
-    'each: while let Some(weight) = weights.next(source) {
+    'each: while let Some(weight) = weights.next() {
         next = put_weight(weight, next, out);
     }
     next
@@ -79,40 +78,32 @@ fn put_points<S: Source>(t: &Table, v: Variable, source: &mut S, at: usize, out:
     next
 }
 
-/// Puts one level, of what a source has not given yet.
-fn put_level<S: Source>(
-    t: &Table,
-    v: Variable,
-    level: u8,
-    source: &mut S,
-    at: usize,
-    out: &mut [u8],
-) -> usize
+/// Puts one level of a text.
+fn put_level(t: &Table, v: Variable, level: u8, text: &str, at: usize, out: &mut [u8]) -> usize
     requires first { 1 ≤ level }
     requires last { level ≤ 5 }
-    requires safe { IsSafe (unread (S.state source.old)) }
+    requires safe { IsSafe (chars text.now) }
     requires room { length out.old < 2 ^ 64 }
-    ensures bytes { PutsAt at (bytes_at level (level_list t.now v (unread (S.state source.old)) level)) out.old out.new result }
-    ensures text { (S.state source.new).text ≡ (S.state source.old).text }
+    ensures { PutsAt at (bytes_at level (level_list t.now v (chars text.now) level)) out.old out.new result }
 {
     if level == 5 {
-        return put_points(t, v, source, at, out);
+        let mut source = PassageSource::new(&Passage::of_safe(text));
+        return put_points(t, v, &mut source, at, out);
     }
-    put_weights(t, v, level, source, at, out)
+    put_weights(t, v, level, text, at, out)
 }
 
-/// Puts the sort key of a source's text into the front of a buffer, level after level.
-fn put_levels<S: Source>(t: &Table, s: Settings, source: &mut S, out: &mut [u8]) -> usize
-    requires safe { IsSafe (S.state source.old).text }
+/// Puts the sort key of a text into the front of a buffer, level after level.
+fn put_levels(t: &Table, s: Settings, text: &str, out: &mut [u8]) -> usize
+    requires safe { IsSafe (chars text.now) }
     requires room { length out.old < 2 ^ 64 }
-    ensures { PutsAt 0 (sort_key t.now s (S.state source.old).text) out.old out.new result }
+    ensures { PutsAt 0 (sort_key t.now s (chars text.now)) out.old out.new result }
 {
     let last = s.levels();
     let mut level = 1;
     let mut next = 0;
     'each: loop {
-        source.restart();
-        next = put_level(t, s.weighting, level, source, next, out);
+        next = put_level(t, s.weighting, level, text, next, out);
         if level == last {
             return next;
         }
@@ -121,7 +112,7 @@ fn put_levels<S: Source>(t: &Table, s: Settings, source: &mut S, out: &mut [u8])
     }
 }
 
-/// Writes the sort key of a text into the front of a buffer, or as many of its bytes as fit. It takes no memory.
+/// Writes the sort key of a text into the front of a buffer, or as many of its bytes as fit. It does not allocate.
 pub(crate) fn write_key_of(
     t: &Table,
     s: Settings,
@@ -135,6 +126,5 @@ pub(crate) fn write_key_of(
         Err(fault) => return Err(KeyFault::Text(fault)),
     };
     let _room = out.len();
-    let mut source = PassageSource::new(&passage);
-    Ok(put_levels(t, s, &mut source, out))
+    Ok(put_levels(t, s, passage.as_str(), out))
 }

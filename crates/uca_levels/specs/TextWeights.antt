@@ -1,5 +1,5 @@
 -- The weights of a text in memory that are left.
-use Rattle.std.specs.Prelude.{ℕ, Bool, true, false, List, [], ◌++◌, Option, Some, None}
+use Rattle.std.specs.Prelude.{ℕ, Bool, true, false, List, [], ◌++◌, length, Option, Some, None}
 use Rattle.uca_weights.specs.declared.element.Element.{Element}
 use Rattle.uca_model.specs.Source.{unread}
 use Rattle.uca_match.specs.RemainingElements.{remaining_elements}
@@ -21,3 +21,11 @@ held_back w = weights_from w.cells.weigher w.cells.level (stretch_left w.joined 
 -- the same after a weight that was given before
 abbrev pub weights_left : TextWeights → List ℕ
 weights_left w = given_before w.given (held_back w)
+
+-- how many code points are in the window of the stretch
+abbrev pub points_of : Option Stretch → ℕ
+points_of None = 0
+points_of (Some s) = length s.elements.window.points
+
+abbrev pub points_held : TextWeights → ℕ
+points_held w = points_of w.stretch

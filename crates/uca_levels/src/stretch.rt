@@ -1,8 +1,10 @@
-ghost use Rattle.std.specs.Prelude.{◌≡◌, ◌++◌, ◌<◌, chars, length};
+ghost use Rattle.std.specs.Prelude.{◌≡◌, ◌+◌, ◌++◌, ◌<◌, ◌≤◌, chars, length};
 ghost use Rattle.unicode_normalization.specs.Forms.{nfd};
+ghost use Rattle.uca_weights.specs.declared.limits.TheConstants.{MAX_LOOKAHEAD};
 ghost use Rattle.uca_model.specs.CollationElements.{elements};
 ghost use Rattle.uca_model.specs.SafeText.{IsSafe};
 ghost use Rattle.uca_model.specs.Source.{unread};
+ghost use Rattle.uca_model.specs.Table.{longest};
 ghost use Rattle.uca_model.specs.Window.{Fits};
 ghost use Rattle.uca_match.specs.RemainingElements.{remaining_elements};
 ghost use Rattle.uca_match.specs.Yields.{YieldsFirst};
@@ -24,7 +26,9 @@ pub(crate) struct Stretch<'t> {
 impl<'t> Stretch<'t> {
     pub(crate) fn new(t: &'t Table, text: &'t str) -> Stretch<'t>
         requires { IsSafe (chars text.now) }
-        ensures { remaining_elements result.elements (unread result.source) ≡ elements t.now (nfd (chars text.now)) }
+        ensures table { result.elements.table ≡ t.now }
+        ensures bound { length result.elements.window.points ≤ longest t.now + MAX_LOOKAHEAD }
+        ensures left { remaining_elements result.elements (unread result.source) ≡ elements t.now (nfd (chars text.now)) }
     {
         Stretch {
             elements: Elements::new(t),
@@ -34,7 +38,9 @@ impl<'t> Stretch<'t> {
 
     /// The next element, or `None` at the end.
     pub(crate) fn next(&mut self) -> Option<Element>
-        ensures { YieldsFirst (remaining_elements self.old.elements (unread self.old.source)) result (remaining_elements self.new.elements (unread self.new.source)) }
+        ensures table { self.new.elements.table ≡ self.old.elements.table }
+        ensures bound { length self.new.elements.window.points ≤ longest self.new.elements.table + MAX_LOOKAHEAD }
+        ensures yields { YieldsFirst (remaining_elements self.old.elements (unread self.old.source)) result (remaining_elements self.new.elements (unread self.new.source)) }
     {
         self.elements.next(&mut self.source)
     }

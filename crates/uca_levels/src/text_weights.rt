@@ -1,7 +1,9 @@
-ghost use Rattle.std.specs.Prelude.{◌≡◌, [], ◌∷◌, ◌<◌, ◌≤◌, ◌^◌, IfNone, IfSome, chars, false, length};
+ghost use Rattle.std.specs.Prelude.{◌≡◌, [], ◌∷◌, ◌+◌, ◌<◌, ◌≤◌, ◌^◌, IfNone, IfSome, chars, false, length};
 ghost use Rattle.std.specs.Option.{ForSome};
+ghost use Rattle.uca_weights.specs.declared.limits.TheConstants.{MAX_LOOKAHEAD};
 ghost use Rattle.uca_model.specs.LevelWeights.{level_list};
 ghost use Rattle.uca_model.specs.SafeText.{IsSafe};
+ghost use Rattle.uca_model.specs.Table.{longest};
 ghost use Rattle.uca_match.specs.Yields.{YieldsFirst};
 ghost use Rattle.uca_levels.specs.CellWeights.{cell_weights_left};
 ghost use Rattle.uca_levels.specs.Decides.{IsOfLevel};
@@ -15,7 +17,7 @@ use uca_weights::{Element, Variable};
 
 /// The weights of one level of a safe text in memory that are not zero, one by one (UTS #10, section 7.3, step S3). A character that
 /// stands alone has the elements of its cell; others are matched together, up to the next that joins nothing, over a window. It
-/// does not allocate.
+/// does not allocate. Of the text it holds at most `MAX_LOOKAHEAD` code points more than the longest key has: `bound`.
 #[derive(Drop)]
 pub struct TextWeights<'t> {
     pub(crate) cells: CellWeights<'t>,
@@ -25,11 +27,13 @@ pub struct TextWeights<'t> {
     pub(crate) joined: bool,
     /// The last characters that did not stand alone.
     pub(crate) stretch: Option<Stretch<'t>>,
+    ghost table: { ForSome stretch (λ s. s.elements.table ≡ cells.table.now) },
+    ghost few: { ForSome stretch (λ s. length s.elements.window.points ≤ longest s.elements.table + MAX_LOOKAHEAD) },
     ghost weight: { ForSome given (λ w. (0 < w) × (w < 2 ^ 16)) },
 }
 
 impl<'t> TextWeights<'t> {
-    ghost use Rattle.uca_levels.specs.TextWeights.{held_back, stretch_left, weights_left};
+    ghost use Rattle.uca_levels.specs.TextWeights.{held_back, points_held, stretch_left, weights_left};
 
     /// The weights of a text at a level from 1 to 4, of which none was given yet.
     pub fn new(t: &'t Table, v: Variable, level: u8, text: &'t str) -> TextWeights<'t>
@@ -38,6 +42,7 @@ impl<'t> TextWeights<'t> {
         requires safe { IsSafe (chars text.now) }
         ensures left { weights_left result ≡ level_list t.now v (chars text.now) level }
         ensures level { result.cells.level ≡ level }
+        ensures bound { points_held result ≤ longest t.now + MAX_LOOKAHEAD }
     {
         TextWeights::after(CellWeights::new(t, v, level, text), None)
     }
@@ -47,6 +52,7 @@ impl<'t> TextWeights<'t> {
         requires { IfSome given (λ w. (0 < w) × (w < 2 ^ 16)) }
         ensures left { weights_left result ≡ given_before given (cell_weights_left cells.entry) }
         ensures level { result.cells.level ≡ cells.entry.level }
+        ensures none { points_held result ≡ 0 }
     {
         TextWeights {
             cells,
@@ -116,6 +122,7 @@ impl<'t> TextWeights<'t> {
         ensures yields { YieldsFirst (weights_left self.old) result (weights_left self.new) }
         ensures weight { IfSome result (IsOfLevel self.old.cells.level) }
         ensures level { self.new.cells.level ≡ self.old.cells.level }
+        ensures bound { points_held self.new ≤ longest self.new.cells.table.now + MAX_LOOKAHEAD }
     {
         if let Some(weight) = self.given.take() {
             return Some(weight);

@@ -8,7 +8,6 @@ use Rattle.uca_key.proofs.streaming.send_weights.Goals as goal
 pub each-init : goal.each-init
 each-init g c =
     record {
-      level = c.new-weights.ensures.level;
       sending = IsSending-start _ _ _ _ (ap (flat_map weight_bytes) c.new-weights.ensures.left ∙ sym (at_weights c.args.level _ (omega (arith, c.requires.last))));
     }
 
@@ -21,7 +20,6 @@ pub each-preserved : goal.each-preserved
 each-preserved g c =
     let first = given_some _ _ c.next.result c.in-Some.weight c.next.ensures.yields c.in-Some.is in
     record {
-      level = c.next.ensures.level ∙ c.each.invariant.level;
       sending = IsSending-more _ _ _ _ _ _ c.each.invariant.sending _ _ (weight_bytes c.in-Some.weight) _ (ap (flat_map weight_bytes) first) c.in-Ok.ensures;
     }
 
