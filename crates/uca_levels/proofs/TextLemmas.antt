@@ -1,21 +1,16 @@
 -- The elements of a text that are left: one step of its characters.
-use Rattle.std.proofs.Common.{◌≡◌, ℕ, ◌+◌, ◌≤◌, max, List, [], ◌∷◌, ◌++◌, length, take, drop, flat_map, All, chars, IsUtf8, encode_utf8, refl, sym, ap, ap₂, subst, ◌∙◌, arith, inl, inr}
+use Rattle.std.proofs.Common.{◌≡◌, ℕ, ◌+◌, ◌≤◌, max, List, [], ◌∷◌, ◌++◌, length, take, drop, flat_map, All, chars, IsUtf8, refl, sym, ap, subst, ◌∙◌, arith, inl, inr}
 use Rattle.std.proofs.lemmas.Bool.{cases_Bool}
-use Rattle.std.proofs.lemmas.List.{drop_at, nil_from_length}
+use Rattle.std.proofs.lemmas.List.{drop_at}
 use Rattle.std.proofs.lemmas.List.Concat.{flat_map-append}
 use Rattle.std.proofs.lemmas.List.Elements.{All-drop}
-use Rattle.std.proofs.lemmas.Str.{chars_past_char, chars-nil}
 use Rattle.std.specs.Str.{IsCharBoundary}
 use Rattle.unicode_normalization.specs.Decompose.{decompose_canonical}
 use Rattle.unicode_normalization.specs.Forms.{nfd}
 use Rattle.unicode_normalization.specs.Order.{is_nonstarter}
-use Rattle.uca_weights.specs.declared.element.Element.{Element}
 use Rattle.uca_weights.specs.declared.limits.TheConstants.{MAX_DECOMPOSITION}
-use Rattle.uca_model.specs.Table.{ElementTable}
-use Rattle.uca_model.specs.CollationElements.{elements}
 use Rattle.uca_model.specs.SafeText.{IsSafe, longest_run, longest_run_after}
 use Rattle.uca_model.proofs.SafeLemmas.{longest_run-nfd, run_after, runs-append}
-use Rattle.uca_model.proofs.StandAloneLemmas.{elements_none}
 use Rattle.uca_levels.proofs.WithoutFront.{parts-at}
 
 -- ---- what follows any front of a safe text is safe

@@ -1,5 +1,5 @@
 -- Weights of a level, in a stream of them.
-use Rattle.std.specs.Prelude.{ℕ, ◌-◌, not, ◌==◌, if◌then◌else◌, List, [], ◌∷◌, ◌++◌, Option, Some, None, map, filter, slice_index}
+use Rattle.std.specs.Prelude.{ℕ, ◌-◌, not, ◌==◌, if◌then◌else◌, List, ◌∷◌, Option, Some, None, map, filter, slice_index}
 use Rattle.uca_weights.specs.declared.element.Element.{Element}
 use Rattle.uca_weights.specs.Weigher.{WeigherState, weighted_from}
 

@@ -27,7 +27,7 @@ pub struct TextWeights<'t> {
     pub(crate) joined: bool,
     /// The last characters that did not stand alone.
     pub(crate) stretch: Option<Stretch<'t>>,
-    ghost table: { ForSome stretch (λ s. s.elements.table ≡ cells.table.now) },
+    ghost table: { ForSome stretch (λ s. longest s.elements.table ≡ longest cells.table.now) },
     ghost few: { ForSome stretch (λ s. length s.elements.window.points ≤ longest s.elements.table + MAX_LOOKAHEAD) },
     ghost weight: { ForSome given (λ w. (0 < w) × (w < 2 ^ 16)) },
 }

@@ -1,6 +1,6 @@
-use Rattle.std.proofs.Common.{◌≡◌, IfSome, ℕ, sym, subst, ◌∙◌, arith}
+use Rattle.std.proofs.Common.{IfSome, ℕ, sym, subst, ◌∙◌, arith}
 use Rattle.uca_levels.specs.Decides.{IsOfLevel}
-use Rattle.uca_levels.proofs.StreamLemmas.{decides-whole, same-more, same-fewer}
+use Rattle.uca_levels.proofs.StreamLemmas.{decides-whole, same-more}
 use Rattle.uca_levels.proofs.stream.order_of.Goals as goal
 
 pub returns-in-Some-clause-order : goal.returns-in-Some-clause-order
