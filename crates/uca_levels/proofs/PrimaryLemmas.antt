@@ -61,7 +61,7 @@ InStep-on xs ys left right later other h k = record {
   second = h.second ∙ ap (λ l. h.front ++ l) k.second ∙ sym (append_assoc h.front k.front other);
 }
 
--- what joins nothing adds its weights to those of what stands before it
+-- what joins nothing adds its weights to those of what comes before it
 lists-apart : (t : ElementTable) (v : Variable) (front left : List ℕ) → JoinsNothing t left → level_list t v (front ++ left) 1 ≡ level_list t v front 1 ++ level_list t v left 1
 lists-apart t v front left joins = ap (λ l. level_weights 1 (weighted v l)) (elements-apart t front left joins) ∙ primaries-append v (elements t (nfd front)) (elements t (nfd left))
 

@@ -34,7 +34,7 @@ use Rattle.uca_model.proofs.TableLemmas.{find-holds}
 
 -- ---- the weights of the first level
 
--- the first weight of an element, whatever stands before it
+-- the first weight of an element, whatever comes before it
 abbrev primary : Variable → Bool → ℕ → ℕ
 primary NonIgnorable starred l1 = l1
 primary Blanked starred l1 = cond (starred && not (l1 == 0)) 0 l1
@@ -118,7 +118,7 @@ have-same v (f ∷ fs) (e ∷ es) h =
     let same : primary v e.starred e.l1 ≡ primary v f.starred f.l1 = ap₂ (primary v) (same_mark f.starred e.starred here.1) (eqb-true e.l1 f.l1 here.0) in
     ap₂ (λ w ws. cond (not (w == 0)) (w ∷ ws) ws) same (have-same v fs es both.1)
 
--- ---- what a table says of a code point
+-- ---- what a table says about a code point
 
 -- the same of each key that a look-up finds
 pub record Keeps (t : ElementTable) (c : ℕ) : Type 0 where
@@ -144,7 +144,7 @@ before_last s [] c after = rw (eq-eqb s s refl) refl
 before_last s (x ∷ []) c after = or_later (x == s) _ (before_last s [] c after)
 before_last s (x ∷ y ∷ before) c after = or_later (x == s) _ (before_last s (y ∷ before) c after)
 
--- the code point does not stand between two others in the key
+-- the code point is not between two others in the key
 abbrev is_last_in : ℕ → List ℕ × List Element → Bool
 is_last_in s entry = not (is_before_last s (drop 1 entry.0))
 

@@ -1,4 +1,4 @@
--- What keys say of code points, and the blocks in which that lies.
+-- What keys say about code points, and how the marks are laid out in blocks.
 use Rattle.std.proofs.Common.{◌≡◌, ℕ, zero, suc, ◌+◌, ◌-◌, ◌*◌, ◌/◌, ◌%◌, ◌≤◌, ◌<◌, nat_lt, Bool, true, false, not, ◌||◌, ◌&&◌, ◌==◌, cond, if◌then◌else◌, List, [], ◌∷◌, length, take, drop, get_or, set, slice_index, Some, unwrap_or, refl, sym, ap, ap₂, subst, ◌∙◌, arith, inl, inr, eq-eqb, eqb-true, length-drop}
 use Rattle.std.proofs.lemmas.Bool.{cases_eq, lt-ltb}
 use Rattle.std.proofs.lemmas.List.{drop_more, get_or-set_same, get_or-set_other}
@@ -156,7 +156,7 @@ key_marks m true longer leads primary keeps kept inside between first other same
 key_marks m false longer leads primary keeps kept inside between first other same none =
     make _ _ _ _ _ _ _ _ _ _ _ _ (sym (or_nothing m.begins)) (sym (ap (λ x. m.leads || x) (other refl) ∙ or_nothing m.leads)) refl (ap (λ x. m.apart && x) (sym (and_all (not inside)))) refl (sym (ap (λ x. m.keeps && x) (none refl) ∙ and_all m.keeps))
 
--- what a key says of a code point, by its parts
+-- what a key says about a code point, by its parts
 pub with-key : (t : ElementTable) (m first others all : Marks) (p c : ℕ) (key : List ℕ) (es : List Element) (longer primary keeps : Bool) → 0 < length key → c ≡ get_or key 0 c
     → longer ≡ nat_lt 1 (length key) → primary ≡ begins_with_primary es → keeps ≡ (not (is_longer_from (slice_index key 0) key) || have_primaries_of (elements_or_implicit t (slice_index key 0 ∷ [])) es)
     → first ≡ cond (c == p) (first_marks m longer primary keeps) m → others ≡ inside_marks first (list_any (λ x. x == p) (drop 1 key)) → all ≡ between_marks others (is_before_last p (drop 1 key))

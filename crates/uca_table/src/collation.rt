@@ -17,7 +17,7 @@ pub fn push_elements(out: &mut Vec<Element>, t: &Stored, matched: &[char]) -> Re
     push_found(out, t, matched, t.get(matched))
 }
 
-// The same with what the table has for the match.
+// The same, with what the table has for the match.
 pub(crate) fn push_found(
     out: &mut Vec<Element>,
     t: &Stored,

@@ -59,7 +59,7 @@ impl Stored {
         self.keys.get(key)
     }
 
-    /// A walk along the keys that was not stepped yet.
+    /// A walk along the keys that has not been stepped yet.
     pub fn walk(&self) -> Walk<'_>
         ensures table { table_of_walk result ≡ self.now }
         ensures path { path_of result ≡ [] }
@@ -130,7 +130,7 @@ impl Stored {
         self.ideographs.as_slice()
     }
 
-    /// Adds the range of ideographs from `first` to `last`, both of which belong to it (UTS #10, section 10.1.3). On a
+    /// Adds the range of ideographs from `first` to `last`, both inclusive (UTS #10, section 10.1.3). On a
     /// fault the table stays as it is.
     pub fn add_ideographs(&mut self, first: char, last: char) -> Result<(), RangeFault>
         ensures ok { OnOk result (self.new ≡ with_more_ideographs self.old (record { first = first; last = last })) }
@@ -140,7 +140,7 @@ impl Stored {
         ideographs::add(&mut self.ideographs, Ideographs { first, last })
     }
 
-    /// Takes ranges of ideographs in place of its own. Where memory is refused, the table stays as it is.
+    /// Replaces the ranges of ideographs. Where memory is refused, the table stays as it is.
     pub(crate) fn take_ideographs(
         &mut self,
         alloc: Global,

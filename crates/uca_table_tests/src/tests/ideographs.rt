@@ -4,7 +4,7 @@ use std::process::Abort;
 use std::test::Fail;
 use uca_table::{Element, Ideographs, RangeFault, Table};
 
-/// Adds a range of ideographs, once more where memory was refused.
+/// Adds a range of ideographs, retrying where memory was refused.
 fn add(table: &mut Table, first: char, last: char) -> Result<(), RangeFault> {
     match table.add_ideographs(first, last) {
         Err(RangeFault::OutOfMemory) => table.add_ideographs(first, last),
@@ -78,7 +78,7 @@ fn elements_of(table: &Table, alloc: Global, c: char) -> Result<Vec<Element>, Al
     Ok(elements)
 }
 
-/// Stops a test where a code point has not two elements with these primary weights.
+/// Fails a test where a code point has not two elements with these primary weights.
 fn assert_pair(
     rt: &impl Abort,
     alloc: Global,
