@@ -1,6 +1,6 @@
 -- A text that is cut before a safe starter: its level lists are those of the two parts, one after the other.
 use Rattle.std.proofs.Common.{◌⊎◌, ◌≡◌, ℕ, zero, suc, ◌+◌, ◌-◌, ◌/◌, ◌%◌, ◌≤◌, ◌<◌, max, Bool, true, false, cond, not, ◌&&◌, ◌==◌, ◌||◌, nat_eq, List, [], ◌∷◌, ◌++◌, length, take, drop, map, filter, flat_map, slice_index, find, Option, Some, None, unwrap_or, All, refl, sym, ap, ap₂, subst, ◌∙◌, arith, inl, inr, append_assoc, append-nil, length-append, eqb-true, eq-eqb, ne_eqb}
-use Rattle.std.proofs.lemmas.Bool.{cases_Bool, and_parts, cond-true, cond-false, eqb-false}
+use Rattle.std.proofs.lemmas.Bool.{cases_Bool, and_parts, cond-true, cond-false, eqb-false, or_right}
 use Rattle.std.proofs.lemmas.List.{map-append, take-append-le, drop-append-le, drop_at, reverse-append, take-append-drop, length-take}
 use Rattle.std.proofs.lemmas.List.Elements.{filter-append, All-drop}
 use Rattle.std.proofs.lemmas.List.Concat.{flat_map-append}
@@ -52,11 +52,7 @@ each_passes p (x ∷ xs) h = let both = and_parts (p x) (list_all p xs) h in (bo
 
 stands_in : (s : ℕ) (xs ys : List ℕ) → list_any (λ c. c == s) (xs ++ s ∷ ys) ≡ true
 stands_in s [] ys = rw (eq-eqb s s refl) refl
-stands_in s (x ∷ xs) ys = or_later (x == s) _ (stands_in s xs ys)
-  where
-    or_later : (a b : Bool) → b ≡ true → (a || b) ≡ true
-    or_later true b h = refl
-    or_later false b h = h
+stands_in s (x ∷ xs) ys = or_right (x == s) _ (stands_in s xs ys)
 
 not_both : (a b : Bool) → a ≡ true → (not a && b) ≡ true → ⊥
 not_both true b h g = cc
