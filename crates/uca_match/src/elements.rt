@@ -17,7 +17,6 @@ use std::alloc::{AllocError, Global};
 use std::marker::Model;
 use uca_table::Table;
 use uca_table::cells::push_few;
-use uca_table::collation::push_matches;
 use uca_weights::Element;
 use uca_window::{Passage, Source, Window};
 
@@ -81,22 +80,6 @@ fn push_chars(out: &mut Vec<char>, text: &str) -> Result<(), AllocError>
     ensures { OnOk result (out.new.items ≡ out.old.items ++ chars text.now) }
 {
     out.extend(text.chars())
-}
-
-/// The collation elements of a text in NFD, at least one of them if it has a code point (UTS #10, section 7.2,
-/// step S2).
-pub fn elements_of_points(
-    alloc: Global,
-    t: &Table,
-    points: &[char],
-) -> Result<Vec<Element>, AllocError>
-    ensures value { IfOk result (λ v. v.items ≡ elements t.now points.now) }
-    ensures some { IfOk result (λ v. 0 < length points.now → 0 < length v.items) }
-{
-    let mut text = points.to_vec(alloc)?;
-    let mut elements = Vec::new(alloc);
-    push_matches(&mut elements, t.stored(), &mut text)?;
-    Ok(elements)
 }
 
 // The elements of a match: the first, and the others. Those of a key are borrowed from the table; an implicit pair is made.

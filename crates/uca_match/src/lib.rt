@@ -12,6 +12,6 @@ pub mod matches;
 mod window_match;
 
 pub use completeness::is_complete;
-pub use elements::{Elements, elements_of, elements_of_points, read_elements};
+pub use elements::{Elements, elements_of, read_elements};
 pub use keys::Keys;
 pub use matches::{Match, matches_of, matches_of_points};

@@ -322,7 +322,7 @@ impl Cells {
     }
 
     /// The cells of a table.
-    pub fn new(alloc: Global, t: &Stored) -> Result<Cells, AllocError>
+    pub(crate) fn new(alloc: Global, t: &Stored) -> Result<Cells, AllocError>
         ensures { IfOk result (λ cells. HoldsCells t.now cells) }
     {
         let limit = if t.keys.len() < FEW {
@@ -360,7 +360,7 @@ impl Cells {
     }
 
     /// The cells of a table, or none where memory is refused.
-    pub fn of(alloc: Global, t: &Stored) -> Cells
+    pub(crate) fn of(alloc: Global, t: &Stored) -> Cells
         ensures { HoldsCells t.now result }
     {
         match Cells::new(alloc, t) {
@@ -560,7 +560,7 @@ fn push_others(
 }
 
 /// Appends the elements of a text. A character whose elements stand alone takes those of its cell.
-pub fn push_text(
+pub(crate) fn push_text(
     alloc: Global,
     out: &mut Vec<Element>,
     t: &Stored,

@@ -10,7 +10,7 @@
 pub mod ascending;
 pub mod builder;
 pub mod cells;
-pub mod collation;
+mod collation;
 mod debug;
 mod entry_map;
 mod extent;

@@ -120,17 +120,6 @@ impl Table {
         Ok(())
     }
 
-    /// Replaces the ranges of ideographs with those of another table. Where memory is refused, the table stays as it
-    /// is.
-    pub fn take_ideographs(&mut self, alloc: Global, from: &Table) -> Result<(), AllocError>
-        ensures ok { OnOk result (self.new ≡ with_ideographs self.old from.now.ideographs) }
-        ensures err { OnErr result (self.new ≡ self.old) }
-    {
-        self.stored.take_ideographs(alloc, from.ideographs())?;
-        self.cells = Cells::of(alloc, &self.stored);
-        Ok(())
-    }
-
     /// Whether a text may be cut before a code point, so that its two parts have their elements independently: a starter
     /// that is in no key at the second place or later, and whose keys all begin with a primary weight.
     pub fn safe_starter(&self, c: char) -> bool

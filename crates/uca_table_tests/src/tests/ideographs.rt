@@ -105,14 +105,3 @@ fn elements_of_texts_follow_added_ideographs(rt: HostRuntime) -> Result<(), Fail
     assert_pair(&rt, alloc, &table, '\u{E000}', [0xFB81, 0xE000])?;
     Ok(())
 }
-
-#[test]
-fn another_table_takes_added_ideographs(rt: HostRuntime) -> Result<(), Fail> {
-    let alloc = rt.alloc();
-    let table = widened(&rt, alloc);
-    let mut other = small_table(&rt, alloc);
-    other.take_ideographs(alloc, &table)?;
-    assert!(rt; other.ideographs() == ADDED.as_slice());
-    assert_implicit(&rt, &other, &[('\u{323B0}', 0xFB86, 0xA3B0)]);
-    Ok(())
-}

@@ -4,7 +4,6 @@ use super::{assert_entry, small_table, table, tailored_table};
 use std::alloc::{AllocError, Global};
 use std::cmp::Ordering;
 use std::process::Abort;
-use uca_match::elements_of_points;
 use uca_table::Table;
 use uca_testing::{Entry, table_from};
 
@@ -13,7 +12,8 @@ fn weights_of(alloc: Global, t: &Table, text: &[char], level: u8) -> Result<Vec<
     requires first { 1 ≤ level }
     requires last { level ≤ 3 }
 {
-    let elements = elements_of_points(alloc, t, text)?;
+    let mut elements = Vec::new(alloc);
+    t.push_elements(alloc, &mut elements, text)?;
     let mut weights = Vec::new(alloc);
     for e in elements.iter() {
         let weight = e.weight(level);
