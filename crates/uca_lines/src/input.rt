@@ -8,7 +8,7 @@ use uca_io::{Stop, read_whole};
 use uca_weights::{MAX_INPUT, Reader};
 
 /// A fault of no line.
-pub fn refused(cause: InputCause) -> InputFault
+pub(crate) fn refused(cause: InputCause) -> InputFault
     ensures { result ≡ record { line = 0; at = 0; cause = cause } }
 {
     InputFault {
@@ -19,7 +19,7 @@ pub fn refused(cause: InputCause) -> InputFault
 }
 
 /// Reads an input of lines to its end, in at most `MAX_INPUT` + 1 calls of a reader that counts its calls.
-pub fn read_input<I: Reader>(alloc: Global, input: &mut I) -> Result<Vec<u8>, InputFault>
+pub(crate) fn read_input<I: Reader>(alloc: Global, input: &mut I) -> Result<Vec<u8>, InputFault>
     ensures reads { MatchResult result
         (λ v. GivesAll (I.state input.old) (I.state input.new) v.items × (length v.items ≤ MAX_INPUT))
         (λ f. StopsReading (I.state input.old) (I.state input.new) f) }

@@ -13,6 +13,5 @@ pub mod output_block;
 
 pub use faults::{InputCause, InputFault};
 pub use hex::send_hex;
-pub use input::{read_input, refused};
-pub use lines::{check_lines, first_line, is_one_line, read_lines, read_one_line};
+pub use lines::{first_line, read_lines, read_one_line};
 pub use output_block::OutputBlock;

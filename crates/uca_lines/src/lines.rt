@@ -61,7 +61,7 @@ pub fn first_line(bytes: &[u8]) -> (&[u8], &[u8])
 }
 
 /// Whether an input is one line.
-pub fn is_one_line(bytes: &[u8]) -> bool
+pub(crate) fn is_one_line(bytes: &[u8]) -> bool
     ensures one { IsTrue result → IsOneLine bytes.now }
     ensures other { IsFalse result → ¬ IsOneLine bytes.now }
 {
@@ -106,7 +106,7 @@ fn is_safe_text(text: &[u8]) -> bool
 
 /// Checks that each line of an input is a safe text in UTF-8. An input that is one as a whole is one in each line, and the lines
 /// need not be found then: a line is looked at by itself only for the first fault.
-pub fn check_lines(bytes: &[u8]) -> Result<(), InputFault>
+pub(crate) fn check_lines(bytes: &[u8]) -> Result<(), InputFault>
     ensures { MatchResult result (λ _. All IsTextLine (lines_of bytes.now)) (HasInputFault (lines_of bytes.now)) }
 {
     let is_text = is_utf8(bytes);
