@@ -2,7 +2,7 @@
 use Rattle.std.proofs.Common.{◌≡◌, ℕ, suc, zero, ◌+◌, ◌≤◌, ◌<◌, max, Bool, true, false, cond, ◌||◌, List, [], ◌∷◌, ◌++◌, length, drop, map, flat_map, get_or, slice_index, unwrap_or, Option, Some, None, is_some, min, Vec, refl, sym, ap, ap₂, subst, ◌∙◌, arith, inl, inr, length-append}
 use mathlib.Core.List.{map-append}
 use Rattle.std.specs.Prelude.{◌⊎◌}
-use Rattle.std.proofs.lemmas.Bool.{cases_Bool, cases_lt}
+use Rattle.std.proofs.lemmas.Bool.{cases_Bool, cases_lt, or_right}
 use Rattle.std.proofs.lemmas.Cmp.{eq_by_cmp_equiv}
 use Rattle.std.proofs.lemmas.List.{drop-append-le, drop_all, drop_more}
 use Rattle.std.specs.BTreeMap.{insert_entry, is_at}
@@ -294,10 +294,6 @@ contains-put t k v q = contains-key_set (with_entry t k v) q ∙ ap is_some (get
   either true = refl
   either false = refl
 
-or_true : (a b : Bool) → b ≡ true → (a || b) ≡ true
-or_true true b e = refl
-or_true false b e = e
-
 pub keys-put : (t : ElementTable) (k : List ℕ) (v : List Element) (longest : ℕ) → IsKey k → HasLongest (key_set t) longest → HasLongest (key_set (with_entry t k v)) (max longest (length k))
 keys-put t k v longest is has =
     let s = has.some in let f = has.few in let some : 1 ≤ length k = is.some in let few : length k ≤ MAX_KEY = is.few in
@@ -327,7 +323,7 @@ keys-put t k v longest is has =
       reached_by n m both is new some (inl one) = let e : n ≡ both = omega arith in inr (subst (IsReached (key_set (with_entry t k v))) e new)
       reached_by n m both is new some (inr old) = elim (cases_lt m n) [
         | inl below ↦ let e : n ≡ both = omega arith in inr (subst (IsReached (key_set (with_entry t k v))) e new)
-        | inr above ↦ let e : m ≡ both = omega arith in inr (record { key = old.key; has = contains-put t k v old.key ∙ or_true _ _ old.has; size = old.size ∙ e })
+        | inr above ↦ let e : m ≡ both = omega arith in inr (record { key = old.key; has = contains-put t k v old.key ∙ or_right _ _ old.has; size = old.size ∙ e })
       ]
 
 pub IsRenumbered-put : {Y : Type 0} (m : Moves) (items : List (Vec ℕ Y × Item)) (t : ElementTable) (tops next : Tops) (old new : Counts) (longest : ℕ) (k : Vec ℕ Y) (i : Item) → i.after ≡ now_of m → IsItem m i → AllByRecursion IsElement i.elements.items → IsKey k.items
