@@ -1,4 +1,4 @@
-//! The program `uca`: its words, its streams and its status. What it does is `uca_cli`'s.
+//! The program `uca`: its arguments, its streams and its exit status. The work is done by `uca_cli`.
 #![tactic(auto)]
 
 use std::alloc::AllocError;
@@ -13,17 +13,17 @@ use uca_weights::{Reading, Writing};
 /// The variable of the environment that names the file of the table where `--table` does not.
 const TABLE_VARIABLE: &str = "UCA_TABLE";
 
-/// The status for words that are no job.
+/// The exit status for invalid arguments.
 const REFUSED_WORDS: u8 = 2;
 
-/// The status for a job that was not done.
+/// The exit status for a job that failed.
 const NOT_DONE: u8 = 3;
 
 fn main(rt: HostRuntime) -> ExitCode {
     ExitCode::from(run(&rt))
 }
 
-/// Does what the words of the command line ask for, and returns the status.
+/// Does what the command line requests, and returns the status.
 fn run(rt: &HostRuntime) -> u8 {
     let words = match words_of(rt) {
         Ok(words) => words,
@@ -86,7 +86,7 @@ fn out_of_memory(rt: &HostRuntime) -> u8 {
     NOT_DONE
 }
 
-/// Reports that the words are no job.
+/// Reports that the arguments are invalid.
 fn refuse_job(rt: &HostRuntime, fault: &JobFault) -> u8 {
     let _ = eprintln!(rt; "{fault}");
     match fault {
@@ -114,7 +114,7 @@ impl Input {
         Input { stdin, is_open }
     }
 
-    /// Says on a terminal that the input comes from it. Whether that can be written is of no account.
+    /// Says on a terminal that the input comes from it. A failure to write that is ignored.
     fn announce(&self, rt: &HostRuntime, command: Task) {
         let is_read = match command {
             Task::Lint | Task::Table => false,
@@ -152,7 +152,7 @@ fn do_job(rt: &HostRuntime, job: &Job) -> u8 {
     perform_on_streams(rt, job, table.as_mut(), rules.as_mut(), &mut input)
 }
 
-/// Reports why a job was not done, and returns the status.
+/// Reports why a job failed, and returns the status.
 fn report(rt: &HostRuntime, fault: &CliFault) -> u8 {
     let _ = eprintln!(rt; "{fault}");
     status_of(fault)

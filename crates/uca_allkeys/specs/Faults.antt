@@ -16,7 +16,7 @@ cause_of line.BadElement = bad_element
 cause_of line.NoElement = no_element
 cause_of line.TooManyElements = too_many_elements
 
--- the fault of a text; an allocation failure is none of its
+-- the fault of a text; an allocation failure is not one
 abbrev pub read_cause : ReadCause → Option Cause
 read_cause LineTooLong = Some line_too_long
 read_cause BadDirective = Some bad_directive

@@ -17,7 +17,7 @@ use Rattle.uca_allkeys.specs.declared.statement.Statement.TheVariants as said
 abbrev pub Parses : {A B : Type 0} → (A → B) → Result B Cause → Result A LineFault → Type 0
 Parses value says result = MatchResult result (λ a. says ≡ Ok (value a)) (λ fault. says ≡ Err (cause_of fault))
 
--- a value, and what stands after it
+-- a value, and what follows it
 abbrev pub with_rest : {A : Type 0} → A × Bor (List ℕ) → A × List ℕ
 with_rest p = (p.0, p.1.now)
 
@@ -45,7 +45,7 @@ abbrev pub IsReady : Entry → Statement → Type 0
 IsReady e said.Entry = IsSomeEntry e
 IsReady e _ = Unit {0}
 
--- the element of one more part was added, or is at fault, whatever parts stand after it
+-- the element of one more part was added, or is at fault, whatever parts follow it
 abbrev pub AddsPart : {A : Type 0} → List Element → List ℕ → List Element → Result A LineFault → Type 0
 AddsPart old part new result = MatchResult result
     (λ _. (parts : List (List ℕ)) → 0 < length parts → elements_after old (part ∷ parts) ≡ elements_after new parts)

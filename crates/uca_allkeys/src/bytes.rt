@@ -1,10 +1,10 @@
-//! The numbers of a table's text, and single bytes that have to stand first.
+//! The numbers of a table's text, and single bytes that have to come first.
 ghost use Rattle.std.specs.Prelude.{◌≡◌, MatchOption, Ok, Err};
 ghost use Rattle.uca_model.specs.TableText.{four_digits, after_byte, Cause};
 
 use uca_io::digits::number;
 
-/// The weight that four digits say.
+/// The weight that four hexadecimal digits spell.
 #[tactic(auto, unfolding(uca_model::specs::TableText::four_digits))]
 pub(crate) fn four_digits(digits: &[u8]) -> Option<u16>
     ensures { result ≡ four_digits digits.now }
@@ -18,7 +18,7 @@ pub(crate) fn four_digits(digits: &[u8]) -> Option<u16>
     }
 }
 
-/// What follows a byte that has to stand first.
+/// What follows a byte that has to come first.
 pub(crate) fn after_byte(byte: u8, text: &[u8]) -> Option<&[u8]>
     ensures { MatchOption result
         ((c : Cause) → after_byte c byte text.now ≡ Err c)

@@ -54,7 +54,7 @@ fn base_text(base: u16) -> [u8; 7]
     [b';', b' ', a, b, c, d, b'\n']
 }
 
-/// A line on its way out. Each line of a table fits.
+/// A line to be written. Each line of a table fits.
 type Line = ArrayVec<u8, MAX_LINE>;
 
 /// Appends a piece that fits.
@@ -156,7 +156,7 @@ fn range_line(range: Range) -> Line
     line
 }
 
-/// Has the lines of ranges go out.
+/// Writes the lines of the ranges.
 fn send_ranges<W: Writer>(
     writer: &mut W,
     out: &mut OutputBuffer,
@@ -174,7 +174,7 @@ fn send_ranges<W: Writer>(
     Ok(())
 }
 
-/// Has the lines of a table's entries go out.
+/// Writes the lines of a table's entries.
 fn send_entries<W: Writer>(
     writer: &mut W,
     out: &mut OutputBuffer,
@@ -193,14 +193,14 @@ fn send_entries<W: Writer>(
     Ok(())
 }
 
-/// Shows that the table is one.
+/// Shows that the table is valid.
 fn show_entries(table: &Table)
     ensures { All IsEntry (entries table.now.entries) }
 {
     let _longest = table.longest();
 }
 
-/// Has the ranges and then the entries go out.
+/// Writes the ranges and then the entries.
 fn send_table<W: Writer>(
     writer: &mut W,
     out: &mut OutputBuffer,
@@ -217,8 +217,8 @@ fn send_table<W: Writer>(
 }
 
 /// Writes the canonical text of a table: its ranges by their first code points, then its entries by key order, in
-/// upper-case digits, with no comments. Returns the count of bytes. On a fault exactly the first `written` bytes of the
-/// text went out. It takes no memory, and does not flush the writer.
+/// upper-case digits, with no comments. Returns the number of bytes. On a fault exactly the first `written` bytes of the
+/// text were written. It does not allocate, and does not flush the writer.
 pub fn write_table<W: Writer>(writer: &mut W, t: &Table) -> Result<u128, WriteFault>
     ensures { MatchResult result
         (λ n. WritesAll (W.state writer.old) (W.state writer.new) (canonical t.now) × (n ≡ length (canonical t.now)))

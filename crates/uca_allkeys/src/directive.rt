@@ -24,7 +24,7 @@ fn ends_point(byte: u8) -> bool
     is_blank(byte) || byte == b';' || byte == b'.'
 }
 
-/// How many bytes stand before the first one that ends a code point.
+/// How many bytes come before the first one that ends a code point.
 fn point_len(text: &[u8]) -> usize
     ensures value { result ≡ position_or_len ends_point text.now }
     ensures within { result ≤ length text.now }
@@ -41,7 +41,7 @@ fn point_len(text: &[u8]) -> usize
     len
 }
 
-/// An end of a range: a code point up to a blank, `;` or `.`, and what stands after it.
+/// An end of a range: a code point up to a blank, `;` or `.`, and what follows it.
 #[tactic(auto, unfolding(uca_model::specs::TableText::range_end))]
 fn range_end(text: &[u8]) -> Result<(char, &[u8]), LineFault>
     ensures { Parses with_rest (range_end text.now) result }
@@ -53,7 +53,7 @@ fn range_end(text: &[u8]) -> Result<(char, &[u8]), LineFault>
     }
 }
 
-/// What stands after the `..` between the ends of a range.
+/// What follows the `..` between the ends of a range.
 #[tactic(auto, unfolding(uca_model::specs::TableText::two_stops))]
 fn two_stops(text: &[u8]) -> Result<&[u8], LineFault>
     ensures { Parses (λ rest. rest.now) (two_stops text.now) result }
@@ -104,7 +104,7 @@ fn range_directive(rest: &[u8]) -> Result<Directive, LineFault>
     }
 }
 
-/// A version, whose text isn't kept, after the word of the directive.
+/// A version, whose text is not kept, after the word of the directive.
 fn version_directive(rest: &[u8]) -> Result<Directive, LineFault>
     ensures { Parses directive_of (some_text (skip_blanks rest.now) (Ok version)) result }
 {

@@ -12,7 +12,7 @@ use uca_io::lines::{from_place, place_of};
 use uca_io::words::{next_word, skip_blanks};
 use uca_weights::{Element, MAX_ELEMENTS, MAX_KEY};
 
-/// Makes `key` the code points that the words of a text say.
+/// Sets `key` to the code points that the words of a text spell.
 fn read_points(key: &mut ArrayVec<char, MAX_KEY>, text: &[u8]) -> Result<(), LineFault>
     ensures { Parses (λ _. key.new.items) (key_after [] (words text.now)) result }
 {
@@ -30,7 +30,7 @@ fn read_points(key: &mut ArrayVec<char, MAX_KEY>, text: &[u8]) -> Result<(), Lin
     Ok(())
 }
 
-/// Makes `key` the key of an entry, before the `;` that has to follow it.
+/// Sets `key` to the key of an entry, before the `;` that has to follow it.
 #[tactic(auto, unfolding(uca_model::specs::TableText::entry_key))]
 fn read_key(key: &mut ArrayVec<char, MAX_KEY>, text: &[u8]) -> Result<(), LineFault>
     ensures value { Parses (λ _. key.new.items) (entry_key text.now) result }
@@ -47,7 +47,7 @@ fn read_key(key: &mut ArrayVec<char, MAX_KEY>, text: &[u8]) -> Result<(), LineFa
     Ok(())
 }
 
-/// Whether the mark of an element is `*`, and what stands after it.
+/// Whether the mark of an element is `*`, and what follows it.
 fn mark(text: &[u8]) -> Result<(bool, &[u8]), LineFault>
     ensures { Parses with_rest (mark text.now) result }
 {
@@ -63,7 +63,7 @@ fn mark(text: &[u8]) -> Result<(bool, &[u8]), LineFault>
     }
 }
 
-/// A weight, and what stands after it.
+/// A weight, and what follows it.
 #[tactic(auto, unfolding(uca_model::specs::TableText::weight_first))]
 fn weight_first(text: &[u8]) -> Result<(u16, &[u8]), LineFault>
     ensures { Parses with_rest (weight_first text.now) result }
@@ -86,7 +86,7 @@ fn next_weight(text: &[u8]) -> Result<(u16, &[u8]), LineFault>
     }
 }
 
-/// Whether after the third weight of an element there is nothing, or a fourth weight, which isn't used.
+/// Whether nothing follows the third weight of an element, or a fourth weight, which is not used.
 fn element_ends(text: &[u8]) -> bool
     ensures { result ≡ element_ends text.now }
 {
@@ -130,7 +130,7 @@ fn element(text: &[u8]) -> Result<Element, LineFault>
     }
 }
 
-/// What stands before the first `]`, and what stands after it.
+/// What comes before the first `]`, and what follows it.
 fn next_part(text: &[u8]) -> Option<(&[u8], &[u8])>
     ensures { MatchOption result
         (slice_split is_right_bracket text.now ≡ text.now ∷ [])
@@ -144,7 +144,7 @@ fn next_part(text: &[u8]) -> Option<(&[u8], &[u8])>
     }
 }
 
-/// Adds the element that a text up to a `]` says.
+/// Adds the element that a text up to a `]` spells.
 fn add_element(elements: &mut ArrayVec<Element, MAX_ELEMENTS>, part: &[u8]) -> Result<(), LineFault>
     ensures { AddsPart elements.old.items part.now elements.new.items result }
 {
@@ -159,7 +159,7 @@ fn add_element(elements: &mut ArrayVec<Element, MAX_ELEMENTS>, part: &[u8]) -> R
     }
 }
 
-/// Makes `elements` those after a `;`.
+/// Sets `elements` to those after a `;`.
 fn read_elements(
     elements: &mut ArrayVec<Element, MAX_ELEMENTS>,
     text: &[u8],
@@ -184,7 +184,7 @@ fn read_elements(
     Ok(())
 }
 
-/// What stands after the first `;`.
+/// What follows the first `;`.
 fn after_key(text: &[u8]) -> &[u8]
     ensures { result.now ≡ after_first is_semicolon text.now }
 {
@@ -196,7 +196,7 @@ fn after_key(text: &[u8]) -> &[u8]
     }
 }
 
-/// Makes `entry` what a text says: a key, `;`, and elements. After an `Err` it holds what was read before the fault.
+/// Sets `entry` to what a text says: a key, `;`, and elements. After an `Err` it holds what was read before the fault.
 #[tactic(auto, unfolding(uca_model::specs::TableText::entry_of_text))]
 pub(crate) fn read_entry(entry: &mut Entry, text: &[u8]) -> Result<(), LineFault>
     ensures value { Parses (λ _. entry_in entry.new) (entry_of_text text.now) result }

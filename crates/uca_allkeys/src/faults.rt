@@ -9,10 +9,10 @@ pub enum ReadCause {
     /// A line has more than `MAX_LINE` bytes before its LF.
     #[error("LineTooLong")]
     LineTooLong,
-    /// A directive is unknown or is not in its form, or there is a second version.
+    /// A directive is unknown or malformed, or there is a second version.
     #[error("BadDirective")]
     BadDirective,
-    /// A code point is not four to six hexadecimal digits, or no scalar value.
+    /// A code point is not four to six hexadecimal digits, or is not a scalar value.
     #[error("BadCodePoint")]
     BadCodePoint,
     /// A key has more than `MAX_KEY` code points.
@@ -21,7 +21,7 @@ pub enum ReadCause {
     /// An entry has no `;` after its key.
     #[error("NoSemicolon")]
     NoSemicolon,
-    /// What follows a key is no collation element.
+    /// What follows a key is not a collation element.
     #[error("BadElement")]
     BadElement,
     /// An entry has no collation element.
@@ -30,10 +30,10 @@ pub enum ReadCause {
     /// An entry has more than `MAX_ELEMENTS` collation elements.
     #[error("TooManyElements")]
     TooManyElements,
-    /// An earlier line has this key.
+    /// An earlier line has the same key.
     #[error("Repeated")]
     Repeated,
-    /// A range of implicit weights may not stand beside those of earlier lines.
+    /// A range of implicit weights conflicts with those of earlier lines.
     #[error("BadRange")]
     BadRange,
     /// The text has more than `MAX_INPUT` bytes.
@@ -55,7 +55,7 @@ pub struct ReadFault {
     pub cause: ReadCause,
 }
 
-/// Why a line is refused, whatever stands before it.
+/// Why a line is refused, whatever comes before it.
 #[derive(Clone, Copy)]
 pub(crate) enum LineFault {
     BadDirective,

@@ -14,12 +14,12 @@ use uca_io::LineSink;
 use uca_table::{InsertFault, RangeFault, TableBuilder};
 use uca_weights::Range;
 
-/// What the lines so far have said.
+/// What the lines so far say.
 #[derive(Drop)]
 pub(crate) struct Lines {
     pub(crate) builder: TableBuilder,
     pub(crate) has_version: bool,
-    // Room for the entry of a line.
+    // A buffer for the entry of a line.
     entry: Entry,
 }
 
@@ -34,7 +34,7 @@ pub(crate) fn no_lines(alloc: Global) -> Lines
     }
 }
 
-/// Adds a version, which may stand once.
+/// Adds a version, which may occur once.
 fn add_version(lines: &mut Lines) -> Result<(), ReadCause>
     ensures adds { Leads read_cause (add_statement (state_of lines.old) version) (state_of lines.new) result }
     ensures first { IfErr result (FaultFirst (add_statement (state_of lines.old) version)) }

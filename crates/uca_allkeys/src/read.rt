@@ -38,7 +38,7 @@ fn fault_of_lines(fault: LineFault<ReadCause>) -> ReadFault
 
 /// Reads the text of a table, in the format of `allkeys.txt` (UTS #10, Allkeys File Format), to its end or to its
 /// first fault. At most one byte past `MAX_INPUT` is taken from a reader that states its bytes, and at most
-/// `MAX_INPUT` + 1 calls are made of one that counts its calls. What the reader still holds after a fault isn't said.
+/// `MAX_INPUT` + 1 calls are made of one that counts its calls. What the reader still holds after a fault is unspecified.
 pub fn read_table<R: Reader>(alloc: Global, reader: &mut R) -> Result<Table, ReadFault>
     ensures reads { MatchResult result (GivesTable (R.state reader.old) (R.state reader.new)) (IsRefused (R.state reader.old) (R.state reader.new)) }
     ensures calls { R.calls reader.new ≤ R.calls reader.old + (MAX_INPUT + 1) }

@@ -10,7 +10,7 @@ use uca_io::lines::{place_of, without_return};
 use uca_io::words::{skip_blanks, trim_end};
 use uca_weights::{Element, MAX_ELEMENTS, MAX_KEY};
 
-/// A key with its elements. One value is filled for each line in turn, since a fresh one has 600 bytes to fill and to move.
+/// A key with its elements. One value is reused for all lines, since a new one has 600 bytes to fill and to move.
 #[derive(Drop)]
 pub(crate) struct Entry {
     pub(crate) key: ArrayVec<char, MAX_KEY>,
@@ -34,7 +34,7 @@ pub(crate) enum Statement {
     Entry,
 }
 
-/// What stands before the first `#`, without blanks at its ends.
+/// What comes before the first `#`, without blanks at its ends.
 #[tactic(auto, unfolding(uca_model::specs::TableText::said))]
 fn said(line: &[u8]) -> &[u8]
     ensures { result.now ≡ said line.now }
@@ -42,7 +42,7 @@ fn said(line: &[u8]) -> &[u8]
     skip_blanks(trim_end(&line[..place_of(b'#', line)]))
 }
 
-/// What a line says, whatever stands before it. An entry that it says is left in `entry`.
+/// What a line says, whatever comes before it. If it is an entry, that is left in `entry`.
 #[tactic(auto, unfolding(uca_model::specs::TableText::statement))]
 pub(crate) fn read_statement(entry: &mut Entry, line: &[u8]) -> Result<Statement, LineFault>
     ensures value { Parses (statement_in entry.new) (statement line.now) result }

@@ -11,12 +11,12 @@ use uca_table::{Table, TableBuilder};
 use uca_testing::{SMALL_TABLE, SMALL_TEXT, TWO_RANGES, element, table_from};
 use uca_weights::{Element, Range, WriteCause, WriteFault, Writing};
 
-/// Inserts an entry, once more where memory was refused.
+/// Inserts an entry, retrying where memory was refused.
 fn insert(builder: &mut TableBuilder, key: &[char], elements: &[Element]) -> bool {
     builder.insert(key, elements).is_ok() || builder.insert(key, elements).is_ok()
 }
 
-/// Adds a range, once more where memory was refused.
+/// Adds a range, retrying where memory was refused.
 fn add_implicit(builder: &mut TableBuilder, range: Range) -> bool {
     builder
         .add_implicit(range.first, range.last, range.base)
@@ -26,7 +26,7 @@ fn add_implicit(builder: &mut TableBuilder, range: Range) -> bool {
             .is_ok()
 }
 
-/// Makes the table, once more where memory was refused.
+/// Makes the table, retrying where memory was refused.
 fn finish(builder: TableBuilder) -> Option<Table> {
     match builder.finish() {
         Ok(table) => Some(table),
@@ -45,7 +45,7 @@ fn small_table(rt: &impl Abort, alloc: Global) -> Table {
     finish(builder).expect(rt, "a table")
 }
 
-/// Keeps what it takes. Where it has no room left, it fails or takes none.
+/// Keeps what it takes. Once it is full, it fails or takes none.
 #[derive(Drop)]
 struct Shelf {
     taken: ArrayVec<u8, 1024>,
@@ -77,7 +77,7 @@ fn with_room(room: usize, fails: bool) -> Writing<Shelf> {
     })
 }
 
-/// Stops a test where a table is not written as this text.
+/// Fails a test where a table is not written as this text.
 pub(crate) fn assert_written(rt: &impl Abort, table: &Table, text: &[u8]) {
     let mut writer = with_room(1024, true);
     assert!(rt; write_table(&mut writer, table) == Ok(text.len() as u128));
@@ -95,7 +95,7 @@ fn a_small_table_has_its_canonical_text(rt: HostRuntime) {
 const LONG_POINTS: &[u8] =
     b"@implicitweights F0000..F7FFF; FB00\nFFFF F0000 100000 ; [.1000.0020.0002]\n";
 
-/// Stops a test where a canonical text is not the text of its table.
+/// Fails a test where a canonical text is not the text of its table.
 fn assert_read_back(rt: &impl Abort, alloc: Global, text: &[u8]) {
     let table = table_from(alloc, text).ok().expect(rt, "a table");
     assert_written(rt, &table, text);
@@ -149,7 +149,7 @@ fn code_points_have_four_to_six_digits(rt: HostRuntime) {
     assert_written(&rt, &table, text);
 }
 
-/// Stops a test where a writer with so much room gets other bytes, or a fault says otherwise.
+/// Fails a test where a writer of this capacity gets other bytes, or a fault says otherwise.
 fn assert_stopped(rt: &impl Abort, table: &Table, room: usize, fails: bool, cause: WriteCause) {
     let mut writer = with_room(room, fails);
     let written = room as u128;

@@ -1,4 +1,4 @@
--- What stands for an optional mutable reference in a contract.
+-- What represents an optional mutable reference in a contract.
 use Rattle.std.specs.Prelude.{⊤, ℕ, ◌+◌, ◌≤◌, ◌⊎◌, Option, Some, None, option_map}
 use Rattle.std.proofs.Common.{inl, inr}
 use Rattle.std.specs.Borrow.{MutBor}
@@ -13,7 +13,7 @@ given_back (inl none) = None
 given_back (inr (inl r)) = Some r.0.now
 given_back (inr (inr e)) = absurd e
 
--- where there is a count, it went up by at most so many
+-- where there is a count, it rose by at most this many
 abbrev pub GoesUpTo : ℕ → Option ℕ → Option ℕ → Type 0
 GoesUpTo most (Some old) (Some new) = new ≤ old + most
 GoesUpTo most None None = ⊤

@@ -1,4 +1,4 @@
--- The table that the program has by itself.
+-- The built-in table of the program.
 use Rattle.std.specs.Prelude.{ℕ, true, false, List, [], ◌∷◌}
 use Rattle.std.specs.FinMap.{from_sorted}
 use Rattle.uca_weights.specs.declared.element.Element.{Element}

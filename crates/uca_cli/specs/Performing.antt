@@ -1,4 +1,4 @@
--- What doing a job comes to: the table that it works with, and the command.
+-- The result of a job: the table that it works with, and the command.
 use Rattle.std.specs.Prelude.{◌≡◌, ⊤, ℕ, ◌⊎◌, Bool, true, false, Option, Some, None}
 use Rattle.uca_weights.specs.declared.settings.Settings.{Settings}
 use Rattle.uca_io.specs.Reader.{ReaderState}
@@ -44,7 +44,7 @@ ReadsTable (Some old) (Some new) t = GivesTable old new t
 ReadsTable None None t = t ≡ built_in_table
 ReadsTable _ _ t = ⊥
 
--- the text in the reader says no table
+-- the text in the reader is not a table
 abbrev pub RefusesText : Option ReaderState → Option ReaderState → ReadFault → Type 0
 RefusesText (Some old) (Some new) f = IsRefused old new f
 RefusesText _ _ f = ⊥
@@ -54,7 +54,7 @@ abbrev pub LacksMemoryForTable : Option ReaderState → Option ReaderState → T
 LacksMemoryForTable None None = ⊤
 LacksMemoryForTable _ _ = ⊥
 
--- reading the table came to no table
+-- no table was read
 abbrev pub StopsTable : Option ReaderState → Option ReaderState → CliFault → Type 0
 StopsTable old new (fault.Table f) = RefusesText old new f
 StopsTable old new fault.OutOfMemory = LacksMemoryForTable old new
@@ -119,7 +119,7 @@ RefusesTable ends old new f = HasNoTable ends old new f ⊎ HasNoRules ends old 
 
 -- ---- the job
 
--- there was a table, and the command was done with it
+-- there was a table, and the command succeeded with it
 pub record Performs (job : Job) (old new : Sources) (before after : Ends) (status : ℕ) : Type 0 where
   pub t : ElementTable
   pub table : MakesTable job.ideographs old new t
@@ -130,12 +130,12 @@ pub record LacksTable (ends : Option (ℕ × ℕ)) (old new : Sources) (before a
   pub table : RefusesTable ends old new f
   pub same : after ≡ before
 
--- there was a table, and the command was not done
+-- there was a table, and the command failed
 pub record StopsAfterTable (job : Job) (old new : Sources) (before after : Ends) (f : CliFault) : Type 0 where
   pub t : ElementTable
   pub table : MakesTable job.ideographs old new t
   pub work : Fails (command_of job.command job.raw) t (settings_of job) before after f
 
--- why a job was not done
+-- why a job failed
 abbrev pub Refuses : Job → Sources → Sources → Ends → Ends → CliFault → Type 0
 Refuses job old new before after f = LacksTable job.ideographs old new before after f ⊎ StopsAfterTable job old new before after f

@@ -35,26 +35,26 @@ pub record ReadsRules (old new : ReaderState) (cs : List Chain) : Type 0 where
   pub text : ReadsRuleText old new bytes
   pub says : rules_of (chars bytes) ≡ Ok cs
 
--- the bytes in the reader are no text after their longest valid prefix
+-- the bytes in the reader are not a text after their longest valid prefix
 pub record HasNoText (old new : ReaderState) (at : ℕ) : Type 0 where
   pub bytes : List ℕ
   pub read : ReadsRuleBytes old new bytes
   pub other : ¬ IsUtf8 bytes
   pub place : at ≡ utf8_valid_len bytes
 
--- why the bytes in the reader are no text, and where
+-- why the bytes in the reader are not a text, and where
 abbrev pub RefusesBytes : RulesTextCause → ReaderState → ReaderState → ℕ → Type 0
 RefusesBytes cause.NotUtf8 old new at = HasNoText old new at
 RefusesBytes cause.TooLarge old new at = StopsAt MAX_RULES stop.TooLarge old new × (at ≡ MAX_RULES)
 RefusesBytes cause.Read old new at = StopsAt MAX_RULES stop.Read old new × (at ≡ 0)
 
--- the text in the reader says no rules
+-- the text in the reader is not one of rules
 pub record HasFaultyRules (old new : ReaderState) (f : RuleFault) : Type 0 where
   pub bytes : List ℕ
   pub text : ReadsRuleText old new bytes
   pub faulty : RefusesText (rules_of (chars bytes)) f
 
--- reading the rules came to none
+-- no rules were read
 abbrev pub RefusesRules : ReaderState → ReaderState → CliFault → Type 0
 RefusesRules old new (fault.RulesText at cause) = RefusesBytes cause old new at
 RefusesRules old new (fault.Rules f) = HasFaultyRules old new f
@@ -63,7 +63,7 @@ RefusesRules old new _ = ⊥
 
 -- ---- the table that they tailor
 
--- the rules in the reader make this table of another
+-- another table tailored by the rules in the reader is this one
 pub record TailorsBy (old new : ReaderState) (t tailoring : ElementTable) : Type 0 where
   pub chains : List Chain
   pub rules : ReadsRules old new chains
@@ -80,7 +80,7 @@ abbrev pub StopsTailoring : ReaderState → ReaderState → ElementTable → Cli
 StopsTailoring old new t (fault.Tailor f) = HasFaultyRelation old new t f
 StopsTailoring old new t f = RefusesRules old new f
 
--- the table that is used: where there is a reader of rules the tailored one, and else the table itself
+-- the table that is used: where there is a reader of rules the tailored one, and otherwise the table itself
 abbrev pub Tailors : Option ReaderState → Option ReaderState → ElementTable → ElementTable → Type 0
 Tailors (Some old) (Some new) t serving = TailorsBy old new t serving
 Tailors None None t serving = serving ≡ t

@@ -1,7 +1,7 @@
 //! The commands of `uca` as functions of bytes.
 //!
-//! [`job_of`] reads the words of a command line, and [`perform`] does the job that they ask for: it reads its input from
-//! a [`uca_weights::Reader`], checks it whole, and only then writes to a [`uca_weights::Writer`].
+//! [`job_of`] reads a command line, and [`perform`] does the job that it requests: it reads its input from
+//! a [`uca_weights::Reader`], checks all of it, and only then writes to a [`uca_weights::Writer`].
 #![tactic(auto)]
 
 mod built_in_table;

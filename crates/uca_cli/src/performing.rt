@@ -14,7 +14,7 @@ use uca_job::{Job, Task};
 use uca_table::{RangeFault, Table};
 use uca_weights::{Reader, Settings, Writer};
 
-/// Gives a table a range of ideographs.
+/// Adds a range of ideographs to a table.
 fn widen(t: &mut Table, ends: (char, char)) -> Result<(), CliFault>
     ensures { MatchResult result (λ _. Widens (Some ends) t.old t.new) (RefusesWidening (Some ends) t.old) }
 {
@@ -25,7 +25,7 @@ fn widen(t: &mut Table, ends: (char, char)) -> Result<(), CliFault>
     }
 }
 
-/// Gives a table the range of ideographs of a job, where it has one.
+/// Adds the range of ideographs of a job to a table, where it has one.
 fn widened(mut t: Table, ends: Option<(char, char)>) -> Result<Table, CliFault>
     ensures ok { IfOk result (Widens ends t) }
     ensures err { IfErr result (RefusesWidening ends t) }
@@ -36,7 +36,7 @@ fn widened(mut t: Table, ends: Option<(char, char)>) -> Result<Table, CliFault>
     Ok(t)
 }
 
-/// The table of a job that has no rules. If a range of ideographs was added, the cells that this dropped are made anew; where
+/// The table of a job that has no rules. If a range of ideographs was added, the cells that this dropped are rebuilt; where
 /// memory for them is refused, the table is only slower.
 fn ready(alloc: Global, mut t: Table, ends: Option<(char, char)>) -> Table
     ensures { result ≡ t }
@@ -86,12 +86,12 @@ fn work<I: Reader, W: Writer>(
 
 /// Does a job: reads the table, to which it adds the job's range of ideographs, then the rules, by which it tailors the
 /// table, then the input, which it checks whole, and only then writes the output. It returns the status of the program:
-/// 1 where `check` failed or `lint` found something, and else 0.
+/// 1 where `check` failed or `lint` found something, and otherwise 0.
 ///
-/// Where there is no reader of a table, it works with the built-in table, and where there is none of rules, with the table
+/// Where there is no reader of a table, it uses the built-in table, and where there is none of rules, the table
 /// as it is. At a fault of the table or of the range nothing else was read, at one of the rules nothing of the input, and at each of these
 /// and at one of the input nothing was written. On a fault of the output, or on an allocation failure while it is written,
-/// its front went out; `written` counts over the whole run. It does not flush the writer. Of a reader that counts its calls
+/// its front was written; `written` counts over the whole run. It does not flush the writer. Of a reader that counts its calls
 /// it makes at most one more than the limit of that text has bytes.
 pub fn perform<T: Reader, U: Reader, I: Reader, W: Writer>(
     alloc: Global,

@@ -29,7 +29,7 @@ fn read_rules<U: Reader>(alloc: Global, reader: &mut U) -> Result<Vec<u8>, CliFa
     })
 }
 
-/// The rules in the text of a reader. The text is read whole before anything else is looked at.
+/// The rules in the text of a reader. The whole text is read first.
 fn rules_in<U: Reader>(alloc: Global, reader: &mut U) -> Result<Rules, CliFault>
     ensures ok { IfOk result (λ r. ReadsRules (U.state reader.old) (U.state reader.new) r) }
     ensures err { IfErr result (RefusesRules (U.state reader.old) (U.state reader.new)) }
@@ -45,7 +45,7 @@ fn rules_in<U: Reader>(alloc: Global, reader: &mut U) -> Result<Rules, CliFault>
     }
 }
 
-/// The table that the rules in a reader make of another.
+/// A table tailored by the rules in a reader.
 fn tailored_by<U: Reader>(alloc: Global, t: &Table, reader: &mut U) -> Result<Table, CliFault>
     ensures ok { IfOk result (TailorsBy (U.state reader.old) (U.state reader.new) t.now) }
     ensures err { IfErr result (StopsTailoring (U.state reader.old) (U.state reader.new) t.now) }

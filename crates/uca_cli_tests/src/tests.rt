@@ -80,7 +80,7 @@ fn wants_memory(answer: &Result<u8, CliFault>) -> bool {
     }
 }
 
-/// The answer of the job `key` where it writes nothing, asked for once more where memory was refused.
+/// The answer of the job `key` where it writes nothing, tried again where memory was refused.
 fn key_answer<I: Reader + Copy>(alloc: Global, reader: I) -> Result<u8, CliFault> {
     let mut input = reader;
     let mut writer = Expecting::new(b"", 0, WriteCause::Failed);
@@ -151,7 +151,7 @@ fn the_first_faulty_line_is_reported_and_nothing_is_written(rt: HostRuntime) {
     }
 }
 
-/// A text after a front, so many times.
+/// A text after a front, this many times.
 fn after(alloc: Global, front: &[u8], text: &[u8], count: usize) -> Result<Vec<u8>, AllocError> {
     let mut out = front.to_vec(alloc)?;
     for _ in 0..count {
@@ -160,7 +160,7 @@ fn after(alloc: Global, front: &[u8], text: &[u8], count: usize) -> Result<Vec<u
     Ok(out)
 }
 
-/// What stands before a run of so many marks, and the line and the byte of the fault.
+/// What comes before a run of this many marks, and the line and the byte of the fault.
 const LONG_RUNS: [(&'static [u8], usize, u64, usize); 3] = [
     (b"a", 61, 1, 121),
     (b"b\n\na", 61, 3, 121),
@@ -301,7 +301,7 @@ const SECONDARY: Settings = Settings {
     weighting: Variable::NonIgnorable,
 };
 
-/// Settings, an input, and how each two lines that are neighbours compare.
+/// Settings, an input, and how each pair of neighbouring lines compares.
 const NEIGHBOURS: [(Settings, &'static [u8], &'static [u8]); 6] = [
     (PLAIN, b"a\r\nA\nb", b"less\nless\n"),
     (SECONDARY, b"a\r\nA\nb", b"equal\nless\n"),
@@ -329,7 +329,7 @@ const ORDERED_LINES: [(Settings, &'static [u8], &'static [u8]); 8] = [
     (PLAIN, b"b\r\nA\na", b"a\nA\nb\n"),
     (PLAIN, b"b\nA\na\nch\ncz", b"a\nA\nb\ncz\nch\n"),
     (PRIMARY, b"b\nA\na\nch\ncz", b"A\na\nb\ncz\nch\n"),
-    // Lines of equal keys stay as they stood.
+    // Lines of equal keys keep their order.
     (PRIMARY, b"b\r\nA\na\nA", b"A\na\nA\nb\n"),
     (PLAIN, b"ch\ncz\n\n", b"\ncz\nch\n"),
     (PLAIN, b"", b""),
@@ -402,7 +402,7 @@ fn a_range_of_ideographs_is_that_of_the_job(rt: HostRuntime) {
     assert!(rt; refused.is_refused(&rt, alloc, CliFault::Ideographs));
 }
 
-/// Stops a test where a fault has another text, or another status than three.
+/// Fails a test where a fault has another text, or another status than three.
 fn assert_text(
     rt: &impl Abort,
     alloc: Global,

@@ -44,7 +44,7 @@ front-below zero key bytes = omega (arith, front-none key)
 front-below (suc n) key bytes =
     omega (arith, front-more n key, front-below n key (λ i low. bytes i (omega arith)), bytes n (omega arith))
 
--- one byte more has room in 64 bits
+-- one byte more fits in 64 bits
 pub front-room : (n : ℕ) (key : List ℕ) → n < 8 → AreBytesTo n key → front n key * 256 + 255 < 2 ^ 64
 front-room n key few bytes =
     let most : 256 ^ n ≤ 256 ^ 7 = pow-le-pow_right {n = 256} (omega arith) {i = n} {j = 7} (omega arith) in

@@ -16,7 +16,7 @@ use Rattle.uca_commands.specs.Ordering.{AreKeys}
 
 -- ---- the keys in one place
 
--- pieces that stand one after the other come back
+-- pieces one after the other come back
 pieces-ends_from : (f : List ℕ → List ℕ) (ls : List (List ℕ)) (front : List ℕ) → pieces (ends_from (length front) (map f ls)) (front ++ flat_map f ls) (length front) ≡ map f ls
 pieces-ends_from f [] front = refl
 pieces-ends_from f (l ∷ ls) front =
@@ -90,7 +90,7 @@ module _ {X : Type 0} (key line : X → List ℕ) (k : List ℕ → List ℕ) wh
       let others : map key xs ≡ map k (map line xs) = cc in
       All-cons HasKey x xs first (each_has_key xs others)
 
-  -- the lines stand in the order of their keys
+  -- the lines are in the order of their keys
   sorted_lines : (ys : List X) → All HasKey ys → IsSortedByKey key key_order ys → IsSortedByKey k key_order (map line ys)
   sorted_lines [] have up i d low more = absurd (omega arith)
   sorted_lines (y ∷ ys) have up i d low more =

@@ -46,7 +46,7 @@ length-line_text : (form : LineForm) (t : ElementTable) (s : Settings) (line : L
 length-line_text Elements t s line = omega (arith, length-append (flat_map element_text (elements t (nfd (chars line)))) (line_feed ∷ []))
 length-line_text Key t s line = omega (arith, length-append (hex_text (sort_key t s (chars line))) (line_feed ∷ []))
 
--- a line was not accepted, so that not all went out
+-- a line was not accepted, so that not all were written
 WritesSome-line : (s0 s1 : WriterState) (o0 o1 : BufferState) (sent line rest whole : List ℕ) → o0.waiting ≡ [] → Accepts s0 o0 s1 o1 sent → 0 < length line → (sent ++ line) ++ rest ≡ whole → WritesSome s0 s1 whole
 WritesSome-line s0 s1 o0 o1 sent line rest whole empty sends some is =
     let front : sent ≡ sends.went ++ o1.waiting = ap (λ l. l ++ sent) (sym empty) ∙ sends.all in
@@ -75,7 +75,7 @@ StopsOutput-line (Rules f) form t s s0 s1 s2 o0 o1 o2 sent line rest whole empty
 StopsOutput-line (Tailor f) form t s s0 s1 s2 o0 o1 o2 sent line rest whole empty none sends stops is = absurd stops
 StopsOutput-line (Conform f) form t s s0 s1 s2 o0 o1 o2 sent line rest whole empty none sends stops is = absurd stops
 
--- all lines went to the buffer, and what waits of them goes out
+-- all lines went to the buffer, and what waits of them is written
 pub flushed : (s0 s1 s2 : WriterState) (o0 o1 o2 : BufferState) (sent whole : List ℕ) (r : Result (Unit {0}) WriteFault) → o0.waiting ≡ [] → o0.written ≡ 0 → Accepts s0 o0 s1 o1 sent → sent ++ [] ≡ whole
     → MatchResult r (λ _. Accepts s1 o1 s2 o2 []) (λ f. FailsPartway s1 o1 s2 [] f) → MatchResult r (λ _. o2.waiting ≡ []) (λ _. Unit {0}) → MatchResult r (λ _. WritesAll s0 s2 whole) (WritesFront s0 s2 whole)
 flushed s0 s1 s2 o0 o1 o2 sent whole (Ok x) waits written sends complete more empty = subst (WritesAll s0 s2) complete (Accepts-all s0 s2 o0 o2 (sent ++ []) waits empty (Accepts-more s0 s1 s2 o0 o1 o2 sent [] sends more))

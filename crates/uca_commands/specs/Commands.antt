@@ -1,4 +1,4 @@
--- The commands: what each reads, what it writes, its status, and how far it comes where memory is refused.
+-- The commands: what each reads, what it writes, its exit status, and how far it gets where memory is refused.
 use Rattle.std.specs.Prelude.{◌≡◌, ℕ, ◌<◌, ◌==◌, if◌then◌else◌, List, [], ◌∷◌, ◌++◌, length, Ok, chars}
 use Rattle.std.specs.Option.{is_some}
 use Rattle.uca_weights.specs.declared.settings.Settings.{Settings}
@@ -29,14 +29,14 @@ pub record Command : Type 1 where
   pub refuses : ElementTable → Settings → ReaderState → ReaderState → CliFault → Type 0
   -- what it writes with a table for an input
   pub output : ElementTable → Settings → List ℕ → List ℕ → Type 0
-  -- its status, once it was done
+  -- its exit status, once it succeeded
   pub status : ElementTable → Settings → List ℕ → ℕ → Type 0
-  -- how far its output came where memory was refused
+  -- how far its output got where memory was refused
   pub refused_memory : ElementTable → Settings → List ℕ → WriterState → WriterState → Type 0
 
 -- ---- what commands read
 
--- the reader was left alone
+-- the reader was not used
 pub record ReadsNothing (old new : ReaderState) (bytes : List ℕ) : Type 0 where
   pub none : bytes ≡ []
   pub same : new ≡ old
@@ -79,7 +79,7 @@ pub record IsCheckStatus (t : ElementTable) (s : Settings) (bytes : List ℕ) (s
 abbrev pub lint_status : ElementTable → ℕ
 lint_status t = if length (broken t) == 0 then 0 else 1
 
--- some of the first bytes went out, but not all, and no call failed or took nothing
+-- some of the first bytes were written, but not all, and no call failed or took nothing
 pub record WritesSome (old new : WriterState) (bytes : List ℕ) : Type 0 where
   pub went : List ℕ
   pub writes : WritesAll old new went
@@ -89,7 +89,7 @@ pub record WritesSome (old new : WriterState) (bytes : List ℕ) : Type 0 where
 
 -- ---- the table of the commands
 
--- `elements` takes memory for each line before it writes of it
+-- `elements` allocates for each line before it writes any of it
 abbrev pub elements_command : Command
 elements_command = record {
   reads = ReadsLines;
@@ -109,7 +109,7 @@ key_command = record {
   refused_memory = λ t s bytes old new. WritesSome old new (key_output t s bytes);
 }
 
--- `key --raw` takes no memory once its line was read
+-- `key --raw` does not allocate once its line was read
 abbrev pub raw_key_command : Command
 raw_key_command = record {
   reads = ReadsOneLine;
@@ -129,7 +129,7 @@ compare_command = record {
   refused_memory = λ t s bytes old new. ⊥;
 }
 
--- `order` takes all memory before it writes, and none where there are no lines
+-- `order` allocates everything before it writes, and nothing where there are no lines
 abbrev pub order_command : Command
 order_command = record {
   reads = ReadsLines;
@@ -139,7 +139,7 @@ order_command = record {
   refused_memory = λ t s bytes old new. (new ≡ old) × (0 < length bytes);
 }
 
--- `check` takes no memory
+-- `check` does not allocate
 abbrev pub check_command : Command
 check_command = record {
   reads = GivesAll;
@@ -169,14 +169,14 @@ table_command = record {
   refused_memory = λ t s bytes old new. ⊥;
 }
 
--- ---- what a command comes to
+-- ---- the result of a command
 
 -- what is known of the reader of the input, and of the writer
 pub record Ends : Type 0 where
   pub input : ReaderState
   pub output : WriterState
 
--- the input was read, and all of the output went out
+-- the input was read, and all of the output was written
 pub record Does (c : Command) (t : ElementTable) (s : Settings) (old new : Ends) (status : ℕ) : Type 0 where
   pub bytes : List ℕ
   pub reads : c.reads old.input new.input bytes
@@ -204,7 +204,7 @@ pub record LacksMemory (c : Command) (t : ElementTable) (s : Settings) (old new 
   pub reads : c.reads old.input new.input bytes
   pub writes : c.refused_memory t s bytes old.output new.output
 
--- why a command was not done: the input is read whole and checked, and only then something is written
+-- why a command failed: the whole input is read and checked before anything is written
 abbrev pub Fails : Command → ElementTable → Settings → Ends → Ends → CliFault → Type 0
 Fails c t s old new (fault.Output f) = FailsToWrite c t s old new f
 Fails c t s old new fault.OutOfMemory = LacksMemory c t s old new

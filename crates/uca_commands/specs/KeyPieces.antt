@@ -1,4 +1,4 @@
--- Sort keys that stand one after the other, by where each ends.
+-- Sort keys one after the other, by where each ends.
 use Rattle.std.specs.Prelude.{ℕ, ◌+◌, ◌-◌, List, [], ◌∷◌, length, take, drop, get_or}
 
 -- the bytes from one place to another
@@ -14,7 +14,7 @@ abbrev pub pieces : List ℕ → List ℕ → ℕ → List (List ℕ)
 pieces [] bytes from = []
 pieces (e ∷ es) bytes from = piece bytes from e ∷ pieces es bytes e
 
--- where keys end that stand one after the other from a place on
+-- where keys one after the other from a place on end
 abbrev pub ends_from : ℕ → List (List ℕ) → List ℕ
 ends_from from [] = []
 ends_from from (k ∷ ks) = (from + length k) ∷ ends_from (from + length k) ks

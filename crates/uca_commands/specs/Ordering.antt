@@ -1,4 +1,4 @@
--- The lines of an input in the order of their keys: what went out of them, and what stopped it.
+-- The lines of an input in the order of their keys: what was written of them, and what stopped it.
 use Rattle.std.specs.Prelude.{◌≡◌, ℕ, ◌<◌, List, length, map, flat_map}
 use Rattle.uca_weights.specs.declared.settings.Settings.{Settings}
 use Rattle.uca_io.specs.declared.writer.WriteFault.{WriteFault}
@@ -22,7 +22,7 @@ pub record AreKeys (t : ElementTable) (s : Settings) (lines : List (List ℕ)) (
 
 -- ---- of an input that was read
 
--- its lines went out in order, and these are so many
+-- its lines were written in order, and there are this many
 pub record WritesInOrder (t : ElementTable) (s : Settings) (bytes : List ℕ) (old new : WriterState) (count : ℕ) : Type 0 where
   pub output : List ℕ
   pub made : IsOrderOutput t s bytes output
@@ -35,7 +35,7 @@ pub record StopsLines (t : ElementTable) (s : Settings) (bytes : List ℕ) (old 
   pub made : IsOrderOutput t s bytes output
   pub writes : WritesFront old new output f
 
--- what stopped them; all memory is taken before the first byte is written, and none where there are no lines
+-- what stopped them; everything is allocated before the first byte is written, and nothing where there are no lines
 abbrev pub StopsInOrder : ElementTable → Settings → List ℕ → WriterState → WriterState → CliFault → Type 0
 StopsInOrder t s bytes old new (fault.Output f) = StopsLines t s bytes old new f
 StopsInOrder t s bytes old new fault.OutOfMemory = (new ≡ old) × (0 < length bytes)
@@ -43,13 +43,13 @@ StopsInOrder t s bytes old new _ = ⊥
 
 -- ---- of an input in a reader
 
--- its lines were read, all of them texts, and went out in order
+-- its lines were read, all of them texts, and were written in order
 pub record Orders (t : ElementTable) (s : Settings) (old new : Ends) (count : ℕ) : Type 0 where
   pub bytes : List ℕ
   pub reads : ReadsLines old.input new.input bytes
   pub writes : WritesInOrder t s bytes old.output new.output count
 
--- its lines were read, and did not all go out
+-- its lines were read, and not all were written
 pub record StopsOrdering (t : ElementTable) (s : Settings) (old new : Ends) (f : CliFault) : Type 0 where
   pub bytes : List ℕ
   pub reads : ReadsLines old.input new.input bytes

@@ -1,4 +1,4 @@
--- What goes out line by line, and what stops it.
+-- What is written line by line, and what stops it.
 use Rattle.std.specs.Prelude.{◌≡◌, ℕ, List, [], ◌∷◌, ◌++◌, flat_map}
 use Rattle.uca_io.specs.WriterState.{WriterState}
 use Rattle.uca_io.specs.Writer.{WritesFront}
@@ -16,12 +16,12 @@ use Rattle.uca_commands.specs.declared.faults.CliFault.TheVariants.{Output, OutO
 use Rattle.uca_commands.specs.declared.output.LineForm.{LineForm}
 use Rattle.uca_commands.specs.declared.output.LineForm.TheVariants.{Elements, Key}
 
--- what goes out for a line
+-- what is written for a line
 abbrev pub line_text : LineForm → ElementTable → Settings → List ℕ → List ℕ
 line_text Elements t s line = elements_line t line
 line_text Key t s line = key_line t s line
 
--- what goes out for all lines
+-- what is written for all lines
 abbrev pub lines_text : LineForm → ElementTable → Settings → List ℕ → List ℕ
 lines_text form t s bytes = flat_map (line_text form t s) (lines_of bytes)
 
@@ -29,13 +29,13 @@ lines_text form t s bytes = flat_map (line_text form t s) (lines_of bytes)
 abbrev pub finding_line : Condition → List ℕ
 finding_line c = condition_name c ++ line_feed ∷ []
 
--- the writer stopped a line, or memory was wanted before anything of it was accepted
+-- the writer stopped a line, or memory was refused before anything of it was accepted
 abbrev pub StopsLine : WriterState → BufferState → WriterState → BufferState → List ℕ → CliFault → Type 0
 StopsLine old before new after line (Output fault) = FailsPartway old before new line fault
 StopsLine old before new after line OutOfMemory = (new ≡ old) × (after ≡ before)
 StopsLine old before new after line _ = ⊥
 
--- the writer stopped the output, or memory was wanted when a front of it had gone out
+-- the writer stopped the output, or memory was refused when a front of it had been written
 abbrev pub StopsOutput : WriterState → WriterState → List ℕ → CliFault → Type 0
 StopsOutput old new whole (Output fault) = WritesFront old new whole fault
 StopsOutput old new whole OutOfMemory = WritesSome old new whole

@@ -1,4 +1,4 @@
-//! The commands, a file each: it reads the input that the command needs, and writes its output.
+//! The commands, one file each: it reads the input that the command needs, and writes its output.
 pub mod check;
 pub mod compare;
 pub mod elements;

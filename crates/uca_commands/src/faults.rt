@@ -9,13 +9,13 @@ use uca_lines::{InputCause, InputFault};
 use uca_tailor::{RuleCause, RuleFault, TailorCause, TailorFault};
 use uca_weights::WriteFault;
 
-/// Why the bytes of a file of rules are no text.
+/// Why the bytes of a file of rules are not a text.
 #[derive(Clone, Copy, Debug, PartialEq, Eq, Error)]
 pub enum RulesTextCause {
     /// They are not UTF-8.
     #[error("NotUtf8")]
     NotUtf8,
-    /// They are more than `MAX_RULES`.
+    /// There are more than `MAX_RULES` of them.
     #[error("TooLarge")]
     TooLarge,
     /// The reader failed.
@@ -23,15 +23,15 @@ pub enum RulesTextCause {
     Read,
 }
 
-/// Why a command was not done.
+/// Why a command failed.
 #[derive(Clone, Copy, Debug, PartialEq, Eq)]
 pub enum CliFault {
     Table(ReadFault),
     /// The range of ideographs ends before it begins, or shares a code point with the listed ones.
     Ideographs,
-    /// The bytes of the rules are no text.
+    /// The bytes of the rules are not a text.
     RulesText {
-        /// How many bytes at the beginning are UTF-8; `MAX_RULES` where there are more; 0 where the reader failed.
+        /// How many bytes at the start are valid UTF-8; `MAX_RULES` where there are too many; 0 where the reader failed.
         at: usize,
         cause: RulesTextCause,
     },
@@ -40,7 +40,7 @@ pub enum CliFault {
     Input(InputFault),
     Conform(ConformFault),
     Output(WriteFault),
-    /// Memory was refused, but not to the table's text, to the rules that were read, or to the input.
+    /// Memory was refused, other than for the table's text, for the rules that were read, or for the input.
     OutOfMemory,
 }
 

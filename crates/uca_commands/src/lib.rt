@@ -1,6 +1,6 @@
-//! The commands of `uca`, each a function of a table, settings, an input and a writer, and why a command was not done.
+//! The commands of `uca`, each a function of a table, settings, an input and a writer, and why a command failed.
 //!
-//! A command checks its input whole, and only then writes.
+//! A command checks its whole input before it writes anything.
 #![tactic(auto)]
 
 pub mod commands;

@@ -30,7 +30,7 @@ pub enum LineForm {
     Key,
 }
 
-/// What the sort keys of lines are made in, one after the other.
+/// Buffers in which the sort keys of lines are made, one by one.
 #[derive(Drop)]
 struct KeyRoom {
     maker: KeyMaker,
@@ -145,7 +145,7 @@ fn send_line<W: Writer>(
     Ok(())
 }
 
-/// Writes what a command writes for each line of an input, which was checked. The keys are made in the room that is given.
+/// Writes what a command writes for each line of an input, which was checked. The keys are made in the buffer that is given.
 fn send_lines<W: Writer>(
     alloc: Global,
     form: LineForm,

@@ -1,5 +1,6 @@
 -- What the words of a test line say, and the text that is made of them.
 use Rattle.std.proofs.Common.{◌≡◌, ℕ, ◌+◌, ◌*◌, ◌≤◌, Bool, true, false, not, ◌&&◌, ◌==◌, List, [], ◌∷◌, ◌++◌, length, flat_map, get_or, Option, IsUtf8, encode_utf8, encode_utf8_all, append-nil, length-append, refl, sym, subst, ap, ap₂, ◌∙◌, arith, inl, inr, ne_eqb}
+use Rattle.std.proofs.Math.Bool.{and-true}
 use Rattle.std.proofs.lemmas.Bool.{and_from, and_parts, cases_Bool, cond-true, cond-false, le-leb, leb-true}
 use Rattle.std.proofs.lemmas.List.Folds.{list_all-append}
 use Rattle.std.proofs.lemmas.List.Sums.{AllPass-from_list_all, list_all-from_AllPass}
@@ -114,15 +115,11 @@ points-push line rest others bytes new point is_some is_text is_scalar has next 
       points = points ++ point ∷ [];
       same = has.same ∙ ap (points_after points) next.split ∙ ap (option_and_then (λ c. points_after (points ++ c ∷ []) (said_words others))) (sym next.said);
       some = sym (ap not (ne_eqb (length (points ++ point ∷ [])) 0 (λ none. omega (arith, length-append points (point ∷ [])))));
-      scalars = ap₂ (λ (a b : Bool). a && b) has.scalars (scalar_is ∙ sym (and_true (scalar point))) ∙ sym (list_all-append scalar points (point ∷ []));
+      scalars = ap₂ (λ (a b : Bool). a && b) has.scalars (scalar_is ∙ sym (and-true (scalar point))) ∙ sym (list_all-append scalar points (point ∷ []));
       kept = λ both. (let parts = and_parts is_text is_scalar both in added parts.1 ∙ ap (λ (xs : List ℕ). xs ++ encode_utf8 point) (has.kept parts.0) ∙ sym (written-push points point));
       fits = omega (arith, has.fits, next.shorter, fits);
     }
   where
-    and_true : (b : Bool) → (b && true) ≡ b
-    and_true true = refl
-    and_true false = refl
-
     written-push : (cs : List ℕ) (c : ℕ) → encode_utf8_all (cs ++ c ∷ []) ≡ encode_utf8_all cs ++ encode_utf8 c
     written-push cs c = flat_map-append encode_utf8 cs (c ∷ []) ∙ ap (λ (l : List ℕ). encode_utf8_all cs ++ l) (append-nil (encode_utf8 c))
 

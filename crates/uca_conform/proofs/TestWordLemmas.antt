@@ -44,7 +44,7 @@ inside-parts b inside = elim (cases_Bool (is_blank b)) [
   | inr other ↦ (other, sym (ap (λ (x : Bool). x || ends_points b) other) ∙ inside)
 ]
 
--- ---- what stands before the end of the code points
+-- ---- what comes before the end of the code points
 
 before-inside : (b : ℕ) (bs : List ℕ) → ends_points b ≡ false → before_first ends_points (b ∷ bs) ≡ b ∷ before_first ends_points bs
 before-inside b bs inside =

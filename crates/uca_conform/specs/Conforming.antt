@@ -14,7 +14,7 @@ use Rattle.uca_conform.specs.declared.conforming.ConformFault.{ConformFault}
 abbrev pub report_in : Conformance → Report
 report_in c = record { lines = c.lines; skipped = c.skipped; first_failure = c.first_failure }
 
--- a reader gave all of a test file, and the numbers are what the table makes of it
+-- a reader gave all of a test file, and the numbers are its report by the table
 abbrev pub GivesReport : ElementTable → Settings → ReaderState → ReaderState → Conformance → Type 0
 GivesReport t s old new c = GivesText (report_of t s) old new (report_in c)
 

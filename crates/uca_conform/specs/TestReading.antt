@@ -19,12 +19,12 @@ test_cause BadLine = bad_line
 test_cause TooLarge = too_large
 test_cause Read = read
 
--- the fault is none of the reader
+-- the fault is not one of the reader
 abbrev pub IsOfFile : ConformCause → Type 0
 IsOfFile Read = ⊥
 IsOfFile _ = Unit {0}
 
--- the fault of a line without a code point, or with a word that is none
+-- the fault of a line without a code point, or with a word that is not one
 abbrev pub IsBadLine : ConformCause → Type 0
 IsBadLine BadLine = Unit {0}
 IsBadLine _ = ⊥
@@ -42,7 +42,7 @@ pub record SaysPoints (says : Result (List ℕ) TestCause) (is_compared : Bool) 
   pub compared : can_compare points ≡ is_compared
   pub same : is_compared ≡ true → text ≡ points
 
--- the words before others said some code points, of which these bytes are the text if they are scalar values
+-- the words before others spelled some code points, of which these bytes are the text if they are scalar values
 pub record HasPoints (line rest bytes : List ℕ) (is_some is_text : Bool) : Type 0 where
   pub points : List ℕ
   pub same : points_after [] (said_words line) ≡ points_after points (said_words rest)

@@ -18,7 +18,7 @@ abbrev pub ends_word : List ℕ → Bool
 ends_word [] = true
 ends_word (b ∷ bytes) = ends_at b
 
--- so many digits, six at most, say this number
+-- this many digits, at most six, spell this number
 pub record AreDigits (word : List ℕ) (value len : ℕ) : Type 0 where
   pub said : number word ≡ Some value
   pub size : length word ≡ len
@@ -31,14 +31,14 @@ pub record BeginsWithDigits (bytes : List ℕ) (value len : ℕ) (rest : List �
   pub digits : AreDigits word value len
   pub stops : (b : ℕ) (more : List ℕ) → rest ≡ b ∷ more → (is_digit b 16 ≡ false) ⊎ (len ≡ 6)
 
--- the next word of a line says a code point
+-- the next word of a line spells a code point
 pub record IsNextPoint (line : List ℕ) (point : ℕ) (rest : List ℕ) : Type 0 where
   pub word : List ℕ
   pub split : said_words line ≡ word ∷ said_words rest
   pub said : Some point ≡ test_point word
   pub shorter : 4 + length rest ≤ length line
 
--- the next word of a line says none
+-- the next word of a line spells none
 pub record HasBadWord (line : List ℕ) : Type 0 where
   pub word : List ℕ
   pub others : List (List ℕ)

@@ -12,7 +12,7 @@ use uca_io::lines::without_return;
 use uca_table::Table;
 use uca_weights::{MAX_LINE, Settings};
 
-/// What the test lines so far amount to. Their texts lie in two rooms by turns, since a copy of a room would take longer
+/// What the test lines so far amount to. Their texts lie in two buffers alternately, since a copy of a buffer would take longer
 /// than most comparisons do.
 #[derive(Drop)]
 pub(crate) struct Comparison {
@@ -21,7 +21,7 @@ pub(crate) struct Comparison {
     other: TestText,
     // Whether there is a last text yet.
     is_some: bool,
-    // Whether it lies in the first room.
+    // Whether it lies in the first buffer.
     is_one: bool,
 }
 
@@ -45,7 +45,7 @@ pub(crate) fn nothing_compared() -> Comparison
     }
 }
 
-/// Reads the text of a test line into the room that has not the last one, and returns whether it is compared.
+/// Reads the text of a test line into the buffer that does not hold the last one, and returns whether it is compared.
 fn read_next(comparison: &mut Comparison, line: &[u8]) -> Result<bool, ConformCause>
     requires { length line.now ≤ MAX_LINE }
     ensures points { IfOk result (λ is_compared. SaysPoints (points_of line.now) is_compared (next_of comparison.new)) }

@@ -16,14 +16,14 @@ use uca_io::{LineCause, LineSink, read_lines};
 use uca_table::Table;
 use uca_weights::{Reader, Settings};
 
-/// What a table makes of a test file.
+/// How a table sorts a test file.
 #[derive(Clone, Copy, Debug, PartialEq, Eq)]
 pub struct Conformance {
     /// How many test lines there are.
     pub lines: u64,
     /// How many of them were not compared: those with a surrogate, and those whose text is not safe.
     pub skipped: u64,
-    /// Which of all lines of the file, counted from 1, is the first that is below the one compared before it.
+    /// The number of the first line of the file, counted from 1, that is below the one compared before it.
     pub first_failure: Option<u64>,
 }
 
@@ -33,7 +33,7 @@ pub enum ConformCause {
     /// A line is longer than `MAX_LINE`.
     #[error("LineTooLong")]
     LineTooLong,
-    /// A test line has no code point, or a word that is none.
+    /// A test line has no code point, or a word that is not one.
     #[error("BadLine")]
     BadLine,
     /// The file is longer than `MAX_INPUT`.
@@ -88,7 +88,7 @@ impl<'t> LineSink for TestLines<'t> {
     }
 }
 
-/// Why a test file is refused whose lines were not read to their end.
+/// Why a test file whose lines were not read to their end is refused.
 fn cause_of_lines(cause: LineCause<ConformCause>) -> ConformCause
     ensures { (t : ElementTable) (s : Settings) (old new : ReaderState) (line : ℕ) → StopsBy comparing_fold fault_of IsOfFile (comparing t s []) old new line cause → RefusedBy t s result old new line }
 {
@@ -100,9 +100,9 @@ fn cause_of_lines(cause: LineCause<ConformCause>) -> ConformCause
     }
 }
 
-/// What a table makes of a test file: each of its test lines is compared with the one before it that was not skipped.
+/// How a table sorts a test file: each of its test lines is compared with the one before it that was not skipped.
 /// It does not allocate. At most one byte past `MAX_INPUT` is taken from a reader that states its bytes, and at most
-/// `MAX_INPUT` + 1 calls are made of one that counts its calls. What the reader still holds after a fault isn't said.
+/// `MAX_INPUT` + 1 calls are made of one that counts its calls. What the reader still holds after a fault is unspecified.
 pub fn conform<R: Reader>(t: &Table, s: Settings, r: &mut R) -> Result<Conformance, ConformFault>
     ensures reads { MatchResult result
         (GivesReport t.now s (R.state r.old) (R.state r.new))

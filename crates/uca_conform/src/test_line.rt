@@ -22,7 +22,7 @@ struct Digits<'l> {
     rest: &'l [u8],
 }
 
-/// The value of a hexadecimal digit, of either case. `char::to_digit`, which knows all radixes, takes three times as long.
+/// The value of a hexadecimal digit, of either case. `char::to_digit`, which handles every radix, takes three times as long.
 #[inline(always)]
 fn digit_of(byte: u8) -> Option<u32>
     ensures { MatchOption result (is_digit byte 16 ≡ false) (λ digit. (is_digit byte 16 ≡ true) × ((digit ≡ digit_value byte) × (digit < 16))) }
@@ -57,7 +57,7 @@ fn read_digits(bytes: &[u8]) -> Digits<'_>
     Digits { value, len, rest }
 }
 
-/// The code point, also a surrogate, that digits say where there are four of them at least.
+/// The code point, also a surrogate, that digits spell where there are at least four of them.
 #[inline(always)]
 fn point_of(value: u32, len: usize) -> Option<u32>
     ensures value { (word : List ℕ) → AreDigits word value len → result ≡ test_point word }
@@ -135,7 +135,7 @@ pub(crate) fn text_of_test(line: &[u8], text: &mut TestText) -> Result<bool, Con
     Ok(is_text && text.is_safe())
 }
 
-/// Whether a line is a test line: it has a byte but for blanks, and the first one isn't `#`.
+/// Whether a line is a test line: it has a byte that is not a blank, and the first such byte is not `#`.
 pub(crate) fn is_test(line: &[u8]) -> bool
     ensures { result ≡ is_test (skip_blanks line.now) }
 {

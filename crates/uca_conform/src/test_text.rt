@@ -14,7 +14,7 @@ use uca_table::Table;
 use uca_weights::{MAX_DECOMPOSITION, MAX_LINE, MAX_RUN, Settings};
 use uca_window::Passage;
 
-/// A text of so many bytes is safe, whatever its characters are.
+/// A text of this many bytes is safe, whatever its characters are.
 const SHORT: usize = MAX_RUN / MAX_DECOMPOSITION;
 
 /// The text of a test line, which has no more bytes than the line.

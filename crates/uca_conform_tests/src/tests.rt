@@ -8,7 +8,7 @@ use uca_table::{Table, TableBuilder};
 use uca_testing::table_from;
 use uca_weights::{MAX_INPUT, Reader, Refused, Settings, Strength, Variable};
 
-/// Gives its bytes so many times, in pieces of at most `step`, and fails at the end if it is asked to.
+/// Gives its bytes this many times, in pieces of at most `step`, and fails at the end if told to.
 #[derive(Clone, Copy)]
 struct Lines<'b> {
     bytes: &'b [u8],
@@ -78,7 +78,7 @@ fn repeated(bytes: &[u8], left: usize, step: usize, fails: bool) -> Lines<'_> {
     }
 }
 
-/// Looks at the answer for what a reader gives.
+/// Checks the answer for what a reader gives.
 fn assert_conforms(
     rt: &impl Abort,
     t: &Table,
@@ -89,7 +89,7 @@ fn assert_conforms(
     assert!(rt; conform(t, PLAIN, &mut lines) == wanted, "{step} at once");
 }
 
-/// Looks at the answer for a text, given at once and in small pieces.
+/// Checks the answer for a text, given at once and in small pieces.
 fn assert_answer(
     rt: &impl Abort,
     t: &Table,
@@ -122,7 +122,7 @@ fn table(rt: &impl Abort, alloc: Global) -> Table {
     table_from(alloc, TABLE).ok().expect(rt, "a table")
 }
 
-/// The table without entries, made once more where memory was refused. A builder asks for little memory: the tests of large inputs are run
+/// The table without entries, retrying where memory was refused. A builder allocates little: the tests of large inputs are run
 /// again for each growth.
 fn empty_table(rt: &impl Abort, alloc: Global) -> Table {
     match TableBuilder::new(alloc).finish() {
@@ -131,7 +131,7 @@ fn empty_table(rt: &impl Abort, alloc: Global) -> Table {
     }
 }
 
-/// `0061`, a line that begins with so many bytes, and the rest.
+/// `0061`, a line that begins with this many bytes, and the rest.
 fn long_text(alloc: Global, width: usize, rest: &[u8]) -> Result<Vec<u8>, AllocError> {
     let mut text = Vec::new(alloc);
     text.extend_from_slice(b"0061\n")?;
@@ -142,7 +142,7 @@ fn long_text(alloc: Global, width: usize, rest: &[u8]) -> Result<Vec<u8>, AllocE
     Ok(text)
 }
 
-/// Looks at the answer for such a text.
+/// Checks the answer for such a text.
 fn assert_long_text(
     rt: &impl Abort,
     alloc: Global,
@@ -200,7 +200,7 @@ static TEXTS: [(&[u8], u64, u64, Option<u64>); 22] = [
     (b"\n\n0062\n\n0061", 2, 0, Some(5)),
 ];
 
-/// Looks at the reports of such texts.
+/// Checks the reports of such texts.
 fn assert_reports(rt: &impl Abort, t: &Table, texts: &[(&[u8], u64, u64, Option<u64>)]) {
     for (text, lines, skipped, first_failure) in texts {
         assert_answer(rt, t, text, report(*lines, *skipped, *first_failure));
@@ -257,7 +257,7 @@ static FAULTY: [(&[u8], u64); 19] = [
     (b"0061\n00G1\n00G1", 2),
 ];
 
-/// Looks at the faults of such texts.
+/// Checks the faults of such texts.
 fn assert_faulty(rt: &impl Abort, t: &Table, texts: &[(&[u8], u64)]) {
     for (text, line) in texts {
         assert_answer(rt, t, text, fault(*line, ConformCause::BadLine));
@@ -278,7 +278,7 @@ static LONG: [(usize, &[u8], u64); 3] = [
     (4095, b"\r\n0062", 2),
 ];
 
-/// Looks at the answer for such a text, and for the same with one more byte in its line.
+/// Checks the answer for such a text, and for the same with one more byte in its line.
 fn assert_line_limit(
     rt: &impl Abort,
     alloc: Global,
@@ -290,7 +290,7 @@ fn assert_line_limit(
     assert_long_text(rt, alloc, t, width.saturating_add(1), rest, long)
 }
 
-/// Looks at the answers for long lines of comments and of code points.
+/// Checks the answers for long lines of comments and of code points.
 fn assert_long_lines(rt: &impl Abort, alloc: Global, t: &Table) -> Result<(), Fail> {
     for row in &LONG {
         assert_line_limit(rt, alloc, t, row)?;
@@ -309,7 +309,7 @@ fn a_line_has_a_limit(rt: HostRuntime) -> Result<(), Fail> {
     assert_long_lines(&rt, rt.alloc(), &t)
 }
 
-/// Looks at the answers for files of lines of sixty-four bytes.
+/// Checks the answers for files of lines of sixty-four bytes.
 fn assert_large_files(rt: &impl Abort, t: &Table) {
     let text = b"# a line of sixty-four bytes, which is a comment and says naught\n";
     let lines = (MAX_INPUT / 65) as u64;
@@ -321,7 +321,7 @@ fn assert_large_files(rt: &impl Abort, t: &Table) {
     assert_conforms(rt, t, repeated(text, MAX_INPUT + 1, 4095, false), large);
 }
 
-/// Looks at the answers for files of lines that are as wide as they may be.
+/// Checks the answers for files of lines that are as wide as they may be.
 fn assert_wide_files(rt: &impl Abort, t: &Table) {
     let mut widest = [b'#'; 4097];
     widest[4096] = b'\n';
@@ -354,7 +354,7 @@ static FAILING: [(&[u8], u64, ConformCause); 5] = [
     (b"0061\n00G1\n", 2, ConformCause::BadLine),
 ];
 
-/// Looks at the faults of such texts.
+/// Checks the faults of such texts.
 fn assert_failing(rt: &impl Abort, t: &Table, texts: &[(&[u8], u64, ConformCause)]) {
     for (text, line, cause) in texts {
         let fails = repeated(text, text.len(), 4, true);

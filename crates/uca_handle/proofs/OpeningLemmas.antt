@@ -1,4 +1,4 @@
--- What a reader of known bytes that never fails has said of a table.
+-- What a reader of known bytes that never fails shows about a table.
 use Rattle.std.proofs.Common.{◌≡◌, refl, ℕ, List, [], ◌∷◌, length, ◌++◌, sym, ap, ◌∙◌, subst, append-nil, arith, inl, inr}
 use Rattle.std.specs.Prelude.{Option, Some, None, Result, Ok, Err, MatchResult, IsErrAnd, chars, IsUtf8}
 use Rattle.std.proofs.lemmas.Str.{IsUtf8-nil, chars-nil}

@@ -42,7 +42,7 @@ fn the_level_that_decides(rt: HostRuntime) {
     assert!(rt; collator.compare_levels(TERTIARY, b"a", b"\xFF") == Err(fault));
 }
 
-/// Room for the matches of a short text.
+/// A buffer for the matches of a short text.
 #[derive(Drop)]
 struct Room {
     matches: [MatchForm; 4],
@@ -70,7 +70,7 @@ impl Room {
         }
     }
 
-    /// The matches of a text, asked for once more where memory was refused.
+    /// The matches of a text, tried again where memory was refused.
     fn take(
         &mut self,
         alloc: Global,

@@ -17,10 +17,10 @@ const TERTIARY: Settings = Settings {
     weighting: Variable::NonIgnorable,
 };
 
-// A value that another thread may have.
+// A value that may be sent to another thread.
 fn goes<T: Send>(_value: &T) {}
 
-/// Gives a collator a table, once more where memory was refused.
+/// Gives a collator a table, retrying where memory was refused.
 fn load(
     alloc: Global,
     collator: &mut Collator,
@@ -33,7 +33,7 @@ fn load(
     }
 }
 
-/// Gives another collator the same table, once more where memory was refused.
+/// Gives another collator the same table, retrying where memory was refused.
 fn share(alloc: Global, collator: &mut Collator, other: &mut Collator) -> Result<(), ShareFault> {
     match collator.share(alloc, other) {
         Err(ShareFault::OutOfMemory) => collator.share(alloc, other),
@@ -124,7 +124,7 @@ fn a_fingerprint_is_of_the_table_and_the_settings(rt: HostRuntime) {
     assert!(rt; found[0] != found[2]);
 }
 
-/// The bounds of a text in buffers of eight bytes, asked for once more where memory was refused.
+/// The bounds of a text in buffers of eight bytes, tried again where memory was refused.
 fn bounds(
     alloc: Global,
     collator: &mut Collator,

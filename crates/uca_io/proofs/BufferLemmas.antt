@@ -77,7 +77,7 @@ FailsPartway-longer s0 s1 o0 xs ys f q =
       cause = q.cause;
     }
 
--- all went out of what an empty buffer was accepted
+-- all that an empty buffer accepted was written
 pub Accepts-all : (s0 s1 : WriterState) (o0 o1 : BufferState) (xs : List ℕ) → o0.waiting ≡ [] → o1.waiting ≡ [] → Accepts s0 o0 s1 o1 xs → WritesAll s0 s1 xs
 Accepts-all s0 s1 o0 o1 xs none empty p =
     let whole : xs ≡ p.went = ap (λ l. l ++ xs) (sym none) ∙ p.all ∙ ap (λ l. p.went ++ l) empty ∙ append-nil p.went in

@@ -1,7 +1,7 @@
 -- Numbers in hexadecimal digits.
 use Rattle.std.proofs.Common.{ℕ, suc, zero, ◌<◌, ◌^◌, arith}
 
--- five digits leave room for one more in 32 bits
+-- five digits leave space for one more in 32 bits
 pub five_digits : (n i : ℕ) → n < 16 ^ i → i < 6 → n < 2 ^ 20
 five_digits n zero low few = omega arith
 five_digits n (suc zero) low few = omega arith

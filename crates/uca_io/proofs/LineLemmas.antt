@@ -34,7 +34,7 @@ first_feed xs n at low =
     let stop : get_or xs (position_or_len is_line_feed xs) 0 ≡ line_feed = feed_at _ (passes_at_first is_line_feed xs 0 (omega arith)) in
     subst (λ m. xs ≡ take m xs ++ line_feed ∷ drop (m + 1) xs) (sym at) (subst (λ b. xs ≡ take (position_or_len is_line_feed xs) xs ++ b ∷ drop (position_or_len is_line_feed xs + 1) xs) stop (split_at_first is_line_feed xs 0 (omega arith)))
 
--- no LF stands before the first one
+-- no LF comes before the first one
 pub open_front : (xs : List ℕ) (n : ℕ) → n ≡ position_or_len is_line_feed xs → n ≤ length xs → IsOpen (take n xs)
 open_front xs n at within = record {
   line = λ k d low.
@@ -80,6 +80,6 @@ first_part (b ∷ line) more clear =
       long = let h : length line ≤ length later.part = later.long in omega arith;
     }
 
--- the front of a text that has room after some bytes
+-- the front of a text that fits after some bytes
 pub take-room : (bytes more : List ℕ) (n room : ℕ) → length bytes + room ≡ n → take n (bytes ++ more) ≡ bytes ++ take room more
 take-room bytes more n room is = subst (λ (m : ℕ). take m (bytes ++ more) ≡ bytes ++ take room more) is (take-append-add bytes more room)

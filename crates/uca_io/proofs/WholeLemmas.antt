@@ -2,7 +2,7 @@
 use Rattle.std.proofs.Common.{◌≡◌, ℕ, ◌+◌, ◌-◌, ◌<◌, ◌≤◌, List, ◌++◌, length, take, arith, length-append}
 use Rattle.std.proofs.lemmas.List.{length-take}
 
--- the bytes so far and n more are one too many, where no more were asked for
+-- the bytes so far and n more are one too many, where no more were requested
 pub too_many : (limit : ℕ) (bytes buf : List ℕ) (n : ℕ) → length bytes ≤ limit → n ≤ length buf → length buf ≤ limit - length bytes + 1 → limit - length bytes < n → length (bytes ++ take n buf) ≡ limit + 1
 too_many limit bytes buf n within fits asked more = omega (arith, length-append bytes (take n buf), length-take n buf)
 

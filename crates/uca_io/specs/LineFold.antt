@@ -1,4 +1,4 @@
--- What the lines of a text amount to, one after the other.
+-- The result of the lines of a text, one by one.
 use Rattle.std.specs.Prelude.{◌≡◌, ℕ, ◌+◌, nat_lt, List, [], ◌∷◌, length, take, Result, Ok, Err, if◌then◌else◌}
 use Rattle.std.specs.List.{slice_split}
 use Rattle.uca_io.specs.Lines.{is_line_feed}
@@ -34,7 +34,7 @@ abbrev pub then_with : {A B E : Type 0} → (A → Result B E) → Result A E �
 then_with f (Ok a) = f a
 then_with f (Err e) = Err e
 
--- a line with at most so many bytes, a CR among them
+-- a line with at most this many bytes, a CR among them
 abbrev pub unless_long : {A C : Type 0} → Fold A C → List ℕ → Result A C → Result A C
 unless_long f line r = if nat_lt MAX_LINE (length line) then Err f.long else r
 

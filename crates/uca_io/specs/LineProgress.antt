@@ -9,14 +9,14 @@ use Rattle.uca_io.specs.declared.line_reader.LineCause.TheVariants.{LineTooLong,
 use Rattle.uca_io.specs.declared.line_reader.LineFault.{LineFault}
 use Rattle.uca_io.specs.declared.line_reader.Progress.{Progress}
 
--- the fault that a cause stands for, if it does for one
+-- the fault for a cause, if there is one
 abbrev pub fault_by : {A C K : Type 0} → Fold A C → (K → Option C) → LineCause K → Option C
 fault_by f fault_of LineTooLong = Some f.long
 fault_by f fault_of TooLarge = Some f.large
 fault_by f fault_of Read = Some f.failed
 fault_by f fault_of (Refused cause) = fault_of cause
 
--- the fault is one of the text, and none of its reader
+-- the fault is one of the text, not of its reader
 abbrev pub IsOfText : {K : Type 0} → (K → Type 0) → LineCause K → Type 0
 IsOfText possible Read = ⊥
 IsOfText possible (Refused cause) = possible cause

@@ -29,7 +29,7 @@ pub record GivesFaulty {A C : Type 0} (meaning : Meaning A C) (old new : ReaderS
   pub gives : GivesAll old new bytes
   pub says : meaning ends bytes ≡ fault_at line cause
 
--- a reader gave the front of a text, at most one byte of it past the limit, which is at fault whatever follows
+-- a reader gave a prefix of a text, at most one byte of it past the limit, which is at fault whatever follows
 pub record GivesFaultyFront {A C : Type 0} (meaning : Meaning A C) (old new : ReaderState) (line : ℕ) (cause : C) : Type 0 where
   pub bytes : List ℕ
   pub within : length bytes ≤ MAX_INPUT + 1

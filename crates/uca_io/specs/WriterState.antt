@@ -7,7 +7,7 @@ pub record WriterState : Type 0 where
   pub failures : ℕ
   pub zeros : ℕ
 
--- a call answered 0 for a piece that was not empty
+-- a call returned 0 for a piece that was not empty
 abbrev pub took_none : {E : Type 0} → Result ℕ E → List ℕ → Bool
 took_none (Ok n) piece = n == 0 && nat_lt 0 (length piece)
 took_none (Err e) piece = false

@@ -2,7 +2,7 @@
 ghost use Rattle.std.specs.Prelude.{◌≡◌, ◌≤◌, ◌<◌, ◌^◌, length, IfSome};
 ghost use Rattle.uca_io.specs.Digits.{code_point, hex_digit, hex_pair, number};
 
-/// The number that at most six hexadecimal digits say.
+/// The number that at most six hexadecimal digits spell.
 pub fn number(digits: &[u8]) -> Option<u32>
     requires { length digits.now ≤ 6 }
     ensures value { result ≡ number digits.now }
@@ -18,7 +18,7 @@ pub fn number(digits: &[u8]) -> Option<u32>
     Some(said)
 }
 
-/// The code point that four to six digits say.
+/// The code point that four to six hexadecimal digits spell.
 #[tactic(auto, unfolding(crate::specs::Digits::code_point))]
 pub fn code_point(digits: &[u8]) -> Option<char>
     ensures { result ≡ code_point digits.now }

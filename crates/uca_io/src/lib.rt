@@ -1,7 +1,7 @@
-//! Bytes that come in and go out: readers, writers, a buffer before a writer, and lines of bytes.
+//! Input and output of bytes: readers, writers, a buffer before a writer, and lines of bytes.
 //!
-//! [`Reader`] and [`Writer`] count the calls that failed, so that a caller above them can promise that a fault is
-//! reported only where one was met.
+//! [`Reader`] and [`Writer`] count the calls that failed, so that a caller can promise that a fault is
+//! reported only where one occurred.
 #![tactic(auto)]
 
 pub mod digits;

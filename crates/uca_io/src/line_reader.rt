@@ -10,10 +10,10 @@ use crate::lines::{extend_held, next_line};
 use crate::reader::Reader;
 use arrayvec::ArrayVec;
 
-/// How many bytes a reader is asked for at once.
+/// How many bytes one call requests of a reader.
 const CHUNK: usize = 4_096;
 
-/// What is made of the lines of a text, one after the other.
+/// Takes the lines of a text, one by one.
 pub trait LineSink {
     /// Why a line is refused.
     type Cause;
@@ -26,14 +26,14 @@ pub trait LineSink {
     ghost state: { Self → Self.State };
     // What each line adds, or why it is at fault.
     ghost fold: { Fold Self.State Self.Fault };
-    // The fault that a cause stands for, and none where memory was refused.
+    // The fault for a cause, and none where memory was refused.
     ghost fault_of: { Self.Cause → Option Self.Fault };
     // The causes that may be answered.
     ghost possible: { Self.Cause → Type 0 };
     // Whether the line of a number may be added.
     ghost ready: { Self → ℕ → Type 0 };
 
-    /// Adds the line of a number, counted from 1. After an `Err` nothing more may be added.
+    /// Adds the line with this number, counted from 1. After an `Err` nothing more may be added.
     fn add(&mut self, number: u64, line: &[u8]) -> Result<(), Self::Cause>
         requires short { length line.now ≤ MAX_LINE }
         requires ready { Self.ready self.old number }
@@ -232,7 +232,7 @@ fn too_large<S: LineSink>(
 
 /// Reads a text to its end or to its first fault, and adds its lines to a sink. Each line is without its LF, and the
 /// last one may have none. At most one byte past `MAX_INPUT` is taken from a reader that states its bytes, and at most
-/// `MAX_INPUT` + 1 calls are made of one that counts its calls. What the reader still holds after a fault isn't said.
+/// `MAX_INPUT` + 1 calls are made of one that counts its calls. What the reader still holds after a fault is unspecified.
 pub fn read_lines<R: Reader, S: LineSink>(
     reader: &mut R,
     sink: &mut S,

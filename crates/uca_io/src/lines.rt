@@ -7,7 +7,7 @@ ghost use Rattle.uca_io.specs.Lines.{line_feed, without_return, IsOpen};
 use arrayvec::ArrayVec;
 use memchr::memchr;
 
-/// Where a byte first stands, or the length.
+/// The place where a byte first occurs, or the length.
 pub fn place_of(byte: u8, text: &[u8]) -> usize
     ensures value { result ≡ position_or_len (λ b. b == byte) text.now }
     ensures within { result ≤ length text.now }
@@ -42,8 +42,8 @@ pub fn without_return(line: &[u8]) -> &[u8]
     }
 }
 
-/// What stands before the first LF, and what follows it.
-pub fn next_line(text: &[u8]) -> Option<(&[u8], &[u8])>
+/// What comes before the first LF, and what follows it.
+pub(crate) fn next_line(text: &[u8]) -> Option<(&[u8], &[u8])>
     ensures { MatchOption result (IsOpen text.now) (λ p. (text.now ≡ p.0.now ++ line_feed ∷ p.1.now) × (IsOpen p.0.now × (length p.1.now < length text.now))) }
 {
     let end = place_of(b'\n', text);
@@ -55,7 +55,7 @@ pub fn next_line(text: &[u8]) -> Option<(&[u8], &[u8])>
 }
 
 /// Holds more bytes of a line, and returns whether they fit. If not, it holds what it held.
-pub fn extend_held<const N: usize>(held: &mut ArrayVec<u8, N>, part: &[u8]) -> bool
+pub(crate) fn extend_held<const N: usize>(held: &mut ArrayVec<u8, N>, part: &[u8]) -> bool
     ensures fits { OnTrue result (held.new.items ≡ held.old.items ++ part.now) }
     ensures short { OnTrue result (length held.new.items ≤ N) }
     ensures full { result ≡ false → N < length (held.old.items ++ part.now) }

@@ -5,11 +5,11 @@ use crate::writing::write_whole;
 use arrayvec::ArrayVec;
 use std::marker::Model;
 
-/// How many bytes wait at most until they go out, and how long a piece may be.
+/// The capacity in bytes, and the greatest length of a piece.
 pub const ROOM: usize = 8_192;
 
-/// A buffer before a [`Writer`]: what waits to go out, and the count of bytes that went out before it. Pieces go out
-/// in their order, and a fault reports how many bytes of all pieces went out.
+/// A buffer before a [`Writer`]: what waits to be written, and the count of bytes written before it. Pieces are written
+/// in their order, and a fault reports how many bytes of all pieces were written.
 #[derive(Drop)]
 pub struct OutputBuffer {
     waiting: ArrayVec<u8, ROOM>,
@@ -27,7 +27,7 @@ impl Model for OutputBuffer {
 impl OutputBuffer {
     ghost use Rattle.uca_io.specs.OutputBuffer.{accepted, Accepts, FailsPartway};
 
-    /// Nothing waits, and nothing went out.
+    /// Nothing waits, and nothing was written.
     pub fn new() -> OutputBuffer
         ensures written { result.written ≡ 0 }
         ensures waiting { result.waiting ≡ [] }
@@ -38,14 +38,14 @@ impl OutputBuffer {
         }
     }
 
-    /// The count of bytes that went out.
+    /// The count of bytes written.
     pub fn written(&self) -> u128
         ensures { result ≡ self.now.written }
     {
         self.written
     }
 
-    /// Writes what waits. On a fault the buffer stays as it was, and only the fault reports what went out of it.
+    /// Writes what waits. On a fault the buffer stays as it was, and only the fault reports how much of it was written.
     pub fn flush<W: Writer>(&mut self, w: &mut W) -> Result<(), WriteFault>
         requires { accepted self.old < 2 ^ 128 }
         ensures all { MatchResult result
@@ -68,7 +68,7 @@ impl OutputBuffer {
     }
 
     /// Writes a piece, now or later. On a fault the buffer stays as it was, without the piece, and only the fault
-    /// reports what went out of it.
+    /// reports how much of it was written.
     pub fn write<W: Writer>(&mut self, w: &mut W, piece: &[u8]) -> Result<(), WriteFault>
         requires short { length piece.now ≤ ROOM }
         requires room { accepted self.old + length piece.now < 2 ^ 128 }

@@ -6,7 +6,7 @@ ghost use Rattle.uca_io.specs.Reader.{ReaderState};
 
 use std::io::Read;
 
-/// A reader or a writer refused a call.
+/// A call of a reader or a writer failed.
 #[derive(Clone, Copy, Debug, PartialEq, Eq)]
 pub struct Refused;
 
@@ -18,7 +18,7 @@ pub trait Reader {
     ghost calls: { Self → ℕ } = { λ _. 0 };
 
     /// Reads into the front of a buffer, and returns how many bytes it read. It returns 0 for a buffer that is
-    /// not empty only where no byte is left. An error takes no byte.
+    /// not empty only where no byte is left. On an error it reads no byte.
     fn pull(&mut self, buf: &mut [u8]) -> Result<usize, Refused>
         ensures bound { ReadsAtMost result buf.new }
         ensures bytes { ReadConsumes (state self.old).coming (state self.new).coming result buf.new }

@@ -5,7 +5,7 @@ ghost use Rattle.uca_io.specs.ReadWhole.{StopsAt};
 use crate::reader::Reader;
 use std::alloc::Global;
 
-/// How many bytes a reader is asked for at most at once.
+/// The most bytes that one call requests of a reader.
 const CHUNK: usize = 65_536;
 
 /// Why bytes were not read to their end.
@@ -19,7 +19,7 @@ pub enum Stop {
     OutOfMemory,
 }
 
-/// How many bytes to ask for where so many may still come: one more shows that there are too many.
+/// How many bytes to request where this many may still come: one more shows that there are too many.
 fn asked_for(room: usize) -> usize
     ensures some { 0 < result }
     ensures most { result ≤ CHUNK }
@@ -28,7 +28,7 @@ fn asked_for(room: usize) -> usize
     if room < CHUNK { room + 1 } else { CHUNK }
 }
 
-/// Reads bytes to their end, which are at most `limit`. It never asks for more than the first byte past the limit, and makes at
+/// Reads bytes to their end, which are at most `limit`. It never requests more than the first byte past the limit, and makes at
 /// most `limit` + 1 calls of a reader that counts its calls.
 pub fn read_whole<R: Reader>(alloc: Global, reader: &mut R, limit: usize) -> Result<Vec<u8>, Stop>
     ensures reads { MatchResult result

@@ -40,7 +40,7 @@ pub fn trim_end(bytes: &[u8]) -> &[u8]
     &bytes[..end]
 }
 
-/// How many bytes stand before the first blank.
+/// How many bytes come before the first blank.
 pub fn word_len(text: &[u8]) -> usize
     ensures value { result ≡ position_or_len is_blank text.now }
     ensures within { result ≤ length text.now }

@@ -11,11 +11,11 @@ use thiserror::Error;
 /// A sink of bytes, which states how many of its calls failed, and how many took nothing. A count stays at
 /// 2^128 - 1 once it is there.
 pub trait Writer {
-    /// The bytes taken so far, where they are known, how many of its calls failed, and how many answered 0 for a
+    /// The bytes taken so far, where they are known, how many of its calls failed, and how many returned 0 for a
     /// piece that was not empty.
     ghost state: { Self → WriterState };
 
-    /// Takes a front of the bytes, and returns how many it took. An error takes no byte.
+    /// Takes a front of the bytes, and returns how many it took. On an error it takes no byte.
     fn put(&mut self, bytes: &[u8]) -> Result<usize, Refused>
         ensures bound { WritesAtMost result bytes.now }
         ensures bytes { WriteAppends (state self.old).taken (state self.new).taken result bytes.now }
@@ -78,7 +78,7 @@ impl<W: Write> Writer for Writing<W> {
 /// Why a write stopped.
 #[derive(Clone, Copy, Debug, PartialEq, Eq, Error)]
 pub enum WriteCause {
-    /// The writer answered an error, of whatever kind.
+    /// The writer returned an error, of whatever kind.
     #[error("Failed")]
     Failed,
     /// The writer took no byte of a piece that was not empty.
@@ -89,7 +89,7 @@ pub enum WriteCause {
 /// How far a write came, and why it stopped.
 #[derive(Clone, Copy, Debug, PartialEq, Eq)]
 pub struct WriteFault {
-    /// The count of bytes that went out.
+    /// The count of bytes written.
     pub written: u128,
     pub cause: WriteCause,
 }

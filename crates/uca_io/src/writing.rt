@@ -12,7 +12,7 @@ fn stopped(at: usize, cause: WriteCause) -> WriteFault
     }
 }
 
-/// Writes all bytes, in as many pieces as the writer takes. On a fault exactly the first `written` of them went out.
+/// Writes all bytes, in as many calls as the writer needs. On a fault exactly the first `written` of them were written.
 /// It does not flush, and does not try again after an error.
 pub fn write_whole<W: Writer>(w: &mut W, bytes: &[u8]) -> Result<(), WriteFault>
     ensures { MatchResult result

@@ -78,7 +78,7 @@ fn bytes_without_end_are_refused_at_the_first_one_past_the_limit(rt: HostRuntime
     }
 }
 
-/// Takes so many bytes, then fails or takes none.
+/// Takes this many bytes, then fails or takes none.
 #[derive(Drop)]
 struct Small {
     room: usize,

@@ -16,7 +16,7 @@ use Rattle.uca_job.proofs.HelpLemmas.{IsNotHelp, StopsAtNoHelp, or_else-nil, wal
 abbrev pub NamesTask : Text × List Row → Type 0
 NamesTask found = IsSome (task_named found.0)
 
--- the command goes by one name, which is that of a task or `help`
+-- the command has one name, which is that of a task or `help`
 abbrev is_known : Shape → Bool
 is_known s = is_empty s.aliases && (is_some (task_named s.name) || bytes_eq s.name (codes "help"))
 
@@ -87,7 +87,7 @@ faultless_task a words help required known fine =
 pub taken_task : (choices : Choices) (words : List Text) → IsTaken choices words → IsSomeAnd (subcommand_of (uca_with choices) words) NamesTask
 taken_task choices words taken = faultless_task (built (uca_with choices)) words refl refl refl taken
 
--- clap's definition of the matches speaks of the program
+-- clap's definition of the matches is about the program
 pub uca_is_simple : (choices : Choices) → is_simple (uca_with choices) ≡ true
 unfolding clap_on_literals
 uca_is_simple choices = refl

@@ -1,4 +1,4 @@
--- The command line of the program: which job the words after the program's name ask for, by clap's own definition of
+-- The command line of the program: which job the words after the program's name request, by clap's own definition of
 -- what a command takes and finds.
 use Rattle.std.specs.Prelude.{◌≡◌, ◌≢◌, ⊤, ℕ, Bool, true, false, List, [], ◌∷◌, ◌==◌, Option, Some, None, IsSomeAnd, codes, fold, if◌then◌else◌, map, option_and_then, option_map, string_bytes, unwrap_or}
 use Rattle.std.specs.List.{after_first, before_first}
@@ -48,7 +48,7 @@ pub record Choices : Type 0 where
 abbrev pub choices_of : declared.Choices → Choices
 choices_of c = record { strengths = c.strengths; weightings = c.weightings }
 
--- the lists have exactly the names that mean something
+-- the lists have exactly the names with a meaning
 pub record AreChoices (choices : Choices) : Type 0 where
   pub strengths : map (λ name. name.now) choices.strengths.now
       ≡ codes "primary" ∷ codes "secondary" ∷ codes "tertiary" ∷ codes "quaternary" ∷ codes "identical" ∷ []
@@ -134,13 +134,13 @@ task_named name =
     else (if bytes_eq name (codes "lint") then Some Lint
     else (if bytes_eq name (codes "table") then Some Table else None))))))
 
--- ---- the job that the words ask for
+-- ---- the job that the words request
 
--- the strength that the option asks for: where it is left out, the third
+-- the strength that the option names: where it is left out, the third
 abbrev pub strength_in : List Row → Strength
 strength_in rows = unwrap_or (option_and_then strength_named (first_of (codes "strength") rows)) Tertiary
 
--- the weighting that the option asks for: where it is left out, variable elements are as others
+-- the weighting that the option names: where it is left out, variable elements are as others
 abbrev pub weighting_in : List Row → Variable
 weighting_in rows = unwrap_or (option_and_then weighting_named (first_of (codes "variable") rows)) NonIgnorable
 
@@ -156,7 +156,7 @@ both first last = option_and_then (λ a. option_map (λ b. (a, b)) last) first
 abbrev pub is_stop : ℕ → Bool
 is_stop b = b == 0x2E
 
--- what follows a full stop that stands first
+-- what follows a full stop that comes first
 abbrev pub after_stop : Text → Option Text
 after_stop [] = None
 after_stop (b ∷ bs) = if is_stop b then Some bs else None
@@ -191,7 +191,7 @@ pub record IsJobOf (words : List Text) (job : Job) : Type 0 where
   pub taken : IsTaken choices words
   pub found : IsSomeAnd (subcommand_of (uca_with choices) words) (IsJobFrom job)
 
--- clap refuses the words, or answers them with help
+-- clap refuses the words, or prints help
 pub record IsRefused (words : List Text) : Type 0 where
   pub choices : Choices
   pub right : AreChoices choices

@@ -1,4 +1,4 @@
-//! The words of the command line, and the job that they ask for.
+//! The words of the command line, and the job that they request.
 ghost use Rattle.std.specs.Prelude.{◌≡◌, ◌≢◌, ◌⊎◌, IfErr, IfOk, IsSome, IsSomeAnd, MatchResult, codes, false, fold, map, option_map, string_bytes};
 ghost use Rattle.clap.specs.declared.builder.command.Command.TheViews.{out-Command};
 ghost use Rattle.clap.specs.Words.{app_of, first_of, found_of, kind_of, rows_of, rule_of, subcommand_rows_of};
@@ -69,11 +69,11 @@ pub enum Task {
     Elements,
     /// Writes the sort key of each line (UTS #10, section 7.3).
     Key,
-    /// Writes the order of each two neighbours among the lines (UTS #10, section 7.4).
+    /// Writes the order of each pair of neighbouring lines (UTS #10, section 7.4).
     Compare,
     /// Writes the lines in the order of their sort keys.
     Order,
-    /// Writes what the table makes of a test file like the Unicode Consortium's CollationTest files.
+    /// Writes how the table sorts a test file like the Unicode Consortium's CollationTest files.
     Check,
     /// Writes which conditions of well-formedness the table breaks (UTS #10, section 5).
     Lint,
@@ -81,7 +81,7 @@ pub enum Task {
     Table,
 }
 
-/// What the words of a command line ask for.
+/// What the words of a command line request.
 #[derive(Debug, PartialEq, Eq, Drop)]
 pub struct Job {
     pub command: Task,
@@ -89,21 +89,21 @@ pub struct Job {
     pub weighting: Variable,
     /// Whether the key of the input's one line is written as its bytes. Only [`Task::Key`] looks at it.
     pub raw: bool,
-    /// The path of the table's file. Where there is none, the built-in table is used.
+    /// The path of the table's file. Without one, the built-in table is used.
     pub table: Option<String>,
-    /// The path of the file of rules. Where there is none, the table is used as it is.
+    /// The path of the file of rules. Without one, the table is used as it is.
     pub rules: Option<String>,
     /// The first and the last of a range of further unified ideographs, which the table gets before it is tailored.
     pub ideographs: Option<(char, char)>,
 }
 
-/// Why no job was made of the words.
+/// Why the words are not a job.
 #[derive(Debug, PartialEq, Eq, Drop, Error)]
 pub enum JobFault {
     /// The words are refused, or ask for help. The text is clap's, without the LF that ends it.
     #[error("{0}")]
     Usage(String),
-    /// Memory ran out.
+    /// An allocation failed.
     #[error("uca: OutOfMemory")]
     OutOfMemory,
     /// The value of `--ideographs` is not two code points with `..` between.
@@ -119,8 +119,8 @@ impl From<AllocError> for JobFault {
     }
 }
 
-/// The job that the words after the program's name ask for. What they name is decided by `clap`. Where no option says
-/// otherwise, the comparison is tertiary and leaves variable elements as they stand.
+/// The job that the words after the program's name request. What they name is decided by `clap`. Where no option says
+/// otherwise, the comparison is tertiary and leaves variable elements as they are.
 pub fn job_of(alloc: Global, words: &[&str]) -> Result<Job, JobFault>
     ensures job { IfOk result (IsJobOf (map (λ w. w.now) words.now)) }
     ensures usage { IfErr result (λ f. IsUsage f → IsRefused (map (λ w. w.now) words.now)) }
@@ -190,7 +190,7 @@ fn with_command<'a>(
     program.subcommand(added)
 }
 
-// A command. Each takes all options, also those without meaning for it, and `key` a flag besides.
+// A command. Each takes all options, even those that it ignores, and `key` also a flag.
 fn command<'a>(
     alloc: Global,
     name: &'a str,
@@ -380,7 +380,7 @@ fn job_from(alloc: Global, matches: &ArgMatches<'_>) -> Result<Job, JobFault>
     })
 }
 
-// The strength that the option asks for. `clap` lets only known names pass.
+// The strength that the option names. `clap` lets only known names pass.
 fn strength_in(options: &ArgMatches<'_>) -> Strength
     ensures { result ≡ strength_in (rows_of (found_of options.now)) }
 {
@@ -389,7 +389,7 @@ fn strength_in(options: &ArgMatches<'_>) -> Strength
         .unwrap_or(Strength::Tertiary)
 }
 
-// The weighting that the option asks for. `clap` lets only known names pass.
+// The weighting that the option names. `clap` lets only known names pass.
 fn weighting_in(options: &ArgMatches<'_>) -> Variable
     ensures { result ≡ weighting_in (rows_of (found_of options.now)) }
 {

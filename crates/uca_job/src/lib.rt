@@ -1,4 +1,4 @@
-//! The command line of `uca`: its words, and the job that they ask for.
+//! The command line of `uca`: its words, and the job that they request.
 #![tactic(auto)]
 
 pub mod job;

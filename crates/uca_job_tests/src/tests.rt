@@ -60,7 +60,7 @@ fn options_with(settings: &[Setting]) -> Options {
     options
 }
 
-// Asks once more where memory was refused.
+// Tries again where memory was refused.
 fn job_again(alloc: Global, words: &[&str]) -> Result<Job, JobFault> {
     match job_of(alloc, words) {
         Err(JobFault::OutOfMemory) => job_of(alloc, words),
@@ -68,18 +68,18 @@ fn job_again(alloc: Global, words: &[&str]) -> Result<Job, JobFault> {
     }
 }
 
-// A line's words, which have a bar between each two.
+// A line's words, with a bar between each pair.
 fn words_of<'a>(alloc: Global, line: &'a str) -> Result<Vec<&'a str>, AllocError> {
     line.split('|').collect(alloc)
 }
 
-// What a line of words asks for.
+// What a line of words requests.
 fn job_by(alloc: Global, line: &str) -> Result<Result<Job, JobFault>, AllocError> {
     let words = words_of(alloc, line)?;
     Ok(job_again(alloc, &words))
 }
 
-// What a command and a line of words after it ask for.
+// What a command and a line of words after it request.
 fn job_after(
     alloc: Global,
     command: &str,
@@ -114,7 +114,7 @@ fn is_job(answer: Result<Job, JobFault>, task: Task, options: &Options) -> bool 
         && *ideographs == options.ideographs
 }
 
-// The answer is a text for the user, and no allocation failure.
+// The answer is a text for the user, not an allocation failure.
 fn is_refusal(answer: Result<Job, JobFault>) -> bool {
     match answer {
         Err(JobFault::Usage(text)) => !text.is_empty() && !text.ends_with('\n'),
@@ -122,7 +122,7 @@ fn is_refusal(answer: Result<Job, JobFault>) -> bool {
     }
 }
 
-// Looks at what a line of words asks for.
+// Checks what a line of words requests.
 fn assert_asks(
     rt: &impl Abort,
     alloc: Global,
@@ -135,7 +135,7 @@ fn assert_asks(
     Ok(())
 }
 
-// Looks at what a line of words asks for after each command.
+// Checks what a line of words requests after each command.
 fn assert_each_asks(
     rt: &impl Abort,
     alloc: Global,
@@ -149,7 +149,7 @@ fn assert_each_asks(
     Ok(())
 }
 
-// Looks at whether each command takes each of these words, and has what they set.
+// Checks whether each command takes each of these words, and has what they set.
 fn assert_each_takes(rt: &impl Abort, alloc: Global, rows: &[(&str, Setting)]) -> Result<(), Fail> {
     for (line, setting) in rows {
         assert_each_asks(rt, alloc, line, &options_with(&[*setting]))?;
@@ -157,7 +157,7 @@ fn assert_each_takes(rt: &impl Abort, alloc: Global, rows: &[(&str, Setting)]) -
     Ok(())
 }
 
-// Looks at whether each line of words is refused.
+// Checks whether each line of words is refused.
 fn assert_refused(rt: &impl Abort, alloc: Global, lines: &[&str]) -> Result<(), Fail> {
     for line in lines {
         assert!(rt; is_refusal(job_by(alloc, line)?), "{line}");
@@ -165,7 +165,7 @@ fn assert_refused(rt: &impl Abort, alloc: Global, lines: &[&str]) -> Result<(), 
     Ok(())
 }
 
-// Looks at whether each line of words is refused after this command.
+// Checks whether each line of words is refused after this command.
 fn assert_refused_after(
     rt: &impl Abort,
     alloc: Global,
@@ -181,7 +181,7 @@ fn assert_refused_after(
     Ok(())
 }
 
-// Looks at whether each line of words is refused after each command.
+// Checks whether each line of words is refused after each command.
 fn assert_each_refuses(rt: &impl Abort, alloc: Global, lines: &[&str]) -> Result<(), Fail> {
     for (name, _) in &COMMANDS {
         assert_refused_after(rt, alloc, name, lines)?;
@@ -189,7 +189,7 @@ fn assert_each_refuses(rt: &impl Abort, alloc: Global, lines: &[&str]) -> Result
     Ok(())
 }
 
-// Looks at the text that a fault shows.
+// Checks the text that a fault shows.
 fn assert_shows(
     rt: &impl Abort,
     alloc: Global,
@@ -209,7 +209,7 @@ fn a_command_alone_has_the_defaults(rt: HostRuntime) -> Result<(), Fail> {
     Ok(())
 }
 
-/// Options that ask for a strength.
+/// Options that name a strength.
 static STRENGTHS: [(&str, Setting); 10] = [
     ("--strength|primary", Setting::Strength(Strength::Primary)),
     ("--strength=primary", Setting::Strength(Strength::Primary)),
@@ -246,7 +246,7 @@ fn each_command_takes_each_strength(rt: HostRuntime) -> Result<(), Fail> {
     assert_each_takes(&rt, rt.alloc(), &STRENGTHS)
 }
 
-/// Options that ask for a weighting of variable elements.
+/// Options that name a weighting of variable elements.
 static WEIGHTINGS: [(&str, Setting); 6] = [
     (
         "--variable|non-ignorable",
@@ -267,7 +267,7 @@ fn each_command_takes_each_weighting(rt: HostRuntime) -> Result<(), Fail> {
     assert_each_takes(&rt, rt.alloc(), &WEIGHTINGS)
 }
 
-/// Options that ask for a table, and its path.
+/// Options that name a table, and its path.
 static TABLES: [(&str, Setting); 5] = [
     ("--table|a b.txt", Setting::Table("a b.txt")),
     ("--table=F", Setting::Table("F")),
@@ -282,7 +282,7 @@ fn each_command_has_the_path_of_its_table(rt: HostRuntime) -> Result<(), Fail> {
     assert_each_takes(&rt, rt.alloc(), &TABLES)
 }
 
-/// Options that ask for rules, and their path.
+/// Options that name rules, and their path.
 static RULES: [(&str, Setting); 2] = [
     ("--rules|a b.txt", Setting::Rules("a b.txt")),
     ("--rules=F", Setting::Rules("F")),
@@ -303,7 +303,7 @@ static RANGES: [(&str, Setting); 4] = [
         "--ideographs|0061..10ffff",
         Setting::Ideographs('a', '\u{10FFFF}'),
     ),
-    // Its ends may stand the wrong way round: the table refuses that.
+    // Its ends may be the wrong way round: the table refuses that.
     (
         "--ideographs|4E01..04E00",
         Setting::Ideographs('\u{4E01}', '\u{4E00}'),
@@ -342,7 +342,7 @@ static NO_RANGES: [&str; 19] = [
     "0061,.0062",
 ];
 
-// Looks at whether a value of `--ideographs` is refused.
+// Checks whether a value of `--ideographs` is refused.
 fn assert_no_range(rt: &impl Abort, alloc: Global, value: &str) {
     let answer = job_again(alloc, &["key", "--ideographs", value]);
     assert!(rt; matches!(answer, Err(JobFault::BadIdeographs)), "{value:?}");
@@ -381,7 +381,7 @@ static ORDERS: [&str; 3] = [
     "key|--strength=quaternary|--variable=shifted|--",
 ];
 
-/// What they ask for.
+/// What they request.
 static ORDERED: [Setting; 2] = [
     Setting::Strength(Strength::Quaternary),
     Setting::Weighting(Variable::Shifted),
@@ -522,7 +522,7 @@ static RAW_KEYS: [&str; 2] = [
     "key|--strength=primary|--raw",
 ];
 
-/// What they ask for.
+/// What they request.
 static RAW: [Setting; 2] = [Setting::Strength(Strength::Primary), Setting::Raw];
 
 #[test]
@@ -560,7 +560,7 @@ fn a_refused_growth_changes_no_answer(rt: HostRuntime) -> Result<(), Fail> {
     Ok(())
 }
 
-// Looks at the text that the refusal of a line of words shows.
+// Checks the text that the refusal of a line of words shows.
 fn assert_refused_with(
     rt: &impl Abort,
     alloc: Global,

@@ -36,7 +36,7 @@ take-more [] k h = absurd (omega arith)
 take-more (x ∷ xs) zero h = refl
 take-more (x ∷ xs) (suc k) h = (let one : suc k + 1 ≡ suc (k + 1) = omega arith in ap (λ j. take j (x ∷ xs)) one) ∙ ap (λ l. x ∷ l) (take-more xs k (omega arith))
 
--- up to the last byte, and up to what stands before it
+-- up to the last byte, and up to what comes before it
 up-to : (bytes : List ℕ) (m : ℕ) → 0 < m → m ≤ length bytes → take m bytes ≡ take (m - 1) bytes ++ get_or bytes (m - 1) 0 ∷ []
 up-to bytes m some within = (let up : m ≡ m - 1 + 1 = omega arith in ap (λ k. take k bytes) up) ∙ take-more bytes (m - 1) (omega arith)
 

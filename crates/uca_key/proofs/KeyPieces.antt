@@ -1,4 +1,4 @@
--- A key that goes out piece by piece.
+-- A key that is written piece by piece.
 use Rattle.std.proofs.Common.{◌≡◌, ℕ, zero, suc, ◌+◌, ◌<◌, List, [], ◌∷◌, ◌++◌, length, Option, Some, None, refl, sym, ap, subst, ◌∙◌, arith, append_assoc, append-nil, length-append}
 use Rattle.uca_io.specs.BufferState.{BufferState}
 use Rattle.uca_io.specs.declared.writer.WriteFault.{WriteFault}
@@ -8,7 +8,7 @@ use Rattle.uca_io.specs.OutputBuffer.{accepted, Accepts, FailsPartway}
 use Rattle.uca_io.proofs.BufferLemmas.{Accepts-none, Accepts-more, accepted-Accepts, FailsPartway-later, FailsPartway-longer, FailsPartway-front}
 use Rattle.uca_model.specs.DecidingLevel.{key_from, bytes_at}
 
--- these bytes went out, and the others of a piece are left
+-- these bytes were written, and the others of a piece are left
 pub record IsSending (s0 : WriterState) (o0 : BufferState) (s1 : WriterState) (o1 : BufferState) (whole left : List ℕ) : Type 0 where
   pub sent : List ℕ
   pub sends : Accepts s0 o0 s1 o1 sent
@@ -51,7 +51,7 @@ pub none_from : {A : Type 0} (o : Option A) → ((x : A) → o ≡ Some x → �
 none_from None other = refl
 none_from (Some x) other = absurd (other x refl)
 
--- what waited last did not all go out
+-- what waited last was not all written
 pub stopped_last : (s0 s1 s2 : WriterState) (o0 o1 : BufferState) (key : List ℕ) (f : WriteFault) → o0.waiting ≡ [] → o0.written ≡ 0 → Accepts s0 o0 s1 o1 key → FailsPartway s1 o1 s2 [] f → WritesFront s0 s2 key f
 stopped_last s0 s1 s2 o0 o1 key f none nothing sends stops =
     let whole : FailsPartway s0 o0 s2 key f = subst (λ (l : List ℕ). FailsPartway s0 o0 s2 l f) (append-nil key) (FailsPartway-later s0 s1 s2 o0 o1 key [] f sends stops) in

@@ -224,7 +224,7 @@ packed_order c n (x ∷ xs) (y ∷ ys) r s few p q =
 
 -- ---- keys
 
--- the order of the lists from a level on, with so many levels after it: the first that differ decide
+-- the order of the lists from a level on, with this many levels after it: the first that differ decide
 abbrev ordered_from : ℕ → ℕ → (ℕ → List ℕ) → (ℕ → List ℕ) → Ordering
 ordered_from zero level xs ys = list_order (xs level) (ys level)
 ordered_from (suc n) level xs ys = ordering_then (list_order (xs level) (ys level)) (ordered_from n (level + 1) xs ys)

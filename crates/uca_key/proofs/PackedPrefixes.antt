@@ -1,5 +1,5 @@
 -- Packed keys of more levels, of texts that begin with a complete one, and packed keys that begin with the key of a text at the strength Primary.
-use Rattle.std.proofs.Common.{◌⊎◌, ◌≡◌, ℕ, zero, suc, ◌/◌, ◌%◌, ◌≤◌, List, [], ◌∷◌, ◌++◌, flat_map, take, refl, sym, ap, ap₂, ◌∙◌, arith, inl, inr, append_assoc}
+use Rattle.std.proofs.Common.{◌≡◌, ℕ, zero, suc, ◌≤◌, List, [], ◌∷◌, ◌++◌, flat_map, take, refl, sym, ap, ◌∙◌, arith, inl, append_assoc}
 use Rattle.std.proofs.lemmas.List.Concat.{flat_map-append}
 use Rattle.std.specs.List.{concat}
 use Rattle.unicode_normalization.specs.Forms.{nfd}
@@ -11,10 +11,10 @@ use Rattle.uca_weights.specs.VariableWeighting.{weighted}
 use Rattle.uca_model.specs.Table.{ElementTable}
 use Rattle.uca_model.specs.CollationElements.{elements}
 use Rattle.uca_model.specs.LevelWeights.{level_list}
-use Rattle.uca_model.specs.Laws.{AreWeights, BeginsWith}
+use Rattle.uca_model.specs.Laws.{BeginsWith}
 use Rattle.uca_model.specs.Prefix.{primary_key}
 use Rattle.uca_model.specs.SortKey.{weight_bytes}
-use Rattle.uca_model.proofs.PrefixKeys.{primary_key-is, keys-begin}
+use Rattle.uca_model.proofs.PrefixKeys.{AfterLevel, keys-begin, primary_key-is, separated, weights-begin}
 use Rattle.uca_model.proofs.WeightLemmas.{HasWeights-IsTable}
 use Rattle.uca_key.specs.PackedKey.{packed_levels, packed_key}
 use Rattle.uca_key.specs.PackedLaws.{PackedKeysGrowByLevels, PackedKeysBeginWithCompleteTexts, PackedKeysBeginWithPrimaryWeights, PackedKeysOfBeginnings}
@@ -32,19 +32,7 @@ pub packed-grow : PackedKeysGrowByLevels
 unfolding packed_key
 packed-grow t v low high text fewer = begins-take (levels low) (levels high) (packed_levels (weighted v (elements t (nfd text))) (nfd text)) fewer
 
--- nothing, or a separator
-abbrev EndsLevel : List ℕ → Type 0
-EndsLevel tail = (tail ≡ []) ⊎ BeginsWith tail (0 ∷ 0 ∷ [])
-
 -- a packed key after its first level
-record AfterLevel (key level : List ℕ) : Type 0 where
-  tail : List ℕ
-  same : key ≡ level ++ tail
-  ends : EndsLevel tail
-
-separated : (level others : List ℕ) → AfterLevel (level ++ 0 ∷ 0 ∷ others) level
-separated level others = record { tail = 0 ∷ 0 ∷ others; same = refl; ends = inr (record { rest = others; parts = refl }) }
-
 first-level : (t : ElementTable) (v : Variable) (strength : Strength) (text : List ℕ) → AfterLevel (packed_key t (record { strength = strength; weighting = v }) text) (flat_map weight_bytes (level_list t v text 1))
 unfolding packed_key
 first-level t v Primary text = record { tail = []; same = refl; ends = inl refl }
@@ -61,24 +49,6 @@ packed-begin t s p x h =
       rest = longer.rest ++ level.tail;
       parts = level.same ∙ ap (λ l. l ++ level.tail) (sym (primary_key-is t s.weighting (p ++ x)) ∙ longer.parts) ∙ append_assoc (primary_key t s.weighting p) longer.rest level.tail;
     }
-
-weights-begin : (ws vs tail more : List ℕ) → AreWeights ws → AreWeights vs → EndsLevel tail → flat_map weight_bytes ws ++ tail ≡ flat_map weight_bytes vs ++ more → BeginsWith ws vs
-weights-begin ws [] tail more p q ends h = record { rest = ws; parts = refl }
-weights-begin [] (v ∷ vs) tail more p q ends h = elim ends [
-  | inl none ↦ let e : [] ≡ v / 256 % 256 ∷ v % 256 ∷ (flat_map weight_bytes vs ++ more) = sym none ∙ h in cc
-  | inr separator ↦
-      let e : 0 ∷ 0 ∷ separator.rest ≡ v / 256 % 256 ∷ v % 256 ∷ (flat_map weight_bytes vs ++ more) = sym separator.parts ∙ h in
-      let first : 0 ≡ v / 256 % 256 = cc in
-      let second : 0 ≡ v % 256 = cc in
-      absurd (omega (arith, q.0.0, q.0.1))
-]
-weights-begin (w ∷ ws) (v ∷ vs) tail more p q ends h =
-    let e : w / 256 % 256 ∷ w % 256 ∷ (flat_map weight_bytes ws ++ tail) ≡ v / 256 % 256 ∷ v % 256 ∷ (flat_map weight_bytes vs ++ more) = h in
-    let first : w / 256 % 256 ≡ v / 256 % 256 = cc in
-    let second : w % 256 ≡ v % 256 = cc in
-    let others : flat_map weight_bytes ws ++ tail ≡ flat_map weight_bytes vs ++ more = cc in
-    let later = weights-begin ws vs tail more p.1 q.1 ends others in
-    record { rest = later.rest; parts = ap₂ (λ x l. x ∷ l) (omega (arith, p.0.1, q.0.1)) later.parts }
 
 pub packed-alike : PackedKeysBeginWithPrimaryWeights
 packed-alike t s p x table of_p of_x h =

@@ -11,7 +11,7 @@ use Rattle.uca_weights.specs.VariableWeighting.{unchanged, weighted, weighted_af
 use Rattle.uca_model.specs.LevelWeights.{level_weights}
 use Rattle.uca_model.specs.SortKey.{level_bytes, weight_bytes}
 
--- elements keep their weights, whatever stands before them
+-- elements keep their weights, whatever comes before them
 weighted-unchanged : (before es : List Element) → weighted_after NonIgnorable before es ≡ map (λ e. unchanged e 0) es
 weighted-unchanged before [] = refl
 weighted-unchanged before (e ∷ es) = ap (λ ws. unchanged e 0 ∷ ws) (weighted-unchanged (before ++ e ∷ []) es)

@@ -33,7 +33,7 @@ fn settings(strength: Strength, weighting: Variable) -> Settings {
     }
 }
 
-/// The key of a safe text, asked for once more where memory was refused.
+/// The key of a safe text, tried again where memory was refused.
 fn key_again(rt: &impl Abort, alloc: Global, t: &Table, settings: Settings, text: &str) -> Vec<u8> {
     let p = Passage::check(text).ok().expect(rt, "a safe text");
     match key_of(alloc, t, settings, &p) {
@@ -45,7 +45,7 @@ fn key_again(rt: &impl Abort, alloc: Global, t: &Table, settings: Settings, text
 /// A text, a strength, a weighting and the text's key.
 type KeyRow = (&'static str, Strength, Variable, &'static [u8]);
 
-/// Stops a test where the key of a text is not this one.
+/// Fails a test where the key of a text is not this one.
 fn assert_key(rt: &impl Abort, alloc: Global, t: &Table, (text, strength, v, wanted): &KeyRow) {
     let key = key_again(rt, alloc, t, settings(*strength, *v), text);
     assert!(rt; key.as_slice() == *wanted, "{text:?} {strength:?} {v:?}");
@@ -150,7 +150,7 @@ fn variable_elements_are_weighted_by_the_option(rt: HostRuntime) {
     }
 }
 
-/// Stops a test where a key is not that of sixty acute accents at the second level.
+/// Fails a test where a key is not that of sixty acute accents at the second level.
 fn assert_marks_alone(rt: &impl Abort, key: &[u8]) {
     assert!(rt; key.len() == 122);
     for (i, b) in key.iter().enumerate() {

@@ -164,7 +164,7 @@ other_point : (p : List ℕ) (x y : ℕ) → eqb y x ≡ false → is_front (p +
 other_point [] x y other = ap (λ b. b && true) other
 other_point (z ∷ p) x y other = ap (λ b. b && is_front (p ++ x ∷ []) (p ++ y ∷ [])) (eq-eqb z z refl) ∙ other_point p x y other
 
--- whether a path begins a key is seen from so many of its first code points
+-- whether a path begins a key depends only on this many of its first code points
 front_take : (p k : List ℕ) (m : ℕ) → length p ≤ m → is_front p k ≡ is_front p (take m k)
 front_take [] k m upto = refl
 front_take (x ∷ p) [] zero upto = refl

@@ -66,7 +66,7 @@ AreNext-take es p ns zero next = tt
 AreNext-take es p [] (suc i) next = tt
 AreNext-take es p (n ∷ ns) (suc i) next = (next.0, AreNext-take es (path_after p n) ns i next.1)
 
--- how many code points stand before the children of a node is the length of its path
+-- the number of code points before the children of a node is the length of its path
 depth_is : (es : List Element) (p : List ℕ) (ns : List Node) (i : ℕ) → AreNext es p ns → suc i ≤ length ns → depth_below ns (suc i) ≡ length (get_or (paths_after p ns) i [])
 depth_is es p [] i next within = absurd (omega arith)
 depth_is es p (n ∷ ns) zero next within = sym (path_long p n next.0.from)

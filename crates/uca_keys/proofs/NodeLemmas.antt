@@ -1,6 +1,6 @@
 -- Nodes, their paths and the entries at which keys end.
 use Rattle.std.proofs.Common.{◌≡◌, ℕ, zero, suc, ◌+◌, ◌-◌, ◌≤◌, ◌<◌, Bool, true, false, cond, ◌||◌, eqb, List, [], ◌∷◌, ◌++◌, length, take, drop, get_or, Option, Some, None, refl, sym, ap, ap₂, subst, ◌∙◌, arith, inl, inr, eqb-true, ne_eqb, length-append, length-take-le, length-drop, take-take, take_all, append_assoc}
-use Rattle.std.proofs.lemmas.Bool.{cases_Bool}
+use Rattle.std.proofs.lemmas.Bool.{cases_Bool, or_right}
 use Rattle.std.proofs.lemmas.List.{take-append-le, drop-append-le, length_push}
 use Rattle.std.specs.declared.cmp.Ordering.TheVariants.{Less, Greater}
 use Rattle.std.specs.List.{list_any}
@@ -176,10 +176,6 @@ find_at es p (n ∷ ns) (suc i) d next within =
           ap (λ b. find key_cmp r (cond b (entries_after es q ns) ((q, elements_in es n) ∷ entries_after es q ns))) some
           ∙ ap (λ o. cond (is_eq o) (Some (elements_in es n)) (find key_cmp r (entries_after es q ns))) above ∙ rest
     ]
-
-or_right : (a b : Bool) → b ≡ true → (a || b) ≡ true
-or_right true b h = refl
-or_right false b h = h
 
 any_more : {X : Type 0} (f g : X → Bool) → ((x : X) → f x ≡ true → g x ≡ true) → (xs : List X) → list_any f xs ≡ true → list_any g xs ≡ true
 any_more f g more [] h = h

@@ -36,15 +36,15 @@ what_follows [] [] = refl
 what_follows [] (y ∷ ys) = ap (λ l. y ∷ l) (what_follows [] ys)
 what_follows (x ∷ xs) ys = what_follows xs ys
 
--- with its nodes, the nodes have it as their last entry
-pub record IsPushed (es : List Element) (ns : List Node) (key : List ℕ) (els : List Element) (added : List Node) : Type 0 where
-  pub next : AreNext (es ++ els) [] (ns ++ added)
-  pub full : AreFull (ns ++ added)
-  pub last : key ≡ last_path [] (ns ++ added)
-  pub entries : entries_after (es ++ els) [] (ns ++ added) ≡ entries_after es [] ns ++ (key, els) ∷ []
+-- after these nodes and elements come others, by which they have one more entry
+pub record IsPushed (es : List Element) (ns : List Node) (key : List ℕ) (els new_es : List Element) (new_ns : List Node) : Type 0 where
+  pub next : AreNext new_es [] new_ns
+  pub full : AreFull new_ns
+  pub last : key ≡ last_path [] new_ns
+  pub entries : entries_after new_es [] new_ns ≡ entries_after es [] ns ++ (key, els) ∷ []
 
-pub pushed : (es : List Element) (ns : List Node) (key : List ℕ) (els : List Element) (from : ℕ) → AreNext es [] ns → AreFull ns → key_cmp (last_path [] ns) key ≡ Less → from ≤ length (last_path [] ns) → from ≤ length key → take from (last_path [] ns) ≡ take from key
-    → ((d : ℕ) → from < length (last_path [] ns) → from < length key → get_or (last_path [] ns) from d ≡ get_or key from d → ⊥) → length key ≤ MAX_KEY → 0 < length els → length els ≤ MAX_ELEMENTS → IsPushed es ns key els (nodes_of (drop from key) from (length es) (length els))
+pushed : (es : List Element) (ns : List Node) (key : List ℕ) (els : List Element) (from : ℕ) → AreNext es [] ns → AreFull ns → key_cmp (last_path [] ns) key ≡ Less → from ≤ length (last_path [] ns) → from ≤ length key → take from (last_path [] ns) ≡ take from key
+    → ((d : ℕ) → from < length (last_path [] ns) → from < length key → get_or (last_path [] ns) from d ≡ get_or key from d → ⊥) → length key ≤ MAX_KEY → 0 < length els → length els ≤ MAX_ELEMENTS → IsPushed es ns key els (es ++ els) (ns ++ nodes_of (drop from key) from (length es) (length els))
 pushed es ns key els from next full after in_last in_key same differ short some few =
     let last : List ℕ = last_path [] ns in
     let start : ℕ = length es in let count : ℕ = length els in
@@ -56,7 +56,7 @@ pushed es ns key els from next full after in_last in_key same differ short some 
     let room : length (es ++ els) ≡ length es + length els = length-append es els in
     let whole : take from last ++ x ∷ rest ≡ key = ap (λ l. l ++ x ∷ rest) same ∙ ap (λ l. take from key ++ l) (sym parts) ∙ both_parts key from in
     let nodes : nodes_of (drop from key) from start count ≡ nodes_of (x ∷ rest) from start count = ap (λ l. nodes_of l from start count) parts in
-    subst (IsPushed es ns key els) (sym nodes) (record {
+    subst (λ added. IsPushed es ns key els (es ++ els) (ns ++ added)) (sym nodes) (record {
       next = AreNext-append (es ++ els) [] ns (nodes_of (x ∷ rest) from start count) (AreNext-grown es els [] ns next)
           (nodes_of-next (es ++ els) last x rest from start count in_last greater (omega (arith, upto.0)) (omega arith) few);
       full = AreFull-append ns (nodes_of (x ∷ rest) from start count) full (nodes_of-full x rest from start count some);
@@ -66,3 +66,14 @@ pushed es ns key els from next full after in_last in_key same differ short some 
           ∙ ap₂ (λ l r. l ++ r) (entries-grown es els [] ns next) (nodes_of-entry (es ++ els) last x rest from start count in_last some)
           ∙ ap₂ (λ k v. entries_after es [] ns ++ (k, v) ∷ []) whole (what_follows es els);
     })
+
+-- the same by a copy of the last path, and by the entries that the nodes have
+pub pushed-after : (es : List Element) (ns : List Node) (key : List ℕ) (els : List Element) (from : ℕ) (last : List ℕ) (now : List (List ℕ × List Element)) (new_es : List Element) (new_ns : List Node) → AreNext es [] ns → AreFull ns → last ≡ last_path [] ns → entries_after es [] ns ≡ now
+    → key_cmp (last_key now) key ≡ Less → from ≤ length last → from ≤ length key → take from last ≡ take from key → ((d : ℕ) → from < length last → from < length key → get_or last from d ≡ get_or key from d → ⊥)
+    → length key ≤ MAX_KEY → 0 < length els → length els ≤ MAX_ELEMENTS → new_es ≡ es ++ els → new_ns ≡ ns ++ nodes_of (drop from key) from (length es) (length els) → IsPushed es ns key els new_es new_ns
+pushed-after es ns key els from last now new_es new_ns next full same view after in_last in_key front differ few some few_elements elements nodes =
+    let below : last_path [] ns ≡ last_key now = last_is es ns full ∙ ap last_key view in
+    let is =
+    pushed es ns key els from next full (subst (λ l. key_cmp l key ≡ Less) (sym below) after) (subst (λ l. from ≤ length l) same in_last) in_key (subst (λ l. take from l ≡ take from key) same front)
+    (subst (λ l. (d : ℕ) → from < length l → from < length key → get_or l from d ≡ get_or key from d → ⊥) same differ) few some few_elements in
+    subst (λ xs. IsPushed es ns key els xs new_ns) (sym elements) (subst (IsPushed es ns key els (es ++ els)) (sym nodes) is)

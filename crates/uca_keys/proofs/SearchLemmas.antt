@@ -9,7 +9,7 @@ use Rattle.uca_keys.specs.declared.trie.Child.{Child}
 use Rattle.uca_keys.proofs.ChildLemmas.{LacksPoint}
 use Rattle.uca_keys.proofs.FindLemmas.{lacks_from}
 
--- the comparisons with a code point rise along children, as a binary search asks
+-- the comparisons with a code point rise along children, as a binary search requires
 comparisons_rise : (cs : List Child) (x : ℕ) → IsNonDecreasingBy (λ (c : Child). c.point) cs → IsNonDecreasingBy (λ (c : Child). ordering_index (nat_cmp c.point x)) cs
 comparisons_rise cs x rising i j d upto within = let up : (get_or cs i d).point ≤ (get_or cs j d).point = rising i j d upto within in grind (arith, nat_tests)
 

@@ -3,7 +3,7 @@ use Rattle.std.specs.Prelude.{◌≡◌, ℕ, zero, suc, ◌+◌, ◌-◌, ◌==
 use Rattle.uca_keys.specs.declared.node.Node.{Node}
 use Rattle.uca_keys.specs.declared.trie.Child.{Child}
 
--- how many nodes have at least so many code points before them, up to the first that has fewer
+-- how many nodes have at least this many code points before them, up to the first that has fewer
 abbrev pub span_len : ℕ → List Node → ℕ
 span_len depth [] = 0
 span_len depth (n ∷ ns) = cond (nat_lt n.depth depth) 0 (suc (span_len depth ns))
@@ -12,7 +12,7 @@ span_len depth (n ∷ ns) = cond (nat_lt n.depth depth) 0 (suc (span_len depth n
 abbrev pub child_of : Node → ℕ → Child
 child_of n number = record { point = n.point; node = record { number = number } }
 
--- those among them that have just so many; the first of all nodes has this number
+-- those among them that have exactly this many; the first of all nodes has this number
 abbrev pub kids_from : ℕ → ℕ → List Node → List Child
 kids_from depth number [] = []
 kids_from depth number (n ∷ ns) =

@@ -6,7 +6,7 @@ use Rattle.uca_weights.specs.declared.limits.TheConstants.{MAX_KEY, MAX_ELEMENTS
 use Rattle.uca_model.specs.Table.{key_cmp}
 use Rattle.uca_keys.specs.declared.node.Node.{Node}
 
--- the path of a node: so many code points of the path before it, and its own
+-- the path of a node: this many code points of the path before it, and its own
 abbrev pub path_after : List ℕ → Node → List ℕ
 path_after p n = take n.depth p ++ n.point ∷ []
 
@@ -29,7 +29,7 @@ abbrev pub entries_after : List Element → List ℕ → List Node → List (Lis
 entries_after es p [] = []
 entries_after es p (n ∷ ns) = cond (n.count == 0) (entries_after es (path_after p n) ns) ((path_after p n, elements_in es n) ∷ entries_after es (path_after p n) ns)
 
--- a node may stand after a path, which its own is greater than
+-- a node may follow a path that is less than its own
 pub record IsNext (es : List Element) (p : List ℕ) (n : Node) : Type 0 where
   pub from : n.depth ≤ length p
   pub short : n.depth < MAX_KEY
@@ -37,7 +37,7 @@ pub record IsNext (es : List Element) (p : List ℕ) (n : Node) : Type 0 where
   pub within : n.start + n.count ≤ length es
   pub few : n.count ≤ MAX_ELEMENTS
 
--- each node may stand after the one before it
+-- each node may follow the one before it
 abbrev pub AreNext : List Element → List ℕ → List Node → Type 0
 AreNext es p [] = Unit {0}
 AreNext es p (n ∷ ns) = IsNext es p n × AreNext es (path_after p n) ns

@@ -12,7 +12,7 @@ use uca_weights::{Element, MAX_KEY};
 pub struct Entries<'t> {
     pub(crate) nodes: &'t [Node],
     pub(crate) elements: &'t [Element],
-    // The path of the node before these is so many of these code points.
+    // The path of the node before these is the first `len` of these code points.
     path: [char; MAX_KEY],
     len: usize,
 }
@@ -75,7 +75,7 @@ impl<'t> Iterator for Entries<'t> {
     }
 }
 
-// It shows its name alone: a table has tens of thousands of entries.
+// Debug output is its name only: a table has tens of thousands of entries.
 impl<'t> fmt::Debug for Entries<'t> {
     fn fmt<W: fmt::Write>(&self, f: &mut fmt::Formatter<W>) -> fmt::Result {
         f.debug_struct("Entries").finish_non_exhaustive()

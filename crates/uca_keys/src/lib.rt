@@ -1,7 +1,7 @@
 //! Keys of code points with their collation elements, as one trie (UTS #10, section 3).
 //!
 //! [`Nodes`] take keys in their order, one after the other, and [`Trie::new`] makes them ready for look-ups. A node is a code
-//! point after those of the node before it, of which it keeps so many; so the nodes in their order are the keys in theirs.
+//! point after a prefix of the path of the node before it, and stores the length of that prefix.
 //! No look-up allocates.
 #![tactic(auto)]
 

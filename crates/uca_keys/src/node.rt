@@ -1,4 +1,4 @@
-/// A code point of keys that begin alike, after those that they have before it.
+/// A code point that keys with a common prefix have after that prefix.
 #[derive(Clone, Copy, Default)]
 pub struct Node {
     pub(crate) point: char,

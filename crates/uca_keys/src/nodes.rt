@@ -34,7 +34,7 @@ impl Model for Nodes {
     ghost invariant = { λ n. AreNext n.elements.items [] n.nodes.items × AreFull n.nodes.items × (n.last.items ≡ last_path [] n.nodes.items) };
 }
 
-/// How many code points two keys have in common from their start.
+/// The length of the longest common prefix of two keys.
 fn common_len(a: &[char], b: &[char]) -> usize
     ensures in_a { result ≤ length a.now }
     ensures in_b { result ≤ length b.now }
@@ -51,7 +51,7 @@ fn common_len(a: &[char], b: &[char]) -> usize
     at
 }
 
-/// A number of thirty-two bits. One that has more counts as refused memory: so many nodes take 48 gigabytes.
+/// The number in 32 bits. A larger one counts as refused memory: nodes in such numbers would take 48 gigabytes.
 pub(crate) fn numbered(n: usize) -> Result<u32, AllocError>
     ensures { IfOk result (λ m. m ≡ n) }
 {
@@ -61,7 +61,7 @@ pub(crate) fn numbered(n: usize) -> Result<u32, AllocError>
     }
 }
 
-/// Appends the nodes of a key from a place on, for which there is room. Its elements are those of the last one.
+/// Appends the nodes of a key from a place on, for which there is capacity. Its elements are those of the last one.
 fn push_nodes(nodes: &mut Vec<Node>, key: &[char], from: usize, start: u32, count: u8)
     requires few { length key.now ≤ MAX_KEY }
     requires from { from ≤ length key.now }
@@ -78,7 +78,7 @@ fn push_nodes(nodes: &mut Vec<Node>, key: &[char], from: usize, start: u32, coun
     }
 }
 
-/// Appends elements for which there is room.
+/// Appends elements for which there is capacity.
 fn push_reserved(all: &mut Vec<Element>, elements: &[Element])
     requires { vec_len all.old + length elements.now ≤ vec_capacity all.old }
     ensures { all.new.items ≡ all.old.items ++ elements.now }
@@ -86,7 +86,7 @@ fn push_reserved(all: &mut Vec<Element>, elements: &[Element])
     let _fits = all.extend_from_slice(elements);
 }
 
-/// Appends code points for which there is room.
+/// Appends code points for which there is capacity.
 fn append(key: &mut ArrayVec<char, MAX_KEY>, rest: &[char])
     requires { array_vec_len key.old + length rest.now ≤ MAX_KEY }
     ensures { key.new.items ≡ key.old.items ++ rest.now }
@@ -111,7 +111,7 @@ impl Nodes {
         }
     }
 
-    /// No keys, with room for so many nodes and elements.
+    /// No keys, with capacity for this many nodes and elements.
     pub fn with_capacity(alloc: Global, nodes: usize, elements: usize) -> Result<Nodes, AllocError>
         ensures { IfOk result (λ n. n ≡ []) }
     {
@@ -158,7 +158,7 @@ impl Nodes {
         Entries::new(self.nodes.as_slice(), self.elements.as_slice())
     }
 
-    /// These keys, ready for look-ups.
+    /// Makes these keys ready for look-ups.
     pub fn finish(self, alloc: Global) -> Result<Trie, AllocError>
         ensures { IfOk result (λ t. entries_of t ≡ self) }
     {

@@ -25,7 +25,7 @@ pub(crate) struct Child {
     pub(crate) node: NodeNumber,
 }
 
-/// Keys with their elements, ready for look-ups. The children of a node lie side by side, in the order of their code points.
+/// Keys with their elements, ready for look-ups. The children of a node are adjacent, in the order of their code points.
 #[derive(Drop)]
 pub struct Trie {
     pub(crate) nodes: Vec<Node>,
@@ -49,7 +49,7 @@ impl Model for Trie {
     ghost invariant = { λ t. AreNext t.elements.items [] t.nodes.items × AreFull t.nodes.items × AreLinked t.nodes.items t.children.items t.starts.items };
 }
 
-/// Appends the nodes from a place on that so many code points lead to, up to the first with fewer. Returns the place of that
+/// Appends the nodes from a place on that this many code points lead to, up to the first with fewer. Returns the place of that
 /// one. `ends` says, from the last node back, where the nodes end that begin as it does.
 fn push_children(
     children: &mut Vec<Child>,

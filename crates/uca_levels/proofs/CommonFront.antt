@@ -31,7 +31,7 @@ within-front [] = omega arith
 within-front (true ∷ ms) = omega arith
 within-front (false ∷ ms) = let h : prefix_len (λ m. not m) ms ≤ length ms = within-front ms in omega arith
 
--- how many lanes stand before the first that differs, by the mask of those that do
+-- how many lanes come before the first that differs, by the mask of those that do
 pub in-block : (xs ys : List ℕ) (mask : ℕ) → length xs ≡ 16 → length ys ≡ 16 → mask ≡ mask_l (map (top 7) (zip2 (λ a b. cond (differ a b) 255 0) xs ys)) % 2 ^ 64
     → (cond (eqb mask 0) 16 (count_trailing_zeros 64 mask) ≤ 16) × (take (cond (eqb mask 0) 16 (count_trailing_zeros 64 mask)) xs ≡ take (cond (eqb mask 0) 16 (count_trailing_zeros 64 mask)) ys)
 in-block xs ys mask long_x long_y is =

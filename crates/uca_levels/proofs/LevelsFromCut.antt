@@ -40,7 +40,7 @@ Parted-orders t v was wus left right flag a b o h orders =
     (subst (λ l. InStep (remaining_weights (new_weights t v 1) was.text) l (remaining_weights left (unread a)) (remaining_weights right (unread b))) (new_weights-remaining t v 1 wus.text (omega arith))
     (InStep-filter (λ weight. not (weight == 0)) _ _ _ _ h.lists))) refl refl same
 
--- ---- what stands after the cut
+-- ---- what follows the cut
 
 -- the order of the parts after the cut is that of the texts
 pub orders-cut : (t : ElementTable) (v : Variable) (a b : List ℕ) (level : ℕ) (o : Ordering) → IsTable t
@@ -174,7 +174,7 @@ FromCut-times d m old new low h =
 
 -- ---- one level
 
--- at a level, from the cut on: the order of its lists, how often the texts were read up to and at it, and where the marks stand
+-- at a level, from the cut on: the order of its lists, how often the texts were read up to and at it, and where the marks are
 pub record LevelRead (t : ElementTable) (s : Settings) (was wus : SourceState) (flag : Bool) (level : ℕ) (o : Ordering) (a b : SourceState) : Type 0 where
   pub orders : OrdersLevel level (level_list t s.weighting was.text level) (level_list t s.weighting wus.text level) o
   pub reads_a : ReadsFromCut level (cut_of t was.text wus.text) was a

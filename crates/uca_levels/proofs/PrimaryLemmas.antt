@@ -25,7 +25,7 @@ elements-apart t front left joins =
       | inr some ↦ ap (λ l. elements t (nfd (front ++ l))) some.same ∙ apart-before t front some.later some.c (omega (arith, some.apart)) ∙ ap (λ l. elements t (nfd front) ++ elements t (nfd l)) (sym some.same)
     ]
 
--- what joins nothing adds its weights to those of what stands before it
+-- what joins nothing adds its weights to those of what comes before it
 lists-apart : (t : ElementTable) (v : Variable) (front left : List ℕ) → JoinsNothing t left → level_list t v (front ++ left) 1 ≡ level_list t v front 1 ++ level_list t v left 1
 lists-apart t v front left joins = ap (λ l. level_weights 1 (weighted v l)) (elements-apart t front left joins) ∙ primaries-append v (elements t (nfd front)) (elements t (nfd left))
 

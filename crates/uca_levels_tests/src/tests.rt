@@ -32,7 +32,7 @@ fn settings(strength: Strength, weighting: Variable) -> Settings {
 /// Two texts, a strength, and their order at it.
 type OrderRow = (&'static str, &'static str, Strength, Ordering);
 
-/// Stops a test where two texts have another order under a table.
+/// Fails a test where two texts have another order under a table.
 fn assert_order(rt: &impl Abort, t: &Table, (a, b, strength, wanted): &OrderRow) {
     let s = settings(*strength, Variable::NonIgnorable);
     let order = compare(t, s, &passage(rt, a), &passage(rt, b));
@@ -72,14 +72,14 @@ fn assert_orders(rt: &impl Abort, t: &Table, rows: &[OrderRow]) {
     }
 }
 
-/// How often two sources were asked, and how often they went back, in a comparison.
+/// How often two sources were read, and how often they were rewound, in a comparison.
 #[derive(Drop)]
 struct Calls {
     reads: [usize; 2],
     rewinds: [usize; 2],
 }
 
-/// Stops a test where two texts have another order, and counts the calls of their comparison.
+/// Fails a test where two texts have another order, and counts the calls of their comparison.
 fn calls_of(rt: &impl Abort, t: &Table, s: Settings, [a, b]: [&str; 2], wanted: Ordering) -> Calls {
     let (p, q) = (passage(rt, a), passage(rt, b));
     let (mut left, mut right) = (source_of(&p), source_of(&q));
@@ -179,7 +179,7 @@ const WEIGHTS: [WeightRow; 4] = [
     ),
 ];
 
-/// Stops a test where a text has other weights at a level.
+/// Fails a test where a text has other weights at a level.
 fn assert_weights(rt: &impl Abort, alloc: Global, t: &Table, row: &WeightRow, level: u8)
     requires first { 1 ≤ level }
     requires last { level ≤ 4 }
@@ -210,7 +210,7 @@ fn assert_all_weights(rt: &impl Abort, alloc: Global, t: &Table, rows: &[WeightR
     }
 }
 
-/// Stops a test where the text `ab` has other weights at the first level, or more.
+/// Fails a test where the text `ab` has other weights at the first level, or more.
 fn assert_no_later_weight(rt: &impl Abort, t: &Table, p: &Passage) {
     let mut source = source_of(p);
     let mut weights = Weights::new(t, Variable::NonIgnorable, 1);
@@ -266,7 +266,7 @@ const ADDED_KEYS: &[u8] = b"\
 /// Two texts, of which the one with `hx` would come last.
 const CUT_ROW: OrderRow = ("chx", "chy", Strength::Secondary, Ordering::Less);
 
-/// Stops a test where `compare` or `compare_sources` returns another order of two texts.
+/// Fails a test where `compare` or `compare_sources` returns another order of two texts.
 fn assert_both_orders(rt: &impl Abort, t: &Table, row: &OrderRow) {
     assert_order(rt, t, row);
     let (a, b, strength, wanted) = row;
@@ -286,7 +286,7 @@ fn a_text_is_not_cut_before_the_end_of_a_contraction(rt: HostRuntime) -> Result<
 #[test]
 fn a_text_is_read_up_to_the_difference_that_decides(rt: HostRuntime) {
     let mut t = table(&rt, rt.alloc());
-    // Where memory was refused to what quick look-ups use, the table has none of it, and more is read. It is made anew here.
+    // Where memory was refused to what quick look-ups use, the table has none of it, and more is read. It is rebuilt here.
     let _made = t.prepare(rt.alloc());
     assert_reads_up_to(&rt, &t);
 }
@@ -314,7 +314,7 @@ fn a_variable_character_decides_no_first_level_that_leaves_it_out(rt: HostRuntim
     assert_decided(&rt, &t, Variable::Shifted, Ordering::Greater);
 }
 
-/// Stops a test where these two texts have another order at the first level.
+/// Fails a test where these two texts have another order at the first level.
 fn assert_decided(rt: &impl Abort, t: &Table, v: Variable, wanted: Ordering) {
     calls_of(rt, t, settings(Strength::Primary, v), ["z-e", "zA"], wanted);
 }

@@ -142,7 +142,7 @@ runs-later n m (c ∷ cs) h = elim (cases_Bool (is_nonstarter c)) [
   | inr starter ↦ rw starter (omega (arith, h))
 ]
 
--- what stands after a front of a safe text is safe
+-- what follows a front of a safe text is safe
 IsSafe-after : (xs ys : List ℕ) → IsSafe (xs ++ ys) → IsSafe ys
 IsSafe-after xs ys safe =
     let front = flat_map decompose_canonical xs in
@@ -174,7 +174,7 @@ text-line bytes end text within there =
       | inr cut ↦ subst IsTextLine (sym cut.same) (text-front (take end bytes) cut.place whole (subst IsUtf8 cut.same utf8))
     ]
 
--- and so is what stands after it
+-- and so is what follows it
 text-after : (bytes : List ℕ) (end : ℕ) → IsTextLine bytes → end ≤ length bytes → (end < length bytes → slice_index bytes end ≡ line_feed) → IsTextLine (drop (end + 1) bytes)
 text-after bytes end text within there =
     let utf8 : IsUtf8 (drop (end + 1) bytes) = IsUtf8-after bytes end text.utf8 within there in

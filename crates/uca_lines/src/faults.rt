@@ -18,7 +18,7 @@ pub enum InputCause {
     /// Memory for the input was refused.
     #[error("OutOfMemory")]
     OutOfMemory,
-    /// There are no lines or several, where one is expected.
+    /// There is not exactly one line where one is expected.
     #[error("NotOneLine")]
     NotOneLine,
 }

@@ -9,13 +9,13 @@ use std::simd::prelude::*;
 use uca_io::digits::hex_digit;
 use uca_weights::{WriteFault, Writer};
 
-/// How many bytes are written as digits at once.
+/// How many bytes are written as digits in one piece.
 const PIECE: usize = 256;
 
 /// How many bytes of a piece become digits together.
 const LANES: usize = 16;
 
-/// Room for the digits of a piece, with a blank before each pair. Digits are put there 32 bytes at a time, of which 24 count.
+/// A buffer for the digits of a piece, with a blank before each pair. Digits are put there 32 bytes at a time, of which 24 count.
 const ROOM: usize = 3 * PIECE + 8;
 
 /// The digits.
@@ -37,7 +37,7 @@ fn second_digits(bytes: u8x16) -> u8x16
     u8x16::from_array(DIGITS).swizzle_dyn(bytes & u8x16::splat(15))
 }
 
-/// Puts eight pairs of digits to a place of `room`, with a blank before each. The eight bytes after them are lost.
+/// Puts eight pairs of digits at a place of `room`, with a blank before each. It overwrites the eight bytes after them.
 #[inline(always)]
 fn put_spaced(digits: u8x16, room: &mut [u8], at: usize)
     requires lanes { length digits ≡ 16 }
@@ -55,7 +55,7 @@ fn put_spaced(digits: u8x16, room: &mut [u8], at: usize)
         .copy_to_slice(&mut room[at..]);
 }
 
-/// Puts sixteen bytes to their place in `room`, as pairs of digits with a blank before each.
+/// Puts sixteen bytes in their place in `room`, as pairs of digits with a blank before each.
 #[inline(always)]
 fn put_block(bytes: &[u8], from: usize, room: &mut [u8])
     requires bytes { from + 16 ≤ length bytes.now }
@@ -68,7 +68,7 @@ fn put_block(bytes: &[u8], from: usize, room: &mut [u8])
     put_spaced(back, room, 3 * from + 24);
 }
 
-/// Puts bytes to the front of `room`, one by one, as pairs of digits with a blank before each.
+/// Puts bytes at the front of `room`, one by one, as pairs of digits with a blank before each.
 fn put_each(bytes: &[u8], room: &mut [u8])
     requires { 3 * length bytes.now ≤ length room.old }
     ensures { take (3 * length bytes.now) room.new ≡ spaced_pairs bytes.now }
@@ -82,7 +82,7 @@ fn put_each(bytes: &[u8], room: &mut [u8])
     }
 }
 
-/// Puts bytes to the front of `room` as pairs of digits, with a blank before each.
+/// Puts bytes at the front of `room` as pairs of digits, with a blank before each.
 fn put_pairs(bytes: &[u8], room: &mut [u8])
     requires { 3 * length bytes.now + 8 ≤ length room.old }
     ensures { take (3 * length bytes.now) room.new ≡ spaced_pairs bytes.now }

@@ -7,8 +7,8 @@ use std::alloc::Global;
 use uca_io::{Stop, read_whole};
 use uca_weights::{MAX_INPUT, Reader};
 
-/// A fault that no line has.
-pub fn refused(cause: InputCause) -> InputFault
+/// A fault of no line.
+pub(crate) fn refused(cause: InputCause) -> InputFault
     ensures { result ≡ record { line = 0; at = 0; cause = cause } }
 {
     InputFault {
@@ -18,8 +18,8 @@ pub fn refused(cause: InputCause) -> InputFault
     }
 }
 
-/// Reads an input of lines to its end, by at most `MAX_INPUT` + 1 calls of a reader that counts its calls.
-pub fn read_input<I: Reader>(alloc: Global, input: &mut I) -> Result<Vec<u8>, InputFault>
+/// Reads an input of lines to its end, in at most `MAX_INPUT` + 1 calls of a reader that counts its calls.
+pub(crate) fn read_input<I: Reader>(alloc: Global, input: &mut I) -> Result<Vec<u8>, InputFault>
     ensures reads { MatchResult result
         (λ v. GivesAll (I.state input.old) (I.state input.new) v.items × (length v.items ≤ MAX_INPUT))
         (λ f. StopsReading (I.state input.old) (I.state input.new) f) }

@@ -1,8 +1,8 @@
 //! The lines of an input, which are texts, and bytes as hexadecimal digits.
 //!
-//! [`read_lines`] reads an input to its end and looks at each line: it is UTF-8, and a safe text. Then [`first_line`]
-//! takes the lines one by one. An [`OutputBlock`] holds an output back until it is long, and [`send_hex`] writes bytes as
-//! digits to it.
+//! [`read_lines`] reads an input to its end and checks that each line is UTF-8 and a safe text. Then [`first_line`]
+//! takes the lines one by one. An [`OutputBlock`] buffers output, and [`send_hex`] writes bytes as
+//! hexadecimal digits to it.
 #![tactic(auto)]
 
 pub mod faults;
@@ -13,6 +13,5 @@ pub mod output_block;
 
 pub use faults::{InputCause, InputFault};
 pub use hex::send_hex;
-pub use input::{read_input, refused};
-pub use lines::{check_lines, first_line, is_one_line, read_lines, read_one_line};
+pub use lines::{first_line, read_lines, read_one_line};
 pub use output_block::OutputBlock;

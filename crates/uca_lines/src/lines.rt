@@ -26,7 +26,7 @@ fn line_end(bytes: &[u8]) -> usize
     }
 }
 
-/// What stands after the byte at `end`.
+/// What follows the byte at `end`.
 fn rest_after(bytes: &[u8], end: usize) -> &[u8]
     ensures { result.now ≡ drop (end + 1) bytes.now }
 {
@@ -37,7 +37,7 @@ fn rest_after(bytes: &[u8], end: usize) -> &[u8]
     }
 }
 
-/// The first line of an input, and the bytes after it. Those of a text are texts.
+/// The first line of an input, and the bytes after it. Both are UTF-8 if the input is.
 fn split_line(bytes: &[u8]) -> (&[u8], &[u8])
     requires { 0 < length bytes.now }
     ensures parts { lines_of bytes.now ≡ result.0.now ∷ lines_of result.1.now }
@@ -61,7 +61,7 @@ pub fn first_line(bytes: &[u8]) -> (&[u8], &[u8])
 }
 
 /// Whether an input is one line.
-pub fn is_one_line(bytes: &[u8]) -> bool
+pub(crate) fn is_one_line(bytes: &[u8]) -> bool
     ensures one { IsTrue result → IsOneLine bytes.now }
     ensures other { IsFalse result → ¬ IsOneLine bytes.now }
 {
@@ -104,9 +104,9 @@ fn is_safe_text(text: &[u8]) -> bool
     Passage::check(unsafe { from_utf8_unchecked(text) }).is_ok()
 }
 
-/// Looks at each line of an input: it must be a safe text in UTF-8. Bytes that are so as a whole are so in each line, which
+/// Checks that each line of an input is a safe text in UTF-8. An input that is one as a whole is one in each line, and the lines
 /// need not be found then: a line is looked at by itself only for the first fault.
-pub fn check_lines(bytes: &[u8]) -> Result<(), InputFault>
+pub(crate) fn check_lines(bytes: &[u8]) -> Result<(), InputFault>
     ensures { MatchResult result (λ _. All IsTextLine (lines_of bytes.now)) (HasInputFault (lines_of bytes.now)) }
 {
     let is_text = is_utf8(bytes);
@@ -132,7 +132,7 @@ pub fn check_lines(bytes: &[u8]) -> Result<(), InputFault>
     Ok(())
 }
 
-/// Reads an input of lines to its end, and looks at each line.
+/// Reads an input of lines to its end, and checks each line.
 pub fn read_lines<I: Reader>(alloc: Global, input: &mut I) -> Result<Vec<u8>, InputFault>
     ensures ok { IfOk result (λ v. ReadsLines (I.state input.old) (I.state input.new) v.items) }
     ensures err { IfErr result (RefusesInput (I.state input.old) (I.state input.new)) }
@@ -143,7 +143,7 @@ pub fn read_lines<I: Reader>(alloc: Global, input: &mut I) -> Result<Vec<u8>, In
     Ok(bytes)
 }
 
-/// Reads an input of lines to its end, looks at each line, and then whether it is a single one.
+/// Reads an input of lines to its end, checks each line, and then that there is exactly one.
 pub fn read_one_line<I: Reader>(alloc: Global, input: &mut I) -> Result<Vec<u8>, InputFault>
     ensures ok { IfOk result (λ v. ReadsOneLine (I.state input.old) (I.state input.new) v.items) }
     ensures err { IfErr result (RefusesOneLine (I.state input.old) (I.state input.new)) }

@@ -5,12 +5,12 @@ use std::marker::Model;
 use uca_io::write_whole;
 use uca_weights::{WriteFault, Writer};
 
-/// How many bytes wait at most until they go out, and how long a piece may be. Eight times as many as an
-/// `uca_io::OutputBuffer` holds take half the system's time for a byte.
+/// The capacity in bytes, and the greatest length of a piece. Eight times as many as an
+/// `uca_io::OutputBuffer` holds take half the system time per byte.
 pub const BLOCK: usize = 65_536;
 
-/// A buffer before a [`Writer`], for outputs of many lines: what waits to go out, and the count of bytes that went out
-/// before it. Pieces go out in their order, and a fault reports how many bytes of all pieces went out.
+/// A buffer before a [`Writer`], for outputs of many lines: what waits to be written, and the count of bytes written
+/// before it. Pieces are written in order, and a fault reports how many bytes of all pieces were written.
 #[derive(Drop)]
 pub struct OutputBlock {
     waiting: ArrayVec<u8, BLOCK>,
@@ -28,7 +28,7 @@ impl Model for OutputBlock {
 impl OutputBlock {
     ghost use Rattle.uca_io.specs.OutputBuffer.{accepted, Accepts, FailsPartway};
 
-    /// Nothing waits, and nothing went out.
+    /// Nothing waits, and nothing was written.
     pub fn new() -> OutputBlock
         ensures written { result.written ≡ 0 }
         ensures waiting { result.waiting ≡ [] }
@@ -39,7 +39,7 @@ impl OutputBlock {
         }
     }
 
-    /// Writes what waits. On a fault the block stays as it was, and only the fault reports what went out of it.
+    /// Writes what waits. On a fault the block stays as it was, and only the fault reports how much of it was written.
     pub fn flush<W: Writer>(&mut self, w: &mut W) -> Result<(), WriteFault>
         requires { accepted self.old < 2 ^ 128 }
         ensures all { MatchResult result
@@ -62,7 +62,7 @@ impl OutputBlock {
     }
 
     /// Writes a piece, now or later. On a fault the block stays as it was, without the piece, and only the fault
-    /// reports what went out of it.
+    /// reports how much of it was written.
     pub fn write<W: Writer>(&mut self, w: &mut W, piece: &[u8]) -> Result<(), WriteFault>
         requires short { length piece.now ≤ BLOCK }
         requires room { accepted self.old + length piece.now < 2 ^ 128 }

@@ -20,7 +20,7 @@ split-chars text front c parts whole before =
     ap chars parts ∙ chars-append front (encode_utf8 c) before
     ∙ ap (λ l. chars front ++ l) (chars_past_char (encode_utf8 c) [] c last (sym (append-nil (encode_utf8 c))) ∙ ap (λ l. c ∷ l) chars-nil)
 
--- a text is complete by its last character and what stands before it
+-- a text is complete by its last character and what comes before it
 pub complete-last : (t : ElementTable) (text front ds : List ℕ) (c : ℕ) → text ≡ front ++ c ∷ [] → ds ≡ decompose_canonical c
     → is_complete t text ≡ is_complete_from t (reverse ds ++ reverse (flat_map decompose_canonical front))
 unfolding is_complete
@@ -42,7 +42,7 @@ pub complete_none : (t : ElementTable) (text : List ℕ) → text ≡ [] → is_
 unfolding is_complete
 complete_none t text none = ap (λ l. is_complete_from t (reverse (flat_map decompose_canonical l))) none
 
--- where the last character decides, and where it lies with what stands before it
+-- where the last character decides, and where it lies with what comes before it
 pub complete_stops : (t : ElementTable) (text front ds : List ℕ) (c : ℕ) (decided : Option Bool) (b : Bool) → text ≡ front ++ c ∷ [] → ds ≡ decompose_canonical c
     → ((before : List ℕ) → is_complete_from t (reverse ds ++ before) ≡ unwrap_or decided (is_complete_from t before)) → decided ≡ Some b → is_complete t text ≡ b
 complete_stops t text front ds c decided b parts is ends some =
@@ -66,7 +66,7 @@ reverse-take ds n c within is = ap reverse (take_more ds n c within is) ∙ reve
     take_more (x ∷ xs) zero d h e = ap (λ y. y ∷ []) (sym e)
     take_more (x ∷ xs) (suc k) d h e = (let one : suc k + 1 ≡ suc (k + 1) = omega arith in ap (λ j. take j (x ∷ xs)) one) ∙ ap (λ l. x ∷ l) (take_more xs k d (omega arith) e)
 
--- what is said of the code points up to a place
+-- what is said about the code points up to a place
 abbrev pub Same : ElementTable → List ℕ → ℕ → Type 0
 Same t ds m = (before : List ℕ) → is_complete_from t (reverse (take m ds) ++ before) ≡ is_complete_from t (reverse ds ++ before)
 

@@ -1,6 +1,6 @@
 -- The keys of a table as a set, and prefixes that are longer than every key.
 use Rattle.std.proofs.Common.{◌≡◌, ℕ, ◌-◌, ◌+◌, ◌≤◌, ◌<◌, max, Bool, true, false, ◌||◌, List, [], ◌∷◌, length, take, fold, map, Some, None, Option, is_some, refl, sym, ap, subst, ◌∙◌, arith, lit≤, inl, inr}
-use Rattle.std.proofs.lemmas.Bool.{cases_Bool, cases_lt}
+use Rattle.std.proofs.lemmas.Bool.{cases_Bool, cases_lt, or_right}
 use Rattle.std.proofs.lemmas.List.Elements.{recursion_from_All}
 use Rattle.std.proofs.lemmas.List.{length-take-le}
 use Rattle.std.specs.Prelude.{◌⊎◌}
@@ -58,10 +58,6 @@ AreKeys-table t valid = λ key has.
     record { some = entry.some_points; few = entry.few_points; scalars = entry.points }
 
 -- some key of a list has the greatest length, or it is the least that was allowed
-or_right : (a b : Bool) → b ≡ true → (a || b) ≡ true
-or_right true b e = refl
-or_right false b e = e
-
 record IsLongestOf (ks : List (List ℕ)) (n : ℕ) : Type 0 where
   key : List ℕ
   among : list_any (eq_by_cmp key_cmp key) ks ≡ true

@@ -167,7 +167,7 @@ module _ (is_key : List ℕ → Bool) (start : ℕ) (first : List ℕ) (old : Wi
         );
   }
 
-  -- so does the end of the closed points, after which a starter or nothing stands
+  -- so does the end of the closed points, after which comes a starter or nothing
   pub IsTaking-ends : 0 < start → w.closed ≤ at → TakesNonstarters is_key start first old key w
   IsTaking-ends some past = record {
     within = omega (arith, h.upto, h.within);

@@ -41,7 +41,7 @@ abbrev pub first_of : List Element → Option Element
 first_of [] = None
 first_of (x ∷ xs) = Some x
 
--- what it can give without reading, where it asks for nothing: the elements that wait, or those of the match at the front of the window
+-- what it can give without reading, where it requests nothing: the elements that wait, or those of the match at the front of the window
 abbrev pub elements_held : ElementTable → List Element → WindowState → List Element
 elements_held t [] w = if w.closed == 0 then [] else elements_or_implicit t (key_held t w)
 elements_held t (x ∷ xs) w = x ∷ xs

@@ -18,7 +18,7 @@ pub record IsTaking (is_key : List ℕ → Bool) (start : ℕ) (first : List ℕ
   pub over : (left : List ℕ) → Fits old left
       → Fits w left × (discontiguous_match is_key key (passed_over (rest_of w left) start at) (drop at (rest_of w left)) ≡ discontiguous_match is_key first [] (drop start (rest_of old left)))
 
--- the nonstarters after the first `start` points that the key takes went out of the rest
+-- the nonstarters after the first `start` points that the key takes have left the rest
 pub record TakesNonstarters (is_key : List ℕ → Bool) (start : ℕ) (first : List ℕ) (old : WindowState) (key : List ℕ) (new : WindowState) : Type 0 where
   pub within : start ≤ new.closed
   pub size : new.closed + length key ≡ old.closed + length first
@@ -26,7 +26,7 @@ pub record TakesNonstarters (is_key : List ℕ → Bool) (start : ℕ) (first : 
   pub ended : new.ended ≡ old.ended
   pub over : (left : List ℕ) → Fits old left → Fits new left × (discontiguous_match is_key first [] (drop start (rest_of old left)) ≡ took key (drop start (rest_of new left)))
 
--- the match at the front went out of the rest, where the window held enough of it
+-- the match at the front has left the rest, where the window held enough of it
 pub record TakesMatch (t : ElementTable) (old : WindowState) (key : List ℕ) (new : WindowState) : Type 0 where
   pub valid : IsWindow new
   pub size : new.closed + length key ≡ old.closed

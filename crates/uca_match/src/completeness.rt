@@ -14,8 +14,8 @@ use unicode_normalization::char::{canonical_combining_class, decomposition};
 /// Whether a text is complete: whatever follows it, the primary weights of the longer text begin with its own. So a
 /// search for the texts that begin with it is a search for the keys that begin with its key at the strength `Primary`.
 ///
-/// A text that ends in `c` is not complete where `ch` is a key of other primary weights. In doubt the answer is no: where
-/// the last starter stands between others in some key, and where a nonstarter after it has a primary weight. The empty
+/// A text that ends in `c` is not complete where `ch` is a key of other primary weights. Where it cannot tell, it returns `false`: where
+/// the last starter is neither first nor last in some key, and where a nonstarter after it has a primary weight. The empty
 /// text is complete. It does not allocate.
 pub fn is_complete(t: &Table, p: &Passage) -> bool
     ensures { result ≡ is_complete t.now (text_of p.now) }
@@ -31,7 +31,7 @@ pub fn is_complete(t: &Table, p: &Passage) -> bool
     true
 }
 
-// What stands before the last character of a text, and the character.
+// What comes before the last character of a text, and the character.
 fn split_last(text: &str) -> Option<(&str, char)>
     ensures some { IfSome result (λ r. chars text.now ≡ chars r.0.now ++ r.1 ∷ []) }
     ensures utf8 { IfSome result (λ r. IsUtf8 r.0.now) }
@@ -42,7 +42,7 @@ fn split_last(text: &str) -> Option<(&str, char)>
     Some((rest.as_str(), last))
 }
 
-// Whether a text that ends in these code points is complete, or `None` where that lies with what stands before them.
+// Whether a text that ends in these code points is complete, or `None` where that depends on what comes before them.
 #[tactic(auto, using(crate::proofs::CompletenessLemmas::ends_starter, crate::proofs::CompletenessLemmas::ends_heard, crate::proofs::CompletenessLemmas::ends_silent))]
 fn ends_complete(t: &Table, points: &[char]) -> Option<bool>
     ensures { (before : List ℕ) → is_complete_from t.now (reverse points.now ++ before) ≡ unwrap_or result (is_complete_from t.now before) }

@@ -17,12 +17,11 @@ use std::alloc::{AllocError, Global};
 use std::marker::Model;
 use uca_table::Table;
 use uca_table::cells::push_few;
-use uca_table::collation::push_matches;
 use uca_weights::Element;
 use uca_window::{Passage, Source, Window};
 
-/// The collation elements of a text (UTS #10, sections 7.1 and 7.2, steps S1 and S2). Those of the empty text take no
-/// memory. `AllocError`: an allocation was refused.
+/// The collation elements of a text (UTS #10, sections 7.1 and 7.2, steps S1 and S2). The empty text needs no
+/// allocation. `AllocError`: an allocation was refused.
 pub fn elements_of(alloc: Global, t: &Table, p: &Passage) -> Result<Vec<Element>, AllocError>
     ensures value { IfOk result (λ v. v.items ≡ elements t.now (nfd (text_of p.now))) }
     ensures empty { bytes_of p.now ≡ [] → IsOk result }
@@ -36,8 +35,8 @@ pub fn elements_of(alloc: Global, t: &Table, p: &Passage) -> Result<Vec<Element>
     Ok(elements)
 }
 
-/// Makes `out` the collation elements of a text, whatever they were before. `text` is room for characters. Where both have room
-/// from a text before, most texts take no memory.
+/// Sets `out` to the collation elements of a text, whatever it held before. `text` is a buffer for characters. Where both have capacity
+/// from an earlier text, most texts need no allocation.
 pub fn read_elements(
     alloc: Global,
     t: &Table,
@@ -81,22 +80,6 @@ fn push_chars(out: &mut Vec<char>, text: &str) -> Result<(), AllocError>
     ensures { OnOk result (out.new.items ≡ out.old.items ++ chars text.now) }
 {
     out.extend(text.chars())
-}
-
-/// The collation elements of a text in NFD, of which there are some where it has a code point (UTS #10, section 7.2,
-/// step S2).
-pub fn elements_of_points(
-    alloc: Global,
-    t: &Table,
-    points: &[char],
-) -> Result<Vec<Element>, AllocError>
-    ensures value { IfOk result (λ v. v.items ≡ elements t.now points.now) }
-    ensures some { IfOk result (λ v. 0 < length points.now → 0 < length v.items) }
-{
-    let mut text = points.to_vec(alloc)?;
-    let mut elements = Vec::new(alloc);
-    push_matches(&mut elements, t.stored(), &mut text)?;
-    Ok(elements)
 }
 
 // The elements of a match: the first, and the others. Those of a key are borrowed from the table; an implicit pair is made.
@@ -147,12 +130,12 @@ fn elements_of_match<'t>(t: &'t Table, matched: WindowMatch<'t>) -> MatchElement
 }
 
 /// The collation elements of a text one by one, over a window of the text in NFD (UTS #10, section 7.2, step S2). It
-/// borrows a source at each call that reads, and the elements from the table. It takes no memory. Of the text it holds at
+/// borrows a source at each call that reads, and the elements from the table. It does not allocate. Of the text it holds at
 /// most `MAX_LOOKAHEAD` code points more than the longest key has: `bound`.
 #[derive(Drop)]
 pub struct Elements<'t> {
     table: &'t Table,
-    // Of the last match, those that were not given yet.
+    // Those of the last match that were not returned yet.
     waiting: &'t [Element],
     second: Option<Element>,
     window: Window,
@@ -171,7 +154,7 @@ impl<'t> Model for Elements<'t> {
 }
 
 impl<'t> Elements<'t> {
-    /// The elements by a table, of which none was given yet. It fits each source whose unread characters are a safe
+    /// The elements by a table, none of which has been returned yet. It fits each source whose unread characters are a safe
     /// text, and what remains is then the elements of their NFD.
     pub fn new(t: &'t Table) -> Elements<'t>
         ensures value { result ≡ new_elements t.now }
@@ -187,7 +170,7 @@ impl<'t> Elements<'t> {
         }
     }
 
-    /// The next element. `None` at the end, and from then on.
+    /// The next element. `None` at the end, and on every call after it.
     pub fn next<S: Source>(&mut self, source: &mut S) -> Option<Element>
         requires { Fits self.old.window (unread (S.state source.old)) }
         ensures yields { Yields remaining_elements window_of self.old (S.state source.old) result self.new (S.state source.new) }

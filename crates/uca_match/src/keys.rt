@@ -5,7 +5,7 @@ ghost use Rattle.uca_match.specs.Keys.{AreKeys, HasLongest, key_set};
 
 use uca_table::Table;
 
-/// Keys that are looked for in a text: a finite set of lists of 1 to `MAX_KEY` code points. No call takes memory.
+/// Keys that are looked for in a text: a finite set of lists of 1 to `MAX_KEY` code points. No call allocates.
 pub trait Keys {
     /// The keys.
     ghost keys: { Self → FinSet key_cmp };
@@ -24,7 +24,7 @@ impl Keys for Table {
     ghost keys = { key_set };
 
     fn has(&self, key: &[char]) -> bool {
-        // Shows that each key of the table is one.
+        // Shows that each key of the table is valid.
         let _longest = self.longest();
         self.get(key).is_some()
     }

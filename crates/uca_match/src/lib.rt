@@ -1,7 +1,7 @@
 //! The collation elements of a text (UTS #10, section 7.2, Produce Collation Element Arrays, step S2).
 //!
 //! [`elements_of`] takes the longest matches of a table's keys one after the other, each with the unblocked nonstarters
-//! that belong to it. [`Elements`] gives the same elements one by one, over a window of the text and without memory.
+//! that belong to it. [`Elements`] returns the same elements one by one, over a window of the text, and does not allocate.
 //! [`is_complete`] says whether the primary weights of a text stay, whatever follows it.
 #![tactic(auto)]
 
@@ -12,6 +12,6 @@ pub mod matches;
 mod window_match;
 
 pub use completeness::is_complete;
-pub use elements::{Elements, elements_of, elements_of_points, read_elements};
+pub use elements::{Elements, elements_of, read_elements};
 pub use keys::Keys;
 pub use matches::{Match, matches_of, matches_of_points};

@@ -18,7 +18,7 @@ use uca_weights::MAX_KEY;
 use uca_window::{Passage, nfd_of};
 use unicode_normalization::char::canonical_combining_class;
 
-/// Code points that are taken together: a key, or a code point that begins no key where it stands.
+/// Code points that are taken together: a key, or a code point that begins no key there.
 #[derive(Debug, Drop)]
 pub struct Match {
     pub key: ArrayVec<char, MAX_KEY>,
@@ -65,7 +65,7 @@ fn is_taken<K: Keys>(keys: &K, start: &[char], high: u8, nonstarter: char) -> bo
     high < canonical_combining_class(nonstarter) && makes_key(keys, start, nonstarter)
 }
 
-// Moves the code point at `from` to `to`, before those that stood from there on.
+// Moves the code point at `from` to `to`, before those that were there.
 fn bring_forward(text: &mut [char], to: usize, from: usize)
     requires ordered { to ≤ from }
     requires within { from < length text.old }
@@ -110,8 +110,8 @@ struct Front {
     found: bool,
 }
 
-// Puts the match at the front of a text in NFD to its front (UTS #10, 7.2, step S2.1). What is left of the text
-// stands after it.
+// Moves the first match of a text in NFD to its front (UTS #10, 7.2, step S2.1). What is left of the text
+// follows it.
 fn match_front<K: Keys>(keys: &K, text: &mut [char]) -> Front
     requires { 0 < length text.old }
     ensures matched { (step (contains (K.keys keys.now)) text.old).matched ≡ record { code_points = take result.len text.new; found = result.found } }

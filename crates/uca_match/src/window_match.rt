@@ -21,8 +21,8 @@ pub(crate) struct WindowMatch<'t> {
     pub(crate) walk: Walk<'t>,
 }
 
-// Takes those nonstarters out of a window that make longer keys with the path of a walk, and steps the walk along them
-// (UTS #10, 7.2, steps S2.1.1 to S2.1.3). The start stands in the window all along.
+// Removes from a window those nonstarters that make longer keys with the path of a walk, and steps the walk along them
+// (UTS #10, 7.2, steps S2.1.1 to S2.1.3). The start stays in the window throughout.
 fn take_nonstarters(walk: &mut Walk<'_>, window: &mut Window, start: usize)
     requires some { 0 < start }
     requires within { start ≤ window.old.closed }
@@ -48,7 +48,7 @@ fn take_nonstarters(walk: &mut Walk<'_>, window: &mut Window, start: usize)
     }
 }
 
-// Takes the match at the front out of a window that was filled (UTS #10, 7.2, step S2.1). A code point that begins no
+// Removes the match at the front of a window that was filled (UTS #10, 7.2, step S2.1). A code point that begins no
 // key is a match by itself.
 fn take_match<'t>(t: &'t Table, window: &mut Window) -> WindowMatch<'t>
     requires some { 0 < window.old.closed }
@@ -70,8 +70,8 @@ fn take_match<'t>(t: &'t Table, window: &mut Window) -> WindowMatch<'t>
     WindowMatch { first, walk }
 }
 
-/// The match at the front of a window's rest, which it takes out of it (UTS #10, 7.2, step S2.1). `None` at the end of
-/// the text. Characters are read before the match and none within it.
+/// Removes the match at the front of a window's rest, and returns it (UTS #10, 7.2, step S2.1). `None` at the end of
+/// the text. It reads characters before the match and none within it.
 pub(crate) fn next_match<'t, S: Source>(
     t: &'t Table,
     window: &mut Window,

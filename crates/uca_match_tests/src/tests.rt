@@ -28,7 +28,7 @@ fn text_with(alloc: Global, entries: &[u8]) -> Result<Vec<u8>, AllocError> {
     Ok(text)
 }
 
-/// That text, made once more where memory was refused.
+/// That text, retrying where memory was refused.
 fn text_again(rt: &impl Abort, alloc: Global, entries: &[u8]) -> Vec<u8> {
     match text_with(alloc, entries) {
         Ok(text) => text,
@@ -42,7 +42,7 @@ fn table(rt: &impl Abort, alloc: Global, entries: &[u8]) -> Table {
     table_from(alloc, &text).ok().expect(rt, "a table")
 }
 
-/// The elements of a safe text, asked for once more where memory was refused.
+/// The elements of a safe text, tried again where memory was refused.
 fn elements_again(rt: &impl Abort, alloc: Global, t: &Table, text: &str) -> Vec<Element> {
     let p = Passage::check(text).ok().expect(rt, "a safe text");
     match elements_of(alloc, t, &p) {
@@ -79,7 +79,7 @@ fn assert_texts(rt: &impl Abort, alloc: Global, entries: &[u8], texts: &[(&str, 
 static CONTRACTIONS: [(&str, &[Weights]); 10] = [
     ("", &[]),
     ("ch", &[(false, [0x1007, 0x20, 2])]),
-    // Marks stand in canonical order.
+    // Marks are in canonical order.
     (
         "\u{E9}\u{323}",
         &[
@@ -165,7 +165,7 @@ fn marks_far_away_are_taken(rt: HostRuntime) {
 
 static BEGINS_A_KEY: [(&str, &[Weights]); 2] = [
     ("x\u{301}", &[(false, [0x1010, 0x20, 2])]),
-    // The mark that stands between makes `x` the longest prefix, which is no key.
+    // The mark in between makes `x` the longest prefix, which is no key.
     (
         "x\u{323}\u{308}\u{301}",
         &[
@@ -236,7 +236,7 @@ fn assert_same(rt: &impl Abort, alloc: Global, t: &Table, other: &Table, text: &
     assert!(rt; elements.as_slice() == others.as_slice(), "{text:?}");
 }
 
-/// A text of these characters by a number, made once more where memory was refused.
+/// A text of these characters by a number, retrying where memory was refused.
 fn generated_again(rt: &impl Abort, alloc: Global, number: u32) -> String {
     match generated(alloc, &CHARACTERS, number) {
         Ok(text) => text,
@@ -255,7 +255,7 @@ fn assert_same_elements(rt: &impl Abort, alloc: Global, t: &Table, other: &Table
     }
 }
 
-/// Drops the cells of a table, by the range of one more ideograph, which is added once more where memory was refused.
+/// Drops the cells of a table, by the range of one more ideograph, which is added again where memory was refused.
 fn drop_cells(rt: &impl Abort, t: &mut Table) {
     let added = match t.add_ideographs('\u{33479}', '\u{33479}') {
         Err(RangeFault::OutOfMemory) => t.add_ideographs('\u{33479}', '\u{33479}'),

@@ -1,4 +1,4 @@
--- Ranges that may stand in one table may be added one after the other.
+-- Ranges that can be in one table together may be added one after the other.
 use Rattle.std.proofs.Common.{◌≡◌, ℕ, ◌-◌, ◌<◌, max, false, ◌==◌, List, [], ◌∷◌, ◌++◌, refl, sym, ap, ◌∙◌, arith, inl, inr, eqb-true}
 use Rattle.std.proofs.lemmas.Bool.{cases_Bool, cond-false, or_from, le-ltb}
 use Rattle.std.proofs.lemmas.Bool.Decides.{nat_tests}
@@ -47,7 +47,7 @@ spans_enough front r rest are =
     highest_last-within front r.base r.last (lowest_first front r.base r.first) (above_lowest front r r rest refl (after_front P front r rest are.spans))
     (weaker P (λ s. s.base ≡ r.base → s.last - lowest_first front r.base r.first < 0x8000) front (λ s all same. above_lowest front r s rest same all) (front_of P front (r ∷ rest) are.spans))
 
--- a range may stand beside those before it
+-- a range is compatible with those before it
 pub good_range : (front : List Range) (r : Range) (rest : List Range) → AreRanges (front ++ r ∷ rest) → is_bad_range front r ≡ false
 good_range front r rest are =
     let is : IsRange r = after_front IsRange front r rest are.each in

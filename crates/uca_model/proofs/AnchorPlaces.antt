@@ -42,7 +42,7 @@ ends_in_a_weight level (e ∷ es) a h = ends_step level e es (anchor_of level es
 
 -- ## Items
 
--- the weights of elements with room, and then one raised by one
+-- the weights of elements moved for the gap, and then one raised by one
 first_weights : (w : ℕ) (es : List Element) (e : Element) → w ≡ weight 1 e → map (weight 1) (map (with_room 1 w) es ++ raised 1 e ∷ []) ≡ map (λ x. weight_with_room 1 w (weight 1 x)) es ++ (w + 1) ∷ []
 first_weights w [] e is = ap (λ v. v ∷ []) (raised-first e ∙ ap (λ v. v + 1) (sym is))
 first_weights w (x ∷ es) e is = ap (λ vs. weight_with_room 1 w (weight 1 x) ∷ vs) (first_weights w es e is)

@@ -1,4 +1,4 @@
--- Where bytes are cut at the first one of a kind, and which blanks stand at their ends.
+-- Where bytes are cut at the first one of a kind, and which blanks are at their ends.
 use Rattle.std.proofs.Common.{◌≡◌, ℕ, suc, ◌+◌, ◌-◌, Bool, true, false, not, List, [], ◌∷◌, ◌++◌, length, take, drop, get_or, refl, ap, ◌∙◌, arith}
 use Rattle.std.proofs.Math.Seq.{take-append_seam, drop-append_seam, drop-append-add}
 use Rattle.std.proofs.lemmas.Bool.{cond-true, cond-false}

@@ -59,7 +59,7 @@ open_points (c ∷ key) all = (refl, none-append is_semicolon (point_text c) (mo
 open_key : (c : ℕ) (key : List ℕ) → AllByRecursion IsScalar (c ∷ key) → AllByRecursion (λ b. is_semicolon b ≡ false) (key_text (c ∷ key))
 open_key c key all = rw (key_text-cons c key) (none-append is_semicolon (point_text c) (more_points key) (no_hex is_semicolon hex_no_semicolon (point_text c) (hex-point c (scalar-below c all.0))) (open_points key all.1))
 
--- before the first `;` stand the code points
+-- the code points come before the first `;`
 pub entry_key-said : (c : ℕ) (key rest : List ℕ) → AllByRecursion IsScalar (c ∷ key) → length (c ∷ key) ≤ MAX_KEY → entry_key ((key_text (c ∷ key) ++ 32 ∷ []) ++ 59 ∷ rest) ≡ Ok (c ∷ key)
 unfolding entry_key
 entry_key-said c key rest all few =
@@ -92,7 +92,7 @@ front_open e is =
     let a = four e.l1 is.l1 in let b = four e.l2 is.l2 in let d = four e.l3 is.l3 in
     (refl, (mark_no_bracket e, (a.0, (a.1.0, (a.1.1.0, (a.1.1.1.0, (refl, (b.0, (b.1.0, (b.1.1.0, (b.1.1.1.0, (refl, d))))))))))))
 
--- elements, cut at each `]`; after the last one stands no byte
+-- elements, cut at each `]`; no byte follows the last one
 cut_elements : (es : List Element) → AllByRecursion IsElement es → slice_split is_right_bracket (flat_map element_text es) ≡ map element_front es ++ [] ∷ []
 cut_elements [] all = refl
 cut_elements (e ∷ es) all =
@@ -128,7 +128,7 @@ elements_of_fronts done (e ∷ es) some few all =
     ∙ elements_of_fronts (done ++ e ∷ []) es (omega (arith, length-append done (e ∷ []))) (omega (arith, length-append done (e ∷ []))) all.1
     ∙ ap Ok (append_assoc done (e ∷ []) es)
 
--- after the `;` and a blank stand the elements
+-- the elements follow the `;` and a blank
 elements-said : (es : List Element) → 0 < length es → length es ≤ MAX_ELEMENTS → AllByRecursion IsElement es → elements_after [] (slice_split is_right_bracket (32 ∷ flat_map element_text es)) ≡ Ok es
 elements-said [] some few all = absurd (omega arith)
 elements-said (e ∷ es) some few all =

@@ -166,7 +166,7 @@ no_feeds (x ∷ xs) plain = (not_feed x plain.0, no_feeds xs plain.1)
 pub first_line : (xs rest : List ℕ) → AllByRecursion IsPlain xs → slice_split (λ b. b == line_feed) (xs ++ line_feed ∷ rest) ≡ xs ∷ slice_split (λ b. b == line_feed) rest
 first_line xs rest plain = slice_split_at (λ b. b == line_feed) xs line_feed rest (All-from_recursion (λ b. (b == line_feed) ≡ false) xs (no_feeds xs plain)) refl
 
--- the lines of the entries, and what stands after them
+-- the lines of the entries, and what follows them
 pub lines_of_entries : (es : List (List ℕ × List Element)) (rest : List ℕ) → slice_split (λ b. b == line_feed) (flat_map entry_line es ++ rest) ≡ map entry_said es ++ slice_split (λ b. b == line_feed) rest
 lines_of_entries [] rest = refl
 lines_of_entries (e ∷ es) rest =
@@ -184,7 +184,7 @@ plain-range r =
     (plain-append (point_text r.first ++ codes "..") (point_text r.last) (plain-append (point_text r.first) (codes "..") (plain-point_text r.first) (plain_stop, (plain_stop, tt))) (plain-point_text r.last)))
     (plain_letter 59 (lit≤ tt), (plain_blank, plain-four_digits r.base))
 
--- the lines of the ranges, and what stands after them
+-- the lines of the ranges, and what follows them
 pub lines_of_ranges : (rs : List Range) (rest : List ℕ) → slice_split (λ b. b == line_feed) (flat_map range_line rs ++ rest) ≡ map range_said rs ++ slice_split (λ b. b == line_feed) rest
 lines_of_ranges [] rest = refl
 lines_of_ranges (r ∷ rs) rest =
@@ -192,7 +192,7 @@ lines_of_ranges (r ∷ rs) rest =
     = append_assoc (range_line r) (flat_map range_line rs) rest ∙ ap (λ l. l ++ (flat_map range_line rs ++ rest)) (range_line-said r) ∙ append_assoc (range_said r) (line_feed ∷ []) (flat_map range_line rs ++ rest) in
     ap (slice_split (λ b. b == line_feed)) whole ∙ first_line (range_said r) (flat_map range_line rs ++ rest) (plain-range r) ∙ ap (λ l. range_said r ∷ l) (lines_of_ranges rs rest)
 
--- the lines of a canonical text; after its last LF stands no byte
+-- the lines of a canonical text; no byte follows its last LF
 pub lines_of_canonical : (t : ElementTable) → slice_split (λ b. b == line_feed) (canonical t) ≡ map range_said t.ranges ++ (map entry_said (entries t.entries) ++ [] ∷ [])
 lines_of_canonical t =
     lines_of_ranges t.ranges (flat_map entry_line (entries t.entries))

@@ -47,7 +47,7 @@ range_of_text-said r is =
     ∙ step_done _ _ _ (ap range_end skip_last ∙ end_said r.last 59 (32 ∷ four_digits r.base) is.last refl)
     ∙ step_done _ _ _ (base_said r.base is.base)
 
--- a directive, by its word and what stands after it
+-- a directive, by its word and what follows it
 directive_by : List ℕ → List ℕ → Result Statement Cause
 directive_by word rest = if bytes_eq word version_word then some_text (skip_blanks rest) (Ok version) else if bytes_eq word range_word then some_text rest (range_of_text rest) else Err bad_directive
 

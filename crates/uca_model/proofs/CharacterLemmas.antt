@@ -24,7 +24,7 @@ mapping-scalars : (c : ℕ) → list_all scalar (canonical_mapping c) ≡ true
 unfolding values_ok tables decomposition_stepped
 mapping-scalars = Stepped-at_values decomposition decomposition_stepped (λ e. list_all scalar (if_canonical e)) refl
 
--- where there is no mapping, the character itself stands
+-- where there is no mapping, the character is its own
 or_itself-scalars : (c : ℕ) (xs : List ℕ) → scalar c ≡ true → list_all scalar xs ≡ true → list_all scalar (or_itself c xs) ≡ true
 or_itself-scalars c [] own all = and_from _ _ own refl
 or_itself-scalars c (x ∷ xs) own all = all

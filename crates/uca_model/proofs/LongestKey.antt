@@ -1,4 +1,4 @@
--- What the longest key says of the others.
+-- What the longest key says about the others.
 use Rattle.std.proofs.Common.{◌≡◌, ℕ, ◌≤◌, max, true, ◌||◌, eqb, List, [], ◌∷◌, length, fold, refl, sym, ap, ◌∙◌, arith, inl, inr}
 use Rattle.std.proofs.lemmas.Bool.{cases_Bool, and_parts}
 use Rattle.std.specs.List.{list_any}

@@ -142,10 +142,10 @@ prefixes-ranges front bytes are = (between-begins front bytes are, λ begins. su
 -- ---- what begins with a key
 
 -- nothing, or a separator
-abbrev EndsLevel : List ℕ → Type 0
+abbrev pub EndsLevel : List ℕ → Type 0
 EndsLevel tail = (tail ≡ []) ⊎ BeginsWith tail (0 ∷ 0 ∷ [])
 
-weights-begin : (ws vs tail more : List ℕ) → AreWeights ws → AreWeights vs → EndsLevel tail → flat_map weight_bytes ws ++ tail ≡ flat_map weight_bytes vs ++ more → BeginsWith ws vs
+pub weights-begin : (ws vs tail more : List ℕ) → AreWeights ws → AreWeights vs → EndsLevel tail → flat_map weight_bytes ws ++ tail ≡ flat_map weight_bytes vs ++ more → BeginsWith ws vs
 weights-begin ws [] tail more p q ends h = record { rest = ws; parts = refl }
 weights-begin [] (v ∷ vs) tail more p q ends h = elim ends [
   | inl none ↦ let e : [] ≡ v / 256 % 256 ∷ v % 256 ∷ (flat_map weight_bytes vs ++ more) = sym none ∙ h in cc
@@ -164,12 +164,12 @@ weights-begin (w ∷ ws) (v ∷ vs) tail more p q ends h =
     record { rest = later.rest; parts = ap₂ (λ x l. x ∷ l) (omega (arith, p.0.1, q.0.1)) later.parts }
 
 -- a key after its first level
-record AfterLevel (key level : List ℕ) : Type 0 where
-  tail : List ℕ
-  same : key ≡ level ++ tail
-  ends : EndsLevel tail
+pub record AfterLevel (key level : List ℕ) : Type 0 where
+  pub tail : List ℕ
+  pub same : key ≡ level ++ tail
+  pub ends : EndsLevel tail
 
-separated : (level others : List ℕ) → AfterLevel (level ++ 0 ∷ 0 ∷ others) level
+pub separated : (level others : List ℕ) → AfterLevel (level ++ 0 ∷ 0 ∷ others) level
 separated level others = record { tail = 0 ∷ 0 ∷ others; same = refl; ends = inr (record { rest = others; parts = refl }) }
 
 first-level : (t : ElementTable) (v : Variable) (strength : Strength) (text : List ℕ) → AfterLevel (sort_key t (record { strength = strength; weighting = v }) text) (flat_map weight_bytes (level_list t v text 1))

@@ -1,6 +1,6 @@
 -- The primary weights of a text that begins with a complete one begin with those of the complete one.
 use Rattle.std.proofs.Common.{◌⊎◌, ◌≡◌, ℕ, zero, suc, ◌+◌, ◌-◌, ◌≤◌, ◌<◌, Bool, true, false, cond, not, ◌&&◌, ◌==◌, ◌||◌, nat_eq, nat_le, List, [], ◌∷◌, ◌++◌, length, take, drop, map, filter, flat_map, reverse, slice_index, Option, Some, None, unwrap_or, refl, sym, ap, ap₂, ◌∙◌, arith, inl, inr, append_assoc, append-nil, length-append, eqb-true, eq-eqb}
-use Rattle.std.proofs.lemmas.Bool.{cases_Bool, and_parts, cond-true, cond-false, eqb-false, leb-true, leb-false}
+use Rattle.std.proofs.lemmas.Bool.{cases_Bool, and_parts, cond-true, cond-false, eqb-false, leb-true, leb-false, or_right, and_from}
 use Rattle.std.proofs.lemmas.List.{map-append, take-append-le, drop-append-le, reverse-append, reverse-reverse, length-drop}
 use Rattle.std.proofs.lemmas.List.Elements.{filter-append}
 use Rattle.std.proofs.lemmas.List.Concat.{flat_map-append}
@@ -34,7 +34,7 @@ use Rattle.uca_model.proofs.TableLemmas.{find-holds}
 
 -- ---- the weights of the first level
 
--- the first weight of an element, whatever stands before it
+-- the first weight of an element, whatever comes before it
 abbrev primary : Variable → Bool → ℕ → ℕ
 primary NonIgnorable starred l1 = l1
 primary Blanked starred l1 = cond (starred && not (l1 == 0)) 0 l1
@@ -118,7 +118,7 @@ have-same v (f ∷ fs) (e ∷ es) h =
     let same : primary v e.starred e.l1 ≡ primary v f.starred f.l1 = ap₂ (primary v) (same_mark f.starred e.starred here.1) (eqb-true e.l1 f.l1 here.0) in
     ap₂ (λ w ws. cond (not (w == 0)) (w ∷ ws) ws) same (have-same v fs es both.1)
 
--- ---- what a table says of a code point
+-- ---- what a table says about a code point
 
 -- the same of each key that a look-up finds
 pub record Keeps (t : ElementTable) (c : ℕ) : Type 0 where
@@ -135,16 +135,12 @@ keeps-facts t c h = record {
       (find-holds (λ entry. keeps_primary t c entry ≡ true) (c ∷ after) es (entries t.entries) (each_passes (keeps_primary t c) (entries t.entries) h) (sym (get-entries t.entries (c ∷ after)) ∙ e));
 }
 
-or_later : (a b : Bool) → b ≡ true → (a || b) ≡ true
-or_later true b h = refl
-or_later false b h = h
-
 before_last : (s : ℕ) (before : List ℕ) (c : ℕ) (after : List ℕ) → is_before_last s (before ++ s ∷ c ∷ after) ≡ true
 before_last s [] c after = rw (eq-eqb s s refl) refl
-before_last s (x ∷ []) c after = or_later (x == s) _ (before_last s [] c after)
-before_last s (x ∷ y ∷ before) c after = or_later (x == s) _ (before_last s (y ∷ before) c after)
+before_last s (x ∷ []) c after = or_right (x == s) _ (before_last s [] c after)
+before_last s (x ∷ y ∷ before) c after = or_right (x == s) _ (before_last s (y ∷ before) c after)
 
--- the code point does not stand between two others in the key
+-- the code point is not between two others in the key
 abbrev is_last_in : ℕ → List ℕ × List Element → Bool
 is_last_in s entry = not (is_before_last s (drop 1 entry.0))
 
@@ -192,10 +188,6 @@ step-key key c cs =
           ] in
           inr (ap (λ (r : Step). key r.matched.code_points) (cond-false _ _ _ some) ∙ found-key key (take n (c ∷ cs)) [] (drop n (c ∷ cs)) here)
     ]
-
-and_from : (a b : Bool) → a ≡ true → b ≡ true → (a && b) ≡ true
-and_from true b h g = g
-and_from false b h g = cc
 
 all_both : (q : ℕ → Bool) (xs ys : List ℕ) → list_all q xs ≡ true → list_all q ys ≡ true → list_all q (xs ++ ys) ≡ true
 all_both q xs ys h g = list_all-append q xs ys ∙ and_from (list_all q xs) (list_all q ys) h g

@@ -1,4 +1,4 @@
--- Room above a weight: what it leaves as it is, that it keeps the order of weights, and that the weight in the room is no other.
+-- A gap above a weight: what it leaves as it is, that it keeps the order of weights, and that no weight moves into the gap.
 use Rattle.std.proofs.Common.{◌≡◌, ℕ, ◌+◌, ◌≤◌, ◌<◌, Bool, false, ◌&&◌, ◌==◌, eqb, refl, arith}
 use Rattle.std.proofs.lemmas.Bool.Decides.{nat_tests}
 use Rattle.std.specs.Ordering.{nat_cmp}
@@ -18,26 +18,26 @@ weight_with_room-zero level w = grind (arith, nat_tests)
 pub weight_with_room-is_zero : (level w x : ℕ) → eqb (weight_with_room level w x) 0 ≡ eqb x 0
 weight_with_room-is_zero level w x = grind (arith, nat_tests)
 
--- so do weights up to the one below the room, and at level 1 those of implicit elements, from 8000 on
+-- so do weights up to the one below the gap, and at level 1 those of implicit elements, from 8000 on
 pub weight_with_room-low : (level w x : ℕ) → x ≤ w → weight_with_room level w x ≡ x
 weight_with_room-low level w x h = grind (arith, nat_tests)
 
 pub weight_with_room-high : (w x : ℕ) → 32768 ≤ x → weight_with_room 1 w x ≡ x
 weight_with_room-high w x h = grind (arith, nat_tests)
 
--- where there is room the order of weights stays, both ways
+-- where weights can move up their order stays, both ways
 pub nat_cmp-weight_with_room : (level w x y : ℕ) → weight_has_no_room level w x ≡ false → weight_has_no_room level w y ≡ false → nat_cmp (weight_with_room level w x) (weight_with_room level w y) ≡ nat_cmp x y
 nat_cmp-weight_with_room level w x y p q = grind (arith, nat_tests)
 
--- the weight in the room is no weight that moved
+-- the weight in the gap is no weight that moved
 pub weight_with_room-room : (level w x : ℕ) → (level ≡ 1 → w < 32767) → weight_with_room level w x ≡ w + 1 → ⊥
 weight_with_room-room level w x h e = grind (arith, nat_tests)
 
--- where there is room a weight of sixteen bits keeps them
+-- where it can move up a weight of sixteen bits keeps them
 pub weight_with_room-fits : (level w x : ℕ) → weight_has_no_room level w x ≡ false → x < 65536 → weight_with_room level w x < 65536
 weight_with_room-fits level w x p h = grind (arith, nat_tests)
 
--- a raised element has the weight in the room
+-- a raised element has the weight in the gap
 pub raised-first : (e : Element) → weight 1 (raised 1 e) ≡ weight 1 e + 1
 raised-first e = refl
 

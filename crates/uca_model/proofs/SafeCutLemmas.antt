@@ -1,6 +1,6 @@
 -- A text that is cut before a safe starter: its level lists are those of the two parts, one after the other.
 use Rattle.std.proofs.Common.{◌⊎◌, ◌≡◌, ℕ, zero, suc, ◌+◌, ◌-◌, ◌/◌, ◌%◌, ◌≤◌, ◌<◌, max, Bool, true, false, cond, not, ◌&&◌, ◌==◌, ◌||◌, nat_eq, List, [], ◌∷◌, ◌++◌, length, take, drop, map, filter, flat_map, slice_index, find, Option, Some, None, unwrap_or, All, refl, sym, ap, ap₂, subst, ◌∙◌, arith, inl, inr, append_assoc, append-nil, length-append, eqb-true, eq-eqb, ne_eqb}
-use Rattle.std.proofs.lemmas.Bool.{cases_Bool, and_parts, cond-true, cond-false, eqb-false}
+use Rattle.std.proofs.lemmas.Bool.{cases_Bool, and_parts, cond-true, cond-false, eqb-false, or_right}
 use Rattle.std.proofs.lemmas.List.{map-append, take-append-le, drop-append-le, drop_at, reverse-append, take-append-drop, length-take}
 use Rattle.std.proofs.lemmas.List.Elements.{filter-append, All-drop}
 use Rattle.std.proofs.lemmas.List.Concat.{flat_map-append}
@@ -52,11 +52,7 @@ each_passes p (x ∷ xs) h = let both = and_parts (p x) (list_all p xs) h in (bo
 
 stands_in : (s : ℕ) (xs ys : List ℕ) → list_any (λ c. c == s) (xs ++ s ∷ ys) ≡ true
 stands_in s [] ys = rw (eq-eqb s s refl) refl
-stands_in s (x ∷ xs) ys = or_later (x == s) _ (stands_in s xs ys)
-  where
-    or_later : (a b : Bool) → b ≡ true → (a || b) ≡ true
-    or_later true b h = refl
-    or_later false b h = h
+stands_in s (x ∷ xs) ys = or_right (x == s) _ (stands_in s xs ys)
 
 not_both : (a b : Bool) → a ≡ true → (not a && b) ≡ true → ⊥
 not_both true b h g = cc
@@ -133,7 +129,7 @@ take_some : (s : ℕ) (ys : List ℕ) (n : ℕ) → 0 < n → take n (s ∷ ys) 
 take_some s ys zero h = absurd (omega arith)
 take_some s ys (suc n) h = let e : n ≡ suc n - 1 = omega arith in ap (λ k. s ∷ take k ys) e
 
--- what stands after a rest
+-- what follows a rest
 abbrev pub with_more : List ℕ → Step → Step
 with_more ys r = record r { rest = r.rest ++ ys }
 
@@ -160,7 +156,7 @@ module _ (key : List ℕ → Bool) (s : ℕ) (ys : List ℕ) (starter : is_start
       ∙ greatest-more (λ n. key (take n (xs ++ s ∷ ys))) (λ n. key (take n xs)) (length xs) (suc (length ys)) (λ k le. ap key (take-append-le k xs (s ∷ ys) le))
       (λ k more. ap key (take_past xs (s ∷ ys) k (omega arith) ∙ ap (λ l. xs ++ l) (take_some s ys (k - length xs) (omega arith))) ∙ across xs (take (k - length xs - 1) ys) some)
 
-  -- a step before the cut does not see what stands after it
+  -- a step before the cut does not see what follows it
   step-cut : (xs : List ℕ) → 0 < length xs → step key (xs ++ s ∷ ys) ≡ with_more (s ∷ ys) (step key xs)
   step-cut [] some = absurd (omega arith)
   step-cut (x ∷ xs) some =
@@ -204,7 +200,7 @@ elements-cut t xs s ys safe =
 abbrev moved_on : Bool → Element → Bool
 moved_on after e = cond (has_primary e) (is_variable e) after
 
--- the weights of elements, by whether the first stands after a variable
+-- the weights of elements, by whether the first follows a variable
 abbrev weighted_by : Variable → Bool → List Element → List (List ℕ)
 weighted_by v after [] = []
 weighted_by v after (e ∷ es) = weights v after e ∷ weighted_by v (moved_on after e) es
@@ -228,7 +224,7 @@ weighted_after-append v before (e ∷ es) fs =
     ap (λ ws. weights v (is_after_variable before) e ∷ ws)
     (weighted_after-append v (before ++ e ∷ []) es fs ∙ ap (λ b. weighted_after v (before ++ e ∷ []) es ++ weighted_after v b fs) (append_assoc before (e ∷ []) es))
 
--- an element with a primary weight does not ask whether it stands after a variable
+-- an element with a primary weight does not depend on whether it follows a variable
 weights-primary : (v : Variable) (after : Bool) (e : Element) → has_primary e ≡ true → weights v after e ≡ weights v false e
 weights-primary NonIgnorable after e some = refl
 weights-primary Blanked after e some = ap (λ b. cond (is_variable e || b) (ignored 0) (unchanged e 0)) (no_zero (e.l1 == 0) after some)
@@ -246,7 +242,7 @@ weights-primary Shifted after e some =
 weighted_by-primary : (v : Variable) (after : Bool) (e : Element) (es : List Element) → has_primary e ≡ true → weighted_by v after (e ∷ es) ≡ weighted_by v false (e ∷ es)
 weighted_by-primary v after e es some = ap₂ (λ w a. w ∷ weighted_by v a es) (weights-primary v after e some) (cond-true _ _ _ some ∙ sym (cond-true _ _ _ some))
 
--- elements that begin with a primary weight are weighted as if they stood alone
+-- elements that begin with a primary weight are weighted as if they were alone
 pub weighted-cut : (v : Variable) (es : List Element) (e : Element) (fs : List Element) → has_primary e ≡ true → weighted v (es ++ e ∷ fs) ≡ weighted v es ++ weighted v (e ∷ fs)
 weighted-cut v es e fs some =
     weighted_after-append v [] es (e ∷ fs)
@@ -500,7 +496,7 @@ common_front-first (x ∷ xs) (y ∷ ys) = by_test (common_front-first xs ys) (x
         record { left = later.left; right = later.right; first = ap (λ l. x ∷ l) later.first; second = ap₂ (λ c l. c ∷ l) (sym (eqb-true x y e)) later.second }
     by_test later false e = record { left = x ∷ xs; right = y ∷ ys; first = refl; second = refl }
 
--- ---- what stands after the last cut
+-- ---- what follows the last cut
 
 -- it begins with a character before which it may be cut
 pub record BeginsAtCut (t : ElementTable) (xs : List ℕ) : Type 0 where

@@ -1,4 +1,4 @@
--- Lemmas on safe texts: what one more character does to the longest run, and where the characters of a text stand.
+-- Lemmas on safe texts: what one more character does to the longest run, and where the characters of a text are.
 use Rattle.std.proofs.Common.{◌≡◌, ℕ, suc, ◌+◌, ◌-◌, ◌≤◌, ◌<◌, max, true, cond, List, [], ◌∷◌, ◌++◌, length, take, drop, flat_map, All, if◌then◌else◌, append_assoc, length-append, encode_utf8_all, encode_utf8, refl, sym, ap, ap₂, subst, ◌∙◌, arith, inl, inr, append-nil}
 use Rattle.std.proofs.lemmas.Bool.{cases_Bool, not_from_false}
 use Rattle.std.proofs.lemmas.List.Concat.{flat_map-append}
@@ -17,7 +17,7 @@ use Rattle.uca_model.specs.SafeText.{longest_run_after, longest_run, IsSafe, IsL
 
 -- ---- runs of code points
 
--- how many nonstarters stand in a row at the end, where `count` stand before the text
+-- how many nonstarters are in a row at the end, where `count` come before the text
 abbrev pub run_after : ℕ → List ℕ → ℕ
 run_after count [] = count
 run_after count (c ∷ cs) = if is_nonstarter c then run_after (count + 1) cs else run_after 0 cs
@@ -136,7 +136,7 @@ IsSafe-front xs ys safe =
       short = subst (λ zs. All IsShort zs) (take_at xs ys (length xs) refl) (All-take IsShort (length xs) (xs ++ ys) safe.short);
     }
 
--- ---- where an iterator stands in a text
+-- ---- where an iterator is in a text
 
 -- the characters of a text whose bytes begin with those of some characters begin with these
 pub begins : (ys xs : List ℕ) (rest : List ℕ) → encode_utf8_all xs ≡ encode_utf8_all ys ++ rest → xs ≡ ys ++ drop (length ys) xs

@@ -28,11 +28,11 @@ below_at : (key : List ℕ) (front : List (List ℕ × List Element)) (x : List 
 below_at key [] x rest h = less _ (first _ _ h)
 below_at key (f ∷ front) x rest h = below_at key front x rest (second _ _ h)
 
--- the key stands above those of some entries
+-- the key is above those of some entries
 abbrev pub IsAbove : List ℕ → List (List ℕ × List Element) → Type 0
 IsAbove key front = AllByRecursion (λ f. key_cmp key f.0 ≡ Greater) front
 
--- in key order each key stands above those before it
+-- in key order each key is above those before it
 pub above_front : (front : List (List ℕ × List Element)) (x : List ℕ × List Element) (rest : List (List ℕ × List Element)) → T (is_sorted key_cmp (front ++ x ∷ rest)) → IsAbove x.0 front
 above_front [] x rest h = tt
 above_front (f ∷ front) x rest h = (nat_list_cmp_total.antisymm x.0 f.0 ∙ ap ordering_reverse (below_at f.0 front x rest (first _ _ h)), above_front front x rest (second _ _ h))

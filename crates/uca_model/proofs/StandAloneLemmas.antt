@@ -77,7 +77,7 @@ continues-no_key t s (x ∷ before) after none some = no_key t (is_inside s) ((x
 
 -- ---- steps
 
--- what stands after a rest
+-- what follows a rest
 abbrev with_more : List ℕ → Step → Step
 with_more ys r = record r { rest = r.rest ++ ys }
 
@@ -159,7 +159,7 @@ module _ (key : List ℕ → Bool) (p : ℕ) (single : (q : ℕ) (after : List �
         empty [] h = refl
         empty (x ∷ xs) h = absurd (omega arith)
 
--- ---- a starter that stands in no key after the first place
+-- ---- a starter that is in no key after the first place
 
 module _ (key : List ℕ → Bool) (s : ℕ) (ys : List ℕ) (starter : is_starter s ≡ true) (across : (before after : List ℕ) → 0 < length before → key (before ++ s ∷ after) ≡ false) where
   extension-cut : (front passed cs : List ℕ) → discontiguous_match key front passed (cs ++ s ∷ ys) ≡ with_more (s ∷ ys) (discontiguous_match key front passed cs)
@@ -225,7 +225,7 @@ elements-plain t (x ∷ xs) ys plain =
       not_true true h = cc
       not_true false h = refl
 
--- before a starter that stands in no key after the first place the text may be cut
+-- before a starter that is in no key after the first place the text may be cut
 elements-cut : (t : ElementTable) (xs : List ℕ) (s : ℕ) (ys : List ℕ) → is_starter s ≡ true → continues t s ≡ false → elements t (xs ++ s ∷ ys) ≡ elements t xs ++ elements t (s ∷ ys)
 elements-cut t xs s ys starter none =
     elements-parts t xs (s ∷ ys) (xs ++ s ∷ ys) (matches-cut (is_key t) s ys starter (λ before after some. continues-no_key t s before after none some) (length xs) xs (omega arith))
@@ -290,7 +290,7 @@ plain-nfd t c h =
 abbrev pub IsApart : ElementTable → List ℕ → List ℕ → Type 0
 IsApart t p x = elements t (nfd (p ++ x)) ≡ elements t (nfd p) ++ elements t (nfd x)
 
--- how the NFD begins with these code points, by how they join what stands before
+-- how the NFD begins with these code points, by how they join what comes before
 pub data Begins (t : ElementTable) (ds : List ℕ) : Type 0 where
   freshly : (s : ℕ) (others : List ℕ) → ds ≡ s ∷ others → is_starter s ≡ true → continues t s ≡ false → Begins t ds
   in_key : (s : ℕ) (others : List ℕ) → ds ≡ s ∷ others → is_starter s ≡ true → 1 ≤ joining_of t ds → Begins t ds
@@ -306,7 +306,7 @@ how_begins t (s ∷ others) = elim (cases_Bool (is_starter s)) [
   | inr mark ↦ let e : joining_of t (s ∷ others) ≡ 2 = cond-false _ _ _ mark in as_mark (omega arith)
 ]
 
--- before such a starter a text is cut, whatever stands before it
+-- before such a starter a text is cut, whatever comes before it
 apart-freshly : (t : ElementTable) (p x : List ℕ) (n s : ℕ) (others : List ℕ) → decompose_canonical n ≡ s ∷ others → is_starter s ≡ true → continues t s ≡ false → IsApart t p (n ∷ x)
 apart-freshly t p x n s others is starter fresh =
     let first = nfd-first x n s others is starter in

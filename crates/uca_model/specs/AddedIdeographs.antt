@@ -1,4 +1,4 @@
--- Which further ranges of unified ideographs may stand in one table, and in which order they do.
+-- Which further ranges of unified ideographs one table can have, and in which order.
 use Rattle.std.specs.Prelude.{Bool, ◌&&◌, ◌||◌, nat_le, nat_lt, List, [], ◌∷◌, if◌then◌else◌}
 use Rattle.std.specs.List.{list_any}
 use Rattle.uca_weights.specs.declared.range.Ideographs.{Ideographs}
@@ -8,7 +8,7 @@ use Rattle.uca_model.specs.UnifiedIdeographs.{repeats_listed}
 abbrev pub shares : Ideographs → Ideographs → Bool
 shares r s = nat_le r.first s.last && nat_le s.first r.last
 
--- the range may not stand beside the others
+-- the range conflicts with the others
 abbrev pub are_bad_ideographs : List Ideographs → Ideographs → Bool
 are_bad_ideographs added r = nat_lt r.last r.first || (repeats_listed r || list_any (shares r) added)
 

@@ -14,14 +14,14 @@ pub record EndsInAWeight (level : ℕ) (es : List Element) (a : Anchor) : Type 0
   pub some : weight level a.last ≢ 0
   pub none : AllByRecursion (λ e. weight level e ≡ 0) dropped
 
--- so is each anchor
+-- so does each anchor
 abbrev pub AnchorsEndInAWeight : Type 0
 AnchorsEndInAWeight = (level : ℕ) (es : List Element) (a : Anchor) → anchor_of level es ≡ Some a → EndsInAWeight level es a
 
--- an item has the weights of the elements before the last one of its anchor, with room, and then the raised weight of that one alone ..
+-- an item has the weights of the elements before the last one of its anchor, moved for the gap, and then the raised weight of that one alone ..
 pub record StandsInTheRoom (level w : ℕ) (before es : List Element) : Type 0 where
   pub weights : map (weight level) es ≡ map (λ e. weight_with_room level w (weight level e)) before ++ (w + 1) ∷ []
-  -- .. which is no weight that stood before, with room
+  -- .. which no weight from before has once the gap is made
   pub alone : (level ≡ 1 → w < 0x7FFF) → (e : Element) → weight level (with_room level w e) ≢ w + 1
 
 -- so does each item next to an anchor

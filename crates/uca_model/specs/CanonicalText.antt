@@ -20,7 +20,7 @@ plane_text plane = if plane == 0 then [] else if nat_lt plane 16 then hex_digit 
 unfoldable pub point_text : ℕ → List ℕ
 point_text c = plane_text (c / 0x10000) ++ four_digits (c % 0x10000)
 
--- what stands before the weights of an element: `*` where it is starred, else `.`
+-- what comes before the weights of an element: `*` where it is starred, else `.`
 abbrev pub variable_mark : Element → ℕ
 variable_mark e = if e.starred then 42 else 46
 

@@ -5,11 +5,11 @@ use Rattle.uca_model.specs.Table.{ElementTable, elements_at, is_key}
 use Rattle.uca_model.specs.ImplicitWeights.{implicit}
 use Rattle.uca_model.specs.Match.{Match, Step, longest_match_len, longest_match, discontiguous_match}
 
--- a code point that begins no key was taken alone; that no nonstarter is tried with it is this project's own rule
+-- a code point that begins no key is taken alone; that no nonstarter is tried with it is this project's own rule
 abbrev pub took_alone : List ℕ → Step
 took_alone xs = record { matched = record { code_points = take 1 xs; found = false }; rest = drop 1 xs }
 
--- S2.1: the match at the front of a text, and what is left; a code point that begins no key stands alone, and no nonstarter is tried with it
+-- S2.1: the match at the front of a text, and what is left; a code point that begins no key is taken alone, and no nonstarter is tried with it
 abbrev pub step : (List ℕ → Bool) → List ℕ → Step
 step is_key xs = if nat_eq (longest_match_len is_key xs) 0 then took_alone xs else discontiguous_match is_key (longest_match is_key xs) [] (drop (longest_match_len is_key xs) xs)
 

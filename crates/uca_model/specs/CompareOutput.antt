@@ -31,6 +31,6 @@ abbrev pub compare_lines : ElementTable → Settings → List (List ℕ) → Lis
 compare_lines t s [] = []
 compare_lines t s (first ∷ lines) = compare_each t s first lines
 
--- `compare`: the order of each two neighbours among the lines
+-- `compare`: the order of each pair of neighbouring lines
 abbrev pub compare_output : ElementTable → Settings → List ℕ → List ℕ
 compare_output t s bytes = compare_lines t s (lines_of bytes)

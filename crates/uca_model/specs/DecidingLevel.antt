@@ -1,4 +1,4 @@
--- The first level that decides, and the bytes of a key level after level (UTS #10, 7.3 and 7.4, steps S3 and S4).
+-- The first level that decides, and the bytes of a key level by level (UTS #10, 7.3 and 7.4, steps S3 and S4).
 use Rattle.std.specs.Prelude.{◌≡◌, ℕ, zero, suc, ◌+◌, ◌-◌, ◌<◌, ◌==◌, List, ◌∷◌, ◌++◌, flat_map, if◌then◌else◌}
 use Rattle.std.specs.declared.cmp.Ordering.{Ordering}
 use Rattle.std.specs.Ordering.{nat_cmp, ordering_then, eq_by_cmp}
@@ -17,7 +17,7 @@ list_order = slice_cmp nat_cmp
 abbrev pub bytes_at : ℕ → List ℕ → List ℕ
 bytes_at level xs = if level == 5 then flat_map code_point_bytes xs else flat_map weight_bytes xs
 
--- a key from a level on, with so many levels after it
+-- a key from a level on, with this many levels after it
 abbrev pub key_from : ℕ → ℕ → (ℕ → List ℕ) → List ℕ
 key_from zero level lists = bytes_at level (lists level)
 key_from (suc n) level lists = bytes_at level (lists level) ++ 0 ∷ 0 ∷ key_from n (level + 1) lists

@@ -39,7 +39,7 @@ abbrev pub KeyOrderIsDecided : Type 0
 KeyOrderIsDecided = (t : ElementTable) (s : Settings) (a b : List ℕ) → IsTable t → All IsScalar a → All IsScalar b
     → key_order (sort_key t s a) (sort_key t s b) ≡ list_order (level_list t s.weighting a (deciding_level t s a b)) (level_list t s.weighting b (deciding_level t s a b))
 
--- the canonical text of a table, unless it is too large to be read, says that very table but for its further ideographs
+-- the canonical text of a table, unless it is too large to be read, says that table but for its further ideographs
 abbrev pub CanonicalTextIsReadBack : Type 0
 CanonicalTextIsReadBack = (t : ElementTable) → IsTable t → AreByFirst t.ranges → length (canonical t) ≤ MAX_INPUT → table_of_text ends (canonical t) ≡ Ok (with_ideographs t [])
 
@@ -57,13 +57,13 @@ abbrev pub KeysGrowByLevels : Type 0
 KeysGrowByLevels = (t : ElementTable) (v : Variable) (low high : Strength) (text : List ℕ) → levels low ≤ levels high
     → BeginsWith (sort_key t (record { strength = high; weighting = v }) text) (sort_key t (record { strength = low; weighting = v }) text)
 
--- a text in two parts, of which each has its NFD, its elements and its level lists by itself
+-- a text in two parts, each of which has its NFD, its elements and its level lists independently
 pub record IsCutApart (t : ElementTable) (v : Variable) (front back : List ℕ) : Type 0 where
   pub decomposed : nfd (front ++ back) ≡ nfd front ++ nfd back
   pub elements : elements t (nfd (front ++ back)) ≡ elements t (nfd front) ++ elements t (nfd back)
   pub lists : (level : ℕ) → level_list t v (front ++ back) level ≡ level_list t v front level ++ level_list t v back level
 
--- up to their safe cut two texts are the same, and there each falls into two parts
+-- up to their safe cut two texts are the same, and there each splits into two parts
 pub record AreCutApart (t : ElementTable) (v : Variable) (a b : List ℕ) : Type 0 where
   pub same : take (cut_of t a b) a ≡ take (cut_of t a b) b
   pub first : IsCutApart t v (take (cut_of t a b) a) (drop (cut_of t a b) a)

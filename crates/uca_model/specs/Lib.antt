@@ -1,4 +1,4 @@
--- The definitions, in the order in which one builds on another. Those of elements and of their weighting stand with the types of `uca_weights`.
+-- The definitions, in the order in which one builds on another. Those of elements and of their weighting are beside the types of `uca_weights`.
 pub use Rattle.uca_weights.specs.Element
 pub use Rattle.uca_weights.specs.Settings
 pub use Rattle.uca_weights.specs.VariableWeighting

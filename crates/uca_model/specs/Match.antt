@@ -31,7 +31,7 @@ longest_match_len is_key xs = greatest (λ n. is_key (take n xs)) (length xs)
 abbrev pub longest_match : (List ℕ → Bool) → List ℕ → List ℕ
 longest_match is_key xs = take (longest_match_len is_key xs) xs
 
--- S2.1.2: between S and C stands a nonstarter whose combining class is not below that of C
+-- S2.1.2: between S and C there is a nonstarter whose combining class is not below that of C
 abbrev pub is_blocked : List ℕ → ℕ → Bool
 is_blocked between c = list_any (λ b. nat_le (ccc c) (ccc b)) between
 

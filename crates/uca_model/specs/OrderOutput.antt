@@ -10,7 +10,7 @@ use Rattle.uca_model.specs.Table.{ElementTable}
 abbrev pub line_key : ElementTable → Settings → List ℕ → List ℕ
 line_key t s line = sort_key t s (chars line)
 
--- the same lines by their keys; those of equal keys stand as they stood
+-- the same lines by their keys; those of equal keys keep their order
 pub record IsInOrder (t : ElementTable) (s : Settings) (lines ordered : List (List ℕ)) : Type 0 where
   pub same : IsPermutation lines ordered
   pub sorted : IsSortedByKey (line_key t s) key_order ordered

@@ -15,7 +15,7 @@ use Rattle.uca_model.specs.CollationElements.{elements_or_implicit}
 use Rattle.uca_model.specs.StandAlone.{is_first}
 use Rattle.uca_model.specs.SortKey.{key_order, sort_key}
 
--- the code point stands in the key before its last place
+-- the code point is in the key before its last place
 abbrev pub is_before_last : ℕ → List ℕ → Bool
 is_before_last s [] = false
 is_before_last s (x ∷ []) = false

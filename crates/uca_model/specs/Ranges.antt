@@ -1,4 +1,4 @@
--- Which ranges of implicit weights may stand in one table, and in which order they do.
+-- Which ranges of implicit weights one table can have, and in which order.
 use Rattle.std.specs.Prelude.{ℕ, ◌-◌, ◌<◌, max, Bool, ◌&&◌, ◌||◌, ◌==◌, nat_le, nat_lt, List, [], ◌∷◌, fold, map, filter, if◌then◌else◌}
 use Rattle.std.specs.List.{AllByRecursion, list_any}
 use Rattle.uca_weights.specs.declared.range.Range.{Range}
@@ -16,7 +16,7 @@ highest_last ranges base high = fold max high (map (λ r. r.last) (filter (λ r.
 abbrev pub spans_too_far : List Range → Range → Bool
 spans_too_far ranges r = nat_lt 0x7FFF (highest_last ranges r.base r.last - lowest_first ranges r.base r.first)
 
--- the range may not stand beside the others
+-- the range conflicts with the others
 abbrev pub is_bad_range : List Range → Range → Bool
 is_bad_range ranges r = nat_lt r.last r.first || (nat_lt r.base 0x8000 || (list_any (shares r) ranges || spans_too_far ranges r))
 

@@ -107,7 +107,7 @@ begins_with c (x ∷ xs) = x == c
 abbrev pub operator : Operator → ℕ → List ℕ → Piece
 operator op size after = if begins_with asterisk after then piece left_out_relation size else piece (relates op) size
 
--- `<` so many times in a row
+-- `<` this many times in a row
 abbrev pub less_signs : ℕ → List ℕ → Piece
 less_signs n after =
     if n == 1 then operator first 1 after
@@ -115,7 +115,7 @@ less_signs n after =
     else if n == 3 then operator third 3 after
     else piece left_out_relation n
 
--- how many `<` stand in front
+-- how many `<` there are in front
 abbrev pub less_run : List ℕ → ℕ
 less_run cs = length (take_while (λ c. c == less_than) cs)
 
@@ -261,7 +261,7 @@ piece_faults at expands = []
 abbrev pub part_faults : Part → List RuleFault
 part_faults p = piece_faults p.at p.kind
 
--- before the first operator no character may stand; a quote or an escape is one
+-- no character may come before the first operator; a quote or an escape is one
 abbrev pub leading_kind_faults : ℕ → Kind → List RuleFault
 leading_kind_faults at (gives cs) = fault syntax at
 leading_kind_faults at (refused cause) = fault cause at
@@ -280,7 +280,7 @@ abbrev pub end_faults : ℕ → List ℕ → List RuleFault
 end_faults at [] = fault empty_string at
 end_faults at (c ∷ cs) = fault_if (not (is_safe (nfd (c ∷ cs)))) long_run at ++ fault_if (nat_lt MAX_KEY (length (nfd (c ∷ cs)))) key_too_long at
 
--- what stands before an operator: nothing, the string of a reset or an expansion, or an item
+-- what comes before an operator: nothing, the string of a reset or an expansion, or an item
 pub data Before : Type 0 where
   nothing : Before
   no_item : Before
@@ -316,7 +316,7 @@ counted skipped = 0
 counted (gives cs) = 0
 counted (refused cause) = 0
 
--- of the operator of a relation, after so many relations: before the first reset, left out, one too many
+-- of the operator of a relation, after this many relations: before the first reset, left out, one too many
 abbrev pub relation_faults : Before → ℕ → ℕ → Bool → List RuleFault
 relation_faults before count at is_left = fault_if (is_nothing before) syntax at ++ fault_if is_left left_out at ++ fault_if (count == MAX_RELATIONS) too_many_relations at
 
@@ -344,7 +344,7 @@ faults s = flat_map leading_faults s.leading ++ segment_faults nothing 0 s.all
 
 -- Chains
 
--- what the last segments say: an expansion and relations of what stands before them, and chains
+-- what the last segments say: an expansion and relations of what comes before them, and chains
 pub record Grouped : Type 0 where
   pub expansion : List ℕ
   pub relations : List Relation

@@ -10,7 +10,7 @@ pub data Operator : Type 0 where
   third : Operator
   same : Operator
 
--- an item that is placed by what stands before it, with the string after its `/` (UTS #35, 3.6, Expansions); no code point stands for none
+-- an item that is placed by what comes before it, with the string after its `/` (UTS #35, 3.6, Expansions); no code point stands for none
 pub record Relation : Type 0 where
   pub op : Operator
   pub item : List ℕ

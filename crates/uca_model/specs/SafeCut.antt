@@ -1,4 +1,4 @@
--- Where a text may be cut, so that its two parts have their collation elements by themselves. A definition of this project.
+-- Where a text may be cut, so that its two parts have their collation elements independently. A definition of this project.
 use Rattle.std.specs.Prelude.{ℕ, ◌-◌, Bool, false, not, ◌&&◌, ◌||◌, ◌==◌, List, [], ◌∷◌, length, drop, slice_index, if◌then◌else◌}
 use Rattle.std.specs.List.{list_any, list_all}
 use Rattle.std.specs.FinMap.{entries}
@@ -19,11 +19,11 @@ abbrev pub begins_with_primary : List Element → Bool
 begins_with_primary [] = false
 begins_with_primary (e ∷ es) = has_primary e
 
--- the code point does not stand in the key at place 2 or later, and where the key begins with it, the first element has a primary weight
+-- the code point is not in the key at place 2 or later, and where the key begins with it, the first element has a primary weight
 abbrev pub keeps_apart : ℕ → List ℕ × List Element → Bool
 keeps_apart s entry = not (list_any (λ c. c == s) (drop 1 entry.0)) && (not (begins_with s entry.0) || begins_with_primary entry.1)
 
--- a starter that stands in no key at place 2 or later, and whose keys all begin with a primary weight
+-- a starter that is in no key at place 2 or later, and whose keys all begin with a primary weight
 abbrev pub is_safe_starter : ElementTable → ℕ → Bool
 is_safe_starter t s = is_starter s && list_all (keeps_apart s) (entries t.entries)
 

@@ -5,7 +5,7 @@ use Rattle.uca_weights.specs.declared.limits.TheConstants.{MAX_RUN, MAX_DECOMPOS
 use Rattle.unicode_normalization.specs.Forms.{nfd}
 use Rattle.unicode_normalization.specs.Order.{is_nonstarter}
 
--- the length of the longest run of nonstarters, where `count` nonstarters stand before the text
+-- the length of the longest run of nonstarters, where `count` nonstarters come before the text
 abbrev pub longest_run_after : ℕ → List ℕ → ℕ
 longest_run_after count [] = count
 longest_run_after count (c ∷ cs) = if is_nonstarter c then longest_run_after (count + 1) cs else max count (longest_run_after 0 cs)
@@ -19,7 +19,7 @@ pub record IsSafe (text : List ℕ) : Type 0 where
   pub runs : longest_run (nfd text) ≤ MAX_RUN
   pub short : All (λ c. length (nfd (c ∷ [])) ≤ MAX_DECOMPOSITION) text
 
--- the byte at which the first character begins with which the text is no longer safe
+-- the byte offset of the first character with which the text is no longer safe
 pub record IsLongRunAt (text : List ℕ) (at : ℕ) : Type 0 where
   pub place : ℕ
   pub inside : place < length text

@@ -10,7 +10,7 @@ pub record SourceState : Type 0 where
   pub reads : ℕ
   pub rewinds : ℕ
 
--- a source of a text that was never called
+-- a source of a text that has not been called
 abbrev pub source_of : List ℕ → SourceState
 source_of text = record { text = text; place = 0; mark = 0; reads = 0; rewinds = 0 }
 
@@ -18,7 +18,7 @@ source_of text = record { text = text; place = 0; mark = 0; reads = 0; rewinds =
 abbrev pub unread : SourceState → List ℕ
 unread s = drop s.place s.text
 
--- `next` gave the character at the place and went on by one, or gave none at the end, where the place stays
+-- `next` returned the character at the place and advanced by one, or returned none at the end, where the place stays
 pub record GivesNext (old : SourceState) (given : Option ℕ) (new : SourceState) : Type 0 where
   pub text : new.text ≡ old.text
   pub value : MatchOption given ((unread old ≡ []) × (new.place ≡ old.place)) (λ c. (unread old ≡ c ∷ unread new) × (new.place ≡ old.place + 1))
@@ -26,7 +26,7 @@ pub record GivesNext (old : SourceState) (given : Option ℕ) (new : SourceState
   pub reads : new.reads ≡ one_more old.reads
   pub rewinds : new.rewinds ≡ old.rewinds
 
--- the source with its place at the start, which is one way back more
+-- the source with its place at the start, which is one more way back
 abbrev pub restarted : SourceState → SourceState
 restarted s = record s { place = 0; rewinds = one_more s.rewinds }
 
@@ -34,6 +34,6 @@ restarted s = record s { place = 0; rewinds = one_more s.rewinds }
 abbrev pub marked : SourceState → SourceState
 marked s = record s { mark = s.place - 1 }
 
--- the source with its place at the mark, or at the start where there is none, which is one way back more
+-- the source with its place at the mark, or at the start where there is none, which is one more way back
 abbrev pub rewound : SourceState → SourceState
 rewound s = record s { place = s.mark; rewinds = one_more s.rewinds }

@@ -1,4 +1,4 @@
--- Where the elements of a character are those of its own NFD, whatever stands after it.
+-- Where the elements of a character are those of its own NFD, whatever follows it.
 use Rattle.std.specs.Prelude.{ℕ, Bool, true, false, not, ◌==◌, nat_le, List, [], ◌∷◌, drop, if◌then◌else◌}
 use Rattle.std.specs.List.{list_any, list_all}
 use Rattle.std.specs.FinMap.{entries}
@@ -17,7 +17,7 @@ abbrev pub is_first : ℕ → List ℕ → Bool
 is_first p [] = false
 is_first p (x ∷ key) = x == p
 
--- it stands after the first code point
+-- it comes after the first code point
 abbrev pub is_inside : ℕ → List ℕ → Bool
 is_inside p key = list_any (λ x. x == p) (drop 1 key)
 
@@ -29,7 +29,7 @@ leads t p = list_any (λ e. is_longer_from p e.0) (entries t.entries)
 unfoldable pub begins : ElementTable → ℕ → Bool
 begins t p = list_any (λ e. is_first p e.0) (entries t.entries)
 
--- it stands in some key at the second place or later
+-- it is in some key at the second place or later
 unfoldable pub continues : ElementTable → ℕ → Bool
 continues t p = list_any (λ e. is_inside p e.0) (entries t.entries)
 
@@ -39,7 +39,7 @@ ends_in_starter [] = false
 ends_in_starter (x ∷ []) = is_starter x
 ends_in_starter (x ∷ y ∷ xs) = ends_in_starter (y ∷ xs)
 
--- how a text that begins with these code points may join what stands before it: 0 not at all, 1 in a key, 2 as nonstarters too
+-- how a text that begins with these code points may join what comes before it: 0 not at all, 1 in a key, 2 as nonstarters too
 abbrev pub joining_of : ElementTable → List ℕ → ℕ
 joining_of t [] = 2
 joining_of t (s ∷ ds) = if is_starter s then (if continues t s then 1 else 0) else 2
@@ -54,7 +54,7 @@ joining t c = joining_of t (decompose_canonical c)
 abbrev pub bearing : ElementTable → ℕ → ℕ
 bearing t c = bearing_of t (decompose_canonical c)
 
--- the elements of a character do not depend on what stands after it
+-- the elements of a character do not depend on what follows it
 abbrev pub stands_alone : ElementTable → ℕ → List ℕ → Bool
 stands_alone t c [] = true
 stands_alone t c (n ∷ x) = nat_le (joining t n) (bearing t c)

@@ -35,11 +35,11 @@ is_key t key = contains_key t.entries key
 abbrev pub longest : ElementTable → ℕ
 longest t = fold (λ n key. max n (length key)) 1 (keys t.entries)
 
--- the table in which a key has these elements, whatever it had
+-- the table in which a key has these elements, in place of any that it had
 abbrev pub with_entry : ElementTable → List ℕ → List Element → ElementTable
 with_entry t key elements = record { entries = insert t.entries key elements; ranges = t.ranges; ideographs = t.ideographs }
 
--- the table with these further ideographs, whatever it had
+-- the table with these further ideographs, in place of any that it had
 abbrev pub with_ideographs : ElementTable → List Ideographs → ElementTable
 with_ideographs t added = record { entries = t.entries; ranges = t.ranges; ideographs = added }
 
@@ -81,7 +81,7 @@ abbrev pub AllDisjoint : List Range → Type 0
 AllDisjoint [] = Unit {0}
 AllDisjoint (r ∷ rs) = AllByRecursion (AreDisjoint r) rs × AllDisjoint rs
 
--- ranges that may stand in one table: under one base all offsets fit fifteen bits
+-- ranges that can be in one table together: under one base all offsets fit fifteen bits
 pub record AreRanges (rs : List Range) : Type 0 where
   pub each : AllByRecursion IsRange rs
   pub disjoint : AllDisjoint rs

@@ -71,14 +71,14 @@ right_bracket = 93
 abbrev pub from_first : (ℕ → Bool) → List ℕ → List ℕ
 from_first p bytes = drop (position_or_len p bytes) bytes
 
--- what stands after a byte that has to stand first
+-- what follows a byte that has to come first
 abbrev pub after_byte : Cause → ℕ → List ℕ → Result (List ℕ) Cause
 after_byte cause b [] = Err cause
 after_byte cause b (c ∷ bytes) = if c == b then Ok bytes else Err cause
 
 -- Numbers and code points
 
--- the number that four digits say
+-- the number that four hexadecimal digits spell
 unfoldable pub four_digits : List ℕ → Option ℕ
 four_digits digits = if length digits == 4 then number digits else None
 
@@ -95,7 +95,7 @@ range_word = 64 ∷ 105 ∷ 109 ∷ 112 ∷ 108 ∷ 105 ∷ 99 ∷ 105 ∷ 116 �
 abbrev pub ends_point : ℕ → Bool
 ends_point b = is_blank b || (b == semicolon || b == full_stop)
 
--- an end of a range: a code point up to a blank, `;` or `.`, and what stands after it
+-- an end of a range: a code point up to a blank, `;` or `.`, and what follows it
 unfoldable pub range_end : List ℕ → Result (ℕ × List ℕ) Cause
 range_end text = do
   c ← ok_or (code_point (before_first ends_point text)) bad_code_point
@@ -122,7 +122,7 @@ range_of_text text = do
   base ← range_base last.1
   Ok (range (record { first = first.0; last = last.0; base = base }))
 
--- a text has to stand there
+-- a text has to come next
 abbrev pub some_text : {A : Type 0} → List ℕ → Result A Cause → Result A Cause
 some_text [] r = Err bad_directive
 some_text (b ∷ bytes) r = r
@@ -156,12 +156,12 @@ entry_key text = do
   key ← key_after [] (words (before_first is_semicolon text))
   if position_or_len is_semicolon text == length text then Err no_semicolon else if length key == 0 then Err bad_code_point else Ok key
 
--- whether the mark is `*`, and what stands after it
+-- whether the mark is `*`, and what follows it
 abbrev pub mark : List ℕ → Result (Bool × List ℕ) Cause
 mark [] = Err bad_element
 mark (b ∷ bytes) = if b == full_stop then Ok (false, bytes) else if b == asterisk then Ok (true, bytes) else Err bad_element
 
--- a weight, and what stands after it
+-- a weight, and what follows it
 unfoldable pub weight_first : List ℕ → Result (ℕ × List ℕ) Cause
 weight_first text = do
   w ← ok_or (four_digits (take 4 text)) bad_element
@@ -192,7 +192,7 @@ element text = do
   l3 ← next_weight l2.1
   if element_ends l3.1 then Ok (record { starred = starred.0; l1 = l1.0; l2 = l2.0; l3 = l3.0 }) else Err bad_element
 
--- after the last `]` of an entry stand blanks only
+-- only blanks follow the last `]` of an entry
 abbrev pub no_more_elements : List Element → List ℕ → Result (List Element) Cause
 no_more_elements es [] = if length es == 0 then Err no_element else Ok es
 no_more_elements es (b ∷ bytes) = Err bad_element
@@ -214,7 +214,7 @@ entry_of_text text = do
 
 -- Lines
 
--- what stands before the first `#`, without blanks at its ends
+-- what comes before the first `#`, without blanks at its ends
 unfoldable pub said : List ℕ → List ℕ
 said line = skip_blanks (trim_end (before_first (λ b. b == number_sign) line))
 
@@ -223,7 +223,7 @@ abbrev pub statement_of : List ℕ → Result Statement Cause
 statement_of [] = Ok nothing
 statement_of (b ∷ bytes) = if b == commercial_at then directive (b ∷ bytes) else entry_of_text (b ∷ bytes)
 
--- what a line says, whatever stands before it
+-- what a line says, whatever comes before it
 unfoldable pub statement : List ℕ → Result Statement Cause
 statement line = statement_of (said (without_return line))
 

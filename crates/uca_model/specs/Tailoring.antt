@@ -1,4 +1,4 @@
--- A table that is tailored by rules: relation after relation, each item goes directly after its anchor (UTS #35, Part 5, 3.5, Orderings).
+-- A table that is tailored by rules: relation by relation, each item goes directly after its anchor (UTS #35, Part 5, 3.5, Orderings).
 -- How weights are assigned is this project's own.
 use Rattle.std.specs.Prelude.{◌≡◌, ℕ, ◌+◌, Bool, false, ◌==◌, ◌||◌, nat_lt, nat_le, List, [], ◌∷◌, ◌++◌, length, map, Option, Some, None, Result, Ok, Err, if◌then◌else◌}
 use Rattle.std.specs.List.{list_any, AllByRecursion}
@@ -48,7 +48,7 @@ least level = if level == 2 then 0x20 else if level == 3 then 2 else 0
 abbrev pub is_high : Element → Bool
 is_high e = nat_le 0x8000 e.l1
 
--- no room above w at a level: some weight that moves has none, or w itself
+-- no gap can be made above w at a level: some weight that has to move cannot, or w itself cannot be raised
 abbrev pub is_full : ℕ → ℕ → ElementTable → List Element → Bool
 is_full level w t anchor = w == max_weight level || list_any (has_no_room level w) anchor || list_any (list_any (has_no_room level w)) (values t.entries)
 
@@ -71,7 +71,7 @@ raised level e = record {
   l3 = if level == 3 then e.l3 + 1 else 2;
 }
 
--- the elements of an item without its expansion, and the table with room for them
+-- the elements of an item without its expansion, and the table with the gap for them
 pub record Placed : Type 0 where
   pub base : List Element
   pub table : ElementTable
@@ -88,7 +88,7 @@ placed_at level t anchor a = option_map_or (λ cause. Err cause) (fault_at level
 abbrev pub placed_after : ℕ → ElementTable → List Element → Result Placed TailorCause
 placed_after level t anchor = option_map_or (placed_at level t anchor) (anchor_of level anchor) (Err small_weight)
 
--- where an operator places an item: `=` where its anchor stands
+-- where an operator places an item: `=` at the place of its anchor
 abbrev pub placed : ElementTable → List Element → Operator → Result Placed TailorCause
 placed t anchor first = placed_after 1 t anchor
 placed t anchor second = placed_after 2 t anchor
@@ -102,11 +102,11 @@ pub record Related : Type 0 where
   pub table : ElementTable
   pub anchor : List Element
 
--- an item is entered with all its elements; the next relation goes after them without the expansion
+-- an item is added with all its elements; the next relation goes after them without the expansion
 abbrev pub entered : List ℕ → Placed → List Element → Result Related TailorCause
 entered item p whole = if nat_lt MAX_ELEMENTS (length whole) then Err too_many_elements else Ok (record { table = with_entry p.table item whole; anchor = p.base })
 
--- one relation: its expansion has the elements of the table with room for the item (UTS #35, 3.6, Expansions)
+-- one relation: its expansion has the elements of the table with the gap for the item (UTS #35, 3.6, Expansions)
 abbrev pub related : ElementTable → List Element → Relation → Result Related TailorCause
 related t anchor r = placed t anchor r.op >>= λ p. entered r.item p (p.base ++ elements p.table r.expansion)
 
@@ -133,7 +133,7 @@ tailored_from n t (c ∷ cs) = related_all n t (elements t c.reset) c.relations 
 abbrev pub tailored : ElementTable → List Chain → Result ElementTable TailorFault
 tailored t cs = tailored_from 0 t cs
 
--- What a tailoring leaves alone
+-- What a tailoring does not change
 
 -- a key is touched by rules if it is the item of some relation
 abbrev pub is_touched : List Chain → List ℕ → Bool

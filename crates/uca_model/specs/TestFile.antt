@@ -1,4 +1,4 @@
--- Test files like the Unicode Consortium's CollationTest files: what a table makes of their lines, each of which
+-- Test files like the Unicode Consortium's CollationTest files: how a table sorts their lines, each of which
 -- should not be below the one before it.
 use Rattle.std.specs.Prelude.{ℕ, ◌-◌, Bool, false, not, ◌&&◌, ◌||◌, ◌==◌, nat_le, List, [], ◌∷◌, ◌++◌, length, filter, Option, Some, None, option_and_then, Result, Ok, codes, if◌then◌else◌}
 use Rattle.std.specs.Fmt.{decimal}
@@ -33,7 +33,7 @@ pub record TestLine : Type 0 where
 abbrev pub only_point : ℕ → Option ℕ
 only_point c = if nat_le c 0x10FFFF then Some c else None
 
--- the code point that four to six hexadecimal digits say
+-- the code point that four to six hexadecimal digits spell
 unfoldable pub test_point : List ℕ → Option ℕ
 test_point digits = if is_four_to_six (length digits) then option_and_then only_point (number digits) else None
 
@@ -42,14 +42,14 @@ abbrev pub points_after : List ℕ → List (List ℕ) → Option (List ℕ)
 points_after points [] = Some points
 points_after points (word ∷ more) = option_and_then (λ c. points_after (points ++ c ∷ []) more) (test_point word)
 
--- there has to be a code point
+-- there has to be at least one code point
 abbrev pub some_points : List ℕ → Option (List ℕ)
 some_points points = if length points == 0 then None else Some points
 
 abbrev pub ends_points : ℕ → Bool
 ends_points b = b == semicolon || b == number_sign
 
--- the code points of a test line stand before its first `;` or `#`; what follows is not looked at
+-- the code points of a test line come before its first `;` or `#`; what follows is ignored
 unfoldable pub points_of : List ℕ → Result (List ℕ) TestCause
 points_of line = ok_or (option_and_then some_points (points_after [] (words (before_first ends_points line)))) bad_line
 
@@ -107,7 +107,7 @@ report t s tests = record {
   first_failure = first_failure t s (filter is_checked tests);
 }
 
--- what a table makes of a file, or the file's first fault
+-- the report on a file by a table, or the file's first fault
 abbrev pub report_of : ElementTable → Settings → End TestCause → List ℕ → Result Report (FaultAt TestCause)
 report_of t s end bytes = map_ok (report t s) (test_lines end bytes)
 

@@ -1,4 +1,4 @@
--- Laws of texts that people who keep sort keys rely on: which texts have one key, how strengths agree, and which keys outlive a new table.
+-- Laws of texts that those who store sort keys rely on: which texts have the same key, how strengths agree, and which keys outlive a new table.
 use Rattle.std.specs.Prelude.{◌≡◌, ◌↔◌, ℕ, Bool, false, ◌≤◌, List, All}
 use Rattle.std.specs.Char.{IsScalar}
 use Rattle.std.specs.List.{AllByRecursion}
@@ -14,11 +14,11 @@ use Rattle.uca_model.specs.Table.{ElementTable, IsTable, elements_at}
 use Rattle.uca_model.specs.ImplicitWeights.{implicit}
 use Rattle.uca_model.specs.SortKey.{key_order, sort_key}
 
--- UAX #15: two texts are canonically equivalent if they have one NFD
+-- UAX #15: two texts are canonically equivalent if they have the same NFD
 abbrev pub AreEquivalent : List ℕ → List ℕ → Type 0
 AreEquivalent a b = nfd a ≡ nfd b
 
--- C1: canonically equivalent texts have one sort key, under every table and all settings
+-- C1: canonically equivalent texts have the same sort key, under every table and all settings
 abbrev pub EquivalentTextsHaveOneKey : Type 0
 EquivalentTextsHaveOneKey = (t : ElementTable) (s : Settings) (a b : List ℕ) → AreEquivalent a b → sort_key t s a ≡ sort_key t s b
 

@@ -51,7 +51,7 @@ abbrev pub AreApart : List Ideographs → Type 0
 AreApart [] = Unit {0}
 AreApart (r ∷ rs) = AllByRecursion (λ s. r.last < s.first) rs × AreApart rs
 
--- further ranges that may stand in one table, by their first code points
+-- further ranges that can be in one table together, by their first code points
 pub record AreIdeographs (added : List Ideographs) : Type 0 where
   pub each : AllByRecursion IsIdeographs added
   pub apart : AreApart added

@@ -1,4 +1,4 @@
--- Well-formed collation element tables (UTS #10, 5, Well-Formedness of Collation Element Tables). What `lint` looks at are the
+-- Well-formed collation element tables (UTS #10, 5, Well-Formedness of Collation Element Tables). `lint` looks at the
 -- elements of the entries, not the implicit ones.
 use Rattle.std.specs.Prelude.{ℕ, ◌-◌, Bool, not, ◌==◌, ◌||◌, ◌&&◌, nat_lt, nat_le, List, [], ◌∷◌, ◌++◌, length, take, flat_map, slice_index, codes, if◌then◌else◌}
 use Rattle.std.specs.List.{list_any}

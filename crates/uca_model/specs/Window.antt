@@ -8,7 +8,7 @@ use Rattle.uca_weights.specs.declared.limits.TheConstants.{MAX_KEY, MAX_LOOKAHEA
 use Rattle.uca_model.specs.SafeText.{IsSafe}
 use Rattle.uca_model.specs.Source.{SourceState, unread}
 
--- its points, how many of them stand in closed segments, the length of the longest key, and whether a source has reported its end
+-- its points, how many of them are in closed segments, the length of the longest key, and whether a source has reported its end
 pub record WindowState : Type 0 where
   pub points : List ℕ
   pub closed : ℕ
@@ -55,7 +55,7 @@ pub record ReadsOn (old : WindowState) (before : SourceState) (new : WindowState
   pub reads : after.reads + credit new (unread after) ≤ before.reads + credit old (unread before)
   pub rewinds : after.rewinds ≡ before.rewinds
 
--- over all characters that the old window fits, the new one fits them too, and its rest is the old rest so changed
+-- over all characters that the old window fits, the new one fits them too, and its rest is the old rest with this change
 abbrev pub ChangesRest : (List ℕ → List ℕ) → WindowState → WindowState → Type 0
 ChangesRest change old new = (left : List ℕ) → Fits old left → Fits new left × (rest_of new left ≡ change (rest_of old left))
 

@@ -8,7 +8,7 @@ pub fn keys_follow_levels()
 {}
 
 /// Under every table, the byte order of two keys is the order of the first level lists that differ, and Equal
-/// where none do (UTS #10, section 7.4, step S4). So a comparison may go level after level, with no key.
+/// where none do (UTS #10, section 7.4, step S4). So a comparison may go level by level, and needs no key.
 pub fn key_order_is_decided()
     ensures { KeyOrderIsDecided }
 {}
@@ -19,20 +19,20 @@ pub fn keys_grow_by_levels()
     ensures { KeysGrowByLevels }
 {}
 
-/// The canonical text of a table, unless it is too large to be read, is read back to that very table (UTS #10,
-/// Allkeys File Format) without its further ideographs. So what is written of a table says all else of it.
+/// The canonical text of a table, unless it is too large to be read, is read back as that same table (UTS #10,
+/// Allkeys File Format) without its further ideographs. So the text of a table says everything else about it.
 pub fn canonical_text_is_read_back()
     ensures { CanonicalTextIsReadBack }
 {}
 
-/// Two tables that have one canonical text have the same entries and the same ranges of implicit weights, however long that
-/// text is. So a digest of the text is one of the table, but for its further ideographs.
+/// Two tables with the same canonical text have the same entries and the same ranges of implicit weights, however long that
+/// text is. So a digest of the text identifies the table, apart from its further ideographs.
 pub fn canonical_texts_tell_tables_apart()
     ensures { CanonicalTextsTellTablesApart }
 {}
 
-/// Up to their safe cut two texts agree, and there each falls into two parts that have their collation elements and
-/// their weights at each level by themselves. So a comparison may begin its later levels at the cut.
+/// Two texts agree up to their safe cut, and there each splits into two parts that have their collation elements and
+/// their weights at each level independently. So a comparison may begin its later levels at the cut.
 pub fn texts_are_cut_apart()
     ensures { TextsAreCutApart }
 {}
@@ -43,33 +43,33 @@ pub fn keys_begin_with_complete_texts()
     ensures { KeysBeginWithCompleteTexts }
 {}
 
-/// The byte strings that begin with another are exactly those from it up to the end of its prefix: what two ends of an
-/// index range say.
+/// The byte strings that begin with another are exactly those from it up to the end of its prefix: what the two ends of an
+/// index range describe.
 pub fn prefixes_are_ranges()
     ensures { PrefixesAreRanges }
 {}
 
 /// A key that begins with the key of a text at the strength `Primary` belongs to a text whose primary weights begin with
-/// those of the other. So between the two byte strings stand no keys of other texts.
+/// those of the other. So no key of another text lies between the two byte strings.
 pub fn keys_begin_with_primary_weights()
     ensures { KeysBeginWithPrimaryWeights }
 {}
 
-/// The anchor of a relation ends in the last element with a weight at the level: what stands after it, without such a weight,
+/// The anchor of a relation ends in the last element with a weight at the level: what follows it, without such a weight,
 /// is dropped, and nothing else is.
 #[tactic(auto, using(crate::proofs::AnchorPlaces::ends_in_a_weight))]
 pub fn anchors_end_in_a_weight()
     ensures { AnchorsEndInAWeight }
 {}
 
-/// An item next to an anchor has at the level the weights of the anchor's other elements, with room, and then its last weight
-/// raised by one. That is no weight that stood before: the room was made for it.
+/// An item next to an anchor has at the level the weights of the anchor's other elements, moved for the gap, and then its last weight
+/// raised by one. No element had that weight before: it is the gap that was made.
 pub fn items_stand_in_the_room()
     ensures { ItemsStandInTheRoom }
 {}
 
-/// Canonically equivalent texts (UAX #15) have one sort key, under every table and all settings (UTS #10, section 3.1,
-/// requirement C1). So a stored key need not say how its text was spelled.
+/// Canonically equivalent texts (UAX #15) have the same sort key, under every table and all settings (UTS #10, section 3.1,
+/// requirement C1). So a stored key does not depend on how its text was spelled.
 pub fn equivalent_texts_have_one_key()
     ensures { EquivalentTextsHaveOneKey }
 {}
@@ -86,8 +86,8 @@ pub fn strengths_refine()
     ensures { StrengthsRefine }
 {}
 
-/// Two tables that agree outside a set of code points give one sort key to each text whose NFD has none of them. So after
-/// an update of a table only the keys of texts with such a code point have to be made again.
+/// Two tables that agree outside a set of code points give the same sort key to each text whose NFD has none of them. So after
+/// an update of a table only the keys of texts with such a code point have to be rebuilt.
 pub fn keys_outlive_tables()
     ensures { KeysOutliveTables }
 {}

@@ -44,7 +44,7 @@ at_most es d key sorted is k f within =
       | inr here ↦ ap (λ (e : List ℕ × List Element). is_lt (key_cmp key e.0)) (same_at es k last f d (omega arith) (omega arith)) ∙ ap is_lt is
     ]
 
--- how a key stands to all is how it stands to the last
+-- how a key compares with all is how it compares with the last
 pub order_last : (key : List ℕ) (es : List (List ℕ × List Element)) (d : List ℕ × List Element) (o : Ordering) → T (is_sorted key_cmp es) → 0 < length es → key_cmp key (get_or es (length es - 1) d).0 ≡ o → IsOrder o key es
 order_last key es d Less sorted some is = record {
   greater = list_any_at (λ e. is_lt (key_cmp key e.0)) es (length es - 1) d (omega arith) (ap is_lt is);

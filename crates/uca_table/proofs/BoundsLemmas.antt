@@ -1,5 +1,6 @@
 -- The bounds of elements answer for all pairs of them.
 use Rattle.std.proofs.Common.{◌≡◌, ◌≢◌, ℕ, Bool, true, false, not, ◌&&◌, ◌||◌, ◌==◌, cond, nat_lt, nat_le, List, [], ◌∷◌, fold, flat_map, refl, sym, ap, ap₂, ◌∙◌, arith}
+use Rattle.std.proofs.Math.Bool.{and-or_distrib_right, or-false, or_assoc}
 use Rattle.std.proofs.lemmas.Bool.Decides.{nat_tests}
 use Rattle.std.proofs.lemmas.List.Concat.{flat_map-cons}
 use Rattle.std.proofs.lemmas.List.Folds.{list_any-append}
@@ -31,12 +32,7 @@ any_between : (p q : Bool) (f : Element → Bool) (es : List Element) → list_a
 any_between false q f es = any_false es
 any_between true true f [] = refl
 any_between true false f [] = refl
-any_between true q f (e ∷ es) = ap (λ a. (f e && q) || a) (any_between true q f es) ∙ or_and (f e) (list_any f es) q where
-  or_and : (a b c : Bool) → ((a && c) || (b && c)) ≡ ((a || b) && c)
-  or_and true b true = refl
-  or_and true true false = refl
-  or_and true false false = refl
-  or_and false b c = refl
+any_between true q f (e ∷ es) = ap (λ a. (f e && q) || a) (any_between true q f es) ∙ sym (and-or_distrib_right (f e) (list_any f es) q)
 
 or_swap : (a b c d : Bool) → ((a || b) || (c || d)) ≡ ((a || c) || (b || d))
 or_swap true b c d = refl
@@ -47,10 +43,6 @@ or_swap false false c d = refl
 any_or : (f g : Element → Bool) (es : List Element) → list_any (λ e. f e || g e) es ≡ (list_any f es || list_any g es)
 any_or f g [] = refl
 any_or f g (e ∷ es) = ap (λ a. (f e || g e) || a) (any_or f g es) ∙ or_swap (f e) (g e) (list_any f es) (list_any g es)
-
-or_assoc : (a b c : Bool) → ((a || b) || c) ≡ (a || (b || c))
-or_assoc true b c = refl
-or_assoc false b c = refl
 
 -- the elements of an entry that pass no test are left out
 pub any_after : (f : Element → Bool) (e : List ℕ × List Element) (rest : List (List ℕ × List Element)) → list_any f e.1 ≡ false → list_any f (flat_map (λ e. e.1) (e ∷ rest)) ≡ list_any f (flat_map (λ e. e.1) rest)
@@ -89,10 +81,7 @@ fold-highest x b [] = grind (arith, nat_tests)
 fold-highest x b (e ∷ es) = fold-highest x (bounded b e) es ∙ ap (λ a. a || list_any (λ o. is_variable o && nat_le x o.l1) es) (higher (is_variable e) x b.highest e.l1) ∙ or_assoc (nat_le x b.highest) (is_variable e && nat_le x e.l1) (list_any (λ o. is_variable o && nat_le x o.l1) es)
 
 fold-lowest : (x : ℕ) (b : Bounds) (es : List Element) → (not ((fold bounded b es).lowest == 0) && nat_le (fold bounded b es).lowest x) ≡ ((not (b.lowest == 0) && nat_le b.lowest x) || list_any (λ e. is_variable e && nat_le e.l1 x) es)
-fold-lowest x b [] = or_false (not (b.lowest == 0) && nat_le b.lowest x) where
-  or_false : (a : Bool) → a ≡ (a || false)
-  or_false true = refl
-  or_false false = refl
+fold-lowest x b [] = sym (or-false (not (b.lowest == 0) && nat_le b.lowest x))
 fold-lowest x b (e ∷ es) = fold-lowest x (bounded b e) es ∙ ap (λ a. a || list_any (λ o. is_variable o && nat_le o.l1 x) es) (lower e.starred x b.lowest e.l1) ∙ or_assoc (not (b.lowest == 0) && nat_le b.lowest x) (is_variable e && nat_le e.l1 x) (list_any (λ o. is_variable o && nat_le o.l1 x) es)
 
 fold-none : (b : Bounds) (es : List Element) → (b.lowest == 0) ≡ (b.highest == 0) → ((fold bounded b es).lowest == 0) ≡ ((fold bounded b es).highest == 0)

@@ -1,4 +1,4 @@
--- What an insertion answers.
+-- What an insertion returns.
 use Rattle.std.proofs.Common.{◌≡◌, ℕ, ◌≤◌, Bool, cond, List, length, Some, None, Result, Ok, Err, OnOk, OnErr, refl, arith}
 use Rattle.std.proofs.lemmas.Bool.{ne_eqb, le-ltb}
 use Rattle.uca_weights.specs.declared.element.Element.{Element}

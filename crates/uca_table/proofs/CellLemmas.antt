@@ -1,6 +1,6 @@
 -- Cells of characters, and texts that go character by character where the elements stand alone.
-use Rattle.std.proofs.Common.{◌≡◌, ℕ, ◌+◌, ◌-◌, ◌/◌, ◌≤◌, ◌<◌, Bool, true, false, not, ◌||◌, ◌&&◌, cond, List, [], ◌∷◌, ◌++◌, length, take, drop, get_or, set, refl, sym, ap, ap₂, subst, ◌∙◌, arith, inl, inr, append_assoc, append-nil, length-append}
-use Rattle.std.proofs.lemmas.Bool.{le-leb, cases_eq, cases_lt}
+use Rattle.std.proofs.Common.{◌≡◌, ℕ, ◌+◌, ◌-◌, ◌/◌, ◌≤◌, ◌<◌, true, false, not, ◌||◌, ◌&&◌, cond, List, [], ◌∷◌, ◌++◌, length, take, drop, get_or, set, refl, sym, ap, ap₂, subst, ◌∙◌, arith, inl, inr, append_assoc, append-nil, length-append}
+use Rattle.std.proofs.lemmas.Bool.{le-leb, cases_eq, cases_lt, or_parts}
 use Rattle.std.specs.List.{list_any}
 use Rattle.std.specs.FinMap.{entries}
 use Rattle.std.proofs.lemmas.List.{get_or-set_same, get_or-set_other, take-append-le, drop-append-le, length-drop, take-append-drop, drop_more, drop-drop, drop_all, drop_at, take_all}
@@ -98,10 +98,6 @@ AreCells-put t es blocks ms cells c at cell index inside own is within here old 
   ]
 
 -- ---- a character without key
-
-or_parts : (a b : Bool) → (a || b) ≡ false → (a ≡ false) × (b ≡ false)
-or_parts true b h = absurd (cc)
-or_parts false b h = (refl, h)
 
 longer-none : (p : ℕ) (key : List ℕ) → is_first p key ≡ false → is_longer_from p key ≡ false
 longer-none p [] h = refl

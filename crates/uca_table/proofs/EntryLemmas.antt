@@ -36,7 +36,7 @@ all-put (e ∷ es) k v new all =
       | Greater ↦ (all.0, all-put es k v new all.1)
     ]
 
--- one more entry may stand there
+-- one more entry may be there
 pub AreStored-put : (es : List (List ℕ × List Element)) (rs : List Range) (k : List ℕ) (v : List Element) → AreStored es rs → IsEntry (k, v) → AreStored (put key_cmp k v es) rs
 AreStored-put es rs k v stored new = record { sorted = is_sorted-put key_cmp nat_list_cmp_total k v es stored.sorted; entries = all-put es k v new stored.entries; ranges = stored.ranges; by_first = stored.by_first }
 

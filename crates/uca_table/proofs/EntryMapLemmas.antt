@@ -52,7 +52,7 @@ placed-kept n m (e ∷ ms) more placed = (let h : e.1.start + e.1.count ≤ n = 
 grown_by : (es v : List Element) → IsGrown es (es ++ v)
 grown_by es v = ap (λ l. es ++ l) (sym (drop-append-le (length es) es v (omega arith) ∙ ap (λ l. l ++ v) (drop_all (length es) es (omega arith))))
 
--- the elements after the first so many are those that were appended
+-- the elements after the first ones are those that were appended
 appended : (es v : List Element) (n m : ℕ) → n ≡ length es → m ≡ length v → take m (drop n (es ++ v)) ≡ v
 appended es v n m start count = ap₂ (λ i j. take j (drop i (es ++ v))) start count ∙ ap (take (length v)) (drop-append-le (length es) es v (omega arith) ∙ ap (λ l. l ++ v) (drop_all (length es) es (omega arith))) ∙ take_all (length v) v (omega arith)
 

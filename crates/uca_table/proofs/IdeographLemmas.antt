@@ -40,7 +40,7 @@ apart-put r (s ∷ ss) ordered free each old =
           rw above ((all-put (λ t. s.last < t.first) r ss behind old.0, apart-put r ss ordered parts.1 each.1 old.1))
     ]
 
--- a range that isn't bad may stand beside the others
+-- a range that is not bad is compatible with the others
 pub AreIdeographs-put : (r : Ideographs) (rs : List Ideographs) → IsScalar r.first → IsScalar r.last → are_bad_ideographs rs r ≡ false → AreIdeographs rs → AreIdeographs (put_ideographs r rs)
 AreIdeographs-put r rs first last fine old =
     let order = or_parts (nat_lt r.last r.first) _ fine in let listed = or_parts (repeats_listed r) _ order.1 in

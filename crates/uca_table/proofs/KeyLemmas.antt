@@ -28,12 +28,12 @@ begins_short (e ∷ es) p all h = elim (cases_Bool (is_front p e.0)) [
   | inr other ↦ begins_short es p (λ i d within. all (suc i) d (omega arith)) (sym (ap (λ b. b || begins_entry es p) other) ∙ h)
 ]
 
--- what holds of all holds one after the other
+-- what holds for all holds one by one
 pub one_by_one : (es : List (List ℕ × List Element)) → All IsEntry es → AllByRecursion IsEntry es
 one_by_one [] all = tt
 one_by_one (e ∷ es) all = (all 0 e (omega arith), one_by_one es (λ i d within. all (suc i) d (omega arith)))
 
--- the last key stands at the last place
+-- the last key is at the last place
 pub last_key-at : (es : List (List ℕ × List Element)) (d : List ℕ × List Element) → 0 < length es → last_key es ≡ (get_or es (length es - 1) d).0
 last_key-at [] d some = absurd (omega arith)
 last_key-at (e ∷ []) d some = refl

@@ -1,5 +1,6 @@
--- What keys say of code points, and the blocks in which that lies.
+-- What keys say about code points, and how the marks are laid out in blocks.
 use Rattle.std.proofs.Common.{◌≡◌, ℕ, zero, suc, ◌+◌, ◌-◌, ◌*◌, ◌/◌, ◌%◌, ◌≤◌, ◌<◌, nat_lt, Bool, true, false, not, ◌||◌, ◌&&◌, ◌==◌, cond, if◌then◌else◌, List, [], ◌∷◌, length, take, drop, get_or, set, slice_index, Some, unwrap_or, refl, sym, ap, ap₂, subst, ◌∙◌, arith, inl, inr, eq-eqb, eqb-true, length-drop}
+use Rattle.std.proofs.Math.Bool.{and-true, and_assoc, and_comm, or-false, or-true, or_assoc}
 use Rattle.std.proofs.lemmas.Bool.{cases_eq, lt-ltb}
 use Rattle.std.proofs.lemmas.List.{drop_more, get_or-set_same, get_or-set_other}
 use Rattle.std.specs.Cmp.{tied_itself}
@@ -43,17 +44,9 @@ said a b c d e f = record { begins = a; leads = b; continues = c; apart = d; end
 make : (a b c d e f u v w x y z : Bool) → a ≡ u → b ≡ v → c ≡ w → d ≡ x → e ≡ y → f ≡ z → said a b c d e f ≡ said u v w x y z
 make a b c d e f u v w x y z g h i j k l = cc
 
-or_nothing : (a : Bool) → (a || false) ≡ a
-or_nothing true = refl
-or_nothing false = refl
-
-and_all : (a : Bool) → (a && true) ≡ a
-and_all true = refl
-and_all false = refl
-
 -- a key that is empty says nothing
 pub with_none : (t : ElementTable) (m : Marks) (p : ℕ) (key : List ℕ) (es : List Element) → length key ≡ 0 → m ≡ marks_with t m p (key, es)
-with_none t m p [] es none = sym (make _ _ _ _ _ _ _ _ _ _ _ _ (or_nothing m.begins) (or_nothing m.leads) (or_nothing m.continues) (and_all m.apart) (and_all m.ends) (and_all m.keeps))
+with_none t m p [] es none = sym (make _ _ _ _ _ _ _ _ _ _ _ _ (or-false m.begins) (or-false m.leads) (or-false m.continues) (and-true m.apart) (and-true m.ends) (and-true m.keeps))
 with_none t m p (x ∷ key) es some = absurd (omega arith)
 
 -- ---- blocks of their own
@@ -89,33 +82,23 @@ new-index blocks ms none size fresh = record {
 
 -- ---- the code points of a key
 
-inside_more : (m : Marks) (a b : Bool) → inside_marks (inside_marks m a) b ≡ inside_marks m (a || b)
-inside_more m a b = make _ _ _ _ _ _ _ _ _ _ _ _ refl refl (or_or m.continues a b) (and_nor m.apart a b) refl refl where
-  or_or : (x y z : Bool) → ((x || y) || z) ≡ (x || (y || z))
-  or_or true y z = refl
-  or_or false y z = refl
+and_nor : (x y z : Bool) → ((x && not y) && not z) ≡ (x && not (y || z))
+and_nor false y z = refl
+and_nor true true z = refl
+and_nor true false z = refl
 
-  and_nor : (x y z : Bool) → ((x && not y) && not z) ≡ (x && not (y || z))
-  and_nor false y z = refl
-  and_nor true true z = refl
-  and_nor true false z = refl
+inside_more : (m : Marks) (a b : Bool) → inside_marks (inside_marks m a) b ≡ inside_marks m (a || b)
+inside_more m a b = make _ _ _ _ _ _ _ _ _ _ _ _ refl refl (or_assoc m.continues a b) (and_nor m.apart a b) refl refl
 
 between_more : (m : Marks) (a b : Bool) → between_marks (between_marks m a) b ≡ between_marks m (a || b)
-between_more m a b = make _ _ _ _ _ _ _ _ _ _ _ _ refl refl refl refl (and_nor m.ends a b) refl where
-  and_nor : (x y z : Bool) → ((x && not y) && not z) ≡ (x && not (y || z))
-  and_nor false y z = refl
-  and_nor true true z = refl
-  and_nor true false z = refl
+between_more m a b = make _ _ _ _ _ _ _ _ _ _ _ _ refl refl refl refl (and_nor m.ends a b) refl
 
 any_more : (points : List ℕ) (i p c : ℕ) → i < length points → c ≡ get_or points i c → list_any (λ x. x == p) (take (i + 1) points) ≡ (list_any (λ x. x == p) (take i points) || c == p)
 any_more [] i p c h is = absurd (omega arith)
-any_more (x ∷ points) zero p c h is = or_nothing (x == p) ∙ ap (λ y. y == p) (sym is)
+any_more (x ∷ points) zero p c h is = or-false (x == p) ∙ ap (λ y. y == p) (sym is)
 any_more (x ∷ points) (suc i) p c h is =
     (let one : suc i + 1 ≡ suc (i + 1) = omega arith in ap (λ n. list_any (λ y. y == p) (take n (x ∷ points))) one)
-    ∙ ap (λ b. x == p || b) (any_more points i p c (omega arith) is) ∙ or_or (x == p) (list_any (λ y. y == p) (take i points)) (c == p) where
-      or_or : (a b d : Bool) → (a || (b || d)) ≡ ((a || b) || d)
-      or_or true b d = refl
-      or_or false b d = refl
+    ∙ ap (λ b. x == p || b) (any_more points i p c (omega arith) is) ∙ sym (or_assoc (x == p) (list_any (λ y. y == p) (take i points)) (c == p))
 
 -- one more code point after the first place
 pub inside-step : (m now new : Marks) (points : List ℕ) (i c p : ℕ) → i < length points → c ≡ get_or points i c → now ≡ inside_marks m (list_any (λ x. x == p) (take i points)) → new ≡ inside_marks now (c == p)
@@ -143,20 +126,11 @@ between-all (x ∷ points) at p some within all = (let one : at - 1 ≡ length p
 key_marks : (m : Marks) (b longer leads primary keeps kept inside between : Bool) → (b ≡ true → longer ≡ leads) → (b ≡ false → leads ≡ false) → (b ≡ true → keeps ≡ kept) → (b ≡ false → kept ≡ true)
     → between_marks (inside_marks (cond b (first_marks m longer primary keeps) m) inside) between ≡ said (m.begins || b) (m.leads || leads) (m.continues || inside) (m.apart && (not inside && (not b || primary))) (m.ends && not between) (m.keeps && kept)
 key_marks m true longer leads primary keeps kept inside between first other same none =
-    make _ _ _ _ _ _ _ _ _ _ _ _ (sym (or_true m.begins)) (ap (λ x. m.leads || x) (first refl)) refl (swapped m.apart primary inside) refl (ap (λ x. m.keeps && x) (same refl)) where
-      or_true : (x : Bool) → (x || true) ≡ true
-      or_true true = refl
-      or_true false = refl
-
-      swapped : (x y z : Bool) → ((x && y) && not z) ≡ (x && (not z && y))
-      swapped false y z = refl
-      swapped true true z = sym (and_all (not z))
-      swapped true false true = refl
-      swapped true false false = refl
+    make _ _ _ _ _ _ _ _ _ _ _ _ (sym (or-true m.begins)) (ap (λ x. m.leads || x) (first refl)) refl (and_assoc m.apart primary (not inside) ∙ ap (λ b. m.apart && b) (and_comm primary (not inside))) refl (ap (λ x. m.keeps && x) (same refl))
 key_marks m false longer leads primary keeps kept inside between first other same none =
-    make _ _ _ _ _ _ _ _ _ _ _ _ (sym (or_nothing m.begins)) (sym (ap (λ x. m.leads || x) (other refl) ∙ or_nothing m.leads)) refl (ap (λ x. m.apart && x) (sym (and_all (not inside)))) refl (sym (ap (λ x. m.keeps && x) (none refl) ∙ and_all m.keeps))
+    make _ _ _ _ _ _ _ _ _ _ _ _ (sym (or-false m.begins)) (sym (ap (λ x. m.leads || x) (other refl) ∙ or-false m.leads)) refl (ap (λ x. m.apart && x) (sym (and-true (not inside)))) refl (sym (ap (λ x. m.keeps && x) (none refl) ∙ and-true m.keeps))
 
--- what a key says of a code point, by its parts
+-- what a key says about a code point, by its parts
 pub with-key : (t : ElementTable) (m first others all : Marks) (p c : ℕ) (key : List ℕ) (es : List Element) (longer primary keeps : Bool) → 0 < length key → c ≡ get_or key 0 c
     → longer ≡ nat_lt 1 (length key) → primary ≡ begins_with_primary es → keeps ≡ (not (is_longer_from (slice_index key 0) key) || have_primaries_of (elements_or_implicit t (slice_index key 0 ∷ [])) es)
     → first ≡ cond (c == p) (first_marks m longer primary keeps) m → others ≡ inside_marks first (list_any (λ x. x == p) (drop 1 key)) → all ≡ between_marks others (is_before_last p (drop 1 key))
@@ -187,14 +161,7 @@ with-key t m first others all p c (x ∷ key) es longer primary keeps some is lo
 -- one more key, and then the others
 after_more : (t : ElementTable) (m : Marks) (p : ℕ) (e : List ℕ × List Element) (es : List (List ℕ × List Element)) → marks_after t (marks_with t m p e) p es ≡ marks_after t m p (e ∷ es)
 after_more t m p e es =
-    make _ _ _ _ _ _ _ _ _ _ _ _ (or_or m.begins (is_first p e.0) _) (or_or m.leads (is_longer_from p e.0) _) (or_or m.continues (is_inside p e.0) _) (and_and m.apart (keeps_apart p e) _) (and_and m.ends (not (is_before_last p (drop 1 e.0))) _) (and_and m.keeps (keeps_longer t p e) _) where
-      or_or : (a b c : Bool) → ((a || b) || c) ≡ (a || (b || c))
-      or_or true b c = refl
-      or_or false b c = refl
-
-      and_and : (a b c : Bool) → ((a && b) && c) ≡ (a && (b && c))
-      and_and true b c = refl
-      and_and false b c = refl
+    make _ _ _ _ _ _ _ _ _ _ _ _ (or_assoc m.begins (is_first p e.0) _) (or_assoc m.leads (is_longer_from p e.0) _) (or_assoc m.continues (is_inside p e.0) _) (and_assoc m.apart (keeps_apart p e) _) (and_assoc m.ends (not (is_before_last p (drop 1 e.0))) _) (and_assoc m.keeps (keeps_longer t p e) _)
 
 pub after-step : (t : ElementTable) (now new whole : Marks) (p : ℕ) (key : List ℕ) (elements : List Element) (left rest : List (List ℕ × List Element)) → left ≡ (key, elements) ∷ rest → new ≡ marks_with t now p (key, elements)
     → marks_after t now p left ≡ whole → marks_after t new p rest ≡ whole
@@ -242,7 +209,7 @@ all-marks t p = make _ _ _ _ _ _ _ _ _ _ _ _ refl refl refl refl refl (all_keep 
 -- when no key is left
 pub after-none : (t : ElementTable) (now : Marks) (p : ℕ) (left : List (List ℕ × List Element)) → left ≡ [] → marks_after t now p left ≡ marks_after t Untouched p (entries t.entries) → now ≡ marks t p
 after-none t now p left none whole =
-    sym (ap (marks_after t now p) none ∙ make _ _ _ _ _ _ _ _ _ _ _ _ (or_nothing now.begins) (or_nothing now.leads) (or_nothing now.continues) (and_all now.apart) (and_all now.ends) (and_all now.keeps)) ∙ whole ∙ all-marks t p
+    sym (ap (marks_after t now p) none ∙ make _ _ _ _ _ _ _ _ _ _ _ _ (or-false now.begins) (or-false now.leads) (or-false now.continues) (and-true now.apart) (and-true now.ends) (and-true now.keeps)) ∙ whole ∙ all-marks t p
 
 -- the same blocks and marks are of the same table
 pub HoldsMarks-same : (t : ElementTable) (old new : MarkTable) → new.blocks.items ≡ old.blocks.items → new.marks.items ≡ old.marks.items → HoldsMarks t old → HoldsMarks t new

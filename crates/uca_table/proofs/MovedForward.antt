@@ -1,4 +1,4 @@
--- Where the code points stand after one was moved forward.
+-- Where the code points are after one was moved forward.
 use Rattle.std.proofs.Common.{◌≡◌, ℕ, ◌+◌, ◌-◌, ◌≤◌, ◌<◌, List, [], ◌∷◌, ◌++◌, length, take, drop, get_or, sym, ap, ap₂, ◌∙◌, arith, append-nil}
 use Rattle.std.proofs.lemmas.List.{length-take-le, length-drop, length-append, length_push, take_at, drop_at, drop-drop, take-append-drop, take_more, drop_all, get_or-drop}
 use borrow.Rule.Slice.PartMut.{put_mid}

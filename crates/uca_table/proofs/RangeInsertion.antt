@@ -114,7 +114,7 @@ spans-put r rs near old =
     (all-put (FitsOver r) r rs (λ _. omega arith) over)
     (all-map (λ s. FitsOver s r × AllByRecursion (FitsOver s) rs) (λ s. AllByRecursion (FitsOver s) (put_range r rs)) rs (λ s h. all-put (FitsOver s) r rs h.0 h.1) (all-both (λ s. FitsOver s r) (λ s. AllByRecursion (FitsOver s) rs) rs under old))
 
--- a range that isn't bad may stand beside the others
+-- a range that is not bad is compatible with the others
 pub AreRanges-put : (r : Range) (rs : List Range) → IsRange r → is_bad_range rs r ≡ false → AreRanges rs → AreRanges (put_range r rs)
 AreRanges-put r rs new fine old =
     let above = or_parts (nat_lt r.last r.first) _ fine in let shared = or_parts (nat_lt r.base 0x8000) _ above.1 in let far = or_parts (list_any (shares r) rs) _ shared.1 in

@@ -1,4 +1,4 @@
--- Ranges that stand in a map by their last code points.
+-- Ranges in a map by their last code points.
 use Rattle.std.proofs.Common.{◌≡◌, ℕ, ◌≤◌, ◌<◌, ◌⊎◌, Bool, true, false, cond, ◌==◌, nat_lt, nat_le, List, [], ◌∷◌, refl, sym, ap, ◌∙◌, arith, inl, inr}
 use Rattle.std.proofs.lemmas.Bool.{cases_Bool, or_parts}
 use Rattle.std.proofs.lemmas.Bool.Decides.{nat_tests}
@@ -37,7 +37,7 @@ values-put es r by_last ranges fine =
     let above = or_parts (nat_lt r.last r.first) _ fine in let shared = or_parts (nat_lt r.base 0x8000) _ above.1 in let far = or_parts (list_any (shares r) (values_of es)) _ shared.1 in
     put_inserted es r (grind (arith, nat_tests, above.0)) by_last ranges.each (all-apart r (values_of es) far.0)
 
--- each range still stands at its last code point
+-- each range is still at its last code point
 pub AreByLast-put : (es : List (ℕ × Range)) (r : Range) → AreByLast es → AreByLast (insert_entry nat_cmp es r.last r)
 AreByLast-put [] r by_last = (refl, tt)
 AreByLast-put (e ∷ es) r by_last = elim (cases_Bool (nat_lt r.last e.0)) [

@@ -52,11 +52,11 @@ found_not : (es : List (List ℕ × List Element)) (q : List ℕ) → ((k : ℕ)
 found_not [] q h = refl
 found_not (e ∷ es) q h = ap (λ b. cond b (Some e.1) (find key_cmp q es)) (h 0 e (omega arith)) ∙ found_not es q (λ k d within. h (suc k) d (omega arith))
 
--- a key that stands before or after another doesn't tie with it
+-- a key before or after another doesn't tie with it
 apart : (x q : List ℕ) (o : Ordering) → key_cmp x q ≡ o → is_eq (ordering_reverse o) ≡ false → eq_by_cmp key_cmp q x ≡ false
 apart x q o e h = ap is_eq (nat_list_cmp_total.antisymm q x ∙ ap ordering_reverse e) ∙ h
 
--- nor is a key found that stands between two neighbours
+-- nor is a key found between two neighbours
 pub found_nowhere : (es : List (List ℕ × List Element)) (i : ℕ) (q : List ℕ) → IsPartitionPoint (λ (e : List ℕ × List Element). slice_cmp nat_cmp e.0 q ≡ Less) (λ (e : List ℕ × List Element). slice_cmp nat_cmp e.0 q ≡ Greater) es i → find key_cmp q es ≡ None
 found_nowhere es i q parted = found_not es q (λ k d within. elim (cases_lt k i) [
   | inl below ↦ apart (get_or es k d).0 q Less (parted.0 k d (omega arith) below) refl
@@ -74,14 +74,14 @@ in_order (e ∷ es) (suc i) (suc j) d f sorted before within = in_order es i j d
 pub same_at : (es : List (List ℕ × List Element)) (i j : ℕ) (d f : List ℕ × List Element) → i ≡ j → j < length es → get_or es i d ≡ get_or es j f
 same_at es i j d f e within = ap (λ k. get_or es k d) e ∙ get_or_default es j d f within
 
--- what stands before a lower key is lower
+-- what comes before a lower key is lower
 pub lower_before : (es : List (List ℕ × List Element)) (i j : ℕ) (q : List ℕ) (d f : List ℕ × List Element) → T (is_sorted key_cmp es) → j < length es → key_cmp (get_or es j f).0 q ≡ Less → i < j + 1 → key_cmp (get_or es i d).0 q ≡ Less
 lower_before es i j q d f sorted within lower before = elim (cases_lt i j) [
   | inl earlier ↦ nat_list_cmp_total.trans (get_or es i d).0 (get_or es j f).0 q (in_order es i j d f sorted earlier within) lower
   | inr here ↦ ap (λ (e : List ℕ × List Element). key_cmp e.0 q) (same_at es i j d f (omega arith) within) ∙ lower
 ]
 
--- what stands after a higher key is higher
+-- what follows a higher key is higher
 pub higher_after : (es : List (List ℕ × List Element)) (i j : ℕ) (q : List ℕ) (d f : List ℕ × List Element) → T (is_sorted key_cmp es) → key_cmp (get_or es i d).0 q ≡ Greater → i ≤ j → j < length es → key_cmp (get_or es j f).0 q ≡ Greater
 higher_after es i j q d f sorted higher behind within = elim (cases_lt i j) [
   | inl later ↦

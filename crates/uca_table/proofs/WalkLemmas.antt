@@ -1,6 +1,6 @@
 -- Walks along a text, and the longest key at its front.
 use Rattle.std.proofs.Common.{◌≡◌, ℕ, zero, suc, ◌+◌, ◌-◌, ◌≤◌, ◌<◌, Bool, true, false, cond, ◌&&◌, ◌||◌, T, List, [], ◌∷◌, map, length, take, is_some, refl, sym, ap, subst, ◌∙◌, arith, inl, inr, eq-eqb, length-take-le, take-take, take_all, le_refl, Option, Some, None}
-use Rattle.std.proofs.lemmas.Bool.{cases_Bool, cases_lt}
+use Rattle.std.proofs.lemmas.Bool.{cases_Bool, cases_lt, or_right}
 use Rattle.std.specs.declared.cmp.Ordering.{Ordering}
 use Rattle.std.specs.declared.cmp.Ordering.TheVariants.{Less, Equal, Greater}
 use Rattle.std.specs.List.{list_any}
@@ -16,10 +16,6 @@ tied : (o : Ordering) → is_eq o ≡ true → o ≡ Equal
 tied Less h = cc
 tied Equal h = refl
 tied Greater h = cc
-
-or_right : (a b : Bool) → b ≡ true → (a || b) ≡ true
-or_right true b h = refl
-or_right false b h = h
 
 own_front : (n : ℕ) (key : List ℕ) → is_front (take n key) key ≡ true
 own_front zero key = refl

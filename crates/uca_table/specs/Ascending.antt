@@ -32,7 +32,7 @@ append_fault m key elements =
     else if contains_key m key then Some Repeated
     else None
 
--- the fault of the arguments that a call reported; an allocation failure is none of theirs
+-- the fault of the arguments that a call reported; an allocation failure is not one
 abbrev pub reported_append_fault : AppendFault → Option AppendFault
 reported_append_fault EmptyKey = Some EmptyKey
 reported_append_fault KeyTooLong = Some KeyTooLong
@@ -42,7 +42,7 @@ reported_append_fault OutOfOrder = Some OutOfOrder
 reported_append_fault Repeated = Some Repeated
 reported_append_fault OutOfMemory = None
 
--- how a key stands to the last of some entries; after none of them, it is greater
+-- how a key compares with that of the last of some entries; where there are none, it is greater
 pub record IsOrder (o : Ordering) (key : List ℕ) (es : List (List ℕ × List Element)) : Type 0 where
   pub greater : has_greater es key ≡ is_lt o
   pub same : is_lt o ≡ false → is_some (find key_cmp key es) ≡ is_eq o

@@ -27,7 +27,7 @@ insert_fault t key elements =
 abbrev pub known_fault : List (List ℕ × List Element) → List ℕ → Option InsertFault
 known_fault es key = if is_some (find key_cmp key es) then Some Repeated else None
 
--- the fault of the arguments that a call reported; an allocation failure is none of theirs
+-- the fault of the arguments that a call reported; an allocation failure is not one
 abbrev pub reported_fault : InsertFault → Option InsertFault
 reported_fault EmptyKey = Some EmptyKey
 reported_fault KeyTooLong = Some KeyTooLong
@@ -52,7 +52,7 @@ with_more_ideographs t r = with_ideographs t (put_ideographs r t.ideographs)
 abbrev pub ideographs_fault : List Ideographs → Ideographs → Option RangeFault
 ideographs_fault added r = if are_bad_ideographs added r then Some range.BadRange else None
 
--- the fault of the range that a call reported; an allocation failure is none of its
+-- the fault of the range that a call reported; an allocation failure is not one
 abbrev pub reported_range_fault : RangeFault → Option RangeFault
 reported_range_fault range.BadRange = Some range.BadRange
 reported_range_fault range.OutOfMemory = None

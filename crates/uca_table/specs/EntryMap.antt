@@ -12,7 +12,7 @@ use Rattle.uca_table.specs.declared.entry_map.Place.{Place}
 abbrev pub entry_in : {Y : Type 0} → List Element → (ℕ × Vec ℕ Y) × Place → List ℕ × List Element
 entry_in es e = (e.0.0 ∷ e.0.1.items, take e.1.count (drop e.1.start es))
 
--- the elements of an entry lie among the first so many
+-- the elements of an entry are among the first this many
 abbrev pub IsPlaced : {Y : Type 0} → ℕ → (ℕ × Vec ℕ Y) × Place → Type 0
 IsPlaced n e = e.1.start + e.1.count ≤ n
 

@@ -17,6 +17,6 @@ pub record AreExtents (extent_at : ℕ → Option Extent) (rs : List Range) : Ty
   pub lowest : (base low : ℕ) → lowest_first rs base low ≡ option_map_or (λ x. min low x.lowest) (extent_at base) low
   pub highest : (base high : ℕ) → highest_last rs base high ≡ option_map_or (λ x. max high x.highest) (extent_at base) high
 
--- each range stands at its last code point
+-- each range is at its last code point
 abbrev pub AreByLast : List (ℕ × Range) → Type 0
 AreByLast es = AllByRecursion (λ e. e.0 ≡ e.1.last) es

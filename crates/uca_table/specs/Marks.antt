@@ -1,4 +1,4 @@
--- What the keys of a table say of each code point, and how that lies in blocks.
+-- What the keys of a table say about each code point, and how the marks are laid out in blocks.
 use Rattle.std.specs.Prelude.{◌≡◌, ℕ, ◌+◌, ◌*◌, ◌/◌, ◌%◌, ◌<◌, ◌≤◌, Bool, true, false, not, ◌&&◌, ◌||◌, List, [], ◌∷◌, drop, length, get_or}
 use Rattle.std.specs.List.{list_any, list_all}
 use Rattle.std.specs.FinMap.{entries}
@@ -15,7 +15,7 @@ use Rattle.uca_table.specs.declared.marks.MarkTable.{MarkTable}
 abbrev pub keep_apart : ElementTable → ℕ → Bool
 keep_apart t p = list_all (keeps_apart p) (entries t.entries)
 
--- what all keys say of a code point
+-- what all keys say about a code point
 abbrev pub marks : ElementTable → ℕ → Marks
 marks t p = record { begins = begins t p; leads = leads t p; continues = continues t p; apart = keep_apart t p; ends = ends_matches t p; keeps = keeps_primaries t p }
 

@@ -12,7 +12,7 @@ abbrev pub highest_class : List ℕ → ℕ
 highest_class [] = 0
 highest_class (c ∷ cs) = max (ccc c) (highest_class cs)
 
--- what stands between the end of the match and a place that was reached
+-- what is between the end of the match and a place that was reached
 abbrev pub passed_over : List ℕ → ℕ → ℕ → List ℕ
 passed_over text end at = take (at - end) (drop end text)
 

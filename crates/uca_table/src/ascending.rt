@@ -1,4 +1,4 @@
-//! Entries that come in the order of a table, so that each is stored as it comes.
+//! Entries that come in the order of a table, so that each is appended.
 ghost use Rattle.std.specs.Prelude.{◌≡◌, ◌<◌, length, IfOk, OnOk, OnErr, MatchResult, None, T};
 ghost use Rattle.std.specs.FinMap.{empty, insert, is_sorted};
 ghost use Rattle.uca_model.specs.Table.{key_cmp};
@@ -94,7 +94,7 @@ impl AscendingEntries {
     }
 }
 
-/// How a key stands to the last of some entries in their order; after none of them, it is greater.
+/// How a key compares with that of the last of some entries; where there are none, it is greater.
 fn order_after(entries: &Nodes, key: &[char]) -> Ordering
     requires sorted { T (is_sorted key_cmp entries.now) }
     requires some { 0 < length key.now }

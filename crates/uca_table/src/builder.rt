@@ -12,7 +12,7 @@ use std::alloc::Global;
 use std::marker::Model;
 use uca_weights::{Element, MAX_ELEMENTS, MAX_KEY, Range};
 
-/// Collects the entries of a table, one after the other.
+/// Collects the entries of a table, in any order.
 #[derive(Drop)]
 pub struct TableBuilder {
     entries: EntryMap,
@@ -38,7 +38,7 @@ impl TableBuilder {
     ghost use Rattle.uca_model.specs.Table.{ElementTable, with_entry};
     ghost use Rattle.uca_table.specs.Builder.{insert_fault, reported_fault, with_range, range_fault, reported_range_fault};
 
-    /// A builder without entries and ranges.
+    /// A builder with no entries and no ranges.
     pub fn new(alloc: Global) -> TableBuilder
         ensures { result ≡ record { entries = empty; ranges = []; ideographs = [] } }
     {
@@ -73,7 +73,7 @@ impl TableBuilder {
         self.entries.insert(self.alloc, key, elements)
     }
 
-    /// Adds the range from `first` to `last`, both of which belong to it. An assigned code point in it that has no key
+    /// Adds the range from `first` to `last`, both inclusive. An assigned code point in it that has no key
     /// gets `base` as its first implicit weight (UTS #10, section 10.1.3). On a fault the builder stays as it is.
     pub fn add_implicit(&mut self, first: char, last: char, base: u16) -> Result<(), RangeFault>
         ensures ok { OnOk result (self.new ≡ with_range self.old (record { first = first; last = last; base = base })) }
@@ -87,8 +87,8 @@ impl TableBuilder {
         self.ranges.put(range)
     }
 
-    /// The table of what was added, without ideographs besides the listed ones. Where memory is refused, the builder comes
-    /// back as it was.
+    /// The table of what was added, with no ideographs besides the listed ones. Where memory is refused, the builder comes
+    /// back unchanged.
     pub fn finish(self) -> Result<Table, FinishFault>
         ensures made { MatchResult result (λ t. t ≡ self) (λ f. f.builder ≡ self) }
         ensures unlisted { IfOk result (λ t. t.ideographs ≡ []) }

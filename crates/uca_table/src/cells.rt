@@ -23,16 +23,16 @@ const LIMIT: usize = 0x1_0000;
 /// A table whose keys have fewer nodes is small.
 const FEW: usize = 256;
 
-/// Characters of a small table below this one have cells. All those below `LIMIT` would take longer than its reading.
+/// Characters of a small table below this one have cells. All those below `LIMIT` would take longer than the table takes to read.
 const LIMIT_OF_FEW: usize = 0x1000;
 
-/// So many blocks of cells has any table with so many blocks of keys.
+/// How many blocks of cells every table may have besides those below `LIMIT`.
 const FEW_BLOCKS: usize = 64;
 
-/// And one more for so many nodes of its keys.
+/// A table may have one more block of cells for this many nodes of its keys.
 const NODES_OF_A_BLOCK: usize = 8;
 
-/// The elements of a character by itself, and whether they stay so within a text. Eight bytes, since each character of a text is
+/// The elements of a character by itself, and whether it keeps them within a text. Eight bytes, since each character of a text is
 /// looked up.
 #[derive(Clone, Copy)]
 pub(crate) struct Cell {
@@ -48,7 +48,7 @@ pub(crate) struct Cell {
     cut: bool,
 }
 
-/// The cell of a character of which nothing is known.
+/// The cell of a character about which nothing is known.
 const UNKNOWN: Cell = Cell {
     start: 0,
     count: 0,
@@ -57,8 +57,8 @@ const UNKNOWN: Cell = Cell {
     cut: false,
 };
 
-/// What a table says of single characters, by blocks of them: what its keys say of each, and its cell. Blocks in which no key has
-/// a code point share one.
+/// What a table says about single characters, by blocks: what its keys say about each, and its cell. Blocks in which no key has
+/// a code point share one block.
 #[derive(Drop)]
 pub struct Cells {
     marks: MarkTable,
@@ -67,7 +67,7 @@ pub struct Cells {
     elements: Vec<Element>,
 }
 
-/// So many cells of characters of which nothing is known.
+/// This many cells of characters about which nothing is known.
 fn unknown(alloc: Global, n: usize) -> Result<Vec<Cell>, AllocError>
     ensures { IfOk result (λ v. (i : ℕ) → get_or v.items i unknown ≡ unknown) }
 {
@@ -191,7 +191,7 @@ fn begins_apart(t: &Stored, marks: &MarkTable, points: &[char]) -> bool
     is_starter(first) && keep_apart(marks, first)
 }
 
-// Where elements lie from `start` on, as numbers that a cell has room for; no elements where it has none.
+// Where elements lie from `start` on, as numbers that fit in a cell; no elements where they do not fit.
 fn extent(start: usize, end: usize) -> (u32, u8)
     requires { start ≤ end }
     ensures within { result.0 + result.1 ≤ end }
@@ -224,7 +224,7 @@ fn push_single(
 }
 
 impl Cells {
-    // Appends the elements of a character, by the cells that there are.
+    // Appends the elements of a character, by the cells made so far.
     fn push_elements(
         &mut self,
         alloc: Global,
@@ -322,7 +322,7 @@ impl Cells {
     }
 
     /// The cells of a table.
-    pub fn new(alloc: Global, t: &Stored) -> Result<Cells, AllocError>
+    pub(crate) fn new(alloc: Global, t: &Stored) -> Result<Cells, AllocError>
         ensures { IfOk result (λ cells. HoldsCells t.now cells) }
     {
         let limit = if t.keys.len() < FEW {
@@ -360,7 +360,7 @@ impl Cells {
     }
 
     /// The cells of a table, or none where memory is refused.
-    pub fn of(alloc: Global, t: &Stored) -> Cells
+    pub(crate) fn of(alloc: Global, t: &Stored) -> Cells
         ensures { HoldsCells t.now result }
     {
         match Cells::new(alloc, t) {
@@ -369,7 +369,7 @@ impl Cells {
         }
     }
 
-    /// What the keys of a table say of a code point. `None`: that is not known.
+    /// What the keys of a table say about a code point. `None`: that is not known.
     pub(crate) fn marks(&self, c: char) -> Option<Marks>
         ensures { (t : _) → HoldsCells t self.now → IfSome result (λ m. m ≡ marks t c) }
     {
@@ -404,7 +404,7 @@ impl Cells {
         &self.elements[start..start + cell.count as usize]
     }
 
-    // How the character at a place joins what stands before it, at most; not at all at the end of the text.
+    // How the character at a place joins what comes before it, at most; not at all at the end of the text.
     fn joining_at(&self, text: &[char], at: usize) -> u8
         ensures { (t : _) → HoldsCells t self.now → at < length text.now → joining t (slice_index text.now at) ≤ result }
     {
@@ -414,7 +414,7 @@ impl Cells {
         }
     }
 
-    // The elements of the first character of a text, where they stand alone. The next one is looked up only where they may not.
+    // The elements of the first character of a text, where they stand alone. The next one is looked up only where they may depend on it.
     fn alone(&self, t: &Stored, text: &[char]) -> Option<&[Element]>
         requires some { 0 < length text.now }
         requires cells { HoldsCells t.now self.now }
@@ -430,7 +430,7 @@ impl Cells {
         Some(self.elements_of(cell))
     }
 
-    // How a text joins what stands before it, at most; not at all where it is empty.
+    // How a text joins what comes before it, at most; not at all where it is empty.
     fn joining_of_text(&self, text: &str) -> u8
         ensures { (t : _) → HoldsCells t self.now → (c : ℕ) (later : List ℕ) → chars text.now ≡ c ∷ later → joining t c ≤ result }
     {
@@ -440,7 +440,7 @@ impl Cells {
         }
     }
 
-    /// Whether a character joins nothing that stands before it.
+    /// Whether a character joins nothing before it.
     #[inline(always)]
     pub(crate) fn joins_nothing(&self, t: &Stored, c: char) -> bool
         requires cells { HoldsCells t.now self.now }
@@ -449,7 +449,7 @@ impl Cells {
         self.cell(c).joining == 0
     }
 
-    /// The elements of a character before other text, where they stand alone. That text is looked at only where they may not.
+    /// The elements of a character before other text, where they stand alone. That text is looked at only where they may depend on it.
     #[inline(always)]
     pub(crate) fn alone_before(&self, t: &Stored, c: char, after: &str) -> Option<&[Element]>
         requires cells { HoldsCells t.now self.now }
@@ -494,7 +494,7 @@ impl Cells {
         Some(t.implicit(c))
     }
 
-    // How many characters of a text stand before the next that joins nothing.
+    // How many characters of a text come before the next that joins nothing.
     fn run_len(&self, t: &Stored, text: &[char]) -> usize
         requires some { 0 < length text.now }
         requires cells { HoldsCells t.now self.now }
@@ -522,7 +522,7 @@ pub fn push_few(out: &mut Vec<Element>, elements: &[Element]) -> Result<(), Allo
     out.extend_from_slice(elements)
 }
 
-// Appends the elements of a text, whatever stands in it. `points` is room for its code points in NFD.
+// Appends the elements of a text, whatever it is. `points` is a buffer for its code points in NFD.
 fn push_run(
     points: &mut Vec<char>,
     out: &mut Vec<Element>,
@@ -560,7 +560,7 @@ fn push_others(
 }
 
 /// Appends the elements of a text. A character whose elements stand alone takes those of its cell.
-pub fn push_text(
+pub(crate) fn push_text(
     alloc: Global,
     out: &mut Vec<Element>,
     t: &Stored,

@@ -9,7 +9,11 @@ use uca_weights::Element;
 
 // Appends the elements of a match, one or more: those of the key, or else the implicit ones of its first code point
 // (UTS #10, 7.2, step S2.2).
-pub fn push_elements(out: &mut Vec<Element>, t: &Stored, matched: &[char]) -> Result<(), AllocError>
+pub(crate) fn push_elements(
+    out: &mut Vec<Element>,
+    t: &Stored,
+    matched: &[char],
+) -> Result<(), AllocError>
     requires { 0 < length matched.now }
     ensures elements { OnOk result (out.new.items ≡ out.old.items ++ elements_or_implicit t.now matched.now) }
     ensures some { OnOk result (length out.old.items < length out.new.items) }
@@ -17,7 +21,7 @@ pub fn push_elements(out: &mut Vec<Element>, t: &Stored, matched: &[char]) -> Re
     push_found(out, t, matched, t.get(matched))
 }
 
-// The same with what the table has for the match.
+// The same, with what the table has for the match.
 pub(crate) fn push_found(
     out: &mut Vec<Element>,
     t: &Stored,
@@ -38,7 +42,11 @@ pub(crate) fn push_found(
 
 // Appends the elements of a text in NFD, match after match (UTS #10, 7.2, step S2). Each match is put in order
 // within the text, and nothing after its nonstarters is moved.
-pub fn push_matches(out: &mut Vec<Element>, t: &Stored, text: &mut [char]) -> Result<(), AllocError>
+pub(crate) fn push_matches(
+    out: &mut Vec<Element>,
+    t: &Stored,
+    text: &mut [char],
+) -> Result<(), AllocError>
     ensures elements { OnOk result (out.new.items ≡ out.old.items ++ elements t.now text.old) }
     ensures some { OnOk result (0 < length text.old → length out.old.items < length out.new.items) }
 {

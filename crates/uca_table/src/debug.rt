@@ -1,4 +1,4 @@
-//! What holds the entries of a table shows its name alone: a table has tens of thousands of them.
+//! Debug output of a type that holds the entries of a table is its name only: a table has tens of thousands of them.
 
 use crate::{AscendingEntries, Table, TableBuilder, Walk};
 use std::fmt;

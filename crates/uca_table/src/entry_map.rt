@@ -22,7 +22,7 @@ use std::marker::Model;
 use uca_keys::Nodes;
 use uca_weights::{Element, MAX_KEY};
 
-/// The first code point of a key, and the others. Most keys have no others, and take no memory of their own.
+/// The first code point of a key, and the others. Most keys have no others, and need no allocation of their own.
 type Key = (char, Vec<char>);
 
 /// Where the elements of an entry lie among those of all entries.
@@ -32,11 +32,11 @@ pub(crate) struct Place {
     count: usize,
 }
 
-/// The entries of a builder by key order, into which one more goes in logarithmic time.
+/// The entries of a builder by key order. Inserting one takes logarithmic time.
 #[derive(Drop)]
 pub(crate) struct EntryMap {
     places: BTreeMap<Key, Place>,
-    // Of all entries, one after the other as they came.
+    // Of all entries, in the order in which they came.
     elements: Vec<Element>,
 }
 
@@ -86,7 +86,7 @@ impl EntryMap {
         InsertFault::OutOfMemory
     }
 
-    /// Adds a key, which there isn't yet, and its elements. One search finds both the key and its place.
+    /// Adds a key, which must be new, and its elements. One search finds both the key and its place.
     pub(crate) fn insert(
         &mut self,
         alloc: Global,
@@ -131,7 +131,7 @@ impl EntryMap {
     }
 }
 
-/// Whether a map has a key. All its keys are asked, since a search would take memory for a key of two or more.
+/// Whether a map has a key. It looks at all keys, since a search would allocate for a key of two or more.
 fn has_key(places: &BTreeMap<Key, Place>, key: &[char]) -> bool
     requires { 0 < length key.now }
     ensures { result ≡ list_any (is_key_at key.now) places.now.entries }
@@ -152,7 +152,7 @@ fn is_key(first: char, others: &[char], key: &[char]) -> bool
     key[0] == first && &key[1..] == others
 }
 
-/// Appends elements for which there is room.
+/// Appends elements for which there is capacity.
 fn push_reserved(all: &mut Vec<Element>, elements: &[Element])
     requires { vec_len all.old + length elements.now ≤ vec_capacity all.old }
     ensures { all.new.items ≡ all.old.items ++ elements.now }
@@ -198,7 +198,7 @@ fn longest_key(places: &BTreeMap<Key, Place>, elements: &[Element]) -> usize
     longest
 }
 
-/// The greater of a number and the length of a key with so many code points after its first.
+/// The greater of a number and the length of a key with this many code points after its first.
 fn longer(longest: usize, others: usize) -> usize
     requires { others < MAX_KEY }
     ensures { result ≡ max longest (others + 1) }
@@ -206,7 +206,7 @@ fn longer(longest: usize, others: usize) -> usize
     longest.max(others + 1)
 }
 
-/// How many code points a key has beyond those that it begins with as another one does.
+/// How many code points a key has after the prefix that it shares with another.
 fn new_points(before: &Key, key: &Key) -> usize {
     if before.0 != key.0 {
         return key.1.len().saturating_add(1);

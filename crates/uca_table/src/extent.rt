@@ -7,7 +7,7 @@ use crate::fault::RangeFault;
 use std::collections::BTreeMap;
 use uca_weights::Range;
 
-/// The lowest first and the highest last code point of the ranges with one base.
+/// The lowest first and the highest last code point of the ranges that share a base.
 #[derive(Clone, Copy)]
 pub(crate) struct Extent {
     pub(crate) lowest: char,
@@ -48,7 +48,7 @@ pub(crate) fn widen(
     }
 }
 
-/// Gives a base that has an extent the one that it had, or takes its extent away. That takes no memory.
+/// Restores the extent that a base had, or removes it where there was none. That does not allocate.
 pub(crate) fn restore(extents: &mut BTreeMap<u16, Extent>, base: u16, was: Option<Extent>)
     requires { IsSome (get nat_cmp extents.old base) }
     ensures { (q : _) → get nat_cmp extents.new q ≡ cond (base == q) was (get nat_cmp extents.old q) }

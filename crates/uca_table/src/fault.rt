@@ -16,7 +16,7 @@ pub enum InsertFault {
     /// There are more than `MAX_ELEMENTS` collation elements.
     #[error("TooManyElements")]
     TooManyElements,
-    /// The table has the key already.
+    /// The table already has the key.
     #[error("Repeated")]
     Repeated,
     /// An allocation failed.
@@ -39,7 +39,7 @@ pub enum AppendFault {
     /// There are more than `MAX_ELEMENTS` collation elements.
     #[error("TooManyElements")]
     TooManyElements,
-    /// A greater key was appended before.
+    /// A greater key was appended earlier.
     #[error("OutOfOrder")]
     OutOfOrder,
     /// The key is the last that was appended.
@@ -63,7 +63,7 @@ pub enum RangeFault {
     OutOfMemory,
 }
 
-/// Memory for the table was refused. The builder comes back unchanged.
+/// Memory for the table was refused. The builder is returned unchanged.
 #[derive(Debug, Drop, Error)]
 #[error("OutOfMemory")]
 pub struct FinishFault {

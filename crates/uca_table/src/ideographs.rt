@@ -38,7 +38,7 @@ pub(crate) fn is_added(added: &[Ideographs], c: char) -> bool
         .any(|range| range.first <= c && c <= range.last)
 }
 
-/// Whether some code point of a range lies between two others, both of which count.
+/// Whether some code point of a range lies between two others, inclusive.
 fn shares_with(range: Ideographs, pair: (char, char)) -> bool
     ensures { result ≡ shares_with range pair }
 {
@@ -72,7 +72,7 @@ fn shares_any(range: Ideographs, others: &[Ideographs]) -> bool
     others.iter().any(|other| shares(range, *other))
 }
 
-/// Whether a range may not stand beside others.
+/// Whether a range conflicts with others.
 fn is_bad(added: &[Ideographs], range: Ideographs) -> bool
     ensures { result ≡ are_bad_ideographs added.now range }
 {

@@ -16,7 +16,7 @@ pub(crate) fn implicit(ranges: &Ranges, added: &[Ideographs], c: char) -> [Eleme
     requires by_first { AreByFirst ranges.now }
     ensures { result ≡ implicit_over ranges.now added.now c }
 {
-    // Few code points lie in a range, so the general category is asked of those alone.
+    // Few code points lie in a range, so only those need a look-up of the general category.
     if let Some(range) = ranges.range_of(c) {
         if is_assigned(c) {
             let lowest = ranges.lowest_first(range);

@@ -1,16 +1,16 @@
 //! The collation element table (UTS #10, section 3): keys of code points with their collation elements, the
-//! ranges of code points whose implicit weights stand over a base of their own, and ranges of further unified
+//! ranges of code points whose implicit weights have a base of their own, and ranges of further unified
 //! ideographs (section 10.1.3).
 //!
-//! A [`TableBuilder`] collects entries, and [`TableBuilder::finish`] makes a [`Table`] of them. Contracts see both as
+//! A [`TableBuilder`] collects entries, and [`TableBuilder::finish`] turns them into a [`Table`]. Contracts see both as
 //! one value, a finite map with two lists of ranges. [`AscendingEntries`] take entries that come in key order. No
-//! look-up takes memory.
+//! look-up allocates.
 #![tactic(auto)]
 
 pub mod ascending;
 pub mod builder;
 pub mod cells;
-pub mod collation;
+mod collation;
 mod debug;
 mod entry_map;
 mod extent;

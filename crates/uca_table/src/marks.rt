@@ -16,7 +16,7 @@ pub(crate) const BLOCK: usize = 128;
 /// How many blocks all code points make.
 pub(crate) const BLOCKS: u32 = 0x2200;
 
-/// What the keys of a table say of a code point.
+/// What the keys of a table say about a code point.
 #[derive(Clone, Copy)]
 pub(crate) struct Marks {
     /// Some key begins with it.
@@ -272,7 +272,7 @@ impl MarkTable {
         Ok(())
     }
 
-    /// Marks the code points that a key has after its first place and before its last. They are `points` but for the last.
+    /// Marks the code points that a key has after its first place and before its last. They are all of `points` but the last.
     fn mark_middles(&mut self, points: &[char]) -> Result<(), AllocError>
         requires { IsIndex self.old.blocks.items self.old.marks.items }
         ensures index { OnOk result (IsIndex self.new.blocks.items self.new.marks.items) }
@@ -303,7 +303,7 @@ impl MarkTable {
         self.mark_middles(&key[1..])
     }
 
-    /// Marks the code points of all keys, where none is marked.
+    /// Marks the code points of all keys, where none is marked yet.
     fn mark_keys(&mut self, t: &Stored) -> Result<(), AllocError>
         requires index { IsIndex self.old.blocks.items self.old.marks.items }
         requires fresh { (p : ℕ) → p / 128 < length self.old.blocks.items → marks_of self.old p ≡ Untouched }
@@ -326,7 +326,7 @@ impl MarkTable {
         Ok(())
     }
 
-    /// Those of a table. Blocks up to a number have marks of their own, whether a key has their code points or not.
+    /// The marks of a table. Blocks up to a number have marks of their own, whether or not a key has their code points.
     pub(crate) fn new(alloc: Global, t: &Stored, end: usize) -> Result<MarkTable, AllocError>
         ensures { IfOk result (λ made. HoldsMarks t.now made) }
     {

@@ -11,7 +11,7 @@ use crate::walk::Walk;
 use uca_weights::Element;
 use unicode_normalization::char::canonical_combining_class;
 
-/// A walk along the longest initial substring that is a key (UTS #10, 7.2, step S2.1). It was not stepped where none is.
+/// A walk along the longest initial substring that is a key (UTS #10, 7.2, step S2.1). It has not been stepped where there is none.
 pub fn longest_match<'t>(t: &'t Stored, text: &[char]) -> Walk<'t>
     ensures table { table_of_walk result ≡ t.now }
     ensures path { path_of result ≡ longest_match (is_key t.now) text.now }
@@ -30,7 +30,7 @@ pub fn longest_match<'t>(t: &'t Stored, text: &[char]) -> Walk<'t>
 }
 
 /// Whether the path of a walk takes a nonstarter, where `high` is the highest combining class of those that were passed
-/// over (UTS #10, 7.2, steps S2.1.2 and S2.1.3). The walk is stepped along it then, and else stays.
+/// over (UTS #10, 7.2, steps S2.1.2 and S2.1.3). If so the walk is stepped along it; otherwise it stays.
 pub fn takes(walk: &mut Walk<'_>, high: u8, nonstarter: char) -> bool
     ensures value { result ≡ (nat_lt high (canonical_combining_class nonstarter) && is_key (table_of_walk walk.old) (path_of walk.old ++ nonstarter ∷ [])) }
     ensures path { path_of walk.new ≡ cond result (path_of walk.old ++ nonstarter ∷ []) (path_of walk.old) }
@@ -57,7 +57,7 @@ pub fn higher(a: u8, b: u8) -> u8
     if a < b { b } else { a }
 }
 
-// Moves the code point at `from` to `to`, before those that stood from there on.
+// Moves the code point at `from` to `to`, before those that were there.
 fn bring_forward(text: &mut [char], to: usize, from: usize)
     requires ordered { to ≤ from }
     requires within { from < length text.old }
@@ -98,16 +98,16 @@ fn extend(walk: &mut Walk<'_>, text: &mut [char], start: usize) -> usize
 
 /// A match at the front of a text.
 #[derive(Clone, Copy)]
-pub struct Matched<'t> {
+pub(crate) struct Matched<'t> {
     /// How many code points it has.
-    pub len: usize,
+    pub(crate) len: usize,
     /// The elements of the key, where it is one.
-    pub elements: Option<&'t [Element]>,
+    pub(crate) elements: Option<&'t [Element]>,
 }
 
-/// Puts the longest match to the front of a text in NFD. What is left of the text stands after it (UTS #10, 7.2, step
+/// Moves the longest match to the front of a text in NFD. What is left of the text follows it (UTS #10, 7.2, step
 /// S2.1). A code point that begins no key is a match by itself.
-pub fn match_front<'t>(t: &'t Stored, text: &mut [char]) -> Matched<'t>
+pub(crate) fn match_front<'t>(t: &'t Stored, text: &mut [char]) -> Matched<'t>
     requires { 0 < length text.old }
     ensures matched { (step (is_key t.now) text.old).matched.code_points ≡ take result.len text.new }
     ensures rest { (step (is_key t.now) text.old).rest ≡ drop result.len text.new }

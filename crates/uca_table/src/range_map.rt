@@ -14,7 +14,7 @@ use std::collections::BTreeMap;
 use std::marker::Model;
 use uca_weights::Range;
 
-/// The ranges of a builder, into which one more goes in logarithmic time.
+/// The ranges of a builder. Inserting one takes logarithmic time.
 #[derive(Drop)]
 pub(crate) struct RangeMap {
     // By their last code points, which rise as the first ones do.
@@ -59,7 +59,7 @@ impl RangeMap {
         self.by_last.len()
     }
 
-    /// Whether a range may not stand beside these, in logarithmic time.
+    /// Whether a range conflicts with these, in logarithmic time.
     pub(crate) fn is_bad(&self, range: Range) -> bool
         requires { AreByFirst self.now }
         ensures { result ≡ is_bad_range self.now range }
@@ -110,7 +110,7 @@ impl RangeMap {
         }
     }
 
-    /// The same ranges in a vector that has room for them.
+    /// The same ranges in a vector with capacity for them.
     pub(crate) fn finish(self, room: Vec<Range>) -> Ranges
         requires empty { length room.items ≡ 0 }
         requires room { length self ≤ vec_capacity room }
@@ -123,7 +123,7 @@ impl RangeMap {
     }
 }
 
-/// Moves the ranges of a map into a vector that has room for them.
+/// Moves the ranges of a map into a vector with capacity for them.
 fn move_ranges(from: BTreeMap<char, Range>, mut room: Vec<Range>) -> Vec<Range>
     requires empty { length room.items ≡ 0 }
     requires room { btree_map_len from ≤ vec_capacity room }

@@ -44,7 +44,7 @@ impl Ranges {
         self.by_first.as_slice()
     }
 
-    /// The same ranges once more.
+    /// A copy of the ranges.
     pub(crate) fn try_clone(&self, alloc: Global) -> Result<Ranges, AllocError>
         ensures { IfOk result (λ r. r ≡ self.now) }
     {
@@ -75,7 +75,7 @@ impl Ranges {
         self.by_first.partition_point(|range| range.last < c)
     }
 
-    /// The lowest first code point of a range and of the others of its base.
+    /// The lowest first code point among a range and the others of its base.
     pub(crate) fn lowest_first(&self, range: Range) -> char
         ensures { result ≡ lowest_first self.now range.base range.first }
     {

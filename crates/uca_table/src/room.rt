@@ -1,25 +1,25 @@
-//! Room for a new weight: the weights of one level that stand above another go up by one.
+//! A gap for a new weight: the weights of one level above a given one go up by one.
 ghost use Rattle.std.specs.Prelude.{◌≡◌, ◌≤◌, ◌&&◌, ◌==◌, false, map};
 ghost use Rattle.std.specs.List.{list_any};
 ghost use Rattle.uca_model.specs.Room.{moves, weight_with_room, with_room, has_no_room, max_weight};
 
 use uca_weights::Element;
 
-/// The greatest weight that may stand at a level, 1 to 3, below the implicit ones.
+/// The greatest weight that may occur at a level, 1 to 3, below the implicit ones.
 pub fn max_weight(level: u8) -> u16
     ensures { result ≡ max_weight level }
 {
     if level == 1 { 0x7FFF } else { 0xFFFF }
 }
 
-/// Whether a weight of a level moves when room is made above `w`. The implicit primary weights stay.
+/// Whether a weight of a level moves when a gap is made above `w`. The implicit primary weights stay.
 fn moves(level: u8, w: u16, weight: u16) -> bool
     ensures { result ≡ moves level w weight }
 {
     w < weight && (level != 1 || weight < 0x8000)
 }
 
-/// Whether an element's weight at a level would move above `w`, and can't.
+/// Whether an element's weight at a level is above `w` and has to move, but can't.
 fn has_no_room(level: u8, w: u16, element: Element) -> bool
     requires first { 1 ≤ level }
     requires last { level ≤ 3 }
@@ -29,7 +29,7 @@ fn has_no_room(level: u8, w: u16, element: Element) -> bool
     moves(level, w, weight) && weight == max_weight(level)
 }
 
-/// Whether some element has a weight at a level, 1 to 3, that would move above `w`, and can't.
+/// Whether some element has a weight above `w` at a level, 1 to 3, that has to move, but can't.
 pub fn any_has_no_room(level: u8, w: u16, elements: &[Element]) -> bool
     requires first { 1 ≤ level }
     requires last { level ≤ 3 }
@@ -38,7 +38,7 @@ pub fn any_has_no_room(level: u8, w: u16, elements: &[Element]) -> bool
     elements.iter().any(|e| has_no_room(level, w, *e))
 }
 
-/// A weight with room above `w`.
+/// A weight with a gap above `w`.
 fn weight_with_room(level: u8, w: u16, weight: u16) -> u16
     requires { (moves level w weight && weight == max_weight level) ≡ false }
     ensures { result ≡ weight_with_room level w weight }
@@ -50,7 +50,7 @@ fn weight_with_room(level: u8, w: u16, weight: u16) -> u16
     }
 }
 
-/// An element with room above `w`.
+/// An element with a gap above `w`.
 fn with_room(level: u8, w: u16, element: Element) -> Element
     requires first { 1 ≤ level }
     requires last { level ≤ 3 }
@@ -66,7 +66,7 @@ fn with_room(level: u8, w: u16, element: Element) -> Element
     moved
 }
 
-/// Moves the weights of a level, 1 to 3, that stand above `w` up by one. At level 1 the implicit ones, from 8000 on, stay.
+/// Moves the weights above `w` of a level, 1 to 3, up by one. At level 1 the implicit ones, from 8000 on, stay.
 pub fn make_room(level: u8, w: u16, elements: &mut [Element])
     requires first { 1 ≤ level }
     requires last { level ≤ 3 }

@@ -80,7 +80,7 @@ fn has_no_primary(t: &Stored, c: char) -> bool
     }
 }
 
-// What follows asks all entries. It serves a table for whose cells memory was refused, or to which ideographs were added since they
+// What follows looks at all entries. It serves a table for whose cells memory was refused, or to which ideographs were added since they
 // were made.
 
 // Whether a code point is among some others.

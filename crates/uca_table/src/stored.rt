@@ -50,7 +50,7 @@ impl Stored {
     ghost use Rattle.uca_table.specs.Walk.{path_of, table_of_walk};
 
     /// The collation elements of a key, 1 to `MAX_ELEMENTS` of them (UTS #10, section 3). `None`: it is no key.
-    pub fn get(&self, key: &[char]) -> Option<&[Element]>
+    pub(crate) fn get(&self, key: &[char]) -> Option<&[Element]>
         ensures value { option_copied result ≡ elements_at self.now key.now }
         ensures some { IfSome result (λ es. 0 < length es.now) }
         ensures few { IfSome result (λ es. length es.now ≤ MAX_ELEMENTS) }
@@ -59,8 +59,8 @@ impl Stored {
         self.keys.get(key)
     }
 
-    /// A walk along the keys that was not stepped yet.
-    pub fn walk(&self) -> Walk<'_>
+    /// A walk along the keys that has not been stepped yet.
+    pub(crate) fn walk(&self) -> Walk<'_>
         ensures table { table_of_walk result ≡ self.now }
         ensures path { path_of result ≡ [] }
     {
@@ -68,7 +68,7 @@ impl Stored {
     }
 
     /// The length of the longest key in code points, or 1 where there is no key.
-    pub fn longest(&self) -> usize
+    pub(crate) fn longest(&self) -> usize
         ensures value { result ≡ longest self.now }
         ensures valid { IsTable self.now }
         ensures bounds { (1 ≤ result) × (result ≤ MAX_KEY) }
@@ -78,14 +78,14 @@ impl Stored {
 
     /// The two collation elements of a code point that is no key where it stands alone. Their primary weights are
     /// made from the code point (UTS #10, section 10.1.3).
-    pub fn implicit(&self, c: char) -> [Element; 2]
+    pub(crate) fn implicit(&self, c: char) -> [Element; 2]
         ensures { result ≡ implicit self.now c }
     {
         implicit_weights::implicit(&self.ranges, self.ideographs.as_slice(), c)
     }
 
     /// The entries by key order: by code points, a proper prefix first.
-    pub fn entries(&self) -> Entries<'_>
+    pub(crate) fn entries(&self) -> Entries<'_>
         ensures value { result ≡ entries self.now.entries }
         ensures few { length (entries self.now.entries) < 2 ^ 64 }
     {
@@ -115,7 +115,7 @@ impl Stored {
     }
 
     /// The ranges of implicit weights by their first code points.
-    pub fn ranges(&self) -> &[Range]
+    pub(crate) fn ranges(&self) -> &[Range]
         ensures value { result.now ≡ self.now.ranges }
         ensures by_first { AreByFirst result.now }
     {
@@ -123,34 +123,20 @@ impl Stored {
     }
 
     /// The ranges of ideographs by their first code points.
-    pub fn ideographs(&self) -> &[Ideographs]
+    pub(crate) fn ideographs(&self) -> &[Ideographs]
         ensures value { result.now ≡ self.now.ideographs }
         ensures valid { AreIdeographs result.now }
     {
         self.ideographs.as_slice()
     }
 
-    /// Adds the range of ideographs from `first` to `last`, both of which belong to it (UTS #10, section 10.1.3). On a
+    /// Adds the range of ideographs from `first` to `last`, both inclusive (UTS #10, section 10.1.3). On a
     /// fault the table stays as it is.
-    pub fn add_ideographs(&mut self, first: char, last: char) -> Result<(), RangeFault>
+    pub(crate) fn add_ideographs(&mut self, first: char, last: char) -> Result<(), RangeFault>
         ensures ok { OnOk result (self.new ≡ with_more_ideographs self.old (record { first = first; last = last })) }
         ensures err { OnErr result (self.new ≡ self.old) }
         ensures fault { let fault = ideographs_fault self.old.ideographs (record { first = first; last = last }) in MatchResult result (λ _. fault ≡ None) (λ f. fault ≡ reported_range_fault f) }
     {
         ideographs::add(&mut self.ideographs, Ideographs { first, last })
-    }
-
-    /// Takes ranges of ideographs in place of its own. Where memory is refused, the table stays as it is.
-    pub(crate) fn take_ideographs(
-        &mut self,
-        alloc: Global,
-        added: &[Ideographs],
-    ) -> Result<(), AllocError>
-        requires { AreIdeographs added.now }
-        ensures ok { OnOk result (self.new ≡ with_ideographs self.old added.now) }
-        ensures err { OnErr result (self.new ≡ self.old) }
-    {
-        self.ideographs = added.to_vec(alloc)?;
-        Ok(())
     }
 }

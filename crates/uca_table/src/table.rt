@@ -18,7 +18,7 @@ use uca_weights::{Element, Ideographs, Range};
 #[derive(Drop)]
 pub struct Table {
     stored: Stored,
-    // What is known of single characters; nothing after ranges of ideographs were added.
+    // What is known about single characters; nothing once ranges of ideographs were added.
     cells: Cells,
 }
 
@@ -58,7 +58,7 @@ impl Table {
         self.stored.get(key)
     }
 
-    /// A walk along the keys that was not stepped yet.
+    /// A walk along the keys that has not been stepped yet.
     pub fn walk(&self) -> Walk<'_>
         ensures table { table_of_walk result ≡ self.now }
         ensures path { path_of result ≡ [] }
@@ -107,7 +107,7 @@ impl Table {
         self.stored.ideographs()
     }
 
-    /// Makes the code points from `first` to `last` unified ideographs, both ends among them. Where such a code point has
+    /// Makes the code points from `first` to `last`, both inclusive, unified ideographs. Where such a code point has
     /// no key, its implicit weights are those of an ideograph, unless it is assigned and lies in a range of implicit
     /// weights (UTS #10, section 10.1.3). On a fault the table stays as it is.
     pub fn add_ideographs(&mut self, first: char, last: char) -> Result<(), RangeFault>
@@ -120,19 +120,8 @@ impl Table {
         Ok(())
     }
 
-    /// Takes the ranges of ideographs of another table in place of its own. Where memory is refused, the table stays as it
-    /// is.
-    pub fn take_ideographs(&mut self, alloc: Global, from: &Table) -> Result<(), AllocError>
-        ensures ok { OnOk result (self.new ≡ with_ideographs self.old from.now.ideographs) }
-        ensures err { OnErr result (self.new ≡ self.old) }
-    {
-        self.stored.take_ideographs(alloc, from.ideographs())?;
-        self.cells = Cells::of(alloc, &self.stored);
-        Ok(())
-    }
-
-    /// Whether a text may be cut before a code point, so that its two parts have their elements by themselves: a starter
-    /// that stands in no key at the second place or later, and whose keys all begin with a primary weight.
+    /// Whether a text may be cut before a code point, so that its two parts have their elements independently: a starter
+    /// that is in no key at the second place or later, and whose keys all begin with a primary weight.
     pub fn safe_starter(&self, c: char) -> bool
         ensures { result ≡ is_safe_starter self.now c }
     {
@@ -160,8 +149,8 @@ impl Table {
         scan::is_silent(&self.stored, &self.cells, c)
     }
 
-    /// Makes the cells anew, which quick look-ups use and `add_ideographs` drops. Call it after the last change of a
-    /// table. The table is the same before and after, and also where memory is refused.
+    /// Rebuilds the cells, which quick look-ups use and `add_ideographs` drops. Call it after the last change of a
+    /// table. The entries and ranges stay the same, also where memory is refused.
     pub fn prepare(&mut self, alloc: Global) -> Result<(), AllocError>
         ensures { self.new ≡ self.old }
     {
@@ -184,8 +173,8 @@ impl Table {
         &self.stored
     }
 
-    /// Whether a character joins nothing that stands before it, so that a text that ends before it and one that begins with
-    /// it have their collation elements by themselves (UTS #10, section 7.2). It takes no memory. `false`: that is not known.
+    /// Whether a character joins nothing before it, so that a text that ends before it and one that begins with
+    /// it have their collation elements independently (UTS #10, section 7.2). It does not allocate. `false` means that it is not known.
     #[inline(always)]
     pub fn joins_nothing(&self, c: char) -> bool
         ensures { IsTrue result → joining self.now c ≡ 0 }
@@ -194,7 +183,7 @@ impl Table {
     }
 
     /// The collation elements of a character before other text, where that text does not change them (UTS #10, section 7.2).
-    /// It takes no memory. `None`: they are not known without a look at more of the text.
+    /// It does not allocate. `None`: they are not known without a look at more of the text.
     #[inline(always)]
     pub fn alone_before(&self, c: char, after: &str) -> Option<&[Element]>
         ensures { IfSome result (λ es. es.now ++ elements self.now (nfd (chars after.now)) ≡ elements self.now (nfd (c ∷ chars after.now))) }
@@ -202,8 +191,8 @@ impl Table {
         self.cells.alone_before(&self.stored, c, after)
     }
 
-    /// The collation elements of a character, where no text after it changes them (UTS #10, section 7.2). It takes no
-    /// memory. `None`: that is not known.
+    /// The collation elements of a character, where no text after it changes them (UTS #10, section 7.2). It does not
+    /// allocate. `None`: they are not known.
     pub fn always_alone(&self, c: char) -> Option<&[Element]>
         ensures { IfSome result (λ es. (after : List ℕ) → es.now ++ elements self.now (nfd after) ≡ elements self.now (nfd (c ∷ after))) }
     {

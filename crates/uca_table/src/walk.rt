@@ -12,8 +12,8 @@ use uca_keys::trie::ROOT;
 use uca_keys::{NodeNumber, Trie};
 use uca_weights::Element;
 
-/// A walk along the keys of a table, code point after code point. It has a path, empty at first, which is the front of
-/// some key as soon as it was stepped.
+/// A walk along the keys of a table, one code point at a time. It has a path, empty at first, which is a prefix of
+/// some key once it has been stepped.
 #[derive(Clone, Copy)]
 pub struct Walk<'t> {
     table: &'t Stored,
@@ -40,7 +40,7 @@ impl<'t> Walk<'t> {
     ghost use Rattle.uca_model.specs.Table.{IsElement, elements_at};
     ghost use Rattle.uca_table.specs.Walk.{path_of, table_of_walk};
 
-    /// A walk that was not stepped yet.
+    /// A walk that has not been stepped yet.
     pub(crate) fn new(table: &'t Stored, keys: &'t Trie) -> Walk<'t>
         requires { entries_of keys.now ≡ entries table.now.entries }
         ensures table { table_of_walk result ≡ table.now }
@@ -54,7 +54,7 @@ impl<'t> Walk<'t> {
         }
     }
 
-    /// Whether some key begins with the path and one more code point, or is they. If so they are the new path, and else
+    /// Steps along one more code point, if some key begins with the path and it, and returns whether one does. Otherwise
     /// the walk stays as it is.
     pub fn step(&mut self, c: char) -> bool
         ensures answers { result ≡ begins_key (table_of_walk self.old) (path_of self.old ++ c ∷ []) }
@@ -74,7 +74,7 @@ impl<'t> Walk<'t> {
         true
     }
 
-    /// How many code points were stepped. If there are some, a key begins with them, whoever stepped.
+    /// How many code points were stepped. If there are any, some key begins with them.
     pub fn len(&self) -> usize
         ensures value { result ≡ length (path_of self.now) }
         ensures begins { 0 < result → begins_key (table_of_walk self.now) (path_of self.now) ≡ true }

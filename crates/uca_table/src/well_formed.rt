@@ -13,7 +13,7 @@ use unicode_normalization::char::canonical_combining_class;
 /// A condition of well-formedness (UTS #10, section 5).
 #[derive(Clone, Copy, Debug, Default, PartialEq, Eq, Error)]
 pub enum WellFormed {
-    /// Where a weight is not zero, neither is the one at the next level. Elements with a primary weight of 8000 and up
+    /// Where a weight is not zero, neither is the one at the next level. Elements with a primary weight of 8000 or more
     /// are exempt.
     #[error("WF1")]
     #[default]
@@ -42,8 +42,8 @@ const CONDITIONS: [WellFormed; 5] = [
     WellFormed::WF5,
 ];
 
-/// The conditions that the entries of a table break, each once, `WF1` first (UTS #10, section 5). Implicit elements are
-/// not looked at.
+/// The conditions that the entries of a table break, each once, `WF1` first (UTS #10, section 5). It ignores implicit
+/// elements.
 pub fn lint(t: &Table) -> ArrayVec<WellFormed, 5>
     ensures { map condition_of result.items ≡ broken t.now }
 {

@@ -12,7 +12,7 @@ const ELEMENT: Element = Element {
     l3: 2,
 };
 
-/// Inserts an entry, once more where memory was refused.
+/// Inserts an entry, retrying where memory was refused.
 pub(crate) fn insert(
     builder: &mut TableBuilder,
     key: &[char],
@@ -24,7 +24,7 @@ pub(crate) fn insert(
     }
 }
 
-/// Adds a range, once more where memory was refused.
+/// Adds a range, retrying where memory was refused.
 fn add_implicit(builder: &mut TableBuilder, range: Range) -> Result<(), RangeFault> {
     match builder.add_implicit(range.first, range.last, range.base) {
         Err(RangeFault::OutOfMemory) => {
@@ -34,7 +34,7 @@ fn add_implicit(builder: &mut TableBuilder, range: Range) -> Result<(), RangeFau
     }
 }
 
-/// Makes the table, once more where memory was refused.
+/// Makes the table, retrying where memory was refused.
 pub(crate) fn finish(builder: TableBuilder) -> Option<Table> {
     match builder.finish() {
         Ok(table) => Some(table),
@@ -165,7 +165,7 @@ const IMPLICIT: [(char, u16, u16); 11] = [
     ('\u{10FFFF}', 0xFBE1, 0xFFFF),
 ];
 
-/// Stops a test where a code point has other implicit weights.
+/// Fails a test where a code point has other implicit weights.
 fn assert_implicit(rt: &impl Abort, table: &Table, rows: &[(char, u16, u16)]) {
     for (c, first, second) in rows {
         let [x, y] = table.implicit(*c);
@@ -261,7 +261,7 @@ fn entries_come_by_key_order(rt: HostRuntime) {
 /// A code point, whether a walk goes on with it, and the primary weight of its element then, if it has one.
 type Step = (char, bool, Option<u16>);
 
-/// Stops a test where a walk from the beginning takes other steps.
+/// Fails a test where a walk from the beginning takes other steps.
 fn assert_walk(rt: &impl Abort, table: &Table, steps: &[Step]) {
     let mut walk = table.walk();
     assert!(rt; walk.elements().is_none());
@@ -271,7 +271,7 @@ fn assert_walk(rt: &impl Abort, table: &Table, steps: &[Step]) {
     }
 }
 
-/// Stops a test where elements are not one with this primary weight.
+/// Fails a test where elements are not one with this primary weight.
 fn assert_primary(rt: &impl Abort, found: Option<&[Element]>, primary: Option<u16>) {
     let Some(l1) = primary else {
         assert!(rt; found.is_none());
@@ -361,7 +361,7 @@ fn safe_starters_go_beyond_the_first_plane(rt: HostRuntime) {
     assert_starters(&rt, &table, &FAR_CUTS);
 }
 
-/// Makes the cells of a table, once more where memory was refused.
+/// Makes the cells of a table, retrying where memory was refused.
 fn prepare(table: &mut Table, alloc: Global) -> bool {
     table.prepare(alloc).is_ok() || table.prepare(alloc).is_ok()
 }

@@ -47,7 +47,7 @@ next_fits level w t es before last p q f a is e =
     let high = any_anchor is_high level es _ a free.low in
     subst (λ x. x < 65535) is (below_top level w last p q is f high.1 free.below_top)
 
--- each element before the last has room
+-- each element before the last can move up
 pub before_moves : (level w : ℕ) (t : ElementTable) (es before : List Element) (last : Element) → anchor_of level es ≡ Some (anchor_as before last) → w ≡ weight level last → fault_at level w t es ≡ None → list_any (has_no_room level (weight level last)) before ≡ false
 before_moves level w t es before last a is e = subst (λ x. list_any (has_no_room level x) before ≡ false) is (any_anchor (has_no_room level w) level es _ a (is_free level w t es e).anchor_room).0
 

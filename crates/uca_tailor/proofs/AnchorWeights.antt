@@ -77,7 +77,7 @@ weights_at-weight_with_room m w l (e ∷ es) = ap₂ (λ x xs. cond (not (x == 0
   by_zero true z = ap (λ b. cond (not b) (weight_with_room m w (weight m e) ∷ map (weight_with_room m w) (weights_at m es)) (map (weight_with_room m w) (weights_at m es))) z
   by_zero false z = ap (λ b. cond (not b) (weight_with_room m w (weight m e) ∷ map (weight_with_room m w) (weights_at m es)) (map (weight_with_room m w) (weights_at m es))) z
 
--- and the base in the next one, after the weights with room of what stands before
+-- and the base in the next one, after the moved weights of what comes before
 pub placed_base : (m w : ℕ) (a : Anchor) → IsLevel m → weights_at m (map (with_room m w) a.before ++ raised m a.last ∷ []) ≡ map (weight_with_room m w) (weights_at m a.before) ++ (weight m a.last + 1) ∷ []
 placed_base m w a l =
     weights_at-append m (map (with_room m w) a.before) (raised m a.last ∷ [])

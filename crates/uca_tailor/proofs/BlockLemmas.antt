@@ -1,4 +1,4 @@
--- Blocks of rooms that were made in a row: what one more does to them, and how far they move a weight.
+-- Blocks of gaps that were made in a row: what one more does to them, and how far they move a weight.
 use Rattle.std.proofs.Common.{◌≡◌, ℕ, zero, suc, ◌+◌, ◌-◌, ◌%◌, ◌≤◌, ◌<◌, ◌⊎◌, inl, inr, min, List, [], ◌∷◌, ◌++◌, length, take, drop, insert, refl, sym, ap, subst, ◌∙◌, arith, length-append}
 use Rattle.std.proofs.lemmas.Bool.{cases_lt, lt-ltb, le-ltb}
 use Rattle.std.proofs.lemmas.List.{length-take, length-drop, take_all, drop_all, drop_at, drop-append-le, take-append-le, take-append-drop, drop-drop}
@@ -40,7 +40,7 @@ past-block size at xs h = ap (take size) (drop_all at xs h) ∙ take_all size []
 pub last-rise : (size base : ℕ) (bounds ws : List ℕ) → base % size ≡ 0 → length ws ≤ base + size → AreBlocks size bounds ws → Rise (drop base bounds)
 last-rise size base bounds ws start short are = subst Rise (back-block size base bounds (omega (arith, are.same_length))) (are.blocks base start).rise
 
--- the blocks with one more room, which joins the last one
+-- the blocks with one more gap, which joins the last one
 pub AreBlocks-with : (size base : ℕ) (bounds ws : List ℕ) (w : ℕ) → base % size ≡ 0 → base ≤ length ws → length ws < base + size → ((at : ℕ) → at % size ≡ 0 → (at ≡ base) ⊎ ((at + size ≤ base) ⊎ (length ws < at)))
     → AreBlocks size bounds ws → AreBlocks size (take base bounds ++ bounds_with w (drop base bounds)) (ws ++ w ∷ [])
 AreBlocks-with size base bounds ws w start low high parted are =
@@ -81,7 +81,7 @@ block-moves level size at bounds ws x y start are is =
     ∙ ap (λ n. min n 65535) (sym (moved-append level (take size (drop at ws)) (drop (at + size) ws) x))
     ∙ ap (λ xs. min (moved level xs x) 65535) (ap (λ xs. take size (drop at ws) ++ xs) (sym (drop-drop size at ws)) ∙ take-append-drop size (drop at ws))
 
--- the places of blocks of 64 and of 4096 rooms, beside the last of them
+-- the places of blocks of 64 and of 4096 gaps, beside the last of them
 pub parted-small : (n at : ℕ) → at % 64 ≡ 0 → (at ≡ n - n % 64) ⊎ ((at + 64 ≤ n - n % 64) ⊎ (n < at))
 parted-small n at start = elim (cases_lt at (n - n % 64)) [
   | inl before ↦ inr (inl (omega arith))
@@ -100,7 +100,7 @@ insert-past zero at v xs h = let e : zero + at ≡ at = omega arith in ap (λ k.
 insert-past (suc n) at v [] h = absurd (omega arith)
 insert-past (suc n) at v (x ∷ xs) h = let e : suc n + at ≡ suc (n + at) = omega arith in ap (λ k. insert (x ∷ xs) k v) e ∙ ap (λ ys. x ∷ ys) (insert-past n at v xs (omega arith))
 
--- where a block ends that begins within the rooms
+-- where a block ends that begins within the gaps
 pub block-end : (level size at n : ℕ) (bounds ws : List ℕ) (x y : ℕ) → at % size ≡ 0 → AreBlocks size bounds ws → n ≡ length (take size (drop at bounds)) → y ≡ min (moved_at_once level (take size (drop at bounds)) x) 65535
     → min (moved level (drop (at + n) ws) y) 65535 ≡ min (moved level (drop at ws) x) 65535
 block-end level size at n bounds ws x y start are count is =

@@ -92,7 +92,7 @@ chain_with t c cs m u is h =
 
 -- ## A relation of a chain
 
--- a relation is reached: the table before it and its anchor, which are the elements of what stands before it
+-- a relation is reached: the table before it and its anchor, which are the elements of what comes before it
 record IsReached (n : ℕ) (t : ElementTable) (a : List Element) (done : List Relation) (r : Relation) (rest : List Relation) (u : ElementTable) : Type 0 where
   table : ElementTable
   anchor : List Element

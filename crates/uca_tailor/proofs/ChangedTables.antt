@@ -1,4 +1,4 @@
--- What a table with room, or that got an entry, has for a key.
+-- What a table has for a key after a gap was made, or an entry was added.
 use Rattle.std.proofs.Common.{◌≡◌, ℕ, ◌≤◌, Bool, true, false, cond, List, [], ◌∷◌, ◌++◌, map, flat_map, slice_index, Option, Some, None, unwrap_or, refl, sym, ap, ap₂, subst, ◌∙◌}
 use mathlib.Core.List.{map-append}
 use Rattle.std.specs.Option.{option_map}
@@ -30,7 +30,7 @@ elements_of_keys t keys = flat_map (elements_or_implicit t) keys
 pub elements_of_matches : (t : ElementTable) (ms : List Match) → flat_map (λ m. elements_or_implicit t m.code_points) ms ≡ elements_of_keys t (map (λ m. m.code_points) ms)
 elements_of_matches t ms = sym (flat_map-map (elements_or_implicit t) (λ m. m.code_points) ms)
 
--- the elements of a match in the table with room
+-- the elements of a match in the table with the gap
 by_entry : (m w : ℕ) (o : Option (List Element)) (is : List Element) → map (with_room m w) is ≡ is → unwrap_or (option_map (map (with_room m w)) o) is ≡ map (with_room m w) (unwrap_or o is)
 by_entry m w None is e = sym e
 by_entry m w (Some x) is e = refl
@@ -39,7 +39,7 @@ pub elements_or_implicit-with_room : (m w : ℕ) (t : ElementTable) (q : List �
 elements_or_implicit-with_room m w t q r h =
     ap (λ o. unwrap_or o (implicit_over t.ranges t.ideographs (slice_index q 0))) (elements_at-with_room m w t q) ∙ by_entry m w (elements_at t q) _ (implicit-with_room m w t.ranges t.ideographs (slice_index q 0) r h)
 
--- where no entry is stuck, the elements of each match have room
+-- where no entry is stuck, the elements of each match can move up
 pub all_of_none : {A : Type 0} (p : A → Bool) (xs : List A) → list_any p xs ≡ false → AllByRecursion (λ x. p x ≡ false) xs
 all_of_none p [] e = tt
 all_of_none p (x ∷ xs) e = let b = or_false (p x) (list_any p xs) e in (b.0, all_of_none p xs b.1)

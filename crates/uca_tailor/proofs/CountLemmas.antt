@@ -1,4 +1,4 @@
--- How many elements have each weight, when room is made and entries are put in.
+-- How many elements have each weight, when a gap is made and entries are added.
 use Rattle.std.proofs.Common.{◌≡◌, ℕ, suc, zero, ◌+◌, ◌≤◌, ◌<◌, nat_lt, Bool, true, false, cond, ◌||◌, ◌&&◌, ◌==◌, T, if◌then◌else◌, List, [], ◌∷◌, ◌++◌, length, take, drop, map, get_or, slice_index, Option, Some, None, unwrap_or, Vec, refl, sym, ap, ap₂, subst, ◌∙◌, arith, inl, inr}
 use Rattle.std.proofs.lemmas.Bool.{cases_lt}
 use Rattle.std.proofs.lemmas.Bool.Decides.{nat_tests}
@@ -70,7 +70,7 @@ one_between level w y h = grind (arith, nat_tests)
 one_above : (level w x y : ℕ) → w < x → x < max_weight level → one_at (weight_with_room level w y) (x + 1) ≡ one_at y x
 one_above level w x y h k = grind (arith, nat_tests)
 
--- what room at a level does to the count of a weight, where it does so to each element
+-- what a gap at a level does to the count of a weight, where it does so to each element
 all_at : (level w k x y : ℕ) → ((e : Element) → one_at (weight k (with_room level w e)) y ≡ one_at (weight k e) x) → (es : List Element) → count_at k y (map (with_room level w) es) ≡ count_at k x es
 all_at level w k x y each [] = refl
 all_at level w k x y each (e ∷ es) = ap₂ (λ a b. a + b) (each e) (all_at level w k x y each es)
@@ -219,7 +219,7 @@ limit_in : (level w : ℕ) (es : List (List ℕ × List Element)) → w < max_we
 limit_in level w [] h = refl
 limit_in level w (e ∷ es) h = ap₂ (λ a b. a || b) (limit_at level w e.1 h) (limit_in level w es h) ∙ limit_both (count_at level (max_weight level) e.1) (count_in level (max_weight level) es)
 
--- below the greatest weight there is no room just where some element has it
+-- below the greatest weight no gap can be made exactly where some element has it
 pub lacks-below : (level w : ℕ) (t : ElementTable) → w < max_weight level → reaches_limit level t ≡ list_any (list_any (has_no_room level w)) (values t.entries)
 lacks-below level w t h = sym (limit_in level w (entries t.entries) h)
 

@@ -34,7 +34,7 @@ use Rattle.uca_tailor.proofs.RenumberedLemmas.{or_else, find-map, find-over, fin
 
 -- ## Entries of two lists, where those of the first hide those of the second
 
--- no key stands twice
+-- no key occurs twice
 abbrev pub AreDistinct : List (List ℕ × List Element) → Type 0
 AreDistinct [] = Unit {0}
 AreDistinct (e ∷ es) = (find key_cmp e.0 es ≡ None) × AreDistinct es
@@ -64,12 +64,12 @@ turned a b other = elim (cases_Bool (eq_by_cmp key_cmp b a)) [
   | inr differ ↦ differ
 ]
 
--- a key that is below all of some entries is none of theirs
+-- a key that is below all of some entries is not one of theirs
 above_none : (k : List ℕ) (es : List (List ℕ × List Element)) → T (below_all key_cmp k es) → find key_cmp k es ≡ None
 above_none k [] h = refl
 above_none k (e ∷ es) h = let b = both_T (is_lt (key_cmp k e.0)) (below_all key_cmp k es) h in ap (λ o. cond (is_eq o) (Some e.1) (find key_cmp k es)) (less (key_cmp k e.0) b.0) ∙ above_none k es b.1
 
--- one more entry in the first list hides what stands at its key
+-- one more entry in the first list hides what is at its key
 hides_one : (level x : ℕ) (a : List ℕ × List Element) (xs ys : List (List ℕ × List Element)) → find key_cmp a.0 xs ≡ None → T (is_sorted key_cmp ys) → count_fresh level x xs ys ≡ count_fresh level x (a ∷ xs) ys + count_at level x (or_none (find key_cmp a.0 ys))
 hides_one level x a xs [] none sorted = omega arith
 hides_one level x a xs (b ∷ ys) none sorted =
@@ -165,7 +165,7 @@ AreCapped-more level i es d w counts new n h is step capped =
 pub AreCapped-whole : (level i : ℕ) (es : List Element) (counts : List ℕ) (n : ℕ → ℕ) → length es ≤ i → AreCapped counts (λ x. n x + count_at level x (take i es)) → AreCapped counts (λ x. n x + count_at level x es)
 AreCapped-whole level i es counts n h = AreCapped-same counts (λ x. n x + count_at level x (take i es)) (λ x. n x + count_at level x es) (λ x. ap (λ fs. n x + count_at level x fs) (take_all i es h))
 
--- .. and of one that counts those of items or entries: so many of them all but those that are left
+-- .. and of one that counts those of items or entries: this many of them all but those that are left
 pub AreCapped-next : (counts new : List ℕ) (n all left rest own : ℕ → ℕ) → ((x : ℕ) → left x ≡ own x + rest x) → ((x : ℕ) → left x ≤ all x) → ((m : ℕ → ℕ) → AreCapped counts m → AreCapped new (λ x. m x + own x))
     → AreCapped counts (λ x. n x + (all x - left x)) → AreCapped new (λ x. n x + (all x - rest x))
 AreCapped-next counts new n all left rest own is few step capped =

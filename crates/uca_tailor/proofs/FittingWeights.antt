@@ -22,7 +22,7 @@ use Rattle.uca_tailor.proofs.ChangedTables.{all_of_none, found_room, elements_at
 use Rattle.uca_tailor.proofs.RelationFacts.{IsPlacedAt}
 use Rattle.uca_tailor.proofs.AnchorWeights.{parts_of}
 
--- ## An element with room
+-- ## An element moved for a gap
 
 element_fits : (m w : ℕ) (e : Element) → IsLevel m → has_no_room m w e ≡ false → IsElement e → IsElement (with_room m w e)
 element_fits m w e level_one s h = record { l1 = weight_with_room-fits 1 w e.l1 s h.l1; l2 = h.l2; l3 = h.l3 }

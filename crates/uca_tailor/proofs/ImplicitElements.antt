@@ -1,4 +1,4 @@
--- The implicit elements: no relation moves them, and they always have room.
+-- The implicit elements: no relation moves them, and they always fit.
 use Rattle.std.proofs.Common.{◌≡◌, ℕ, ◌+◌, ◌-◌, ◌/◌, ◌%◌, ◌≤◌, Bool, true, false, cond, eqb, eqb-true, List, [], ◌∷◌, map, Option, Some, None, refl, sym, ap, ap₂, subst, ◌∙◌, arith, lit≤}
 use Rattle.std.proofs.lemmas.Bool.Decides.{nat_tests}
 use Rattle.std.specs.Option.{option_map_or}
@@ -76,7 +76,7 @@ pair-with_room m w a b h p q =
 pub implicit-with_room : (m w : ℕ) (rs : List Range) (added : List Ideographs) (c : ℕ) → AreRanges rs → least m ≤ w → map (with_room m w) (implicit_over rs added c) ≡ implicit_over rs added c
 implicit-with_room m w rs added c h g = let p = implicit_pair rs added c h in ap (map (with_room m w)) p.are ∙ pair-with_room m w p.first p.second g p.first_high p.second_high ∙ sym p.are
 
--- implicit elements have room
+-- implicit elements fit
 high_has_room : (w x : ℕ) → 32768 ≤ x → weight_has_no_room 1 w x ≡ false
 high_has_room w x h = grind (arith, nat_tests)
 

@@ -1,4 +1,4 @@
--- The shift of a relation is strictly increasing on the weights that stand at its level: each of them has room.
+-- The shift of a relation is strictly increasing on the weights that occur at its level: each of them can move up.
 use Rattle.std.proofs.Common.{◌≡◌, ℕ, ◌≤◌, ◌<◌, Bool, true, false, ◌||◌, ◌==◌, eqb, eqb-true, List, [], ◌∷◌, slice_index, unwrap_or, refl, sym, ap, subst, ◌∙◌, arith}
 use Rattle.std.proofs.lemmas.Bool.Decides.{nat_tests}
 use Rattle.std.specs.List.{list_any}
@@ -22,7 +22,7 @@ use Rattle.uca_tailor.proofs.RelationFacts.{IsRelated, is_related}
 increasing : (level w x y : ℕ) → weight_has_no_room level w x ≡ false → weight_has_no_room level w y ≡ false → x < y → weight_with_room level w x < weight_with_room level w y
 increasing level w x y p q less = grind (arith, nat_tests)
 
--- ## Weights that have room
+-- ## Weights that can move up
 
 none_room : (level w : ℕ) → weight_has_no_room level w 0 ≡ false
 none_room level w = grind (arith, nat_tests)

@@ -17,7 +17,7 @@ use Rattle.uca_model.specs.DecidingLevel.{list_order, bytes_at, key_from, Orders
 use Rattle.uca_model.proofs.WeightLemmas.{HasWeights}
 use Rattle.uca_model.proofs.LevelLemmas.{levels-within, sort_key-levels, OrdersLevel-weights, OrdersLevel-points}
 
--- the order of lists from a level on, with so many levels after it
+-- the order of lists from a level on, with this many levels after it
 abbrev pub orders : ℕ → ℕ → (ℕ → List ℕ) → (ℕ → List ℕ) → Ordering
 orders zero level la lb = list_order (la level) (lb level)
 orders (suc n) level la lb = ordering_then (list_order (la level) (lb level)) (orders n (level + 1) la lb)

@@ -1,4 +1,4 @@
--- Where there is room, making it keeps the order of two lists of elements at each level.
+-- Where a gap can be made, making it keeps the order of two lists of elements at each level.
 use Rattle.std.proofs.Common.{◌≡◌, ℕ, suc, zero, ◌-◌, ◌≤◌, Bool, true, false, cond, not, ◌&&◌, ◌||◌, ◌==◌, eqb, eqb-true, List, [], ◌∷◌, ◌++◌, map, filter, slice_index, refl, sym, ap, ap₂, ◌∙◌, arith, lit≤}
 use Rattle.std.proofs.lemmas.Bool.Decides.{nat_tests}
 use Rattle.std.specs.declared.cmp.Ordering.{Ordering}
@@ -19,7 +19,7 @@ use Rattle.uca_tailor.proofs.RoomAndWeighting.{source, level_weights-with_room}
 abbrev pub level_order : Variable → ℕ → List Element → List Element → Ordering
 level_order v level es fs = slice_cmp nat_cmp (level_weights level (weighted v es)) (level_weights level (weighted v fs))
 
--- a weight of level j has room when room is made at level m
+-- a weight of level j can move up when a gap is made at level m
 abbrev pub HasRoom : ℕ → ℕ → ℕ → ℕ → Type 0
 HasRoom m w j x = (eqb m j && weight_has_no_room m w x) ≡ false
 
@@ -31,7 +31,7 @@ by_level : (m w x y : ℕ) (b : Bool) → (b && weight_has_no_room m w x) ≡ fa
 by_level m w x y true p q = nat_cmp-weight_with_room m w x y p q
 by_level m w x y false p q = refl
 
--- where there is room, making it keeps the order, both ways
+-- where a gap can be made, making it keeps the order, both ways
 pub nat_cmp-weight_with_room_at : (m w j x y : ℕ) → HasRoom m w j x → HasRoom m w j y → nat_cmp (weight_with_room_at m w j x) (weight_with_room_at m w j y) ≡ nat_cmp x y
 nat_cmp-weight_with_room_at m w j x y p q = by_level m w x y (eqb m j) p q
 
@@ -55,7 +55,7 @@ high_room m w x false is h = refl
 pub HasRoom-high : (m w x : ℕ) → 32768 ≤ x → HasRoom m w 1 x
 HasRoom-high m w x h = high_room m w x (eqb m 1) refl h
 
--- an element with room has room at each level
+-- an element that can move up can do so at each level
 room_at : (m w j : ℕ) (e : Element) (b : Bool) → eqb m j ≡ b → has_no_room m w e ≡ false → (b && weight_has_no_room m w (weight j e)) ≡ false
 room_at m w j e true is h = ap (λ k. weight_has_no_room m w (weight k e)) (sym (eqb-true m j is)) ∙ h
 room_at m w j e false is h = refl
@@ -63,7 +63,7 @@ room_at m w j e false is h = refl
 pub HasRoom-weight : (m w j : ℕ) (e : Element) → has_no_room m w e ≡ false → HasRoom m w j (weight j e)
 HasRoom-weight m w j e h = room_at m w j e (eqb m j) refl h
 
--- four weights that have room
+-- four weights that can move up
 abbrev pub FourHaveRoom : ℕ → ℕ → List ℕ → Type 0
 FourHaveRoom m w ws = HasRoom m w 1 (slice_index ws 0) × HasRoom m w 2 (slice_index ws 1) × HasRoom m w 3 (slice_index ws 2) × HasRoom m w 1 (slice_index ws 3)
 
@@ -107,7 +107,7 @@ room_of m w (suc (suc (suc (suc (suc n))))) ws low most h = absurd (omega arith)
 list_room : (v : Variable) (m w level : ℕ) (es : List Element) → 1 ≤ level → level ≤ 4 → AllHaveRoom m w es → AllByRecursion (HasRoom m w (source level)) (level_weights level (weighted v es))
 list_room v m w level es low most h = column_room (FourHaveRoom m w) (HasRoom m w (source level)) (level - 1) (λ x r. room_of m w level x low most r) (weighted v es) (weighted_room v m w [] es h)
 
--- the order of two lists, before and after room was made
+-- the order of two lists, before and after a gap was made
 pub level_order-with_room : (v : Variable) (m w level : ℕ) (es fs : List Element) → 1 ≤ level → level ≤ 4 → AllHaveRoom m w es → AllHaveRoom m w fs
     → level_order v level (map (with_room m w) es) (map (with_room m w) fs) ≡ level_order v level es fs
 level_order-with_room v m w level es fs low most p q =

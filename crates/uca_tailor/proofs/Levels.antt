@@ -1,4 +1,4 @@
--- The levels at which a relation orders, and what room and the raise do to the weights of an element at each.
+-- The levels at which a relation orders, and what the gap and the raise do to the weights of an element at each.
 use Rattle.std.proofs.Common.{◌≡◌, ℕ, suc, zero, ◌+◌, ◌≤◌, ◌<◌, List, refl, subst, arith}
 use Rattle.uca_weights.specs.declared.element.Element.{Element}
 use Rattle.uca_weights.specs.Element.{weight}
@@ -55,7 +55,7 @@ places_at level same is some = let none : 0 ≡ level = is in absurd (omega arit
 
 -- ## The weights of an element
 
--- at the level: with room, and one more
+-- at the level: moved for the gap, and one more
 pub weight-with_room : (m w : ℕ) (e : Element) → IsLevel m → weight m (with_room m w e) ≡ weight_with_room m w (weight m e)
 weight-with_room m w e level_one = refl
 weight-with_room m w e level_two = refl

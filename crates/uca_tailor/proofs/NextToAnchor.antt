@@ -45,7 +45,7 @@ others : (key : List ℕ) (ms : List Match) → AllByRecursion (λ m. eq_by_cmp 
 others key [] h = tt
 others key (m ∷ ms) h = (h.0, others key ms h.1)
 
--- a text with the same matches has its elements with room
+-- a text with the same matches has its elements, moved for the gap
 anchor_elements : (m w : ℕ) (t u : ElementTable) (item : List ℕ) (es : List Element) (text : List ℕ) → AreRanges t.ranges → least m ≤ w → u ≡ with_entry (table_with_room m w t) item es
     → matches (is_key t) (nfd text) ≡ matches (is_key u) (nfd text) → HasNoMatch t item text → elements u (nfd text) ≡ map (with_room m w) (elements t (nfd text))
 anchor_elements m w t u item es text r h is alike none =

@@ -52,7 +52,7 @@ KeepsOrders-with_entry t k es q apart = record {
   kept : (xs : List (List ℕ)) → AllByRecursion (λ x. q x ≡ false) xs → elements_of_keys (with_entry t k es) xs ≡ elements_of_keys t xs
   kept xs h = elements_of_keys-with_entry t k es xs (each xs h)
 
--- making room where there is some keeps all orders
+-- making a gap where one can be made keeps all orders
 KeepsOrders-with_room : (m w : ℕ) (t : ElementTable) (q : List ℕ → Bool) → IsLevel m → AreRanges t.ranges → least m ≤ w → list_any (list_any (has_no_room m w)) (values t.entries) ≡ false → KeepsOrders t (table_with_room m w t) q
 KeepsOrders-with_room m w t q l r h e = record {
   ranges = refl;

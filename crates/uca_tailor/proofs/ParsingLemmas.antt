@@ -59,7 +59,7 @@ refuses_text f cs begins = go (reported_text_cause f.cause) begins
 
 -- Strings
 
--- after a string without fault stand the faults of what follows
+-- after a string without fault come the faults of what follows
 string-after : (s t : ScanState) (string : List ℕ) (found : Option Found) → ReadsString s string found t → (kind : Kind) (n : ℕ) → after_faults kind n s ≡ segment_faults (before_next kind) (n + counted kind) (segments_from found t)
 string-after s t string found reads kind n =
     sym (append_assoc (flat_map part_faults (left_of s).leading) (end_faults s.at (string_of (left_of s).leading)) (segment_faults (before_next kind) (n + counted kind) (left_of s).all))
@@ -96,7 +96,7 @@ no_expansion : (found : Option Found) (t : ScanState) → is_expansion found ≡
 no_expansion None t is other = refl
 no_expansion (Some f) t is other = no_expansion-at f.operator f.at t is other
 
--- after an item an expansion may stand
+-- an expansion may follow an item
 expansion_next-at : (o : Operator) (at : ℕ) (t : ScanState) (n : ℕ) → expands_here o ≡ true → segment_faults item n (segments_from (Some (record { operator = o; at = at })) t) ≡ after_faults expands n t
 expansion_next-at operator.Reset at t n is = cc
 expansion_next-at (operator.Relation op) at t n is = cc
@@ -162,7 +162,7 @@ expansion_begins f s t op string found n reads expanded begins =
 
 -- Chains
 
--- at the end of a chain no relation is left, and no operator's faults depend on what stands before
+-- at the end of a chain no relation is left, and no operator's faults depend on what comes before
 ends_relations-at : (o : Operator) (at : ℕ) (t : ScanState) → resets_here o ≡ true → (grouped (segments_from (Some (record { operator = o; at = at })) t)).relations ≡ []
 ends_relations-at operator.Reset at t is = refl
 ends_relations-at (operator.Relation op) at t is = cc
@@ -193,7 +193,7 @@ ends_left : (found : Option Found) → EndsChain found → is_left_out_next foun
 ends_left None is = refl
 ends_left (Some f) is = ends_left-at f.operator f.at is
 
--- the relations of a chain so far, whose reset stands before s
+-- the relations of a chain so far, whose reset comes before s
 pub record InChain (s : ScanState) (count : ℕ) (relations : List Relation) (next : Option Found) (t : ScanState) : Type 0 where
   pub are_relations : All IsRelation (map relation_of relations)
   pub faults : after_faults resets count s ≡ segment_faults no_item (count + length relations) (segments_from next t)

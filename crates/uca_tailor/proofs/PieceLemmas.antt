@@ -80,7 +80,7 @@ run_of_other c (x ∷ cs) is = take_while-cons (λ x. x == c) x cs ∙ cond-fals
 abbrev pub after_all : List ℕ → ℕ → Quoted → Quoted
 after_all done n q = record { text = done ++ q.text; size = q.size + n }
 
--- the scan stands inside a quote, whose characters so far stand after the string
+-- the scan is inside a quote, whose characters so far follow the string
 pub record InQuote (old : ScanState) (string : List ℕ) (now : ScanState) (longer : List ℕ) : Type 0 where
   pub count : ℕ
   pub done : List ℕ
@@ -183,7 +183,7 @@ hex_stops n m value c s t e left high =
     ap₂ (λ k cs. hex_value k value cs) (let f : n ≡ suc m = omega arith in f) left
     ∙ cond-false _ _ _ (let h : is_digit c 16 ≡ false = grind (arith, nat_tests) in h)
 
--- seven digits leave room for one more in 32 bits
+-- seven digits leave space for one more in 32 bits
 pub seven_digits : (n i : ℕ) → n < 16 ^ i → i < 8 → n < 2 ^ 28
 seven_digits n zero low few = omega arith
 seven_digits n (suc zero) low few = omega arith
@@ -211,7 +211,7 @@ takes-either : (b : Bool) (p q : text.Piece) → takes_memory p.kind ≡ true �
 takes-either true p q first second = first
 takes-either false p q first second = second
 
--- each piece with characters of a string takes memory, whatever becomes of it
+-- each piece with characters of a string allocates, whatever becomes of it
 pub code_point_takes : (n : ℕ) (said : Option ℕ) → takes_memory (code_point n said).kind ≡ true
 code_point_takes n None = refl
 code_point_takes n (Some c) = takes-either (scalar c) _ _ refl refl

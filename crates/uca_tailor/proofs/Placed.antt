@@ -1,4 +1,4 @@
--- Each item is placed: what a relation makes of its anchor.
+-- Each item is placed: what a relation does to its anchor.
 use Rattle.std.proofs.Common.{◌≡◌, ℕ, ◌+◌, List, [], ◌∷◌, ◌++◌, map, Some, false, sym, ap, subst, ◌∙◌}
 use Rattle.std.specs.List.{list_any}
 use Rattle.uca_weights.specs.declared.element.Element.{Element}

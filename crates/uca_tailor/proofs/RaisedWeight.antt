@@ -1,4 +1,4 @@
--- The raised weight: once there is room, no entry and no implicit element has it, and so no text.
+-- The raised weight: once there is a gap, no entry and no implicit element has it, and so no text.
 use Rattle.std.proofs.Common.{◌≡◌, ℕ, ◌+◌, ◌≤◌, ◌<◌, Bool, false, ◌==◌, nat_le, List, [], ◌∷◌, map, flat_map, slice_index, Option, Some, None, unwrap_or, refl, sym, subst, ◌∙◌, arith}
 use Rattle.std.proofs.lemmas.Bool.Decides.{nat_tests}
 use Rattle.std.specs.List.{AllByRecursion}
@@ -22,7 +22,7 @@ use Rattle.uca_tailor.proofs.Levels.{IsLevel, level_one, level_two, level_three,
 use Rattle.uca_tailor.proofs.ImplicitElements.{implicit_pair}
 use Rattle.uca_tailor.proofs.RelationFacts.{IsPlacedAt}
 
--- there is room at level 1 below the implicit weights
+-- there is a gap at level 1 below the implicit weights
 abbrev pub IsBelowTop : ℕ → ℕ → Type 0
 IsBelowTop m w = m ≡ 1 → w < 32767
 

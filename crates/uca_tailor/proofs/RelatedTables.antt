@@ -1,4 +1,4 @@
--- A relation without a fault makes of a table a table, and of its anchor an anchor.
+-- A relation without a fault turns a table into a table, and its anchor into an anchor.
 use Rattle.std.proofs.Common.{◌≡◌, ℕ, ◌+◌, ◌≤◌, false, List, [], ◌∷◌, ◌++◌, length, map, Ok, sym, subst, ◌∙◌, arith, length-append}
 use Rattle.std.proofs.lemmas.List.{nil_from_length, length-map}
 use Rattle.std.proofs.lemmas.List.Elements.{All-from_recursion, recursion_from_All}

@@ -17,7 +17,7 @@ use Rattle.uca_tailor.specs.Chains.{relation_of, chain_of}
 use Rattle.uca_tailor.specs.Faults.{reported_cause, RefusesRelation}
 use Rattle.uca_tailor.specs.Steps.{placed_as, related_as, Refuses}
 
--- a step that is refused refuses what stands on it
+-- a step that is refused refuses what depends on it
 refused_on : {A B : Type 0} (o : Option TailorCause) (says : Result A TailorCause) (next : A → Result B TailorCause) → MatchOption o (Unit {0}) (λ c. says ≡ Err c) → MatchOption o (Unit {0}) (λ c. (says >>= next) ≡ Err c)
 refused_on None says next h = tt
 refused_on (Some c) says next h = ap (λ x. x >>= next) h

@@ -1,8 +1,8 @@
--- A table whose rooms are made together is the one whose rooms were made one after the other.
+-- A table whose gaps are made together is the one whose gaps were made one after the other.
 use Rattle.std.proofs.Common.{◌≡◌, ℕ, suc, zero, ◌+◌, ◌≤◌, ◌<◌, max, Bool, true, false, cond, ◌||◌, List, [], ◌∷◌, ◌++◌, length, drop, map, flat_map, get_or, slice_index, unwrap_or, Option, Some, None, is_some, min, Vec, refl, sym, ap, ap₂, subst, ◌∙◌, arith, inl, inr, length-append}
 use mathlib.Core.List.{map-append}
 use Rattle.std.specs.Prelude.{◌⊎◌}
-use Rattle.std.proofs.lemmas.Bool.{cases_Bool, cases_lt}
+use Rattle.std.proofs.lemmas.Bool.{cases_Bool, cases_lt, or_right}
 use Rattle.std.proofs.lemmas.Cmp.{eq_by_cmp_equiv}
 use Rattle.std.proofs.lemmas.List.{drop-append-le, drop_all, drop_more}
 use Rattle.std.specs.BTreeMap.{insert_entry, is_at}
@@ -93,7 +93,7 @@ find-item {Y} m (i ∷ items) q = elim (eq_by_cmp key_cmp q i.0.items) as (λ b.
   | false ↦ find-item m items q
 ]
 
--- ## No room yet
+-- ## No gap yet
 
 abbrev pub no_moves : Moves
 no_moves = record { first = []; second = []; third = [] }
@@ -109,7 +109,7 @@ same_option (Some es) = ap Some (same_elements es)
 pub renumbered-none : {Y : Type 0} (t : ElementTable) (items : List (Vec ℕ Y × Item)) → items ≡ [] → renumbered no_moves items t ≡ t
 renumbered-none t items none = same_table _ t refl refl (λ q. elements_at-renumbered no_moves items t q ∙ ap (λ is. or_else (find key_cmp q (map (item_entry no_moves) is)) (option_map (map (moved_element no_moves start)) (elements_at t q))) none ∙ same_option (elements_at t q))
 
--- ## One more room
+-- ## One more gap
 
 moved-later : (level w a : ℕ) (ws : List ℕ) (x : ℕ) → a ≤ length ws → moved level (drop a (ws ++ w ∷ [])) x ≡ weight_with_room level w (moved level (drop a ws) x)
 moved-later level w a ws x h = ap (λ xs. moved level xs x) (drop-append-le a ws (w ∷ []) h) ∙ moved-append level (drop a ws) (w ∷ []) x
@@ -171,7 +171,7 @@ parts_false false b e = (refl, e)
 both_false : (a b : Bool) → a ≡ false → b ≡ false → (a || b) ≡ false
 both_false a b p q = rw (p, q) refl
 
--- what room does to a weight of a level, as far as the tops go
+-- what a gap does to a weight of a level, as far as the tops go
 abbrev Raises : ℕ → ℕ → ℕ → ℕ → ℕ → Type 0
 Raises level w k top next = (e : Element) → IsElement e → has_no_room level w e ≡ false → moves k top (weight k e) ≡ false → moves k next (weight k (with_room level w e)) ≡ false
 
@@ -272,7 +272,7 @@ entered-put m (e ∷ items) k i new all =
       | Greater ↦ (all.0, entered-put m items k i new all.1)
     ]
 
--- what holds of all that is found, and of what is put in, holds of all that is found then
+-- what holds for everything that is found, and for what is added, holds for everything that is found afterwards
 found-put : (P : List Element → Type 0) (t : ElementTable) (k : List ℕ) (v : List Element) → P v → ((key : List ℕ) (es : List Element) → elements_at t key ≡ Some es → P es) → (key : List ℕ) (es : List Element) → elements_at (with_entry t k v) key ≡ Some es → P es
 found-put P t k v new old key es e = elim (cases_Bool (eq_by_cmp key_cmp key k)) [
   | inl here ↦
@@ -293,10 +293,6 @@ contains-put t k v q = contains-key_set (with_entry t k v) q ∙ ap is_some (get
   either : (b : Bool) → is_some (cond b (Some v) (get t.entries q)) ≡ (b || is_some (get t.entries q))
   either true = refl
   either false = refl
-
-or_true : (a b : Bool) → b ≡ true → (a || b) ≡ true
-or_true true b e = refl
-or_true false b e = e
 
 pub keys-put : (t : ElementTable) (k : List ℕ) (v : List Element) (longest : ℕ) → IsKey k → HasLongest (key_set t) longest → HasLongest (key_set (with_entry t k v)) (max longest (length k))
 keys-put t k v longest is has =
@@ -327,7 +323,7 @@ keys-put t k v longest is has =
       reached_by n m both is new some (inl one) = let e : n ≡ both = omega arith in inr (subst (IsReached (key_set (with_entry t k v))) e new)
       reached_by n m both is new some (inr old) = elim (cases_lt m n) [
         | inl below ↦ let e : n ≡ both = omega arith in inr (subst (IsReached (key_set (with_entry t k v))) e new)
-        | inr above ↦ let e : m ≡ both = omega arith in inr (record { key = old.key; has = contains-put t k v old.key ∙ or_true _ _ old.has; size = old.size ∙ e })
+        | inr above ↦ let e : m ≡ both = omega arith in inr (record { key = old.key; has = contains-put t k v old.key ∙ or_right _ _ old.has; size = old.size ∙ e })
       ]
 
 pub IsRenumbered-put : {Y : Type 0} (m : Moves) (items : List (Vec ℕ Y × Item)) (t : ElementTable) (tops next : Tops) (old new : Counts) (longest : ℕ) (k : Vec ℕ Y) (i : Item) → i.after ≡ now_of m → IsItem m i → AllByRecursion IsElement i.elements.items → IsKey k.items

@@ -1,4 +1,4 @@
--- Room and variable weighting in either order: a level list of elements with room is the level list with room.
+-- A gap and variable weighting in either order: the level list of moved elements is the moved level list.
 use Rattle.std.proofs.Common.{◌≡◌, ℕ, suc, zero, ◌-◌, ◌≤◌, Bool, true, false, cond, not, Some, eqb-true, lit≤, ◌&&◌, ◌||◌, ◌==◌, eqb, List, [], ◌∷◌, ◌++◌, map, filter, reverse, find, slice_index, refl, sym, ap, ap₂, ◌∙◌, arith}
 use mathlib.Core.List.{reverse_aux, map-append}
 use Rattle.std.specs.Option.{option_map_or}
@@ -28,7 +28,7 @@ is_variable-with_room m w e = ap (λ b. e.starred && b) (has_primary-with_room m
 pub is_completely_ignorable-with_room : (m w : ℕ) (e : Element) → is_completely_ignorable (with_room m w e) ≡ is_completely_ignorable e
 is_completely_ignorable-with_room m w e = rw (weight_with_room_at-is_zero m w 1 e.l1, weight_with_room_at-is_zero m w 2 e.l2, weight_with_room_at-is_zero m w 3 e.l3) refl
 
--- the nearest element with a primary weight is the one with room
+-- the nearest element with a primary weight is the moved one
 find-with_room : (m w : ℕ) (es : List Element) → option_map_or is_variable (find has_primary (map (with_room m w) es)) false ≡ option_map_or is_variable (find has_primary es) false
 find-with_room m w [] = refl
 find-with_room m w (e ∷ es) = rw (has_primary-with_room m w e) (
@@ -44,7 +44,7 @@ map-reverse_aux f (x ∷ xs) acc = map-reverse_aux f xs (x ∷ acc)
 pub is_after_variable-with_room : (m w : ℕ) (es : List Element) → is_after_variable (map (with_room m w) es) ≡ is_after_variable es
 is_after_variable-with_room m w es = ap (λ xs. option_map_or is_variable (find has_primary xs) false) (map-reverse_aux (with_room m w) es []) ∙ find-with_room m w (reverse es)
 
--- four weights with room: the fourth is a weight of level 1, or FFFF, or zero
+-- four moved weights: the fourth is a weight of level 1, or FFFF, or zero
 abbrev pub moved : ℕ → ℕ → List ℕ → List ℕ
 moved m w ws = weight_with_room_at m w 1 (slice_index ws 0) ∷ weight_with_room_at m w 2 (slice_index ws 1) ∷ weight_with_room_at m w 3 (slice_index ws 2) ∷ weight_with_room_at m w 1 (slice_index ws 3) ∷ []
 
@@ -79,7 +79,7 @@ weights-with_room Blanked m w after e = rw (is_variable-with_room m w e, weight_
 weights-with_room Shifted m w after e = rw (is_completely_ignorable-with_room m w e, is_variable-with_room m w e, weight_with_room_at-is_zero m w 1 e.l1) (
     by_three m w e (is_completely_ignorable e) (is_variable e) (e.l1 == 0 && after))
 
--- weighting commutes with making room
+-- weighting commutes with making a gap
 pub weighted_after-with_room : (v : Variable) (m w : ℕ) (before es : List Element) → weighted_after v (map (with_room m w) before) (map (with_room m w) es) ≡ map (moved m w) (weighted_after v before es)
 weighted_after-with_room v m w before [] = refl
 weighted_after-with_room v m w before (e ∷ es) =
@@ -94,7 +94,7 @@ weighted-with_room v m w es = weighted_after-with_room v m w [] es
 abbrev pub source : ℕ → ℕ
 source j = cond (eqb j 4) 1 j
 
--- a level list with room
+-- a level list moved for a gap
 filtered : (m w j : ℕ) (xs : List ℕ) → filter (λ x. not (x == 0)) (map (weight_with_room_at m w j) xs) ≡ map (weight_with_room_at m w j) (filter (λ x. not (x == 0)) xs)
 filtered m w j [] = refl
 filtered m w j (x ∷ xs) = rw (weight_with_room_at-is_zero m w j x) (

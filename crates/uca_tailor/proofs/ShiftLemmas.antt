@@ -1,4 +1,4 @@
--- Rooms that are made one after the other are those that are made at once.
+-- Gaps that are made one after the other are those that are made at once.
 use Rattle.std.proofs.Common.{◌≡◌, ℕ, zero, suc, ◌+◌, ◌-◌, ◌≤◌, ◌<◌, min, cond, ◌==◌, nat_lt, nat_le, List, [], ◌∷◌, ◌++◌, length, get_or, insert, refl, sym, ap, ◌∙◌, arith, inl, inr}
 use Rattle.std.proofs.lemmas.Bool.{cases_lt, lt-ltb, le-ltb, cond-true, cond-false}
 use Rattle.std.proofs.lemmas.Bool.Decides.{nat_tests}
@@ -56,7 +56,7 @@ count_below-at x (suc n) (b ∷ bs) h low high =
     let rest : count_below x bs ≡ n = count_below-at x n bs (omega arith) (λ k less. low (suc k) (omega arith)) (λ k from inside. high (suc k) (omega arith) (omega arith)) in
     rw (lt-ltb b x first) (omega arith)
 
--- ## One more room
+-- ## One more gap
 
 more_low : (b w x c n : ℕ) → b < w → (x ≤ b → c ≡ 0) → n ≡ c + cond (nat_lt (w - 1) (x + c)) 1 0 → cond (nat_lt b x) 1 0 + n ≡ (cond (nat_lt b x) 1 0 + c) + cond (nat_lt w (x + (cond (nat_lt b x) 1 0 + c))) 1 0
 more_low b w x c n h none is = grind (arith, nat_tests)
@@ -67,7 +67,7 @@ more_high b w x c h none = grind (arith, nat_tests)
 only_one : (w x : ℕ) → cond (nat_lt w x) 1 0 + 0 ≡ 0 + cond (nat_lt w (x + 0)) 1 0
 only_one w x = grind (arith, nat_tests)
 
--- a weight has one more bound below it exactly where the room moves it
+-- a weight has one more bound below it exactly where the gap moves it
 pub count_below-with : (x w : ℕ) (bs : List ℕ) → Rise bs → count_below x (bounds_with w bs) ≡ count_below x bs + cond (nat_lt w (x + count_below x bs)) 1 0
 count_below-with x w [] r = only_one w x
 count_below-with x w (b ∷ bs) r =
@@ -128,7 +128,7 @@ moved-grows level (w ∷ ws) x =
     let b : weight_with_room level w x ≤ moved level ws (weight_with_room level w x) = moved-grows level ws (weight_with_room level w x) in
     omega arith
 
--- a weight that was cut to sixteen bits is still cut after more rooms
+-- a weight that was cut to sixteen bits is still cut after more gaps
 pub moved-cut : (level : ℕ) (ws : List ℕ) (x y : ℕ) → y ≡ min x 65535 → min (moved level ws y) 65535 ≡ min (moved level ws x) 65535
 moved-cut level ws x y is = elim (cases_lt 65535 x) [
   | inl large ↦

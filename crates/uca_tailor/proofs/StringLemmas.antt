@@ -215,7 +215,7 @@ refused_part s t cause is fault = go (reported_text_cause cause) fault.fault
     go None u = tt
     go (Some stated) e = fault-first part_faults s t fault.first (record { at = t.at; cause = stated }) is fault.is_first (no_operator_from _ _ e refl) (ap (piece_faults t.at) e)
 
--- a character stands before the first operator
+-- a character comes before the first operator
 pub given_leading : (s t u : ScanState) (string longer : List ℕ) → Skips leading_faults s t → Took t string u longer piece.Given → (rest : List RuleFault) × (flat_map leading_faults (left_of s).leading ≡ record { at = t.at; cause = text.syntax } ∷ rest)
 given_leading s t u string longer is took = fault-first leading_faults s t took.first (record { at = t.at; cause = text.syntax }) is took.is_first (no_operator_from _ _ took.taken.kind refl) (ap (leading_kind_faults t.at) took.taken.kind)
 

@@ -1,4 +1,4 @@
--- Weights above which no weight of a table stands.
+-- Upper bounds of the weights of a table.
 use Rattle.std.proofs.Common.{◌≡◌, ℕ, ◌+◌, ◌≤◌, ◌<◌, min, Bool, true, false, cond, ◌||◌, ◌&&◌, ◌==◌, T, List, [], ◌∷◌, ◌++◌, length, take, map, get_or, Some, None, refl, sym, ap, subst, ◌∙◌, arith, inl, inr}
 use Rattle.std.proofs.lemmas.Bool.{cases_Bool}
 use Rattle.std.proofs.lemmas.Bool.Decides.{nat_tests}
@@ -21,7 +21,7 @@ use Rattle.uca_tailor.specs.Renumbered.{IsBelow, HasTop, HaveTops}
 use Rattle.uca_tailor.specs.Tops.{HoldsElements, IsAtMost}
 use Rattle.uca_tailor.proofs.Levels.{IsLevel, level_one, level_two, level_three}
 
--- a greater weight stands above what a lower one does
+-- a greater weight is above whatever a lower one is
 above_more : (level top more x : ℕ) → top ≤ more → moves level top x ≡ false → moves level more x ≡ false
 above_more level top more x h e = grind (arith, nat_tests)
 
@@ -90,7 +90,7 @@ HaveTops-entries tops t all = record {
   third = HasTop-entries 3 tops.third t (each (HoldsElements tops) (IsBelow 3 tops.third) (entries t.entries) (λ v h. h.third) all);
 }
 
--- ## With room
+-- ## After a gap
 
 pub raised_weight : (level w top x : ℕ) → x < 65536 → (moves level w x && x == max_weight level) ≡ false → moves level top x ≡ false → moves level (min (weight_with_room level w top) 65535) (weight_with_room level w x) ≡ false
 raised_weight level w top x h room e = grind (arith, nat_tests)
@@ -98,7 +98,7 @@ raised_weight level w top x h room e = grind (arith, nat_tests)
 pub above_is : (level top x : ℕ) → moves level top x ≡ true → top ≤ x
 above_is level top x e = grind (arith, nat_tests)
 
--- ## No lack of room
+-- ## Every weight can move
 
 no_lack : (level w top x : ℕ) → top < max_weight level → moves level top x ≡ false → (moves level w x && x == max_weight level) ≡ false
 no_lack level w top x h e = grind (arith, nat_tests)

@@ -1,4 +1,4 @@
--- A chain of rules comes out in the order in which it is written (UTS #35, Part 5, 3.5, Orderings).
+-- The items of a chain are sorted in the order in which they are written (UTS #35, Part 5, 3.5, Orderings).
 use Rattle.std.specs.Prelude.{◌≡◌, ℕ, ◌<◌, ◌≤◌, min, false, List, [], ◌∷◌, ◌++◌, length, All, Ok}
 use Rattle.std.specs.Char.{IsScalar}
 use Rattle.std.specs.List.{list_any}
@@ -14,7 +14,7 @@ use Rattle.uca_model.specs.Rules.{Relation, Chain}
 use Rattle.uca_model.specs.Tailoring.{tailored, IsUntouched}
 use Rattle.uca_tailor.specs.TailoringLaws.{op_level, plain_key, HasNoMatch}
 
--- a relation in the midst of rules
+-- a relation in the middle of rules
 pub record Place : Type 0 where
   -- the chains before its own, its chain's reset and the relations before it, and what comes after it
   pub before : List Chain
@@ -84,7 +84,7 @@ pub record ComesBefore (level : ℕ) (u : ElementTable) (text item : List ℕ) :
   pub equal : (s : Strength) → levels s < level → plain_key u s text ≡ plain_key u s item
   pub less : (s : Strength) → level ≤ levels s → key_order (plain_key u s text) (plain_key u s item) ≡ Less
 
--- so it is of such neighbours
+-- so it is for such neighbours
 abbrev pub NeighboursComeAsWritten : Type 0
 NeighboursComeAsWritten =
     (level : ℕ) (t : ElementTable) (p : Place) (t0 t1 u : ElementTable) (text item : List ℕ) → Tailors t p t0 t1 u → AreNeighbours level p t0 t1 u text item → ComesBefore level u text item

@@ -1,4 +1,4 @@
--- Rules without where they lie in memory.
+-- Rules, without their places in memory.
 use Rattle.std.specs.Prelude.{◌≡◌, ℕ, zero, suc, List, map, refl}
 use Rattle.std.specs.Coded.{Coded, code_by, coded×, coded_list, coded_ℕ}
 use Rattle.uca_model.specs.Rules.{Operator, first, second, third, same, Relation, Chain}

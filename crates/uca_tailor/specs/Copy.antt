@@ -23,10 +23,10 @@ entered_item i = (i.0.now, i.1.now)
 abbrev pub is_up_to : {Y : Type 0} → List ℕ → Vec ℕ Y × Item → Bool
 is_up_to key i = is_le (key_cmp i.0.items key)
 
--- the entries of items, moved by the rooms that were made since
+-- the entries of items, moved by the gaps that were made since
 abbrev pub item_entries : {Y : Type 0} → Moves → List (Vec ℕ Y × Item) → List (List ℕ × List Element)
 item_entries m items = map cut_entry (map (item_entry m) items)
 
--- at each key stand the elements of the first entry that has it
+-- each key has the elements of the first entry with it
 abbrev pub Holds : FinMap key_cmp (List Element) → List (List ℕ × List Element) → Type 0
 Holds m es = (q : List ℕ) → get m q ≡ find key_cmp q es

@@ -18,7 +18,7 @@ abbrev pub count_in : ℕ → ℕ → List (List ℕ × List Element) → ℕ
 count_in level x [] = 0
 count_in level x (e ∷ es) = count_at level x e.1 + count_in level x es
 
--- of each weight that is counted there are so many, but the greatest count of 32 bits stands for greater numbers, too
+-- each weight that is counted has this many elements, but the greatest count of 32 bits means that many or more
 abbrev pub Reach : List ℕ → (ℕ → ℕ) → Type 0
 Reach counts n = (x : ℕ) → x < length counts → slice_index counts x < 4294967295 → slice_index counts x ≡ n x
 
@@ -26,7 +26,7 @@ Reach counts n = (x : ℕ) → x < length counts → slice_index counts x < 4294
 abbrev pub AreCapped : List ℕ → (ℕ → ℕ) → Type 0
 AreCapped counts n = (x : ℕ) → x < length counts → slice_index counts x ≡ min (n x) 4294967295
 
--- the counts of the weights above w go up by one place, and the weight next to w is free
+-- the counts of the weights above w go up by one place, and no element has the weight next to w
 pub record Opens (w : ℕ) (old new : List ℕ) : Type 0 where
   pub size : length new ≡ length old
   pub below : (x : ℕ) → x ≤ w → slice_index new x ≡ slice_index old x
@@ -44,7 +44,7 @@ pub record HaveCounts (c : Counts) (t : ElementTable) : Type 0 where
   pub second : AreCounts 2 c.second.items t
   pub third : AreCounts 3 c.third.items t
 
--- all weights of a level that are not implicit were counted, and none was taken since
+-- all weights of a level that are not implicit were counted, and none was taken away since
 pub record AreAllCounts (level : ℕ) (counts : List ℕ) (t : ElementTable) : Type 0 where
   pub size : length counts ≡ max_weight level + 1
   pub capped : AreCapped counts (λ x. count_in level x (entries t.entries))

@@ -1,4 +1,4 @@
--- What the faults say, by the words of the rule text and of tailoring.
+-- What the faults mean, in the terms of the rule text and of tailoring.
 use Rattle.std.specs.Prelude.{◌≡◌, Option, Some, None, Result, Err, MatchOption, List}
 use Rattle.uca_model.specs.Table.{ElementTable}
 use Rattle.uca_model.specs.Rules.{Chain}
@@ -11,7 +11,7 @@ use Rattle.uca_tailor.specs.declared.faults.TailorCause.{TailorCause}
 use Rattle.uca_tailor.specs.declared.faults.TailorCause.TheVariants as tailor
 use Rattle.uca_tailor.specs.declared.faults.TailorFault.{TailorFault}
 
--- the fault of a text; an allocation failure is none of its
+-- the fault of a text; an allocation failure is not one
 abbrev pub reported_text_cause : RuleCause → Option text.RuleCause
 reported_text_cause rule.Syntax = Some text.syntax
 reported_text_cause rule.LeftOut = Some text.left_out
@@ -21,7 +21,7 @@ reported_text_cause rule.KeyTooLong = Some text.key_too_long
 reported_text_cause rule.TooManyRelations = Some text.too_many_relations
 reported_text_cause rule.OutOfMemory = None
 
--- the fault of a relation; an allocation failure is none of its
+-- the fault of a relation; an allocation failure is not one
 abbrev pub reported_cause : TailorCause → Option tailoring.TailorCause
 reported_cause tailor.SmallWeight = Some tailoring.small_weight
 reported_cause tailor.HighReset = Some tailoring.high_reset
@@ -29,7 +29,7 @@ reported_cause (tailor.Full level) = Some (tailoring.full level)
 reported_cause tailor.TooManyElements = Some tailoring.too_many_elements
 reported_cause tailor.OutOfMemory = None
 
--- a text has this fault first; an allocation failure stands at byte 0
+-- a text has this fault first; an allocation failure is at byte 0
 abbrev pub RefusesText : Result (List Chain) text.RuleFault → RuleFault → Type 0
 RefusesText says f = MatchOption (reported_text_cause f.cause) (f.at ≡ 0) (λ cause. says ≡ Err (record { at = f.at; cause = cause }))
 

@@ -50,7 +50,7 @@ ends_chain (Some f) = resets_here f.operator
 abbrev pub EndsChain : Option Found → Type 0
 EndsChain next = ends_chain next ≡ true
 
--- the operator of a relation is next, for which there is room
+-- the operator of a relation is next, for which there is capacity
 pub record IsRelationNext (next : Option Found) (count : ℕ) (op : Op) : Type 0 where
   pub at : ℕ
   pub is : next ≡ Some (record { operator = operator.Relation op; at = at })
@@ -58,7 +58,7 @@ pub record IsRelationNext (next : Option Found) (count : ℕ) (op : Op) : Type 0
 
 -- What is left
 
--- the faults after an operator, after which the scan stands, and before which so many relations stand
+-- the faults after an operator that the scan has just passed, with this many relations before it
 abbrev pub after_faults : Kind → ℕ → ScanState → List RuleFault
 after_faults kind n s = flat_map part_faults (left_of s).leading ++ (end_faults s.at (string_of (left_of s).leading) ++ segment_faults (before_next kind) (n + counted kind) (left_of s).all)
 
@@ -73,7 +73,7 @@ pub record ReadsRelation (s : ScanState) (op : Op) (r : Relation) (found : Optio
   pub says : (at : ℕ) → is_left_out_next found ≡ false → grouped (segments_from (Some (record { operator = operator.Relation op; at = at })) s) ≡ with_relation (relation_of r) (grouped (segments_from found t))
   pub fewer : length (segments_from found t) ≤ length (left_of s).all
 
--- a chain whose reset was read, after so many relations
+-- a chain whose reset was read, after this many relations
 pub record ReadsChain (s : ScanState) (n : ℕ) (c : Chain) (found : Option Found) (t : ScanState) : Type 0 where
   pub is_chain : IsChain (chain_of c)
   pub faults : after_faults resets n s ≡ segment_faults nothing (n + length c.relations.items) (segments_from found t)

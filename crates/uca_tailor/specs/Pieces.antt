@@ -1,4 +1,4 @@
--- What the scan gives of pieces of the text of rules, by their kinds.
+-- What the scan returns for pieces of the text of rules, by their kinds.
 use Rattle.std.specs.Prelude.{◌≡◌, ℕ, ◌+◌, ◌-◌, Bool, true, false, List, [], ◌∷◌, ◌++◌, Option, Some, None, Result, Ok, MatchOption, MatchResult, if◌then◌else◌}
 use Rattle.std.specs.Option.{option_map_or}
 use Rattle.uca_model.specs.RuleText as text
@@ -24,13 +24,13 @@ IsOfKind piece.Skipped k = k ≡ skipped
 IsOfKind piece.Given k = k ≡ gives (given k)
 IsOfKind (piece.Operator o) k = k ≡ kind_of o
 
--- a piece whose first character was taken is taken whole, and its characters stand after a string
+-- a piece whose first character was taken is taken whole, and its characters follow a string
 pub record TakesPiece (p : text.Piece) (s : ScanState) (string : List ℕ) (t : ScanState) (longer : List ℕ) (taken : Piece) : Type 0 where
   pub kind : IsOfKind taken p.kind
   pub scan : t ≡ passed (p.size - 1) s
   pub appends : longer ≡ string ++ given p.kind
 
--- a piece with characters of a string, or with a fault: only at these memory is taken
+-- a piece with characters of a string, or with a fault: only these allocate
 abbrev pub takes_memory : Kind → Bool
 takes_memory (gives cs) = true
 takes_memory (refused cause) = true

@@ -1,4 +1,4 @@
--- A table that is tailored step by step: the given one, the rooms that were made, and the items that were entered.
+-- A table that is tailored step by step: the given one, the gaps that were made, and the items that were added.
 use Rattle.std.specs.Prelude.{◌≡◌, ℕ, ◌<◌, false, List, ◌++◌, length, map, Some}
 use Rattle.std.specs.declared.vec.Vec.{Vec}
 use Rattle.std.specs.List.{AllByRecursion, list_any}
@@ -16,27 +16,27 @@ use Rattle.uca_tailor.specs.declared.tops.Tops.{Tops}
 use Rattle.uca_tailor.specs.Counts.{HaveCounts}
 use Rattle.uca_tailor.specs.Moves.{IsPast, moved_element, start}
 
--- the elements of an item, moved by the rooms that were made since
+-- the elements of an item, moved by the gaps that were made since
 abbrev pub item_entry : {Y : Type 0} → Moves → Vec ℕ Y × Item → List ℕ × List Element
 item_entry m i = (i.0.items, map (moved_element m i.1.after) i.1.elements.items)
 
--- an entry of the given table, moved by all rooms
+-- an entry of the given table, moved by all gaps
 abbrev pub moved_entry : Moves → List ℕ × List Element → List ℕ × List Element
 moved_entry m e = (e.0, map (moved_element m start) e.1)
 
--- the entries: at a key that stands twice the first counts, so an item hides the entry of its key
+-- the entries: at a key that occurs twice the first counts, so an item hides the entry of its key
 abbrev pub all_entries : {Y : Type 0} → Moves → List (Vec ℕ Y × Item) → List (List ℕ × List Element) → List (List ℕ × List Element)
 all_entries m items es = map (item_entry m) items ++ map (moved_entry m) es
 
 abbrev pub renumbered : {Y : Type 0} → Moves → List (Vec ℕ Y × Item) → ElementTable → ElementTable
 renumbered m items t = record { entries = from_entries {R = key_cmp} (all_entries m items (entries t.entries)); ranges = t.ranges; ideographs = t.ideographs }
 
--- an item was entered after rooms that were made, and has elements
+-- an item was added after some of the gaps were made, and has elements
 pub record IsItem (m : Moves) (i : Item) : Type 0 where
   pub past : IsPast m i.after
   pub some : 0 < length i.elements.items
 
--- no weight of the elements would move if room were made above `top`
+-- no weight of the elements would move if a gap were made above `top`
 abbrev pub IsBelow : ℕ → ℕ → List Element → Type 0
 IsBelow level top es = list_any (λ e. moves level top (weight level e)) es ≡ false
 
@@ -50,7 +50,7 @@ pub record HaveTops (tops : Tops) (t : ElementTable) : Type 0 where
   pub second : HasTop 2 tops.second t
   pub third : HasTop 3 tops.third t
 
--- what holds all along
+-- the invariant
 pub record IsRenumbered {Y : Type 0} (m : Moves) (items : List (Vec ℕ Y × Item)) (t : ElementTable) (tops : Tops) (counts : Counts) (longest : ℕ) : Type 0 where
   pub entered : AllByRecursion (λ i. IsItem m i.1) items
   pub fits : Fits (renumbered m items t)

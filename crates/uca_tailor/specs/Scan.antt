@@ -1,4 +1,4 @@
--- A scan over the text of rules: where it stands, and what is left.
+-- A scan over the text of rules: where it is, and what is left.
 use Rattle.std.specs.Prelude.{◌≡◌, ℕ, ◌+◌, ◌^◌, ◌<◌, List, [], ◌∷◌, length, take, drop, Option, Some, None, MatchOption, encode_utf8_all}
 use Rattle.std.specs.Str.{chars, IsUtf8}
 use Rattle.std.specs.Str.Iter.{char_indices_rest, char_indices_offset}
@@ -13,11 +13,11 @@ pub record ScanState : Type 0 where
 abbrev pub scan_of : List ℕ → ScanState
 scan_of text = record { at = 0; left = text }
 
--- after so many characters more
+-- after this many more characters
 abbrev pub passed : ℕ → ScanState → ScanState
 passed n s = record { at = s.at + length (encode_utf8_all (take n s.left)); left = drop n s.left }
 
--- the character that is left first
+-- the first character that is left
 abbrev pub first_left : List ℕ → Option ℕ
 first_left [] = None
 first_left (c ∷ cs) = Some c
@@ -32,7 +32,7 @@ TakesOne s given t = MatchOption given ((s.left ≡ []) × (t ≡ s)) (λ c. (s.
 abbrev pub state_of : CharIndices → ScanState
 state_of it = record { at = char_indices_offset it; left = chars (char_indices_rest it) }
 
--- its rest is a text, and its offsets have room
+-- its rest is a text, and its offsets fit
 pub record IsCursor (it : CharIndices) : Type 0 where
   pub utf8 : IsUtf8 (char_indices_rest it)
   pub room : char_indices_offset it + length (char_indices_rest it) < 2 ^ 64

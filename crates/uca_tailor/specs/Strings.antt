@@ -15,18 +15,18 @@ use Rattle.uca_tailor.specs.declared.pieces.Operator.{Operator}
 abbrev pub left_of : ScanState → Segments
 left_of s = segments (parts_from s.at s.left)
 
--- an operator that the scan stands after
+-- an operator that the scan has just passed
 abbrev pub part_of : Operator → ℕ → ScanState → Part
 part_of o at s = record { kind = kind_of o; at = at; after = s.at }
 
--- the segments that begin with an operator after which the scan stands
+-- the segments that begin with an operator that the scan has just passed
 abbrev pub segments_from : Option Found → ScanState → List Segment
 segments_from None s = []
 segments_from (Some f) s = record { operator = part_of f.operator f.at s; pieces = (left_of s).leading } ∷ (left_of s).all
 
 -- Faults
 
--- a list of faults begins with this one; an allocation failure stands at byte 0
+-- a list of faults begins with this one; an allocation failure is at byte 0
 abbrev pub BeginsWith : declared.RuleFault → List RuleFault → Type 0
 BeginsWith f faults = MatchOption (reported_text_cause f.cause) (f.at ≡ 0) (λ cause. (rest : List RuleFault) × (faults ≡ record { at = f.at; cause = cause } ∷ rest))
 

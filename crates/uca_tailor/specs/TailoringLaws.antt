@@ -1,4 +1,4 @@
--- Laws of tailoring, each of which is the contract of a public function: what a tailoring leaves as it is, and where an item stands.
+-- Laws of tailoring, each of which is the contract of a public function: what a tailoring leaves as it is, and where an item is placed.
 use Rattle.std.specs.Prelude.{◌≡◌, ◌≢◌, ℕ, ◌+◌, ◌<◌, ◌≤◌, not, ◌==◌, Bool, true, List, [], ◌∷◌, ◌++◌, map, filter, length, All, Some, Ok, false}
 use Rattle.std.specs.Option.{option_map}
 use Rattle.std.specs.Char.{IsScalar}
@@ -47,14 +47,14 @@ weights_at level es = filter (λ w. not (w == 0)) (map (weight level) es)
 abbrev pub Lacks : ℕ → ℕ → List Element → Type 0
 Lacks level w es = AllByRecursion (λ e. weight level e ≢ w) es
 
--- what a relation of a level makes of its anchor, whose weights at that level are `front` and then w
+-- what a relation of a level does to its anchor, whose weights at that level are `front` and then w
 pub record IsPlaced (level : ℕ) (anchor : List Element) (r : Relation) (next : Related) (front : List ℕ) (w : ℕ) : Type 0 where
-  -- at the level the item has the weights of the anchor with room, the last one raised by one ..
+  -- at the level the item has the weights of the anchor moved for the gap, the last one raised by one ..
   pub old : weights_at level anchor ≡ front ++ w ∷ []
   pub at : weights_at level next.anchor ≡ map (weight_with_room level w) front ++ (w + 1) ∷ []
   -- .. and at each level below, those of the anchor
   pub below : (j : ℕ) → 1 ≤ j → j < level → weights_at j next.anchor ≡ weights_at j anchor
-  -- the raised weight stands in the last element of the item's place ..
+  -- the raised weight is that of the last element of the item's place ..
   pub before : List Element
   pub last : Element
   pub expansion : List Element
@@ -104,12 +104,12 @@ EachItemIsNext =
 
 -- Relation after relation
 
--- after a relation without an expansion, the anchor of the next relation is what the new table gives the item
+-- after a relation without an expansion, the anchor of the next relation is the item's elements under the new table
 abbrev pub EachItemIsAnAnchor : Type 0
 EachItemIsAnAnchor =
     (t : ElementTable) (anchor : List Element) (r : Relation) (next : Related) → 1 ≤ length r.item → r.expansion ≡ [] → related t anchor r ≡ Ok next → elements next.table r.item ≡ next.anchor
 
--- a relation makes of a table a table, and of an anchor of elements of sixteen bits such an anchor
+-- a relation turns a table into a table, and an anchor of elements of sixteen bits into another
 abbrev pub RelatedTablesAreTables : Type 0
 RelatedTablesAreTables =
     (t : ElementTable) (anchor : List Element) (r : Relation) (next : Related) → IsTable t → 1 ≤ length anchor → AllByRecursion IsElement anchor → IsRelation r → All IsScalar r.item → All IsScalar r.expansion
@@ -121,7 +121,7 @@ RelatedTablesAreTables =
 abbrev pub has_weight : ℕ → ℕ → List Element → Bool
 has_weight level x es = list_any (λ e. weight level e == x) es
 
--- a weight that stands at a level of a table: zero, that of an entry or of an implicit element, and FFFF, with which level 4 compares those of level 1
+-- a weight that occurs at a level of a table: zero, that of an entry or of an implicit element, and FFFF, with which level 4 compares those of level 1
 pub data StandsAt (level : ℕ) (t : ElementTable) (x : ℕ) : Type 0 where
   is_none : x ≡ 0 → StandsAt level t x
   of_entry : (key : List ℕ) (es : List Element) → elements_at t key ≡ Some es → has_weight level x es ≡ true → StandsAt level t x
@@ -132,7 +132,7 @@ pub data StandsAt (level : ℕ) (t : ElementTable) (x : ℕ) : Type 0 where
 pub record IsShift (level w : ℕ) (t : ElementTable) (r : Relation) (next : Related) : Type 0 where
   -- all entries but that of the item are shifted ..
   pub entries : (key : List ℕ) → eq_by_cmp key_cmp key r.item ≡ false → elements_at next.table key ≡ option_map (map (with_room level w)) (elements_at t key)
-  -- .. the shift is strictly increasing on the weights that stand there ..
+  -- .. the shift is strictly increasing on the weights that occur there ..
   pub increases : (x y : ℕ) → StandsAt level t x → StandsAt level t y → x < y → weight_with_room level w x < weight_with_room level w y
   -- .. and leaves zero, those of implicit elements, and FFFF at level 1
   pub none_stays : weight_with_room level w 0 ≡ 0

@@ -1,11 +1,11 @@
--- Weights above which no weight of a table stands.
+-- Upper bounds of the weights of a table.
 use Rattle.std.specs.Prelude.{ℕ, ◌≤◌, min, ◌==◌, List, if◌then◌else◌}
 use Rattle.uca_weights.specs.declared.element.Element.{Element}
 use Rattle.uca_model.specs.Room.{weight_with_room}
 use Rattle.uca_tailor.specs.declared.tops.Tops.{Tops}
 use Rattle.uca_tailor.specs.Renumbered.{IsBelow}
 
--- with room above w at a level
+-- with a gap above w at a level
 abbrev pub raised : ℕ → ℕ → Tops → Tops
 raised level w t = record {
   first = if level == 1 then min (weight_with_room 1 w t.first) 65535 else t.first;
@@ -13,7 +13,7 @@ raised level w t = record {
   third = if level == 3 then min (weight_with_room 3 w t.third) 65535 else t.third;
 }
 
--- no weight of the elements stands above them
+-- no weight of the elements is above them
 pub record HoldsElements (t : Tops) (es : List Element) : Type 0 where
   pub first : IsBelow 1 t.first es
   pub second : IsBelow 2 t.second es

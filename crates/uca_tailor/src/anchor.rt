@@ -38,7 +38,7 @@ pub(crate) fn anchor_of(level: u8, elements: &[Element]) -> Option<Anchor<'_>>
     None
 }
 
-/// The least weight at a level after which an item may stand, so that implicit weights never move.
+/// The least weight at a level after which an item may be placed, so that implicit weights never move.
 fn least(level: u8) -> u16
     ensures { result ≡ least level }
 {
@@ -56,7 +56,7 @@ fn any_high(elements: &[Element]) -> bool
     elements.iter().any(|e| e.l1 >= 0x8000)
 }
 
-/// Whether there is no room above a weight, in a table and in the elements of an anchor.
+/// Whether no gap can be made above a weight, in a table and in the elements of an anchor.
 fn is_full(
     alloc: Global,
     level: u8,
@@ -78,7 +78,7 @@ fn is_full(
     t.lacks_room(alloc, level, w)
 }
 
-/// Why no item can stand after elements whose last weight at a level is `w`.
+/// Why no item can be placed after elements whose last weight at a level is `w`.
 pub(crate) fn check_place(
     alloc: Global,
     level: u8,
@@ -126,7 +126,7 @@ fn raised(level: u8, e: Element) -> Element
     next
 }
 
-/// The elements of an item that stands at a level directly after an element and those before it.
+/// The elements of an item that is placed at a level directly after an element and those before it.
 pub(crate) fn base_after(
     alloc: Global,
     level: u8,

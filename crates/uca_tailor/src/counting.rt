@@ -1,4 +1,4 @@
-//! The weights of a level of a table that is tailored are counted over the items, and over the given entries as they have moved.
+//! Counts the weights of a level of a table that is tailored: those of the items, and those of the given entries as they have moved.
 ghost use Rattle.std.specs.Prelude.{◌≡◌, ℕ, ◌≤◌, ◌+◌, length, map, IfOk};
 ghost use Rattle.std.specs.FinMap.{entries};
 ghost use Rattle.std.specs.List.{AllByRecursion};
@@ -18,7 +18,7 @@ use std::collections::BTreeMap;
 use uca_table::room::max_weight;
 use uca_table::{Element, Table};
 
-/// Counts elements that were put in after the first rooms, as they have moved since.
+/// Counts elements that were added after the first gaps, as they have moved since.
 fn add_moved(level: u8, counts: &mut [u32], moves: &Moves, after: Stamp, elements: &[Element])
     requires first { 1 ≤ level }
     requires last { level ≤ 3 }

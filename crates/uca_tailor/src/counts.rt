@@ -1,4 +1,4 @@
-//! How many elements of a table have each weight of a level, so that it is known without a look at the table whether one
+//! How many elements of a table have each weight of a level, so that no look at the table is needed to tell whether one
 //! has the greatest.
 ghost use Rattle.std.specs.Prelude.{◌≡◌, ◌≤◌, ◌<◌, ◌+◌, ◌-◌, ◌==◌, ℕ, List, min, length, if◌then◌else◌, IsTrue, IfSome};
 ghost use Rattle.uca_model.specs.Room.{table_with_room};
@@ -18,14 +18,14 @@ pub(crate) struct Counts {
     pub(crate) third: Vec<u32>,
 }
 
-/// A count with one more. The greatest count stands for any greater number, too.
+/// A count with one more. The greatest count means that many or more.
 fn one_more(count: u32) -> u32
     ensures { result ≡ min (count + 1) 4294967295 }
 {
     count.saturating_add(1)
 }
 
-/// A count with one less, where it stands for one number.
+/// A count with one less, where it is exact.
 fn one_less(count: u32) -> u32
     ensures { result < 4294967295 → (count < 4294967295) × (result ≡ count - 1) }
 {
@@ -36,7 +36,7 @@ fn one_less(count: u32) -> u32
     }
 }
 
-/// Counts an element more.
+/// Counts one more element.
 pub(crate) fn add_one(counts: &mut [u32], weight: u16)
     ensures size { length counts.new ≡ length counts.old }
     ensures capped { (n : ℕ → ℕ) → AreCapped counts.old n → AreCapped counts.new (λ x. n x + (if weight == x then 1 else 0)) }
@@ -48,7 +48,7 @@ pub(crate) fn add_one(counts: &mut [u32], weight: u16)
     }
 }
 
-/// Counts an element no more.
+/// Stops counting an element.
 fn take_one(counts: &mut [u32], weight: u16)
     ensures size { length counts.new ≡ length counts.old }
     ensures reach { (n : ℕ → ℕ) → Reach counts.old (λ x. n x + (if weight == x then 1 else 0)) → Reach counts.new n }
@@ -59,7 +59,7 @@ fn take_one(counts: &mut [u32], weight: u16)
     }
 }
 
-/// Counts elements more.
+/// Counts more elements.
 fn add(level: u8, counts: &mut [u32], elements: &[Element])
     requires first { 1 ≤ level }
     requires last { level ≤ 3 }
@@ -71,7 +71,7 @@ fn add(level: u8, counts: &mut [u32], elements: &[Element])
     }
 }
 
-/// Counts elements no more.
+/// Stops counting elements.
 fn take(level: u8, counts: &mut [u32], elements: &[Element])
     requires first { 1 ≤ level }
     requires last { level ≤ 3 }
@@ -94,7 +94,7 @@ fn exchange(level: u8, counts: &mut [u32], before: &[Element], elements: &[Eleme
     add(level, counts, elements);
 }
 
-/// Makes room above a weight: the counts of all weights above it go up by one place, but that of the greatest is left out.
+/// Makes a gap above a weight: the counts of all weights above it go up by one place, but that of the greatest is left out.
 fn make_room(counts: &mut [u32], w: u16)
     ensures { Opens w counts.old counts.new }
 {
@@ -115,7 +115,7 @@ fn reaches_limit(level: u8, counts: &[u32]) -> Option<bool>
     }
 }
 
-/// Whether some element has the greatest weight of a level, where all were counted and none was taken since.
+/// Whether some element has the greatest weight of a level, where all were counted and none was taken away since.
 pub(crate) fn has_greatest(level: u8, counts: &[u32]) -> bool
     requires first { 1 ≤ level }
     requires last { level ≤ 3 }
@@ -159,7 +159,7 @@ impl Counts {
         }
     }
 
-    /// Makes room above a weight of a level, 1 to 3.
+    /// Makes a gap above a weight of a level, 1 to 3.
     pub(crate) fn make_room(&mut self, level: u8, w: u16)
         requires first { 1 ≤ level }
         requires last { level ≤ 3 }

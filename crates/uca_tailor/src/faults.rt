@@ -7,7 +7,7 @@ use thiserror::Error;
 /// Why a text of rules is refused.
 #[derive(Clone, Copy, Debug, PartialEq, Eq, Error)]
 pub enum RuleCause {
-    /// The text isn't one of rules.
+    /// The text does not have the form of rules.
     #[error("Syntax")]
     Syntax,
     /// A part of the syntax of UTS #35 that this profile leaves out.
@@ -63,7 +63,7 @@ pub enum TailorCause {
     /// The anchor has a primary weight as high as the implicit ones.
     #[error("HighReset")]
     HighReset,
-    /// A weight of this level has no room to move.
+    /// A weight of this level cannot move up.
     #[error("Full {0}")]
     Full(u8),
     /// The item would have more than `MAX_ELEMENTS` collation elements.

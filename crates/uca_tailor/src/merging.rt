@@ -28,7 +28,7 @@ pub(crate) fn in_order(
     Ok(sorted)
 }
 
-/// Appends an entry with a key that there was not.
+/// Appends an entry with a key that is not yet there.
 fn append(
     merged: &mut AscendingEntries,
     key: &[char],
@@ -92,7 +92,7 @@ fn end_of(items: &[Entered<'_>], from: usize, key: &[char]) -> usize
     at
 }
 
-/// Appends items and the entries of a table that none of them hides, with their weights moved by all rooms together.
+/// Appends items and the entries of a table that none of them hides, with their weights moved by all gaps together.
 pub(crate) fn merge(
     alloc: Global,
     merged: &mut AscendingEntries,

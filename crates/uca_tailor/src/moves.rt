@@ -1,4 +1,4 @@
-//! The rooms that were made at all three levels.
+//! The gaps that were made at all three levels.
 ghost use Rattle.std.specs.Prelude.{◌≡◌, ◌≤◌, ◌++◌, [], map, OnOk, OnErr};
 ghost use Rattle.uca_tailor.specs.Moves.{IsPast, now_of, with_move, moved_element, cut};
 
@@ -6,7 +6,7 @@ use crate::shifts::Shifts;
 use std::alloc::{AllocError, Global};
 use uca_table::Element;
 
-/// The rooms that were made at each level.
+/// The gaps that were made at each level.
 #[derive(Drop)]
 pub(crate) struct Moves {
     pub(crate) first: Shifts,
@@ -14,7 +14,7 @@ pub(crate) struct Moves {
     pub(crate) third: Shifts,
 }
 
-/// How often room had been made at each level.
+/// How often a gap had been made at each level.
 #[derive(Clone, Copy)]
 pub(crate) struct Stamp {
     pub(crate) first: usize,
@@ -22,7 +22,7 @@ pub(crate) struct Stamp {
     pub(crate) third: usize,
 }
 
-/// Before the first room.
+/// Before the first gap.
 pub(crate) const START: Stamp = Stamp {
     first: 0,
     second: 0,
@@ -30,7 +30,7 @@ pub(crate) const START: Stamp = Stamp {
 };
 
 impl Moves {
-    /// No room was made.
+    /// No gap was made.
     pub(crate) fn new(alloc: Global) -> Moves
         ensures { result ≡ record { first = []; second = []; third = [] } }
     {
@@ -41,7 +41,7 @@ impl Moves {
         }
     }
 
-    /// How often room was made until now.
+    /// How often a gap was made until now.
     pub(crate) fn now(&self) -> Stamp
         ensures { result ≡ now_of self.now }
     {
@@ -52,7 +52,7 @@ impl Moves {
         }
     }
 
-    /// Makes room above a weight of a level, 1 to 3.
+    /// Makes a gap above a weight of a level, 1 to 3.
     pub(crate) fn make_room(&mut self, level: u8, w: u16) -> Result<(), AllocError>
         requires first { 1 ≤ level }
         requires last { level ≤ 3 }
@@ -66,7 +66,7 @@ impl Moves {
         }
     }
 
-    /// What an element has become that was put in after the first rooms.
+    /// What an element that was added after the first gaps has become.
     pub(crate) fn moved(&self, after: Stamp, element: Element) -> Element
         requires { IsPast self.now after }
         ensures { result ≡ cut (moved_element self.now after element) }
@@ -79,7 +79,7 @@ impl Moves {
         }
     }
 
-    /// Appends what elements have become that were put in after the first rooms.
+    /// Appends what elements that were added after the first gaps have become.
     pub(crate) fn push_moved(
         &self,
         out: &mut Vec<Element>,

@@ -15,7 +15,7 @@ use crate::strings::{Found, fault_at, first_operator, read_string};
 use std::alloc::Global;
 use uca_weights::MAX_RELATIONS;
 
-/// The operator of the next relation of a chain, after so many relations, or None at the end of the chain.
+/// The operator of the next relation of a chain, after this many relations, or `None` at the end of the chain.
 fn next_relation(next: Option<Found>, count: usize) -> Result<Option<Op>, RuleFault>
     ensures { MatchResult result (λ op. MatchOption op (EndsChain next) (IsRelationNext next count)) (λ f. (s : ScanState) → BeginsWith f (segment_faults no_item count (segments_from next s))) }
 {
@@ -80,7 +80,7 @@ fn read_relation(
     Ok((relation, expansion.found))
 }
 
-/// A chain whose `&` was read, and the operator after it. `count` relations stand before it.
+/// A chain whose `&` was read, and the operator after it. `count` relations come before it.
 fn read_chain(
     alloc: Global,
     scanner: &mut Scanner<'_>,
@@ -108,8 +108,8 @@ fn read_chain(
     Ok((chain, next))
 }
 
-/// The rules that a text says (a profile of UTS #35, Part 5, section 3, Rules), or its first fault. A text without
-/// chain and fault takes no memory, so it is never refused.
+/// The rules that a text states (a profile of UTS #35, Part 5, section 3, Rules), or its first fault. A text without a
+/// chain or a fault does not allocate, so it is never refused.
 pub fn parse(alloc: Global, text: &str) -> Result<Rules, RuleFault>
     ensures says { MatchResult result (λ r. rules_of (chars text.now) ≡ Ok r) (RefusesText (rules_of (chars text.now))) }
     ensures some { IfErr result (λ _. rules_of (chars text.now) ≢ Ok []) }

@@ -52,14 +52,14 @@ fn is_line_end(c: char) -> bool
     )
 }
 
-/// What belongs to parts of the syntax that are left out.
+/// Characters of parts of the syntax that this profile leaves out.
 fn is_left_out(c: char) -> bool
     ensures { result ≡ is_left_out c }
 {
     matches!(c, '[' | '|' | ';' | ',' | '@')
 }
 
-/// What stands for itself.
+/// Characters that stand for themselves.
 fn is_plain(c: char) -> bool
     ensures { result ≡ is_plain c }
 {
@@ -78,7 +78,7 @@ fn skip_comment(scanner: &mut Scanner<'_>)
     }
 }
 
-/// The operator of a relation that `scanner` stands after; `*` isn't part of this profile.
+/// The operator of a relation that `scanner` has just passed; `*` isn't part of this profile.
 fn relation(scanner: &Scanner<'_>, op: Op) -> Operator
     ensures { (n : ℕ) → operator (operator_of op) n scanner.now.left ≡ piece (kind_of result) n }
 {
@@ -96,7 +96,7 @@ fn one_more(count: u8) -> u8
     if count < 4 { count + 1 } else { 4 }
 }
 
-/// How many `<` stand in a row with the one before, where 4 stands for more too.
+/// How many `<` there are in a row with the one before; 4 means 4 or more.
 fn count_less(scanner: &mut Scanner<'_>) -> u8
     ensures count { result ≡ min 4 (less_run scanner.old.left + 1) }
     ensures scan { scanner.new ≡ passed (less_run scanner.old.left) scanner.old }
@@ -143,7 +143,7 @@ fn hex_value(scanner: &mut Scanner<'_>, digits: u8) -> Option<u32>
     Some(value)
 }
 
-/// An escape with so many digits, after the letter that says so.
+/// An escape with this many digits, after the letter that says so.
 fn code_point(
     scanner: &mut Scanner<'_>,
     digits: u8,
@@ -179,7 +179,7 @@ fn escape(scanner: &mut Scanner<'_>, string: &mut Vec<char>) -> Result<Piece, Ru
     }
 }
 
-/// All up to the quote that ends it, `''` being an apostrophe.
+/// Everything up to the closing quote, `''` being an apostrophe.
 fn quoted(scanner: &mut Scanner<'_>, string: &mut Vec<char>) -> Result<Piece, RuleCause>
     ensures { ReadsPiece (quoted_piece (quoted scanner.old.left)) scanner.old string.old.items scanner.new string.new.items result }
 {
@@ -222,7 +222,7 @@ fn plain(c: char, string: &mut Vec<char>) -> Result<Piece, RuleCause>
     Ok(Piece::Given)
 }
 
-/// The piece that begins with a character which was taken.
+/// The piece that begins with a character that was taken.
 fn piece_after(
     c: char,
     scanner: &mut Scanner<'_>,

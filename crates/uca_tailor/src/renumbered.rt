@@ -1,4 +1,4 @@
-//! A table that is tailored relation after relation, and written anew only at the end.
+//! A table that is tailored relation by relation, and rewritten only at the end.
 ghost use Rattle.std.specs.Prelude.{◌≡◌, ◌≤◌, ◌<◌, ◌++◌, false, is_some, length, IfOk, IsTrue, OnOk};
 ghost use Rattle.std.specs.FinMap.{values};
 ghost use Rattle.std.specs.List.{list_any, AllByRecursion};
@@ -21,8 +21,8 @@ use uca_match::{Keys, matches_of_points};
 use uca_table::room::max_weight;
 use uca_table::{AscendingEntries, Element, Table};
 
-/// A table that borrows the entries of another one: rooms that were made move their weights together, and items that
-/// were entered hide them.
+/// A table that borrows the entries of another one: gaps that were made move their weights together, and items that
+/// were added hide them.
 #[derive(Drop)]
 pub(crate) struct Renumbered<'t> {
     table: &'t Table,
@@ -81,7 +81,7 @@ impl<'t> Renumbered<'t> {
         }
     }
 
-    /// Makes room above `w` at a level, 1 to 3: all weights above it go up by one, but at level 1 not the implicit ones.
+    /// Makes a gap above `w` at a level, 1 to 3: all weights above it go up by one, but at level 1 not the implicit ones.
     pub(crate) fn make_room(&mut self, level: u8, w: u16) -> Result<(), AllocError>
         requires first { 1 ≤ level }
         requires last { level ≤ 3 }
@@ -94,7 +94,7 @@ impl<'t> Renumbered<'t> {
         Ok(())
     }
 
-    /// Gives a key these elements, in place of those that it may have.
+    /// Maps a key to these elements, in place of any that it has.
     pub(crate) fn put(
         &mut self,
         alloc: Global,
@@ -122,9 +122,9 @@ impl<'t> Renumbered<'t> {
         Ok(())
     }
 
-    /// Whether some weight of the entries at a level, 1 to 3, would move if room were made above `w`, and can't. The
-    /// weights are counted only where the greatest of the level may stand at the limit for the first time, over the given
-    /// entries and the items, without a copy. From then on the counts say whether one stands there.
+    /// Whether some weight of the entries at a level, 1 to 3, would have to move for a gap above `w`, and can't. The
+    /// weights are counted only where the greatest of the level may reach the limit for the first time, over the given
+    /// entries and the items, without a copy. From then on the counts say whether one is there.
     pub(crate) fn lacks_room(
         &mut self,
         alloc: Global,
@@ -161,7 +161,7 @@ impl<'t> Renumbered<'t> {
         entries.finish(alloc, self.table)
     }
 
-    /// Appends the elements of a key, and returns whether it has some.
+    /// Appends the elements of a key, and returns whether it has any.
     fn push_entry(&self, out: &mut Vec<Element>, key: &[char]) -> Result<bool, AllocError>
         ensures elements { OnOk result (out.new.items ≡ out.old.items ++ elements_or_none self.now key.now) }
         ensures found { IfOk result (λ found. found ≡ is_some (elements_at self.now key.now)) }
@@ -203,7 +203,7 @@ impl<'t> Keys for Renumbered<'t> {
     }
 }
 
-/// The elements of a text in NFD, of which there are some where it has a code point.
+/// The elements of a text in NFD, at least one of them if it has a code point.
 pub(crate) fn elements_of(
     alloc: Global,
     t: &Renumbered<'_>,

@@ -3,7 +3,7 @@ ghost use Rattle.uca_tailor.specs.Chains.{chain_of};
 
 use std::marker::Model;
 
-/// How an item differs from what stands before it (UTS #35, Part 5, section 3.5, Orderings).
+/// How an item differs from what comes before it (UTS #35, Part 5, section 3.5, Orderings).
 #[derive(Clone, Copy, Debug, PartialEq, Eq)]
 pub enum Op {
     /// `<`: at the first level.
@@ -16,7 +16,7 @@ pub enum Op {
     Same,
 }
 
-/// An item, which is placed after what stands before it.
+/// An item, which is placed after what comes before it.
 #[derive(Debug, Drop)]
 pub struct Relation {
     pub op: Op,
@@ -36,7 +36,7 @@ pub struct Chain {
     pub relations: Vec<Relation>,
 }
 
-/// The rules of a text: chains in its order, with at most `MAX_RELATIONS` relations in all.
+/// The rules of a text: chains in order, with at most `MAX_RELATIONS` relations in all.
 #[derive(Debug, Drop)]
 pub struct Rules {
     pub(crate) chains: Vec<Chain>,

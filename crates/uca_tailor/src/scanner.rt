@@ -1,7 +1,7 @@
 use std::marker::Model;
 use std::str::CharIndices;
 
-/// Goes over the characters of a text. It takes no memory.
+/// Scans the characters of a text. It does not allocate.
 #[derive(Drop)]
 pub(crate) struct Scanner<'t> {
     rest: CharIndices<'t>,
@@ -40,7 +40,7 @@ impl<'t> Scanner<'t> {
         self.rest.offset()
     }
 
-    /// The next character, which stays.
+    /// The next character, without taking it.
     pub(crate) fn peek(&self) -> Option<char>
         ensures { result ≡ first_left self.now.left }
     {

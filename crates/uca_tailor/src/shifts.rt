@@ -1,4 +1,4 @@
-//! The rooms that were made at one level, one after the other.
+//! The gaps that were made at one level, one after the other.
 ghost use Rattle.std.specs.Prelude.{◌≡◌, ◌+◌, ◌-◌, ◌<◌, ◌≤◌, ◌++◌, ◌∷◌, [], min, length, take, drop, insert, vec_len, vec_capacity, OnOk, OnErr};
 ghost use Rattle.uca_model.specs.Room.{weight_with_room};
 ghost use Rattle.uca_tailor.specs.Shifts.{moved, moved_at_once, count_below, bounds_with, Rise};
@@ -6,20 +6,20 @@ ghost use Rattle.uca_tailor.specs.Shifts.{moved, moved_at_once, count_below, bou
 use std::alloc::{AllocError, Global};
 use std::marker::Model;
 
-/// How many rooms in a row have their bounds together in a small block, and in a large one.
+/// How many gaps in a row have their bounds together in a small block, and in a large one.
 const SMALL: usize = 64;
 
 const LARGE: usize = 4096;
 
-/// The weights of one level above which room was made, in the order in which it was made.
+/// The weights of one level above which a gap was made, in the order in which it was made.
 #[derive(Drop)]
 pub(crate) struct Shifts {
     made: Vec<u16>,
-    // Of each room the greatest weight that it leaves, among those before all rooms; in rising order.
+    // Of each gap the greatest weight that it leaves, among those before all gaps; in rising order.
     bounds: Vec<u16>,
-    // The same of each `SMALL` rooms in a row by themselves, for weights that were put in between.
+    // The same of each `SMALL` gaps in a row by themselves, for weights that were added in between.
     small: Vec<u16>,
-    // And of each `LARGE` rooms.
+    // And of each `LARGE` gaps.
     large: Vec<u16>,
 }
 
@@ -35,7 +35,7 @@ impl Model for Shifts {
 }
 
 impl Shifts {
-    /// No room was made.
+    /// No gap was made.
     pub(crate) fn new(alloc: Global) -> Shifts
         ensures { result ≡ [] }
     {
@@ -47,14 +47,14 @@ impl Shifts {
         }
     }
 
-    /// How often room was made.
+    /// How often a gap was made.
     pub(crate) fn len(&self) -> usize
         ensures { result ≡ length self.now }
     {
         self.made.len()
     }
 
-    /// Makes room above a weight.
+    /// Makes a gap above a weight.
     pub(crate) fn push(&mut self, w: u16) -> Result<(), AllocError>
         ensures ok { OnOk result (self.new ≡ self.old ++ w ∷ []) }
         ensures err { OnErr result (self.new ≡ self.old) }
@@ -70,7 +70,7 @@ impl Shifts {
         Ok(())
     }
 
-    /// Where a weight stands now that stood there when room had been made `after` times, at most 65535.
+    /// What a weight has become since `after` gaps had been made, at most 65535.
     pub(crate) fn moved(&self, level: u8, after: usize, weight: u16) -> u16
         requires { after ≤ length self.now }
         ensures { result ≡ min (moved level (drop after self.now) weight) 65535 }
@@ -112,7 +112,7 @@ fn block(bounds: &[u16], at: usize, size: usize) -> &[u16]
     &rest[..rest.len().min(size)]
 }
 
-/// Inserts the bound of one more room among those of the last rooms, which begin at a place. It takes no memory.
+/// Inserts the bound of one more gap among those of the last gaps, which begin at a place. It does not allocate.
 fn insert_bound(bounds: &mut Vec<u16>, from: usize, w: u16)
     requires from { from ≤ length bounds.old.items }
     requires room { vec_len bounds.old < vec_capacity bounds.old }
@@ -123,7 +123,7 @@ fn insert_bound(bounds: &mut Vec<u16>, from: usize, w: u16)
     let _fits = bounds.insert(from + at, w - at as u16);
 }
 
-/// The place of the bound of one more room.
+/// The place of the bound of one more gap.
 fn place_of(bounds: &[u16], w: u16) -> usize
     requires { Rise bounds.now }
     ensures bounds { insert bounds.now result (w - result) ≡ bounds_with w bounds.now }
@@ -163,7 +163,7 @@ fn count_below(bounds: &[u16], weight: u16) -> usize
     low
 }
 
-/// A weight moved by all rooms together, at most 65535.
+/// A weight moved by all gaps together, at most 65535.
 fn moved_at_once(level: u8, bounds: &[u16], weight: u16) -> u16
     requires { Rise bounds.now }
     ensures { result ≡ min (moved_at_once level bounds.now weight) 65535 }
@@ -176,7 +176,7 @@ fn moved_at_once(level: u8, bounds: &[u16], weight: u16) -> u16
     count.saturating_add(weight as usize).min(most) as u16
 }
 
-/// A weight with room above `w`, at most 65535.
+/// A weight with a gap above `w`, at most 65535.
 pub(crate) fn with_room(level: u8, w: u16, weight: u16) -> u16
     ensures { result ≡ min (weight_with_room level w weight) 65535 }
 {

@@ -40,7 +40,7 @@ pub(crate) fn fault_at(at: usize, cause: RuleCause) -> RuleFault
     }
 }
 
-/// Goes to the first operator of the text, before which no character may stand.
+/// Goes to the first operator of the text, before which no character may come.
 pub(crate) fn first_operator(
     alloc: Global,
     scanner: &mut Scanner<'_>,
@@ -99,7 +99,7 @@ fn longest_run(points: &[char]) -> usize
     longest.max(run)
 }
 
-/// The NFD of a string at its end, if it may stand in rules.
+/// The NFD of a string at its end, if rules may have it.
 fn ended(alloc: Global, string: &[char]) -> Result<Vec<char>, RuleCause>
     ensures { (at : ℕ) → MatchResult result (λ v. (v.items ≡ nfd string.now) × (IsString v.items) × (end_faults at string.now ≡ [])) (λ cause. BeginsAt at cause (end_faults at string.now)) }
 {
@@ -117,7 +117,7 @@ fn ended(alloc: Global, string: &[char]) -> Result<Vec<char>, RuleCause>
     Ok(points)
 }
 
-/// The string after an operator, after which the scan stands.
+/// The string after an operator, which the scan has just passed.
 pub(crate) fn read_string(alloc: Global, scanner: &mut Scanner<'_>) -> Result<Next, RuleFault>
     ensures { MatchResult result (λ n. ReadsString scanner.old n.string.items n.found scanner.new) (λ f. BeginsWith f (string_faults scanner.old)) }
 {

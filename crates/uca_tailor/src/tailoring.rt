@@ -14,7 +14,7 @@ use std::alloc::{AllocError, Global};
 use uca_table::{Element, Table};
 use uca_weights::MAX_ELEMENTS;
 
-/// Makes room after elements at a level, 1 to 3, and gives the elements of an item that stands there.
+/// Makes a gap after elements at a level, 1 to 3, and returns the elements of an item that is placed there.
 fn place_after(
     alloc: Global,
     t: &mut Renumbered<'_>,
@@ -36,7 +36,7 @@ fn place_after(
     Ok(base)
 }
 
-/// Makes room where an operator places an item, and gives the item's elements without those of its expansion.
+/// Makes a gap where an operator places an item, and returns the item's elements without those of its expansion.
 fn place(
     alloc: Global,
     t: &mut Renumbered<'_>,
@@ -70,7 +70,7 @@ fn whole_of(
     Ok(whole)
 }
 
-/// Enters an item with the elements of its place and of its expansion.
+/// Adds an item with the elements of its place and of its expansion.
 fn enter(
     alloc: Global,
     t: &mut Renumbered<'_>,
@@ -89,8 +89,8 @@ fn enter(
     Ok(())
 }
 
-/// Applies one relation to a table, and gives the anchor of the next: the item's elements without those of its
-/// expansion. What the table has after a fault isn't said.
+/// Applies one relation to a table, and returns the anchor of the next: the item's elements without those of its
+/// expansion. After a fault the contents of the table are unspecified.
 fn relate(
     alloc: Global,
     t: &mut Renumbered<'_>,
@@ -107,7 +107,7 @@ fn relate(
     Ok(base)
 }
 
-/// The fault of a relation; an allocation failure is none of its.
+/// The fault of a relation; an allocation failure belongs to no relation.
 fn fault_of(relation: u64, cause: TailorCause) -> TailorFault
     ensures cause { result.cause ≡ cause }
     ensures relation { result.relation ≡ (if is_some (reported_cause cause) then relation else 0) }
@@ -118,7 +118,7 @@ fn fault_of(relation: u64, cause: TailorCause) -> TailorFault
     }
 }
 
-/// Applies the relations of a chain to a table, after others of this number.
+/// Applies the relations of a chain to a table, after this many others.
 fn relate_all(
     alloc: Global,
     t: &mut Renumbered<'_>,
@@ -143,7 +143,7 @@ fn relate_all(
     Ok(())
 }
 
-/// Applies the relations of all chains to a table. What the table has after a fault isn't said.
+/// Applies the relations of all chains to a table. After a fault the contents of the table are unspecified.
 fn relate_chains(alloc: Global, t: &mut Renumbered<'_>, r: &Rules) -> Result<(), TailorFault>
     ensures { let meant = tailored t.old r.now in MatchResult result (λ _. meant ≡ Ok t.new) (RefusesRelation meant) }
 {

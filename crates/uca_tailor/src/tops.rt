@@ -1,4 +1,4 @@
-//! Weights above which no weight of a table stands, so that a relation need not look at the whole table for room.
+//! Upper bounds of the weights of a table, so that a relation need not look at the whole table for a gap.
 ghost use Rattle.std.specs.Prelude.{◌≡◌, ◌≤◌, min};
 ghost use Rattle.uca_model.specs.Room.{moves, weight_with_room};
 ghost use Rattle.uca_tailor.specs.Renumbered.{IsBelow, HaveTops};
@@ -7,7 +7,7 @@ ghost use Rattle.uca_tailor.specs.Tops.{raised, HoldsElements, IsAtMost};
 use crate::shifts::with_room;
 use uca_table::{Element, Table};
 
-/// For each level a weight above which no weight of a table stands, but implicit ones.
+/// For each level an upper bound of the weights of a table, apart from implicit ones.
 #[derive(Clone, Copy)]
 pub(crate) struct Tops {
     pub(crate) first: u16,
@@ -15,14 +15,14 @@ pub(crate) struct Tops {
     pub(crate) third: u16,
 }
 
-/// Whether a weight of a level stands above another one, and is no implicit one.
+/// Whether a weight of a level is above another one, and not implicit.
 fn is_above(level: u8, top: u16, weight: u16) -> bool
     ensures { result ≡ moves level top weight }
 {
     top < weight && (level != 1 || weight < 0x8000)
 }
 
-/// A weight, or the greatest one of the elements that stands above it at a level, 1 to 3.
+/// A weight, or the greatest one of the elements that is above it at a level, 1 to 3.
 fn highest(level: u8, elements: &[Element], top: u16) -> u16
     requires first { 1 ≤ level }
     requires last { level ≤ 3 }
@@ -67,7 +67,7 @@ impl Tops {
         }
     }
 
-    /// The same after room was made above a weight at a level, 1 to 3.
+    /// The same after a gap was made above a weight at a level, 1 to 3.
     pub(crate) fn raised(self, level: u8, w: u16) -> Tops
         requires first { 1 ≤ level }
         requires last { level ≤ 3 }

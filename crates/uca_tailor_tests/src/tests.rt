@@ -13,7 +13,7 @@ fn element(weights: [u16; 3]) -> Element {
     uca_testing::element(false, weights)
 }
 
-/// Makes a table whose entries have one element each, each step once more where memory was refused.
+/// Makes a table whose entries have one element each, each step retried where memory was refused.
 fn table(rt: &impl Abort, alloc: Global, entries: &[Entry]) -> Table {
     let mut builder = TableBuilder::new(alloc);
     for (key, starred, weights) in entries {
@@ -27,7 +27,7 @@ fn table(rt: &impl Abort, alloc: Global, entries: &[Entry]) -> Table {
     finished(rt, builder)
 }
 
-/// The table of a builder, once more where memory was refused.
+/// The table of a builder, retrying where memory was refused.
 fn finished(rt: &impl Abort, builder: TableBuilder) -> Table {
     match builder.finish() {
         Ok(table) => table,
@@ -39,7 +39,7 @@ fn small_table(rt: &impl Abort, alloc: Global) -> Table {
     uca_testing::small_table(alloc).ok().expect(rt, "a table")
 }
 
-/// Reads rules, once more where memory was refused.
+/// Reads rules, retrying where memory was refused.
 fn rules(rt: &impl Abort, alloc: Global, text: &str) -> Rules {
     let read = match parse(alloc, text) {
         Err(fault) if fault.cause == RuleCause::OutOfMemory => parse(alloc, text),
@@ -48,7 +48,7 @@ fn rules(rt: &impl Abort, alloc: Global, text: &str) -> Rules {
     read.ok().expect(rt, "rules")
 }
 
-/// Tailors a table, once more where memory was refused.
+/// Tailors a table, retrying where memory was refused.
 fn tailored(rt: &impl Abort, alloc: Global, t: &Table, text: &str) -> Result<Table, TailorFault> {
     let rules = rules(rt, alloc, text);
     match tailor(alloc, t, &rules) {
@@ -60,14 +60,14 @@ fn tailored(rt: &impl Abort, alloc: Global, t: &Table, text: &str) -> Result<Tab
     }
 }
 
-/// The table that rules make of another, which they can be applied to.
+/// A table tailored by rules that can be applied to it.
 fn tailored_table(rt: &impl Abort, alloc: Global, t: &Table, text: &str) -> Table {
     tailored(rt, alloc, t, text)
         .ok()
         .expect(rt, "a tailored table")
 }
 
-/// Stops a test where the elements of a key are not exactly these, with the mark `.`.
+/// Fails a test where the elements of a key are not exactly these, with the mark `.`.
 fn assert_weights(rt: &impl Abort, t: &Table, key: &[char], weights: &[[u16; 3]]) {
     let elements = t.get(key).expect(rt, "an entry");
     assert!(rt; elements.len() == weights.len(), "{key:?}");
@@ -76,7 +76,7 @@ fn assert_weights(rt: &impl Abort, t: &Table, key: &[char], weights: &[[u16; 3]]
     }
 }
 
-/// Stops a test where a key has other elements than one with these weights.
+/// Fails a test where a key has other elements than one with these weights.
 fn assert_entry(rt: &impl Abort, t: &Table, key: &[char], starred: bool, weights: [u16; 3]) {
     let elements = t.get(key).expect(rt, "an entry");
     assert!(rt; elements.len() == 1, "{key:?}");
@@ -86,7 +86,7 @@ fn assert_entry(rt: &impl Abort, t: &Table, key: &[char], starred: bool, weights
     );
 }
 
-/// Stops a test whose table has other entries than these.
+/// Fails a test whose table has other entries than these.
 fn assert_stands(rt: &impl Abort, t: &Table, entries: &[Entry]) {
     assert!(rt; t.entries().count() == entries.len());
     for (key, starred, weights) in entries {
@@ -97,7 +97,7 @@ fn assert_stands(rt: &impl Abort, t: &Table, entries: &[Entry]) {
 /// Keys, each with the weights of its elements.
 type Weights = &'static [(&'static [char], &'static [[u16; 3]])];
 
-/// Stops a test where one of these keys has other elements.
+/// Fails a test where one of these keys has other elements.
 fn assert_all_weights(rt: &impl Abort, t: &Table, wanted: Weights) {
     for (key, weights) in wanted {
         assert_weights(rt, t, key, weights);
@@ -220,7 +220,7 @@ fn an_equal_item_has_the_elements_of_its_anchor(rt: HostRuntime) {
     );
 }
 
-/// Stops a test whose table has not these entries, except the one of `a`.
+/// Fails a test whose table has not these entries, except the one of `a`.
 fn assert_others_stand(rt: &impl Abort, t: &Table, entries: &[Entry]) {
     assert!(rt; t.entries().count() == entries.len());
     for (key, starred, weights) in entries {
@@ -281,7 +281,7 @@ fn chains_without_relations_have_no_effect(rt: HostRuntime) {
     assert_elements(&rt, rt.alloc(), "", &[(&['b'], &[[0x1001, 0x20, 2]])]);
 }
 
-/// Stops a test where rules can be applied to a table, or another fault is met first.
+/// Fails a test where rules can be applied to a table, or another fault is met first.
 fn assert_fault(
     rt: &impl Abort,
     alloc: Global,
@@ -309,7 +309,7 @@ const FAULTY: [(&'static str, TailorCause, u64); 5] = [
     ),
 ];
 
-/// Stops a test where one of these rules has another fault under a table, or none.
+/// Fails a test where one of these rules has another fault under a table, or none.
 fn assert_faults(
     rt: &impl Abort,
     alloc: Global,
@@ -328,7 +328,7 @@ fn the_first_relation_at_fault_is_reported(rt: HostRuntime) {
     assert_stands(&rt, &t, &SMALL_TABLE);
 }
 
-/// Stops a test where rules can be applied to the table of these entries, which stays as it is.
+/// Fails a test where rules can be applied to the table of these entries, which stays as it is.
 fn assert_fault_of(
     rt: &impl Abort,
     alloc: Global,
@@ -377,7 +377,7 @@ const FULL: [(&'static [Entry], &'static str, u8, u64); 6] = [
         3,
         2,
     ),
-    // An item stands at the limit by turns, until it stays there.
+    // An item is at the limit every other time, until it stays there.
     (
         &[
             (&['a'], false, [0x1000, 0x20, 2]),
@@ -403,7 +403,7 @@ fn a_level_without_room_is_full(rt: HostRuntime) {
     }
 }
 
-/// Stops a test where rules give `c` other weights than these under the table of these entries, or `b`.
+/// Fails a test where rules give `c` other weights than these under the table of these entries, or `b`.
 fn assert_room(
     rt: &impl Abort,
     alloc: Global,
@@ -455,7 +455,7 @@ const ROOMY: [(&'static [Entry], &'static str, [u16; 3], [u16; 3]); 6] = [
         [0x1001, 0x20, 2],
         [0x8000, 0x20, 2],
     ),
-    // What stood at the limit is an item now.
+    // What was at the limit is an item now.
     (
         &[
             (&['a'], false, [0x1000, 0x20, 2]),
@@ -465,7 +465,7 @@ const ROOMY: [(&'static [Entry], &'static str, [u16; 3], [u16; 3]); 6] = [
         [0x1001, 0x20, 2],
         [0x1000, 0x20, 2],
     ),
-    // An item stands next to the limit by turns, and room is made below.
+    // An item is next to the limit every other time, and a gap is made below.
     (
         &[
             (&['a'], false, [0x1000, 0x20, 2]),
@@ -484,7 +484,7 @@ fn the_last_room_is_used_and_implicit_weights_stay(rt: HostRuntime) {
     }
 }
 
-/// An element, so many times.
+/// An element, this many times.
 fn copies(alloc: Global, e: Element, count: usize) -> Result<Vec<Element>, AllocError> {
     let mut elements = Vec::new(alloc);
     for _ in 0..count {
@@ -493,7 +493,7 @@ fn copies(alloc: Global, e: Element, count: usize) -> Result<Vec<Element>, Alloc
     Ok(elements)
 }
 
-/// A table of `a` alone, with so many elements, each step once more where memory was refused.
+/// A table of `a` alone, with this many elements, each step retried where memory was refused.
 fn table_of_a(rt: &impl Abort, alloc: Global, count: usize) -> Table {
     let e = element([0x1000, 0x20, 2]);
     let elements = match copies(alloc, e, count) {
@@ -509,7 +509,7 @@ fn table_of_a(rt: &impl Abort, alloc: Global, count: usize) -> Table {
     finished(rt, builder)
 }
 
-/// Stops a test where the table is not that of `a` alone, with so many elements.
+/// Fails a test where the table is not that of `a` alone, with this many elements.
 fn assert_table_of_a(rt: &impl Abort, t: &Table, count: usize) {
     assert!(rt; t.entries().count() == 1);
     let elements = t.get(&['a']).expect(rt, "an entry");
@@ -519,7 +519,7 @@ fn assert_table_of_a(rt: &impl Abort, t: &Table, count: usize) {
     }
 }
 
-/// Stops a test where the key is not tailored to sixty-four elements like that of `a`.
+/// Fails a test where the key is not tailored to sixty-four elements like that of `a`.
 fn assert_sixty_four(rt: &impl Abort, alloc: Global, t: &Table, text: &str) {
     let u = tailored_table(rt, alloc, t, text);
     let elements = u.get(&['b']).expect(rt, "an entry");
@@ -536,7 +536,7 @@ fn an_item_has_at_most_sixty_four_elements(rt: HostRuntime) {
     assert_sixty_four(&rt, rt.alloc(), &t, "&aa=b");
 }
 
-/// Stops a test where `a` with so many elements can be an anchor of these rules.
+/// Fails a test where `a` with this many elements can be an anchor of these rules.
 fn assert_too_many(rt: &impl Abort, alloc: Global, count: usize, text: &str) {
     let t = table_of_a(rt, alloc, count);
     assert_fault(rt, alloc, &t, text, 1, TailorCause::TooManyElements);
@@ -592,7 +592,7 @@ const SMALL_OR_HIGH: [(&'static [Entry], &'static str, TailorCause, u64); 4] = [
         TailorCause::SmallWeight,
         1,
     ),
-    // A small weight comes before a high reset, and that before a level without room.
+    // A small weight comes before a high reset, and that before a level where no weight can move.
     (
         &[
             (&['a'], false, [0x8000, 0x20, 1]),

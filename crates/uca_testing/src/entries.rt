@@ -65,7 +65,7 @@ pub const SMALL_TEXT: &[u8] = b"\
 0323 ; [.0000.0024.0002]
 ";
 
-/// A text of the small table, as a person writes it.
+/// A text of the small table, as a person would write it.
 pub const WRITTEN_BY_HAND: &[u8] = b"\
 @version 15.1.0
 @implicitweights 17000..18AFF; FB00 # first range

@@ -1,7 +1,7 @@
 //! What tests of several crates use: the small table, readers and writers that stop, a source that counts
-//! its calls, and texts by a number.
+//! its calls, and texts chosen by a number.
 //!
-//! No program stands on this crate. Tests ask once more where memory was refused, since a run refuses one growth at most.
+//! No program depends on this crate. Tests try again where memory was refused, since a run refuses one growth at most.
 #![tactic(auto)]
 
 pub mod entries;

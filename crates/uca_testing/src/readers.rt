@@ -13,7 +13,7 @@ pub struct Pieces<'b> {
 }
 
 impl<'b> Pieces<'b> {
-    /// A reader that was never called.
+    /// A reader that has not been called.
     pub fn new(bytes: &'b [u8], most: usize, calls: usize) -> Pieces<'b> {
         Pieces {
             left: bytes,
@@ -41,7 +41,7 @@ impl Reader for Pieces<'_> {
     }
 }
 
-/// Gives a byte so many times, and then is at its end or fails.
+/// Gives a byte this many times, and then is at its end or fails.
 #[derive(Clone, Copy)]
 pub struct Repeating {
     byte: u8,
@@ -51,7 +51,7 @@ pub struct Repeating {
 }
 
 impl Repeating {
-    /// A reader that was never called.
+    /// A reader that has not been called.
     pub fn new(byte: u8, count: usize, fails: bool) -> Repeating {
         Repeating {
             byte,

@@ -34,7 +34,7 @@ impl<'t> Source for Counted<'t> {
     }
 }
 
-/// The characters of a passage from its start, of which none was asked for yet.
+/// The characters of a passage from its start, none of which was read yet.
 pub fn source_of<'t>(p: &Passage<'t>) -> Counted<'t>
     ensures unread { IsSafe (unread result.source) }
     ensures text { IsSafe result.source.text }

@@ -4,7 +4,7 @@ use uca_allkeys::{ReadFault, read_table};
 use uca_table::Table;
 use uca_weights::Reading;
 
-/// Reads the table of a text in the format of `allkeys.txt`, once more where memory was refused.
+/// Reads a table in the format of `allkeys.txt`, and tries again where memory was refused.
 pub fn table_from(alloc: Global, text: &[u8]) -> Result<Table, ReadFault> {
     match read_table(alloc, &mut Reading::new(text)) {
         Err(_) => read_table(alloc, &mut Reading::new(text)),

@@ -1,6 +1,6 @@
 use std::alloc::{AllocError, Global};
 
-/// A piece, several times.
+/// A piece, repeated.
 pub fn repeated(alloc: Global, piece: &[u8], times: usize) -> Result<Vec<u8>, AllocError> {
     let mut bytes = Vec::new(alloc);
     for _ in 0..times {
@@ -9,7 +9,7 @@ pub fn repeated(alloc: Global, piece: &[u8], times: usize) -> Result<Vec<u8>, Al
     Ok(bytes)
 }
 
-/// A text of up to nine of these characters, by a number.
+/// A text of up to nine of these characters, chosen by a number.
 pub fn generated(
     alloc: Global,
     characters: &[char; 16],

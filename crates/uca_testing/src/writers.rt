@@ -3,7 +3,7 @@ ghost use Rattle.std.specs.Prelude.{None};
 
 use uca_weights::{Refused, WriteCause, Writer};
 
-/// Takes the bytes that it expects, while it has room, and then fails or takes none.
+/// Takes the bytes that it expects, while it has capacity, and then fails or takes none.
 #[derive(Clone, Copy)]
 pub struct Expecting<'b> {
     expected: &'b [u8],
@@ -15,7 +15,7 @@ pub struct Expecting<'b> {
 }
 
 impl<'b> Expecting<'b> {
-    /// A writer that was never called.
+    /// A writer that has not been called.
     pub fn new(expected: &'b [u8], room: usize, cause: WriteCause) -> Expecting<'b> {
         Expecting {
             expected,

@@ -10,7 +10,7 @@ use Rattle.uca_weights.specs.Element.{has_primary, is_variable, is_completely_ig
 abbrev pub is_after_variable : List Element → Bool
 is_after_variable before = option_map_or is_variable (find has_primary (reverse before)) false
 
--- the weights as they stand in the table, with this one at the fourth level
+-- the weights as they are in the table, with this one at the fourth level
 abbrev pub unchanged : Element → ℕ → List ℕ
 unchanged e fourth = e.l1 ∷ e.l2 ∷ e.l3 ∷ fourth ∷ []
 
@@ -28,7 +28,7 @@ weights Shifted after e =
     else if e.l1 == 0 && after then ignored 0
     else unchanged e 0xffff
 
--- 4: the weights of elements that stand after these
+-- 4: the weights of elements that follow these
 abbrev pub weighted_after : Variable → List Element → List Element → List (List ℕ)
 weighted_after v before [] = []
 weighted_after v before (e ∷ es) = weights v (is_after_variable before) e ∷ weighted_after v (before ++ e ∷ []) es

@@ -19,7 +19,7 @@ abbrev pub weighted_from : WeigherState → List Element → List (List ℕ)
 weighted_from w [] = []
 weighted_from w (e ∷ es) = weights w.weighting w.after e ∷ weighted_from (record w { after = after_element w.after e }) es
 
--- it weighs by this option, and was accepted these elements so far
+-- it weighs by this option, and has seen these elements so far
 pub record HasSeen (v : Variable) (w : WeigherState) (seen : List Element) : Type 0 where
   pub weighting : w.weighting ≡ v
   pub after : w.after ≡ is_after_variable seen

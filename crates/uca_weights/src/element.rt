@@ -4,7 +4,7 @@ ghost use Rattle.uca_weights.specs.Element.{weight};
 /// A collation element: three weights, and whether it is marked as variable (UTS #10, section 3).
 #[derive(Clone, Copy, Debug, Default, PartialEq, Eq)]
 pub struct Element {
-    /// Whether a table writes it with `*`, as a variable element, and not with `.`.
+    /// Whether it is variable: a table writes it with `*`, and other elements with `.`.
     pub starred: bool,
     /// The primary weight. A weight of zero is ignorable at its level.
     pub l1: u16,

@@ -1,8 +1,8 @@
 //! Collation elements, the settings of a comparison, and the limits.
 //!
-//! The weights of an element are those of the table (UTS #10, section 3), and [`Weigher`] gives each element of a list
+//! The weights of an element are those of the table (UTS #10, section 3), and [`Weigher`] returns for each element of a list
 //! its weights at the levels 1 to 4, by the option for variable elements (section 4). The readers and writers of
-//! `uca_io` are passed on, since most callers use both.
+//! `uca_io` are re-exported, since most callers use both.
 #![tactic(auto)]
 
 pub mod element;

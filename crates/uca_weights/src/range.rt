@@ -1,8 +1,8 @@
-/// A range of code points whose implicit weights stand over a base of their own (UTS #10, section 10.1.3).
+/// A range of code points whose implicit weights have a base of their own (UTS #10, section 10.1.3).
 #[derive(Clone, Copy, Debug, PartialEq, Eq)]
 pub struct Range {
     pub first: char,
-    /// The last code point of the range, which belongs to it.
+    /// The last code point of the range, inclusive.
     pub last: char,
     /// The first of the two implicit primary weights, `AAAA` in the standard.
     pub base: u16,
@@ -12,6 +12,6 @@ pub struct Range {
 #[derive(Clone, Copy, Debug, PartialEq, Eq)]
 pub struct Ideographs {
     pub first: char,
-    /// The last code point of the range, which belongs to it.
+    /// The last code point of the range, inclusive.
     pub last: char,
 }

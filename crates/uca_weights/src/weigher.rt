@@ -6,7 +6,7 @@ ghost use Rattle.uca_weights.specs.VariableWeighting.{is_after_variable, weighte
 use crate::{Element, Variable};
 use std::marker::Model;
 
-/// Weighs the elements of a list, which are given one by one in their order (UTS #10, section 4).
+/// Weighs the elements of a list, one by one and in order (UTS #10, section 4).
 #[derive(Debug, Drop)]
 pub struct Weigher {
     weighting: Variable,
@@ -27,7 +27,7 @@ impl Model for Weigher {
 impl Weigher {
     ghost use Rattle.uca_weights.specs.Weigher.{HasSeen, after_element, weighted_from};
 
-    /// A weigher that was given no element yet. Given the elements of a list one after the other, it returns the weights of
+    /// A weigher that has seen no element yet. Given the elements of a list one by one, it returns the weights of
     /// that list.
     pub fn new(v: Variable) -> Weigher
         ensures value { result ≡ record { weighting = v; after = false } }
@@ -47,7 +47,7 @@ impl Weigher {
         ensures moved { self.new ≡ record self.old { after = after_element self.old.after e } }
         ensures first { (es : List Element) → weighted_from self.old (e ∷ es) ≡ result ∷ weighted_from self.new es }
 
-        // Over a list of elements, these are the weights of its definition.
+        // Over a list of elements, the results are the weights of the definition.
         ensures in_order { (v : Variable) (seen : List Element) → HasSeen v self.old seen → result ≡ weights v (is_after_variable seen) e }
         ensures seen { (v : Variable) (seen : List Element) → HasSeen v self.old seen → HasSeen v self.new (seen ++ e ∷ []) }
     {

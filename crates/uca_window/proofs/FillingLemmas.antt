@@ -1,11 +1,11 @@
--- A window that reads on one character at a time: what it asks for in all, and what it holds at last.
+-- A window that reads on one character at a time: what it reads in all, and what it holds at last.
 use Rattle.std.proofs.Common.{◌≡◌, ℕ, ◌+◌, ◌≤◌, min, Bool, true, false, not, ◌&&◌, nat_lt, List, [], ◌∷◌, length, drop, Option, Some, None, refl, sym, ap, ap₂, ◌∙◌, arith}
 use Rattle.std.proofs.lemmas.Bool.{cond-true, cond-false}
 use Rattle.uca_model.specs.Source.{SourceState, unread, GivesNext}
 use Rattle.uca_model.specs.Window.{WindowState, is_wanting, after_read}
 use Rattle.uca_window.specs.Filling.{times_asked, filled, IsAsked}
 
--- what is held at last, and how far a source is asked in all, are as they were before
+-- what is held at last, and how far a source is read in all, are as they were before
 pub record IsFilling (first : WindowState) (before : SourceState) (w : WindowState) (now : SourceState) : Type 0 where
   pub holds : filled w (unread now) ≡ filled first (unread before)
   pub place : now.place + min (times_asked w (unread now)) (length (unread now)) ≡ before.place + min (times_asked first (unread before)) (length (unread before))

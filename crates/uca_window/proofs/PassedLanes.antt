@@ -59,7 +59,7 @@ each_byte : (f : ℕ → ℕ) (p : ℕ → Bool) → T (upto (λ x. beq (top 7 (
 each_byte f p all [] fits = refl
 each_byte f p all (x ∷ xs) fits = ap₂ (λ a b. a ∷ b) (same_is _ _ (upto_sound (λ y. beq (top 7 (f y)) (p y)) 256 all x fits.0.fits)) (each_byte f p all xs fits.1)
 
--- the mask of lanes that say of each byte whether it passes a test
+-- the mask of lanes that say for each byte whether it passes a test
 pub masked : (f : ℕ → ℕ) (p : ℕ → Bool) (v z : List ℕ) → length v ≤ 64 → Each1 (Fits w8) v → z ≡ map f v → T (upto (λ x. beq (top 7 (f x)) (p x)) 256)
     → mask_l (map (top 7) z) % 2 ^ 64 ≡ mask_l (map p v)
 masked f p v z short fits e all =

@@ -11,7 +11,7 @@ use Rattle.uca_window.specs.Passing.{is_passed, ending}
 use Rattle.uca_window.specs.Scan.{Fits}
 use Rattle.uca_window.proofs.PassedCharacters.{first_passed, passed-starter, decompose-passed, decompose-short}
 
--- what stood before a passed code point doesn't count after it
+-- what came before a passed code point doesn't count after it
 run-over : (n : ℕ) (xs : List ℕ) → first_passed xs ≡ true → run_after n xs ≡ run_after 0 xs
 run-over n [] h = cc
 run-over n (x ∷ xs) h = rw (passed-starter x h) refl

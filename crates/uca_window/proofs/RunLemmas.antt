@@ -31,7 +31,7 @@ runs-without n xs m ys mark =
     let more : longest_run_after (run_after n xs) ys ≤ longest_run_after (run_after n xs + 1) ys = runs-more (run_after n xs) (run_after n xs + 1) ys (omega arith) in
     omega (arith, runs-append n xs ys, runs-append n xs (m ∷ ys))
 
--- nonstarters that stand in a row are a run
+-- nonstarters in a row are a run
 pub length-run : (n : ℕ) (ms ys : List ℕ) → list_all is_nonstarter ms ≡ true → n + length ms ≤ longest_run_after n (ms ++ ys)
 length-run n [] ys nonstarters = omega (arith, count_le n ys)
 length-run n (m ∷ ms) ys marks =

@@ -17,7 +17,7 @@ use Rattle.uca_window.specs.Passing.{is_passed, last_of, Passes, ending}
 use Rattle.uca_window.specs.Scan.{Fits}
 use Rattle.uca_window.proofs.PassedRuns.{passed_fits, passed_ends, own_run_within, ending-passed}
 
--- the characters so far are safe, and end in so many nonstarters
+-- the characters so far are safe, and end in this many nonstarters
 pub record Scanned (front : List ℕ) (count : ℕ) : Type 0 where
   pub ends : count ≡ run_after 0 (flat_map decompose_canonical front)
   pub within : count ≤ MAX_RUN
@@ -55,7 +55,7 @@ latin_parts c h = decompose-final Nfd c (is_final-Nfd c (quick_check-below Nfd c
 latin_starter : (c : ℕ) → c < 0xC0 → is_nonstarter c ≡ false
 latin_starter c h = ap (λ k. not (k == 0)) (class-latin c (omega arith))
 
--- so no nonstarter stands at the end after it
+-- so no nonstarter is at the end after it
 pub latin_ends : (count c : ℕ) → c < 0xC0 → 0 ≡ run_after count (decompose_canonical c)
 latin_ends count c h = sym (ap (run_after count) (latin_parts c h) ∙ cond-false (is_nonstarter c) _ _ (latin_starter c h))
 
@@ -66,7 +66,7 @@ latin_fits count c full h =
     let run : longest_run_after count (decompose_canonical c) ≡ max count 0 = ap (longest_run_after count) (latin_parts c h) ∙ cond-false (is_nonstarter c) _ _ (latin_starter c h) in
     (omega arith, omega arith)
 
--- a nonstarter of the list stands after a full run
+-- a nonstarter of the list follows a full run
 pub full_run : (n i c class : ℕ) (points : List ℕ) → i < length points → c ≡ get_or points i c → class ≡ ccc c → (class ≡ 0 → ⊥) → n ≡ MAX_RUN → MAX_RUN < longest_run_after n (drop i points)
 full_run n i c class points h is k mark full =
     let first : drop i points ≡ c ∷ drop (i + 1) points = drop_more points i c h ∙ ap (λ x. x ∷ drop (i + 1) points) (sym is) in
@@ -74,7 +74,7 @@ full_run n i c class points h is k mark full =
     let g : n < longest_run_after n (c ∷ drop (i + 1) points) = one_too_many n c (drop (i + 1) points) (ap not (ne_eqb (ccc c) 0 (λ z. mark (k ∙ z)))) in
     omega arith
 
--- what is left of the text stands after characters that are safe, and end in so many nonstarters
+-- what is left of the text follows characters that are safe and end in this many nonstarters
 pub record ScannedTo (text rest : List ℕ) (count : ℕ) : Type 0 where
   pub front : List ℕ
   pub stands : StandsAfter text rest front

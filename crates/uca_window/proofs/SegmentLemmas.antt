@@ -37,7 +37,7 @@ nonstarter_from d h = not_from_false _ (not_starter_from d h)
 
 -- ---- a cut before a starter, or at the end of all
 
--- the NFD of all is the front, and the NFD of what stands after it
+-- the NFD of all is the front, and the NFD of what follows it
 pub nfd-cut : (front back left : List ℕ) → all_final (front ++ back) ≡ true → is_ordered front ≡ true → begins_segment back ≡ true → (back ≡ [] → left ≡ []) → nfd ((front ++ back) ++ left) ≡ front ++ nfd (back ++ left)
 nfd-cut front [] left final ordered begins last =
     let none = last refl in

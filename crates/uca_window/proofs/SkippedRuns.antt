@@ -1,4 +1,4 @@
--- Between two passed characters that stand close together no run is long: each byte brings two code points at most.
+-- Between two passed characters that are close together no run is long: each byte brings two code points at most.
 use Rattle.std.proofs.Common.{◌≡◌, ℕ, ◌+◌, ◌*◌, ◌≤◌, ◌<◌, List, [], ◌∷◌, ◌++◌, length, take, drop, encode_utf8, encode_utf8_all, chars, IsUtf8, refl, sym, ap, subst, ◌∙◌, arith, append_assoc, append-nil, length-append, true}
 use Rattle.std.proofs.lemmas.List.{length-take-le, take-append-drop}
 use Rattle.std.proofs.lemmas.Str.{IsUtf8-take, IsUtf8-past_char, encodes-chars, encodes-append, length-encode, len_utf8_bounds}
@@ -47,7 +47,7 @@ ending-short last run passed =
     let is : ending last run ≡ run_after 0 (decompose_canonical last) = ending-passed last run passed in
     omega (arith, run-longest 0 (decompose_canonical last), longest-short 0 (decompose_canonical last), decompose-short last)
 
--- past a passed character that stands close to another
+-- past a passed character that is close to another
 pub scanned_skip : (text rest others : List ℕ) (last end run : ℕ) → ScannedTo text rest (ending last run) → Skips rest last others end → ScannedTo text others (ending end run)
 scanned_skip text rest others last end run at s =
     let short : ending last run ≤ MAX_DECOMPOSITION = ending-short last run s.after in

@@ -11,7 +11,7 @@ use Rattle.uca_model.specs.Source.{GivesNext}
 use Rattle.uca_io.specs.Counts.{one_more}
 use Rattle.uca_window.specs.PassageSource.{state_at, Follows, StandsIn}
 
--- what a call of `next` says of the characters that were left and are left
+-- what a call of `next` says about the characters that were left and are left
 abbrev GivesChar : List ℕ → Option ℕ → List ℕ → Type 0
 GivesChar left given rest = MatchOption given ((left ≡ []) × (rest ≡ left)) (λ c. left ≡ c ∷ rest)
 

@@ -64,7 +64,7 @@ length-open w left h fits =
     let within : length back ≤ MAX_RUN = omega (arith, fits.safe.runs) in
     omega (arith, length-drop 1 (drop w.closed w.points), length-drop w.closed w.points)
 
--- there is room for what a character decomposes to
+-- there is capacity for what a character decomposes to
 pub room_for : (w : WindowState) (c : ℕ) (left : List ℕ) → IsWindow w → Fits w (c ∷ left) → w.closed < w.longest → length w.points + length (decompose_canonical c) ≤ w.longest + MAX_LOOKAHEAD
 room_for w c left h fits few =
     let one : length (nfd (c ∷ [])) ≤ MAX_DECOMPOSITION = All-head IsShort c left (shorts-parts w.points (c ∷ left) fits.safe.short).1 in
@@ -166,9 +166,9 @@ closed-end w left h fits stops few =
     ] in
     h.segments.ended ended ∙ ap length (sym (ap (λ l. nfd (w.points ++ l)) (fits.ended ended) ∙ ap nfd (append-nil w.points) ∙ h.form))
 
--- ---- what the closed points say of the rest
+-- ---- what the closed points say about the rest
 
--- where nothing stands after the closed points, nothing is left
+-- where nothing follows the closed points, nothing is left
 last_segment : (w : WindowState) (left : List ℕ) → IsWindow w → Fits w left → 0 < w.closed → drop w.closed w.points ≡ [] → left ≡ []
 last_segment w left h fits some nothing =
     elim (cases_Bool w.ended) [
@@ -176,7 +176,7 @@ last_segment w left h fits some nothing =
       | inr runs ↦ let more = h.segments.running runs some in absurd (omega (arith, ap length nothing, length-drop w.closed w.points))
     ]
 
--- the rest is the closed points, and the NFD of what stands after them
+-- the rest is the closed points, and the NFD of what follows them
 rest-cut : (w : WindowState) (left : List ℕ) → IsWindow w → Fits w left → 0 < w.closed → rest_of w left ≡ take w.closed w.points ++ nfd (drop w.closed w.points ++ left)
 rest-cut w left h fits some =
     let front = take w.closed w.points in
@@ -371,7 +371,7 @@ not_all_marks : (ps : List ℕ) → begins_segment ps ≡ true → 0 < length ps
 not_all_marks [] h some = absurd (omega arith)
 not_all_marks (p ∷ ps) h some = rw h refl
 
--- the open segment begins with the last starter, where one stands
+-- the open segment begins with the last starter, where there is one
 pub last_starter-open : (ps : List ℕ) (k : ℕ) → IsOpen k ps → last_starter ps ≡ k
 last_starter-open [] k open_at = omega (arith, open_at.within)
 last_starter-open (p ∷ ps) zero open_at = cond-true _ _ _ open_at.nonstarters

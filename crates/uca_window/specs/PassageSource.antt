@@ -1,4 +1,4 @@
--- What a `PassageSource` states, and where its iterator stands in the text.
+-- What a `PassageSource` states, and where its iterator is in the text.
 use Rattle.std.specs.Prelude.{◌≡◌, ℕ, ◌-◌, ◌≤◌, List, length, drop, chars}
 use Rattle.std.specs.Str.{IsUtf8}
 use Rattle.uca_model.specs.Source.{SourceState}

@@ -1,4 +1,4 @@
--- A scan over a text, which counts the nonstarters that stand in a row.
+-- A scan over a text, which counts the nonstarters in a row.
 use Rattle.std.specs.Prelude.{ℕ, ◌≤◌, length}
 use Rattle.uca_weights.specs.declared.limits.TheConstants.{MAX_RUN, MAX_DECOMPOSITION}
 use Rattle.unicode_normalization.specs.Decompose.{decompose_canonical}

@@ -5,7 +5,7 @@ use Rattle.unicode.specs.CanonicalCombiningClass.{canonical_combining_class}
 use Rattle.unicode_normalization.specs.Order.{is_nonstarter}
 use Rattle.uca_model.specs.Window.{begins_segment}
 
--- the first points are whole segments, and after them stands one that is open: more points join it or close it
+-- the first points are whole segments, and after them comes one that is open: more points join it or close it
 pub record IsOpen (closed : ℕ) (points : List ℕ) : Type 0 where
   pub within : closed ≤ length points
   pub begins : 0 < closed → begins_segment (drop closed points) ≡ true

@@ -18,7 +18,7 @@ fn others(block: u8x8) -> u64
     block.simd_ge(u8x8::splat(0x80)).to_bitmask()
 }
 
-/// How many bytes of a block stand before the first that is not ASCII.
+/// How many bytes of a block come before the first that is not ASCII.
 #[inline(always)]
 fn ascii_in(bytes: &[u8], at: usize) -> usize
     requires { at + LANES ≤ length bytes.now }

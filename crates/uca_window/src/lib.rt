@@ -3,8 +3,8 @@
 //! [`Passage::check`] takes a text whose runs of nonstarters are short (compare UAX #15, section 13, Stream-Safe Text
 //! Format), and reports the place of the first long run in any other; [`Passage::of_ascii`] takes bytes that are all ASCII.
 //! [`nfd_of`] is the NFD of such a text, as one list.
-//! A [`Window`] reads the text character by character from a [`Source`] and shows its NFD piece by piece. What it shows
-//! and what it has still to show are together the NFD of the whole text.
+//! A [`Window`] reads the text character by character from a [`Source`] and shows its NFD piece by piece. What it has shown
+//! and what it will still show are together the NFD of the whole text.
 #![tactic(auto)]
 
 mod ascii;

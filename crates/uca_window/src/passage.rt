@@ -14,7 +14,7 @@ use uca_weights::{MAX_DECOMPOSITION, MAX_RUN};
 use unicode_normalization::Form;
 use unicode_normalization::char::{canonical_combining_class, decomposition};
 
-/// How many bytes are a safe text whatever they spell: each brings at most two nonstarters.
+/// The greatest length in bytes at which every text is safe: each byte brings at most two nonstarters.
 const SHORT: usize = MAX_RUN / 2;
 
 /// A text is not safe: a run of nonstarters in its NFD is longer than `MAX_RUN`, or the NFD of a character is
@@ -22,7 +22,7 @@ const SHORT: usize = MAX_RUN / 2;
 #[derive(Clone, Copy, Debug, PartialEq, Eq, Error)]
 #[error("LongRun")]
 pub struct LongRun {
-    /// The byte at which the first character begins with which the text is no longer safe.
+    /// The byte offset of the first character with which the text is no longer safe.
     pub at: usize,
 }
 
@@ -36,7 +36,7 @@ pub struct Passage<'t> {
 impl<'t> Passage<'t> {
     ghost use Rattle.uca_window.specs.Passage.{bytes_of, text_of};
 
-    /// Takes a text if it is safe. It takes no memory.
+    /// Checks that a text is safe, and wraps it. It does not allocate.
     pub fn check(text: &'t str) -> Result<Passage<'t>, LongRun>
         ensures safe { IsOk result ↔ IsSafe (chars text.now) }
         ensures same { IfOk result (λ p. bytes_of p ≡ text.now) }
@@ -49,7 +49,7 @@ impl<'t> Passage<'t> {
         Ok(Passage { text })
     }
 
-    /// Takes bytes if they are all ASCII: these characters are starters, so no run of nonstarters is long. It takes no memory.
+    /// Wraps bytes if they are all ASCII: such characters are starters, so there is no run of nonstarters. It does not allocate.
     pub fn of_ascii(bytes: &'t [u8]) -> Option<Passage<'t>>
         ensures ascii { IsSome result ↔ IsAscii bytes.now }
         ensures same { IfSome result (λ p. bytes_of p ≡ bytes.now) }
@@ -61,7 +61,7 @@ impl<'t> Passage<'t> {
         Some(Passage::of_safe(unsafe { from_utf8_unchecked(bytes) }))
     }
 
-    /// A text that was found safe before.
+    /// A text that is known to be safe.
     pub fn of_safe(text: &'t str) -> Passage<'t>
         requires { IsSafe (chars text.now) }
         ensures { bytes_of result ≡ text.now }
@@ -80,7 +80,7 @@ impl<'t> Passage<'t> {
 
 /// Goes over the characters to the first with which the text is no longer safe. The NFD has its nonstarters in
 /// another order, but their runs are as long as those of the decompositions, so nothing is put in order. Most characters
-/// are passed: the nonstarters after one of these are counted from the last alone, and between two that stand close together
+/// are passed: the nonstarters after one of these are counted from the last alone, and between two that are close together
 /// nothing is counted.
 fn scan(text: &str) -> Result<(), LongRun>
     ensures safe { IsOk result ↔ IsSafe (chars text.now) }
@@ -123,7 +123,7 @@ fn own_run(c: char) -> usize
     run_after_char(0, c).unwrap_or(0)
 }
 
-/// How many nonstarters stand in a row at a place: those of the character before it where that is passed, else `run`.
+/// How many nonstarters there are in a row at a place: those of the character before it where that is passed, else `run`.
 fn run_at(last: char, run: usize) -> usize
     ensures { result ≡ ending last run }
 {
@@ -142,8 +142,8 @@ fn run_with(last: char, run: usize, c: char) -> Option<usize>
     run_after_char(run_at(last, run), c)
 }
 
-/// How many nonstarters stand in a row after a character, unless they are too many or its decomposition is too
-/// long. `count` stand before it.
+/// How many nonstarters there are in a row after a character, unless they are too many or its decomposition is too
+/// long. `count` come before it.
 fn run_after_char(count: usize, c: char) -> Option<usize>
     requires { count ≤ MAX_RUN }
     ensures count { IfSome result (λ n. (n ≤ MAX_RUN) × (n ≡ run_after count (decompose_canonical c))) }
@@ -161,7 +161,7 @@ fn run_after_char(count: usize, c: char) -> Option<usize>
     run_through(count, points)
 }
 
-/// How many nonstarters stand in a row at the end of the code points, unless too many stand in a row somewhere.
+/// How many nonstarters there are in a row at the end of the code points, unless some run is too long.
 fn run_through(count: usize, points: &[char]) -> Option<usize>
     requires { count ≤ MAX_RUN }
     ensures count { IfSome result (λ n. n ≡ run_after count points.now) }

@@ -7,7 +7,7 @@ use crate::source::Source;
 use std::marker::Model;
 use std::str::Chars;
 
-/// The characters of a [`Passage`]. It takes no memory.
+/// The characters of a [`Passage`]. It does not allocate.
 #[derive(Drop)]
 pub struct PassageSource<'t> {
     text: &'t str,
@@ -35,7 +35,7 @@ impl<'t> PassageSource<'t> {
     ghost use Rattle.uca_model.specs.Source.{source_of};
     ghost use Rattle.uca_window.specs.Passage.{text_of};
 
-    /// A source that stands at the start of the passage.
+    /// A source at the start of the passage.
     pub fn new(p: &Passage<'t>) -> PassageSource<'t>
         ensures value { result ≡ source_of (text_of p.now) }
         ensures safe { IsSafe (text_of p.now) }

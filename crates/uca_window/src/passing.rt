@@ -10,7 +10,7 @@ use uca_weights::{MAX_DECOMPOSITION, MAX_RUN};
 /// How many bytes are looked at together.
 const LANES: usize = 32;
 
-/// How many bytes may stand after a passed character, whatever they spell: the NFD of that character ends in fewer than
+/// How many bytes may follow a passed character, whatever they spell: the NFD of that character ends in fewer than
 /// `MAX_DECOMPOSITION` nonstarters, and each byte brings at most two more.
 pub(crate) const STRIDE: usize = (MAX_RUN - MAX_DECOMPOSITION) / 2;
 
@@ -51,7 +51,7 @@ fn is_passed_between(c: char) -> bool
         || ('\u{671}' <= c && c < '\u{6D6}')
 }
 
-/// Whether a character is of a range in which each NFD begins with a starter. Whatever nonstarters stood before it, they
+/// Whether a character is of a range in which each NFD begins with a starter. Whatever nonstarters came before it, they
 /// end there.
 pub(crate) fn is_passed(c: char) -> bool
     ensures { result ≡ is_passed c }
@@ -87,7 +87,7 @@ fn stops(block: u8x32) -> u64
         | block.simd_ge(u8x32::splat(0xEE))).to_bitmask()
 }
 
-/// How many bytes of a block stand before the first that is a stop.
+/// How many bytes of a block come before the first that is a stop.
 #[inline(always)]
 fn passed_in(bytes: &[u8], at: usize) -> usize
     requires { at + LANES ≤ length bytes.now }
@@ -101,7 +101,7 @@ fn passed_in(bytes: &[u8], at: usize) -> usize
     }
 }
 
-/// How many bytes of a text stand before the first that is a stop.
+/// How many bytes of a text come before the first that is a stop.
 fn passed_len(bytes: &[u8]) -> usize
     ensures within { result ≤ length bytes.now }
     ensures passed { (k : ℕ) → k < result → is_stop (slice_index bytes.now k) ≡ false }

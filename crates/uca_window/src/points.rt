@@ -17,7 +17,7 @@ pub(crate) const ROOM: usize = MAX_KEY + MAX_LOOKAHEAD;
 const FIRST_DECOMPOSED: char = '\u{C0}';
 
 // Puts what a character decomposes to after points in canonical order, and keeps them in order. The first `closed`
-// points stand in closed segments; gives how many do then.
+// points are in closed segments; returns how many are then.
 pub(crate) fn push_decomposed(points: &mut ArrayVec<char, ROOM>, closed: usize, c: char) -> usize
     requires room { array_vec_len points.old + length (decompose_canonical c) ≤ ROOM }
     requires ordered { is_ordered points.old.items ≡ true }
@@ -79,7 +79,7 @@ fn place_of(points: &[char], class: u8) -> usize
     at
 }
 
-// Takes the first points out.
+// Removes the first points.
 pub(crate) fn drop_points(points: &mut ArrayVec<char, ROOM>, n: usize)
     requires { n ≤ array_vec_len points.old }
     ensures { points.new.items ≡ drop n points.old.items }

@@ -11,7 +11,7 @@ use std::marker::Model;
 
 /// A stretch of a text in NFD, at most `longest + MAX_LOOKAHEAD` code points of it. It borrows a source at each call
 /// that reads. Its rest over a source is the NFD of one list: its points, and then the characters that the source has
-/// not given yet. It takes no memory.
+/// not given yet. It does not allocate.
 #[derive(Drop)]
 pub struct Window {
     points: ArrayVec<char, ROOM>,
@@ -72,8 +72,8 @@ impl Window {
         self.closed
     }
 
-    /// Reads on until at least `longest` points are closed, or to the end of the text, and no further: it asks for a
-    /// character only while fewer are closed. So what it holds follows from what it held and from the unread characters.
+    /// Reads on until at least `longest` points are closed, or to the end of the text, and no further: it reads a
+    /// character only while fewer are closed. So what it holds depends only on what it held and on the unread characters.
     /// It leaves the rest as it is.
     pub fn fill<S: Source>(&mut self, source: &mut S)
         requires { Fits self.old (unread (S.state source.old)) }
@@ -90,7 +90,7 @@ impl Window {
         }
     }
 
-    /// Takes the first points out, and so out of the rest.
+    /// Removes the first `n` points, and so removes them from the rest.
     pub fn drop_front(&mut self, n: usize)
         requires { n ≤ self.old.closed }
         ensures points { self.new ≡ record self.old { points = drop n self.old.points; closed = self.old.closed - n } }
@@ -101,7 +101,7 @@ impl Window {
         self.closed -= n;
     }
 
-    /// Takes out the nonstarter at a place among the closed points, and so out of the rest.
+    /// Removes the nonstarter at a place among the closed points, and so removes it from the rest.
     pub fn remove(&mut self, at: usize)
         requires closed { at < self.old.closed }
         requires nonstarter { 0 < canonical_combining_class (slice_index self.old.points at) }

@@ -1,4 +1,4 @@
-//! Tests of `uca_window`. They stand in a crate of their own, so that the crate is not proved once more with them.
+//! Tests of `uca_window`. They live in a crate of their own, so that the crate is not proved again with them.
 #![tactic(auto)]
 
 #[cfg(test)]

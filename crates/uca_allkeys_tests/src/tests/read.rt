@@ -7,7 +7,7 @@ use uca_table::Table;
 use uca_testing::{SMALL_TEXT, WRITTEN_BY_HAND};
 use uca_weights::{MAX_INPUT, Range, Reader, Reading, Refused};
 
-/// Gives so many bytes a call at most, and fails at the end if it is asked to.
+/// Gives at most this many bytes a call, and fails at the end if told to.
 #[derive(Drop)]
 struct Slow<'t> {
     rest: &'t [u8],
@@ -33,7 +33,7 @@ impl<'t> Reader for Slow<'t> {
     }
 }
 
-/// Gives lines of so many `#`, up to so many bytes in all.
+/// Gives lines of this many `#`, up to this many bytes in all.
 #[derive(Drop)]
 struct Comments {
     width: usize,
@@ -71,7 +71,7 @@ fn slow_reader(rest: &[u8], step: usize, fails: bool) -> Slow<'_> {
     }
 }
 
-/// Lines of so many `#`, up to so many bytes in all.
+/// Lines of this many `#`, up to this many bytes in all.
 fn comment_reader(width: usize, left: usize) -> Comments {
     Comments {
         width,
@@ -117,7 +117,7 @@ fn fault(answer: Result<Table, ReadFault>) -> Option<(u64, ReadCause)> {
     }
 }
 
-/// Stops a test where the element of a key is not this one.
+/// Fails a test where the element of a key is not this one.
 fn assert_element(rt: &impl Abort, table: &Table, key: &[char], starred: bool, l1: u16) {
     let elements = table.get(key).expect(rt, "an entry");
     assert!(rt; elements[0].starred == starred);
@@ -130,7 +130,7 @@ const FIRST_RANGE: Range = Range {
     base: 0xFB00,
 };
 
-/// Looks at the table of the small text.
+/// Checks the table of the small text.
 fn assert_small(rt: &impl Abort, answer: Result<Table, ReadFault>) {
     let table = answer.expect(rt, "a table");
     assert!(rt; table.longest() == 3);
@@ -155,7 +155,7 @@ fn with_returns(alloc: Global, text: &[u8]) -> Result<Vec<u8>, AllocError> {
     Ok(lines)
 }
 
-/// Some pieces of text, each so many times.
+/// Some pieces of text, each this many times.
 fn repeated(alloc: Global, pieces: &[(&str, usize)]) -> Result<Vec<u8>, AllocError> {
     let mut text = Vec::new(alloc);
     for (piece, count) in pieces {
@@ -166,7 +166,7 @@ fn repeated(alloc: Global, pieces: &[(&str, usize)]) -> Result<Vec<u8>, AllocErr
     Ok(text)
 }
 
-/// Looks at the answer for a text, given at once and byte by byte.
+/// Checks the answer for a text, given at once and byte by byte.
 fn assert_answer(rt: &impl Abort, alloc: Global, text: &[u8], answer: Option<(u64, ReadCause)>) {
     assert!(rt; fault(read(alloc, text)) == answer);
     assert!(rt; fault(read_slowly(alloc, text, 1, false)) == answer);
@@ -224,7 +224,7 @@ const CUT_LINES: [(&'static str, ReadCause); 3] = [
     ("0041", ReadCause::NoSemicolon),
 ];
 
-/// Looks at the answer for the small text, cut after the beginning of its thirteenth line.
+/// Checks the answer for the small text, cut after the beginning of its thirteenth line.
 fn assert_cut(rt: &impl Abort, alloc: Global, front: usize, left: &[u8], cause: ReadCause) {
     let text = WRITTEN_BY_HAND;
     let line = text.get(front..).expect(rt, "a line");
@@ -242,7 +242,7 @@ fn a_text_is_cut_in_its_thirteenth_line(rt: HostRuntime) {
     }
 }
 
-/// Stops a test where a text is refused, or its table has something.
+/// Fails a test where a text is refused, or its table has something.
 fn assert_empty(rt: &impl Abort, answer: Result<Table, ReadFault>) {
     let table = answer.expect(rt, "a table");
     assert!(rt; table.longest() == 1);
@@ -473,7 +473,7 @@ const LIMITS: [(&'static [(&'static str, usize)], Option<(u64, ReadCause)>); 11]
     ),
 ];
 
-/// Looks at the answer for some pieces of text, each so many times.
+/// Checks the answer for some pieces of text, each this many times.
 fn assert_pieces(
     rt: &impl Abort,
     alloc: Global,
@@ -556,7 +556,7 @@ const EARLY_FAULTS: [(&'static str, u64, ReadCause); 6] = [
 
 #[test]
 fn a_fault_before_anything_was_added_takes_no_memory(rt: HostRuntime) {
-    // Each is asked for once: where no growth is asked for, none can be refused.
+    // Each is requested once: where no growth is requested, none can be refused.
     for (text, line, cause) in &EARLY_FAULTS {
         let found = fault(read_table(rt.alloc(), &mut Reading::new(text.as_bytes())));
         assert!(rt; found == Some((*line, *cause)), "{text:?}");

@@ -10,7 +10,7 @@ use uca_table::Table;
 use uca_testing::{SMALL_TABLE, element};
 use uca_weights::{Settings, Strength, Variable};
 
-/// The built-in table, asked for once more where memory was refused.
+/// The built-in table, tried again where memory was refused.
 fn table(rt: &impl Abort, alloc: Global) -> Table {
     match built_in(alloc) {
         Ok(table) => table,
@@ -18,7 +18,7 @@ fn table(rt: &impl Abort, alloc: Global) -> Table {
     }
 }
 
-/// Stops a test where a table has not the entries of the small one.
+/// Fails a test where a table has not the entries of the small one.
 fn assert_entries(rt: &impl Abort, t: &Table) {
     for (key, starred, weights) in &SMALL_TABLE {
         let want = [element(*starred, *weights)];
@@ -76,7 +76,7 @@ const STRENGTHS: [Strength; 4] = [
 
 const WEIGHTINGS: [Variable; 3] = [Variable::NonIgnorable, Variable::Blanked, Variable::Shifted];
 
-/// Stops a test where `compare` says otherwise than the keys of `key` at these settings.
+/// Fails a test where `compare` says otherwise than the keys of `key` at these settings.
 fn assert_agreement(rt: &impl Abort, alloc: Global, settings: Settings) -> Result<(), AllocError> {
     let input = whole(NEIGHBOURS.as_bytes());
     let keys = Given::new(Task::Key, input).at(settings).output(rt, alloc);

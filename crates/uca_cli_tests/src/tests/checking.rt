@@ -7,7 +7,7 @@ use uca_testing::Pieces;
 /// A file whose last line is below the first one.
 const FAILING: &[u8] = b"0062\nD800\n0061;x\n";
 
-/// What comes of it.
+/// Its report.
 const REPORT: &[u8] = b"lines 3\nskipped 1\nfirst failure 3\n";
 
 /// The job `check` with the built-in table.

@@ -14,7 +14,7 @@ const BROKEN: &[u8] = b"\
 /// What is found in it.
 const FINDINGS: &[u8] = b"WF1\nWF2\nWF3\nWF4\nWF5\n";
 
-/// The job `lint` with the built-in table. The reader of the input fails at each call, so that a job that reads it is not done.
+/// The job `lint` with the built-in table. The reader of the input fails at each call, so that a job that reads it fails.
 fn lint() -> Given<'static> {
     Given::new(Task::Lint, failing())
 }
@@ -34,7 +34,7 @@ const TABLES: [(&'static [u8], u8, &'static [u8]); 8] = [
     (b"", 0, b""),
     (b"0061 ; [.1000.0020.0002]\n", 0, b""),
     (BROKEN, 1, FINDINGS),
-    // A primary weight of 8000 and up needs no other weights.
+    // A primary weight of 8000 or more needs no other weights.
     (b"0061 ; [.8000.0020.0002][.1000.0000.0000]\n", 1, b"WF1\n"),
     (b"0061 ; [.FB40.0020.0002][.8000.0000.0000]\n", 0, b""),
     (

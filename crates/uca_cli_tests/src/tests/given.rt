@@ -1,4 +1,4 @@
-//! A job and what is read for it, so that it can be asked for once more where memory was refused.
+//! A job and what is read for it, so that it can be tried again where memory was refused.
 use super::{PLAIN, wants_memory};
 use std::alloc::Global;
 use std::process::Abort;
@@ -89,7 +89,7 @@ impl<'b> Given<'b> {
         )
     }
 
-    /// Whether the command takes memory for each line that it writes. Another one takes all before the first byte goes out.
+    /// Whether the command allocates for each line that it writes. Any other allocates before it writes the first byte.
     fn takes_memory_by_line(&self) -> bool {
         match self.command {
             Task::Elements => true,
@@ -98,8 +98,8 @@ impl<'b> Given<'b> {
         }
     }
 
-    /// What comes of the job. It is asked for once more where memory was refused, for a run refuses one growth at most: the
-    /// writer then begins anew.
+    /// The result of the job. It is tried again where memory was refused, for a run refuses one growth at most: the
+    /// writer then starts again.
     pub(super) fn answer(
         &self,
         rt: &impl Abort,
@@ -120,7 +120,7 @@ impl<'b> Given<'b> {
         self.perform(alloc, writer)
     }
 
-    /// Whether the job answers this and writes exactly this.
+    /// Whether the job returns this and writes exactly this.
     pub(super) fn comes_to(
         &self,
         rt: &impl Abort,
@@ -138,12 +138,12 @@ impl<'b> Given<'b> {
         self.comes_to(rt, alloc, Ok(0), output)
     }
 
-    /// Whether the job is not done for this reason, and writes nothing.
+    /// Whether the job fails for this reason, and writes nothing.
     pub(super) fn is_refused(&self, rt: &impl Abort, alloc: Global, fault: CliFault) -> bool {
         self.comes_to(rt, alloc, Err(fault), b"")
     }
 
-    /// Whether a writer with room for less than the output gets exactly its front, and the fault says so.
+    /// Whether a writer too small for the output gets exactly its front, and the fault says so.
     pub(super) fn stops_at(
         &self,
         rt: &impl Abort,
@@ -161,7 +161,7 @@ impl<'b> Given<'b> {
             && output.len() - left.min(output.len()) == room
     }
 
-    /// Stops a test where a writer with room for less than the output, which fails or takes none, gets other bytes than its front.
+    /// Fails a test where a writer too small for the output, which fails or takes none, gets other bytes than its front.
     pub(super) fn assert_stop(&self, rt: &impl Abort, alloc: Global, output: &[u8], room: usize) {
         let fails = self.stops_at(rt, alloc, output, room, WriteCause::Failed);
         assert!(rt; fails, "{:?} {room} bytes", self.command);

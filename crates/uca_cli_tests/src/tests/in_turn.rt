@@ -9,7 +9,7 @@ use uca_weights::WriteCause;
 /// How many bytes of a table are read at once.
 const STEP: usize = 16;
 
-/// A command over a table, rules and an input, and what it answers and writes.
+/// A command over a table, rules and an input, and what it returns and writes.
 #[derive(Clone, Copy)]
 struct Case {
     command: Task,
@@ -133,7 +133,7 @@ fn line_after(front: &[u8]) -> u64 {
     front.split(|b| *b == b'\n').count() as u64
 }
 
-/// The bytes of a text that so many calls give.
+/// The bytes of a text that this many calls return.
 fn front_of(text: &[u8], step: usize, calls: usize) -> &[u8] {
     &text[..calls.saturating_mul(step).min(text.len())]
 }

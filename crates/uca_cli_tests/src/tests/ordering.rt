@@ -41,7 +41,7 @@ fn wants_memory(answer: Result<u64, CliFault>) -> bool {
     }
 }
 
-/// Puts lines in order, once more where memory was refused. Then nothing went out yet.
+/// Puts lines in order, retrying where memory was refused. Then nothing was written yet.
 fn ordered<I: Reader + Copy>(
     rt: &impl Abort,
     alloc: Global,
@@ -60,7 +60,7 @@ fn ordered<I: Reader + Copy>(
     order_by_own(alloc, settings, &mut input, writer)
 }
 
-/// Whether this comes of an input, and exactly these bytes are written.
+/// Whether an input has this result, and exactly these bytes are written.
 fn comes_to<I: Reader + Copy>(
     rt: &impl Abort,
     alloc: Global,
@@ -87,7 +87,7 @@ const IDENTICAL: Settings = Settings {
 /// Settings, an input, how many lines it has, and the lines in their order.
 const ORDERED_LINES: [(Settings, &'static [u8], u64, &'static [u8]); 11] = [
     (PLAIN, LINES, 5, ORDERED),
-    // `A` and `a` have one key at the first level, and stay as they stood.
+    // `A` and `a` have one key at the first level, and keep their order.
     (PRIMARY, LINES, 5, b"A\na\nb\ncz\nch\n"),
     (PRIMARY, b"a\nA\na\n", 3, b"a\nA\na\n"),
     // U+0001 has no weight, and counts at the fifth level alone.
@@ -105,7 +105,7 @@ const ORDERED_LINES: [(Settings, &'static [u8], u64, &'static [u8]); 11] = [
     // One CR before LF is not part of the line, and another one is.
     (PLAIN, b"b\r\na\r", 2, b"a\nb\n"),
     (PLAIN, b"\r\r\na\n", 2, b"a\n\r\n"),
-    // The signs of a line go out, also where its key has none of them.
+    // The characters of a line are written, also where its key has none of them.
     (SHIFTED, b"-b\nc\n a\n", 3, b" a\n-b\nc\n"),
 ];
 
@@ -137,7 +137,7 @@ fn empty_lines_without_end_are_too_large(rt: HostRuntime) {
     assert!(rt; comes_to(&rt, rt.alloc(), PLAIN, lines, want, b""));
 }
 
-/// Whether a writer with so much room gets exactly the front of the output, and the fault says so.
+/// Whether a writer of this capacity gets exactly the front of the output, and the fault says so.
 fn stops(
     rt: &impl Abort,
     alloc: Global,
@@ -165,7 +165,7 @@ fn a_writer_that_stops_gets_the_front(rt: HostRuntime) {
     }
 }
 
-/// A line of so many `a`, after `b`, or before it.
+/// A line of this many `a`, after `b`, or before it.
 fn long_lines(alloc: Global, count: usize) -> Result<(Vec<u8>, Vec<u8>), AllocError> {
     let line = repeated(alloc, b"a", count)?;
     let mut input = repeated(alloc, b"b\n", 1)?;
@@ -175,7 +175,7 @@ fn long_lines(alloc: Global, count: usize) -> Result<(Vec<u8>, Vec<u8>), AllocEr
     Ok((input, output))
 }
 
-/// Stops a test where a line of so many characters does not go out whole, or its front to a writer that takes no more.
+/// Fails a test where a line of this many characters is not written whole, or its front to a writer that takes no more.
 fn assert_long(rt: &impl Abort, alloc: Global, count: usize) -> Result<(), AllocError> {
     let (input, output) = long_lines(alloc, count)?;
     let all = output.len();

@@ -1,4 +1,4 @@
-//! The rules of a job: what comes of their reader, and the table that they tailor.
+//! The rules of a job: the result of reading them, and the table that they tailor.
 use super::given::{Given, failing, output_refused, whole};
 use super::{PLAIN, assert_text, input_refused, plain_job, wants_memory};
 use std::alloc::Global;
@@ -10,12 +10,12 @@ use uca_testing::{Expecting, Pieces, Repeating};
 use uca_weights::{Reader, WriteCause};
 
 /// A command with the built-in table and these rules. The reader of the input fails at its first call, so that a job that reads it
-/// before the rules are taken is not done.
+/// before the rules are taken fails.
 fn ruled(command: Task, rules: &[u8]) -> Given<'_> {
     Given::new(command, failing()).by(whole(rules))
 }
 
-/// What comes of the bytes of rules in a reader, asked for once more where memory was refused. The reader of the input and the
+/// The result for the bytes of rules in a reader, tried again where memory was refused. The reader of the input and the
 /// writer fail at their first calls.
 fn answer_of<U: Reader + Copy>(alloc: Global, rules: U) -> Result<u8, CliFault> {
     let answer = answer_once(alloc, rules);

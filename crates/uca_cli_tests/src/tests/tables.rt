@@ -1,4 +1,4 @@
-//! The job `table`, and what comes of the reader of a table.
+//! The job `table`, and the result of reading a table.
 use super::given::{Given, failing, whole};
 use std::test::Fail;
 use uca_allkeys::{ReadCause, ReadFault};

@@ -11,7 +11,7 @@ const IDENTICAL: [&str; 3] = ["key", "--strength", "identical"];
 /// The key of `a`, and after it the code point.
 const KEY: &[u8] = b"10 00 00 00 00 20 00 00 00 02 00 00 00 00 00 00 61\n";
 
-/// The job that words ask for, asked for once more where memory was refused.
+/// The job that words request, tried again where memory was refused.
 fn job_again(alloc: Global, words: &[&str]) -> Result<Job, JobFault> {
     match job_of(alloc, words) {
         Err(JobFault::OutOfMemory) => job_of(alloc, words),
@@ -26,7 +26,7 @@ fn perform_over(alloc: Global, job: &Job, writer: &mut Expecting) -> Result<u8, 
     perform(alloc, job, table, rules, &mut whole(b"a\n"), writer)
 }
 
-/// Whether a job writes exactly the key. It is done once more where memory was refused.
+/// Whether a job writes exactly the key. It is tried again where memory was refused.
 fn writes_key(alloc: Global, job: &Job) -> bool {
     let begun = Expecting::new(KEY, usize::MAX, WriteCause::Failed);
     let mut writer = begun;

@@ -13,10 +13,10 @@ use uca_conform::{Conformance, conform};
 use uca_table::Table;
 use uca_weights::{Reader, Settings, WriteFault, Writer, write_whole};
 
-/// Room for a report: three names, and numbers of at most twenty digits.
+/// A buffer for a report: three names, and numbers of at most twenty digits.
 const REPORT: usize = 96;
 
-/// Appends bytes for which there is room.
+/// Appends bytes for which there is capacity.
 fn push(text: &mut ArrayVec<u8, REPORT>, part: &[u8])
     requires { length text.old.items + length part.now ≤ 96 }
     ensures { text.new.items ≡ text.old.items ++ part.now }
@@ -70,8 +70,8 @@ fn write_report<W: Writer>(report: Conformance, w: &mut W) -> Result<(), WriteFa
     write_whole(w, report_text(report).as_slice())
 }
 
-/// Reads a test file, and writes what a table makes of it. Its status is 1 where a line fails, and else 0. It takes no
-/// memory.
+/// Reads a test file, and writes how a table sorts it. Returns the exit status: 1 where a line fails, and otherwise 0. It does not
+/// allocate.
 pub fn run<I: Reader, W: Writer>(
     t: &Table,
     s: Settings,

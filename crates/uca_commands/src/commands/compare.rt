@@ -49,7 +49,7 @@ fn send_order<W: Writer>(
     out.write(w, order_line(order))
 }
 
-/// Writes the order of each two neighbours among the lines of an input, which was checked.
+/// Writes the order of each pair of neighbouring lines of an input that was checked.
 pub fn write_orders<W: Writer>(
     t: &Table,
     s: Settings,
@@ -78,7 +78,7 @@ pub fn write_orders<W: Writer>(
     out.flush(w)
 }
 
-/// Writes the order of each two neighbours among the lines of its input.
+/// Writes the order of each pair of neighbouring lines of its input.
 pub fn run<I: Reader, W: Writer>(
     alloc: Global,
     t: &Table,

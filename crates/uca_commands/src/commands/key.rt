@@ -34,7 +34,7 @@ pub fn run<I: Reader, W: Writer>(
     Ok(0)
 }
 
-/// Writes the sort key of the one line of an input, which was checked. It takes no memory.
+/// Writes the sort key of the one line of an input, which was checked. It does not allocate.
 fn write_raw_key<W: Writer>(
     t: &Table,
     s: Settings,

@@ -60,7 +60,7 @@ pub fn write_findings<W: Writer>(t: &Table, w: &mut W) -> Result<u8, WriteFault>
     Ok(u8::from(!broken.is_empty()))
 }
 
-/// Writes which conditions the table breaks. It has no input, and its status is 1 where there are any.
+/// Writes which conditions the table breaks. It has no input. Returns the exit status: 1 where there are any, and otherwise 0.
 pub fn run<W: Writer>(t: &Table, output: &mut W) -> Result<u8, CliFault>
     ensures done { (s : Settings) (input : ReaderState) → IfOk result (Does lint_command t.now s
         (record { input = input; output = W.state output.old })

@@ -7,7 +7,7 @@ use uca_testing::table_from;
 use uca_weights::Variable;
 use uca_window::Passage;
 
-/// The bounds of a safe text, asked for once more where memory was refused.
+/// The bounds of a safe text, tried again where memory was refused.
 fn bounds_again(
     rt: &impl Abort,
     alloc: Global,

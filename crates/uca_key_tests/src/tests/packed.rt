@@ -8,7 +8,7 @@ use uca_testing::table_from;
 use uca_weights::{Settings, Strength, Variable};
 use uca_window::Passage;
 
-/// The packed key of a safe text, asked for once more where memory was refused.
+/// The packed key of a safe text, tried again where memory was refused.
 fn packed_again(
     rt: &impl Abort,
     alloc: Global,
@@ -23,7 +23,7 @@ fn packed_again(
     }
 }
 
-/// Stops a test where the packed key of a text is not this one.
+/// Fails a test where the packed key of a text is not this one.
 fn assert_packed(rt: &impl Abort, alloc: Global, t: &Table, (text, strength, v, wanted): &KeyRow) {
     let key = packed_again(rt, alloc, t, settings(*strength, *v), text);
     assert!(rt; key.as_slice() == *wanted, "{text:?} {strength:?} {v:?}");
@@ -147,7 +147,7 @@ fn other_weights_end_a_run(rt: HostRuntime) {
     }
 }
 
-/// How many `a` stand before an end, how long the first level and what ends it are, and what comes after that.
+/// How many `a` come before an end, how long the first level and what ends it are, and what comes after that.
 const LONG_RUNS: [(usize, &'static str, usize, &'static [u8]); 6] = [
     (82, "", 166, &[0xA5]),
     (83, "", 168, &[0xA7]),

@@ -33,7 +33,7 @@ fn a_mark_that_changed_changes_the_keys_of_texts_that_have_it_in_their_nfd(rt: H
     assert!(rt; old.as_slice() == new.as_slice());
 }
 
-/// The small table with a range of ideographs, added once more where memory was refused.
+/// The small table with a range of ideographs, added again where memory was refused.
 fn widened(rt: &impl Abort, alloc: Global) -> Table {
     let mut t = table(rt, alloc);
     let added = match t.add_ideographs('\u{323B0}', '\u{33479}') {

@@ -15,7 +15,7 @@ const TERTIARY: Settings = Settings {
 
 const KEY_OF_A: &[u8] = &[0x10, 0, 0, 0, 0, 0x20, 0, 0, 0, 2];
 
-/// Stops a test where a writer with room for a part of the key of `a` gets other bytes, or a fault says otherwise.
+/// Fails a test where a writer with capacity for a part of the key of `a` gets other bytes, or a fault says otherwise.
 fn assert_stopped(rt: &impl Abort, t: &Table, p: &Passage, room: usize, cause: WriteCause) {
     let mut writer = Expecting::new(KEY_OF_A, room, cause);
     let stopped = write_key(&mut writer, t, TERTIARY, p);
@@ -43,7 +43,7 @@ const CHARACTERS: [char; 16] = [
     '\u{301}', '\u{308}', '\u{323}', '-',
 ];
 
-/// Stops a test where what `write_key` writes is not the key.
+/// Fails a test where what `write_key` writes is not the key.
 fn assert_written(rt: &impl Abort, alloc: Global, t: &Table, s: Settings, p: &Passage) {
     let text = p.as_str();
     let key = key_again(rt, alloc, t, s, text);

@@ -5,7 +5,7 @@ use uca_match::{Match, matches_of};
 use uca_table::Table;
 use uca_window::Passage;
 
-/// The matches of a safe text, asked for once more where memory was refused.
+/// The matches of a safe text, tried again where memory was refused.
 fn matches_again(rt: &impl Abort, alloc: Global, t: &Table, text: &str) -> Vec<Match> {
     let p = Passage::check(text).ok().expect(rt, "a safe text");
     match matches_of(alloc, t, &p) {

@@ -17,7 +17,7 @@ use uca_testing::{plain, source_of};
 use uca_weights::{Element, MAX_KEY};
 use uca_window::{Passage, Source};
 
-/// The elements of what a source has not given yet, one by one.
+/// The elements of what a source has not returned yet, one by one.
 fn elements_in_turn<S: Source>(
     alloc: Global,
     t: &Table,
@@ -34,7 +34,7 @@ fn elements_in_turn<S: Source>(
     Ok(all)
 }
 
-/// The elements of a safe text one by one, asked for once more where memory was refused.
+/// The elements of a safe text one by one, tried again where memory was refused.
 fn in_turn_again(rt: &impl Abort, alloc: Global, t: &Table, text: &str) -> Vec<Element> {
     let p = Passage::check(text).ok().expect(rt, "a safe text");
     match elements_in_turn(alloc, t, &mut source_of(&p)) {
@@ -136,7 +136,7 @@ fn a_source_is_asked_once_for_each_character_and_for_the_end(rt: HostRuntime) {
     assert_asked_once(&rt, &t);
 }
 
-/// Checks that characters can be read before the elements are asked for.
+/// Checks that characters can be read before the elements are requested.
 fn assert_read_first(rt: &impl Abort, t: &Table) {
     let p = Passage::check("ch").ok().expect(rt, "a safe text");
     let mut source = source_of(&p);
@@ -192,7 +192,7 @@ const LONG_KEYS: &[u8] = b"\
 0061 0061 0061 0061 0061 0061 0061 0061 0061 0061 0061 0061 0061 0061 0323 0301 ; [.1023.0020.0002]
 ";
 
-/// A text in which long runs of one letter stand, by a number.
+/// A text with long runs of one letter, chosen by a number.
 fn generated_runs(alloc: Global, number: u32) -> Result<String, AllocError> {
     let pieces = [
         "aaaaaaaaaaaaaaaaaaaaaaaaaaaaa",
@@ -213,7 +213,7 @@ fn generated_runs(alloc: Global, number: u32) -> Result<String, AllocError> {
     Ok(text)
 }
 
-/// That text, made once more where memory was refused.
+/// That text, retrying where memory was refused.
 fn runs_again(rt: &impl Abort, alloc: Global, number: u32) -> String {
     match generated_runs(alloc, number) {
         Ok(text) => text,

@@ -4,7 +4,7 @@ use std::process::Abort;
 use std::test::Fail;
 use uca_table::{Element, Ideographs, RangeFault, Table};
 
-/// Adds a range of ideographs, once more where memory was refused.
+/// Adds a range of ideographs, retrying where memory was refused.
 fn add(table: &mut Table, first: char, last: char) -> Result<(), RangeFault> {
     match table.add_ideographs(first, last) {
         Err(RangeFault::OutOfMemory) => table.add_ideographs(first, last),
@@ -78,7 +78,7 @@ fn elements_of(table: &Table, alloc: Global, c: char) -> Result<Vec<Element>, Al
     Ok(elements)
 }
 
-/// Stops a test where a code point has not two elements with these primary weights.
+/// Fails a test where a code point has not two elements with these primary weights.
 fn assert_pair(
     rt: &impl Abort,
     alloc: Global,
@@ -103,16 +103,5 @@ fn elements_of_texts_follow_added_ideographs(rt: HostRuntime) -> Result<(), Fail
     // Made ready, the table answers the same; so it does where memory is refused.
     let _ready = table.prepare(alloc);
     assert_pair(&rt, alloc, &table, '\u{E000}', [0xFB81, 0xE000])?;
-    Ok(())
-}
-
-#[test]
-fn another_table_takes_added_ideographs(rt: HostRuntime) -> Result<(), Fail> {
-    let alloc = rt.alloc();
-    let table = widened(&rt, alloc);
-    let mut other = small_table(&rt, alloc);
-    other.take_ideographs(alloc, &table)?;
-    assert!(rt; other.ideographs() == ADDED.as_slice());
-    assert_implicit(&rt, &other, &[('\u{323B0}', 0xFB86, 0xA3B0)]);
     Ok(())
 }

@@ -52,7 +52,7 @@ fn one_table_breaks_all_conditions(rt: HostRuntime) {
     assert_broken(&rt, rt.alloc(), &ALL_BROKEN, &ALL);
 }
 
-/// Stops a test whose entries break other conditions.
+/// Fails a test whose entries break other conditions.
 fn assert_broken(rt: &impl Abort, alloc: Global, entries: &[Entry], wanted: &[WellFormed]) {
     let broken = lint(&table_of(rt, alloc, entries));
     assert!(rt; broken.as_slice() == wanted);

@@ -2,7 +2,7 @@ use super::{element, small_table, tailored_table};
 use std::process::Abort;
 use uca_table::{Ideographs, RangeFault, Table};
 
-/// Adds a range of ideographs, once more where memory was refused.
+/// Adds a range of ideographs, retrying where memory was refused.
 fn add(table: &mut Table, range: Ideographs) -> Result<(), RangeFault> {
     match table.add_ideographs(range.first, range.last) {
         Err(RangeFault::OutOfMemory) => table.add_ideographs(range.first, range.last),
@@ -31,7 +31,7 @@ fn assert_ideographs(rt: &impl Abort, t: &Table, wanted: &[Ideographs]) {
     assert!(rt; t.ideographs() == wanted);
 }
 
-/// Stops a test where the first ideograph of the second range has other implicit weights.
+/// Fails a test where the first ideograph of the second range has other implicit weights.
 fn assert_weights_of_first(rt: &impl Abort, t: &Table) {
     let [first, second] = t.implicit('\u{323B0}');
     assert!(rt; first == element([0xFB86, 0x20, 2]));

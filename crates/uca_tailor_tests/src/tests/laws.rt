@@ -4,7 +4,6 @@ use super::{assert_entry, small_table, table, tailored_table};
 use std::alloc::{AllocError, Global};
 use std::cmp::Ordering;
 use std::process::Abort;
-use uca_match::elements_of_points;
 use uca_table::Table;
 use uca_testing::{Entry, table_from};
 
@@ -13,7 +12,8 @@ fn weights_of(alloc: Global, t: &Table, text: &[char], level: u8) -> Result<Vec<
     requires first { 1 ≤ level }
     requires last { level ≤ 3 }
 {
-    let elements = elements_of_points(alloc, t, text)?;
+    let mut elements = Vec::new(alloc);
+    t.push_elements(alloc, &mut elements, text)?;
     let mut weights = Vec::new(alloc);
     for e in elements.iter() {
         let weight = e.weight(level);
@@ -24,7 +24,7 @@ fn weights_of(alloc: Global, t: &Table, text: &[char], level: u8) -> Result<Vec<
     Ok(weights)
 }
 
-/// The same, once more where memory was refused.
+/// The same, retrying where memory was refused.
 fn list(rt: &impl Abort, alloc: Global, t: &Table, text: &[char], level: u8) -> Vec<u16>
     requires first { 1 ≤ level }
     requires last { level ≤ 3 }
@@ -59,7 +59,7 @@ const UNTOUCHED: [&'static [char]; 9] = [
     &['z', '-', 'z'],
 ];
 
-/// Stops a test where two texts have another order under the second table than under the first.
+/// Fails a test where two texts have another order under the second table than under the first.
 fn assert_same_order(rt: &impl Abort, alloc: Global, [t, u]: [&Table; 2], texts: [&[char]; 2]) {
     for level in 1..4 {
         let was = order(rt, alloc, t, texts, level);
@@ -70,7 +70,7 @@ fn assert_same_order(rt: &impl Abort, alloc: Global, [t, u]: [&Table; 2], texts:
     }
 }
 
-/// Stops a test where two of these texts have another order under the second table than under the first.
+/// Fails a test where two of these texts have another order under the second table than under the first.
 fn assert_same_orders(rt: &impl Abort, alloc: Global, tables: [&Table; 2], texts: &[&[char]]) {
     for x in texts {
         for y in texts {
@@ -98,7 +98,7 @@ const NEIGHBOURS: [&'static [char]; 8] = [
     &['c', 'h'],
 ];
 
-/// Stops a test where one of these texts is not above the one before it, the first one above a blank.
+/// Fails a test where one of these texts is not above the one before it, the first one above a blank.
 fn assert_ascending(rt: &impl Abort, alloc: Global, t: &Table, texts: &[&[char]]) {
     let mut below: &[char] = &[' '];
     for text in texts {
@@ -124,7 +124,7 @@ fn an_item_of_a_second_difference_is_equal_at_the_first_level(rt: HostRuntime) {
     assert!(rt; order(&rt, rt.alloc(), &u, texts, 2) == Ordering::Less);
 }
 
-/// Stops a test where a character has other weights at the first level.
+/// Fails a test where a character has other weights at the first level.
 fn assert_list(rt: &impl Abort, alloc: Global, t: &Table, text: char, weights: &[u16]) {
     assert!(rt;
         list(rt, alloc, t, &[text], 1).as_slice() == weights,

@@ -34,7 +34,7 @@ fn push_all(text: &mut String, string: &[char]) -> Result<(), AllocError> {
     Ok(())
 }
 
-/// Parses a text, once more where memory was refused.
+/// Parses a text, retrying where memory was refused.
 fn parse_again(alloc: Global, text: &str) -> Result<Rules, RuleFault> {
     match parse(alloc, text) {
         Err(fault) if fault.cause == RuleCause::OutOfMemory => parse(alloc, text),
@@ -61,7 +61,7 @@ fn join(alloc: Global, pieces: &[(&str, usize)]) -> Result<String, AllocError> {
     Ok(text)
 }
 
-/// Stops a test in which `parse` says something else of the text of a row than the row does after its `⇒`. Each row but the last ends in `¦`.
+/// Fails a test in which `parse` says something else of the text of a row than the row does after its `⇒`. Each row but the last ends in `¦`.
 fn assert_rows(rt: &impl Abort, alloc: Global, rows: &str) {
     for row in rows.split('¦') {
         let (text, want) = row.split_once('⇒').expect(rt, "a row");
@@ -153,7 +153,7 @@ fn the_fault_that_is_met_first_is_reported_with_its_byte(rt: HostRuntime) {
             &a<b/⇒EmptyString 5¦\
             &a</b⇒EmptyString 3¦\
             &a/b<c⇒Syntax 2",
-        // What is left out.
+        // What the profile leaves out.
         "&a<<<<b⇒LeftOut 2¦\
             &a<<<<*b⇒LeftOut 2¦\
             &a<<*b⇒LeftOut 2¦\
@@ -203,7 +203,7 @@ fn the_fault_that_is_met_first_is_reported_with_its_byte(rt: HostRuntime) {
     }
 }
 
-/// Stops a test in which `parse` says something else of joined pieces.
+/// Fails a test in which `parse` says something else of joined pieces.
 fn assert_answer(rt: &impl Abort, alloc: Global, pieces: &[(&str, usize)], want: &str) {
     let Ok(text) = join(alloc, pieces) else {
         return;
@@ -214,7 +214,7 @@ fn assert_answer(rt: &impl Abort, alloc: Global, pieces: &[(&str, usize)], want:
     assert!(rt; said.as_str() == want);
 }
 
-/// Stops a test in which `parse` says other chains than joined pieces spell, which are as chains are written.
+/// Fails a test in which `parse` says other chains than joined pieces spell, which are as chains are written.
 fn assert_taken(rt: &impl Abort, alloc: Global, pieces: &[(&str, usize)]) {
     let Ok(text) = join(alloc, pieces) else {
         return;

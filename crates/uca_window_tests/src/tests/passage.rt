@@ -3,7 +3,7 @@ use std::process::Abort;
 use std::test::Fail;
 use uca_window::{LongRun, Passage};
 
-/// Pieces of a text, each with how often it stands there.
+/// Pieces of a text, each with how often it occurs there.
 type Pieces = &'static [(&'static str, usize)];
 
 /// The pieces one after the other, each as often as it says.

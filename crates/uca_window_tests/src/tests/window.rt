@@ -52,7 +52,7 @@ impl<'t> Source for CharsSource<'t> {
     }
 }
 
-/// A source that was never called.
+/// A source that has not been called.
 fn source_of<'t>(text: &'t [char]) -> CharsSource<'t>
     ensures text { result.text.now ≡ text.now }
     ensures place { result.place ≡ 0 }
@@ -66,7 +66,7 @@ fn source_of<'t>(text: &'t [char]) -> CharsSource<'t>
     }
 }
 
-/// A text of a start, a mark so often, and an end.
+/// A text of a start, a mark this many times, and an end.
 fn text_of(
     alloc: Global,
     start: &str,
@@ -90,7 +90,7 @@ fn chars_of(alloc: Global, text: &str) -> Result<Vec<char>, AllocError>
     text.chars().collect(alloc)
 }
 
-/// The characters of a safe text, once more where memory was refused.
+/// The characters of a safe text, retrying where memory was refused.
 fn safe_chars(rt: &impl Abort, alloc: Global, text: &str) -> Vec<char>
     ensures { IsSafe result.items }
 {
@@ -222,7 +222,7 @@ fn a_window_wants_characters_until_enough_points_are_closed(rt: HostRuntime) {
     assert_held(&rt, "a\u{301}b", &window, &source, [3, 2, 3]);
 }
 
-/// The NFD of what a source has not given yet, window after window.
+/// The NFD of what a source has not returned yet, window after window.
 fn nfd_by_window<S: Source>(
     alloc: Global,
     source: &mut S,

@@ -9,7 +9,7 @@ use Rattle.uca_model.proofs.CanonicalLines.{length-element_text}
 use Rattle.uca_io.proofs.SendLemmas.{sent_more, stopped_there}
 use Rattle.uca_commands.proofs.output.send_each.Goals as goal
 
--- an element that stands nowhere
+-- an element that occurs nowhere
 abbrev none : Element
 none = record { starred = false; l1 = 0; l2 = 0; l3 = 0 }
 

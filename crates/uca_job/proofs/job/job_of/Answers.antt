@@ -11,7 +11,7 @@ use Rattle.uca_job.specs.CommandLine.{AreChoices, Choices, IsJobFrom, IsJobOf, I
 use Rattle.uca_job.proofs.CommandLineLemmas.{taken_task, uca_is_free, uca_is_simple}
 use Rattle.uca_job.proofs.job.job_of.Goals as goal
 
--- a fault of a job that clap's words ask for
+-- a fault of a job that clap's words request
 abbrev Fault : ArgMatches → JobFault → Type 0
 Fault matches f = (f ≡ OutOfMemory) ⊎ ((f ≡ BadIdeographs) × IsSomeAnd (subcommand_rows_of matches) LacksRange)
 

@@ -6,7 +6,7 @@ use Rattle.uca_io.specs.Digits.{code_point}
 use Rattle.uca_job.specs.CommandLine.{after_stop, both, is_stop}
 use Rattle.uca_job.proofs.job.range_spelled.Goals as goal
 
--- nothing follows a full stop where none stands first
+-- nothing follows a full stop where none comes first
 after_stop-none : (bs : List ℕ) → ((rest : List ℕ) → bs ≢ 0x2E ∷ rest) → after_stop bs ≡ None
 after_stop-none [] none = refl
 after_stop-none (b ∷ bs) none = go (is_stop b) refl

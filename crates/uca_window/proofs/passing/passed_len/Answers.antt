@@ -4,7 +4,7 @@ use Rattle.std.proofs.lemmas.Simd.{run_in_chunk_le, run_in_chunk_fails, run_in_c
 use Rattle.uca_window.specs.Passing.{is_stop}
 use Rattle.uca_window.proofs.passing.passed_len.Goals as goal
 
--- no stop stands before a place, nor from there on for some bytes more
+-- no stop comes before a place, nor from there on for some bytes more
 joined : (bytes : List ℕ) (at r : ℕ) → ((k : ℕ) → k < at → is_stop (slice_index bytes k) ≡ false) → ((k : ℕ) → at ≤ k → k < at + r → is_stop (slice_index bytes k) ≡ false) → (k : ℕ) → k < at + r → is_stop (slice_index bytes k) ≡ false
 joined bytes at r before after k h = elim (cases_lt k at) [ inl low ↦ before k low | inr high ↦ after k high h ]
 

@@ -62,7 +62,7 @@ in_order : (t : ElementTable) (s : Settings) (bytes kept ends : List ℕ) (xs ys
 in_order t s bytes kept ends xs ys are keys lines same sorted stable =
     IsInOrder-from_keyed key_of line_of (with_key t s) t s (lines_of bytes) xs ys (with_key-keyed t s) lines (keys ∙ AreKeys-pieces t s (lines_of bytes) kept ends are) same sorted stable
 
--- what goes out of them
+-- what is written of them
 made : (t : ElementTable) (s : Settings) (bytes kept ends : List ℕ) (xs ys : List KeyedLine) → AreKeys t s (lines_of bytes) kept ends → map key_of xs ≡ pieces ends kept 0 → map line_of xs ≡ lines_of bytes
     → IsPermutation xs ys → IsSortedByKey key_of key_order ys → IsStableByKey key_of key_order xs ys → IsOrderOutput t s bytes (text_of_lines (map line_of ys))
 made t s bytes kept ends xs ys are keys lines same sorted stable = record {
