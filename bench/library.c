@@ -10,7 +10,7 @@
 
 #define ROUNDS 3
 
-struct line { char *text; size_t size; UChar *wide; int32_t points; };
+struct line { char *text; size_t size; uca_text checked; };
 
 static struct line *lines;
 static size_t count;
@@ -50,6 +50,12 @@ static int uca_order(const struct line *a, const struct line *b) {
     return order;
 }
 
+static int text_order(const struct line *a, const struct line *b) {
+    int32_t order = 0;
+    if (uca_compare_texts(&collator, &settings, &a->checked, &b->checked, &order)) exit(3);
+    return order;
+}
+
 static int icu_order(const struct line *a, const struct line *b) {
     UErrorCode error = U_ZERO_ERROR;
     return ucol_strcollUTF8(icu, a->text, (int32_t)a->size, b->text, (int32_t)b->size, &error);
@@ -86,6 +92,13 @@ static size_t icu_key(const struct line *line) {
     return ucol_getSortKey(icu, wide, points, key, sizeof key);
 }
 
+static struct line line_of(const char *text, size_t size) {
+    struct line line = {(char *)text, size, UCA_EMPTY_TEXT};
+    uca_fault fault;
+    if (uca_text_of((const uint8_t *)text, size, &line.checked, &fault)) exit(3);
+    return line;
+}
+
 static double pairs(int (*order)(const struct line *, const struct line *)) {
     double best = 1e300;
     for (int round = 0; round < ROUNDS; round++) {
@@ -109,7 +122,7 @@ static double keys(size_t (*key_of)(const struct line *)) {
 }
 
 static double same(const char *text, int (*order)(const struct line *, const struct line *)) {
-    struct line line = {(char *)text, strlen(text), NULL, 0};
+    struct line line = line_of(text, strlen(text));
     double best = 1e300;
     for (int round = 0; round < ROUNDS; round++) {
         double from = now();
@@ -154,13 +167,15 @@ int main(int words, char **word) {
         char *end = memchr(at, '\n', text + size - at);
         if (!end) end = text + size;
         if ((count & (count + 1)) == 0) lines = room(realloc(lines, 2 * (count + 1) * sizeof *lines));
-        lines[count] = (struct line){at, end - at, NULL, 0};
+        lines[count] = line_of(at, end - at);
         at = end + 1;
     }
-    printf("open %.1f ms; two empty texts %.0f ns (ICU %.0f); a and a %.0f (%.0f)\n", opened / 1e6, same("", uca_order), same("", icu_order), same("a", uca_order), same("a", icu_order));
+    printf("open %.1f ms; two empty texts %.0f ns (ICU %.0f); a and a %.0f (%.0f), checked once %.0f\n", opened / 1e6, same("", uca_order), same("", icu_order), same("a", uca_order), same("a", icu_order), same("a", text_order));
     printf("a comparison that finds no table %.1f ns; two checks of an empty text %.1f\n", same("", closed_order), same("", two_checks));
     double uca = pairs(uca_order), other = pairs(icu_order);
     printf("neighbours: %.0f ns (ICU %.0f, %.2f times)\n", uca, other, uca / other);
+    double checked = pairs(text_order);
+    printf("neighbours that were checked once: %.0f ns (%.2f times ICU's)\n", checked, checked / other);
     double written = keys(uca_written), packed = keys(uca_packed);
     uca = keys(uca_key), other = keys(icu_key);
     printf("keys: %.0f ns (ICU %.0f, %.2f times)\n", uca, other, uca / other);
@@ -169,6 +184,8 @@ int main(int words, char **word) {
     qsort(lines, count, sizeof *lines, by_order);
     uca = pairs(uca_order), other = pairs(icu_order);
     printf("sorted neighbours: %.0f ns (ICU %.0f, %.2f times)\n", uca, other, uca / other);
+    checked = pairs(text_order);
+    printf("sorted neighbours that were checked once: %.0f ns (%.2f times ICU's)\n", checked, checked / other);
     uca_close(&collator);
     ucol_close(icu);
     return sum == 12345;

@@ -17,12 +17,12 @@
  * bytes is 0. No other pointer may be null. What a call writes through a pointer may not overlap anything else that it is
  * given.
  *
- * Every call returns a status, and most say in a uca_fault where a fault is. Where a call returns any status but UCA_OK,
- * it has changed nothing but the fault.
+ * Most calls return a status, and most of these say in a uca_fault where a fault is. Where a call returns any status but UCA_OK, it
+ * has changed nothing but the fault.
  *
- * Memory: uca_open, uca_clone, uca_sort_key, uca_packed_key, uca_prefix_bounds, uca_matches and uca_fingerprint call malloc,
- * realloc and free.
- * All other calls allocate nothing. No call keeps a pointer that it was given.
+ * Memory: uca_open, uca_clone, uca_sort_key, uca_packed_key, uca_sort_key_of, uca_packed_key_of, uca_prefix_bounds, uca_matches and
+ * uca_fingerprint call malloc, realloc and free.
+ * All other calls allocate nothing. No call keeps a pointer that it was given, except that the text of uca_text_of points to its bytes.
  *
  * Threads: a call that takes a const uca_collator only reads it, and any number of threads may make such calls on one
  * collator at once. No other call may use a collator while uca_open, uca_close or uca_clone changes it. A collator may be
@@ -134,6 +134,18 @@ typedef struct uca_settings {
 
 #define UCA_SETTINGS(strength, variable) {(strength), (variable), {0, 0, 0, 0, 0, 0}}
 #define UCA_TERTIARY_SETTINGS UCA_SETTINGS(UCA_TERTIARY, UCA_NON_IGNORABLE)
+
+/*
+ * Bytes that uca_text_of has found to be a text. It begins as UCA_EMPTY_TEXT, or as zero bytes: that is the empty text. Its fields
+ * are the library's: do not write them. Calls that take a text trust it and check nothing again. If its fields are not what uca_text_of
+ * wrote, or its bytes have changed since, their behaviour is undefined.
+ */
+typedef struct uca_text {
+    const uint8_t *private_bytes;
+    size_t private_size;
+} uca_text;
+
+#define UCA_EMPTY_TEXT {0, 0}
 
 /* A SHA-256 digest. */
 typedef struct uca_digest {
@@ -253,6 +265,14 @@ uint32_t uca_prefix_bounds(const uca_collator *collator, const uca_settings *set
                            size_t *upper_needed, uca_fault *fault);
 
 /*
+ * Writes 1 to `complete` if a text is complete, else 0. Every text that begins with a complete one has its keys in the range that
+ * uca_prefix_bounds gives for it; one that begins with another text may be outside, as `cho` is above. In doubt it writes 0. The
+ * settings do not matter. It allocates nothing.
+ * Returns UCA_OK, UCA_NOT_OPEN, UCA_NOT_UTF8 or UCA_LONG_RUN.
+ */
+uint32_t uca_is_complete(const uca_collator *collator, const uint8_t *text, size_t size, uint32_t *complete, uca_fault *fault);
+
+/*
  * Writes the matches of a text: the code points of the text in NFD that are taken together, one match after the other, and the
  * collation elements that they have. A key may take marks that come after others which it does not take, so the code points of
  * all matches are those of the text, and not always in its order. Writes at most `matches_capacity` matches, the code points of
@@ -265,6 +285,30 @@ uint32_t uca_matches(const uca_collator *collator, const uint8_t *text, size_t s
                      uca_matches_needed *needed, uca_fault *fault);
 
 /*
+ * Checks bytes as uca_check does, and makes a text of them that later calls need not check. The text borrows the bytes: as long as
+ * it is used, they have to stay where they are, and as they are. A text can be copied and read by any number of threads, and is never
+ * freed. The call needs no collator and allocates nothing.
+ * Returns UCA_OK, UCA_NOT_UTF8 or UCA_LONG_RUN.
+ */
+uint32_t uca_text_of(const uint8_t *bytes, size_t size, uca_text *text, uca_fault *fault);
+
+/*
+ * Compares two texts as uca_compare does, without checking them. It allocates nothing.
+ * Returns UCA_OK, UCA_BAD_SETTINGS or UCA_NOT_OPEN.
+ */
+uint32_t uca_compare_texts(const uca_collator *collator, const uca_settings *settings, const uca_text *a, const uca_text *b,
+                           int32_t *order);
+
+/*
+ * Writes the sort key of a text as uca_sort_key does, and its packed sort key as uca_packed_key does, without checking it.
+ * They return UCA_OK, UCA_BAD_SETTINGS, UCA_NOT_OPEN or UCA_NO_MEMORY.
+ */
+uint32_t uca_sort_key_of(const uca_collator *collator, const uca_settings *settings, const uca_text *text, uint8_t *out,
+                         size_t capacity, size_t *needed);
+uint32_t uca_packed_key_of(const uca_collator *collator, const uca_settings *settings, const uca_text *text, uint8_t *out,
+                           size_t capacity, size_t *needed);
+
+/*
  * Writes the SHA-256 digest of all that sort keys and packed keys depend on: the table in its canonical form, the settings, the
  * form of keys, and the version of Unicode. Store it with an index of keys, packed or not: while it is the same, keys made now can
  * be compared with those of the index, if all are sort keys or all packed keys. Where the digested bytes are equal, so are all
@@ -273,87 +317,17 @@ uint32_t uca_matches(const uca_collator *collator, const uint8_t *text, size_t s
  */
 uint32_t uca_fingerprint(const uca_collator *collator, const uca_settings *settings, uca_digest *out);
 
-/* The name of a status. */
-static inline const char *uca_status_name(uint32_t status) {
-    static const char *const names[] = {"ok", "not UTF-8", "too many nonstarters in a row", "the collator is not open",
-        "bad settings", "out of memory", "bad table", "bad rules", "bad tailoring", "incomplete text"};
-    return status < sizeof names / sizeof names[0] ? names[status] : "unknown status";
-}
+/*
+ * Writes to `line` the line that the byte `at` of a table or of rules is in, and to `column` the character of that line, both counted
+ * from 1: so it shows where the fault of UCA_BAD_RULES is. For a byte past the end they are those of the end. A line ends at LF.
+ * Characters are code points: the bytes 80 to BF, which continue a character, are not counted. It needs no collator, allocates nothing
+ * and cannot fail.
+ */
+void uca_locate(const uint8_t *bytes, size_t size, uint64_t at, uint64_t *line, uint64_t *column);
 
-/* The functions of the library want no null pointer, even with no bytes. These wrappers give them another one. */
-static inline const uint8_t *uca_private_bytes(const uint8_t *bytes) {
-    static const uint8_t none[1] = {0};
-    return bytes ? bytes : none;
-}
-
-static inline uint32_t uca_private_open(uca_collator *collator, const uint8_t *table, size_t table_size, const uint8_t *rules,
-                                        size_t rules_size, uca_fault *fault) {
-    return uca_open(collator, uca_private_bytes(table), table_size, uca_private_bytes(rules), rules_size, fault);
-}
-
-static inline uint32_t uca_private_check(const uint8_t *text, size_t size, uca_fault *fault) {
-    return uca_check(uca_private_bytes(text), size, fault);
-}
-
-static inline uint32_t uca_private_compare(const uca_collator *collator, const uca_settings *settings, const uint8_t *a,
-                                           size_t a_size, const uint8_t *b, size_t b_size, int32_t *order, uca_fault *fault) {
-    return uca_compare(collator, settings, uca_private_bytes(a), a_size, uca_private_bytes(b), b_size, order, fault);
-}
-
-static inline uint32_t uca_private_compare_levels(const uca_collator *collator, const uca_settings *settings, const uint8_t *a,
-                                                  size_t a_size, const uint8_t *b, size_t b_size, int32_t *order, uint32_t *level,
-                                                  uca_fault *fault) {
-    return uca_compare_levels(collator, settings, uca_private_bytes(a), a_size, uca_private_bytes(b), b_size, order, level, fault);
-}
-
-static inline uint32_t uca_private_sort_key(const uca_collator *collator, const uca_settings *settings, const uint8_t *text,
-                                            size_t size, uint8_t *out, size_t capacity, size_t *needed, uca_fault *fault) {
-    uint8_t none[1];
-    return uca_sort_key(collator, settings, uca_private_bytes(text), size, out ? out : none, capacity, needed, fault);
-}
-
-static inline uint32_t uca_private_packed_key(const uca_collator *collator, const uca_settings *settings, const uint8_t *text,
-                                              size_t size, uint8_t *out, size_t capacity, size_t *needed, uca_fault *fault) {
-    uint8_t none[1];
-    return uca_packed_key(collator, settings, uca_private_bytes(text), size, out ? out : none, capacity, needed, fault);
-}
-
-static inline uint32_t uca_private_write_key(const uca_collator *collator, const uca_settings *settings, const uint8_t *text,
-                                             size_t size, uint8_t *out, size_t capacity, size_t *needed, uca_fault *fault) {
-    uint8_t none[1];
-    return uca_write_key(collator, settings, uca_private_bytes(text), size, out ? out : none, capacity, needed, fault);
-}
-
-static inline uint32_t uca_private_prefix_bounds(const uca_collator *collator, const uca_settings *settings,
-                                                 const uint8_t *text, size_t size, uint8_t *lower, size_t lower_capacity,
-                                                 uint8_t *upper, size_t upper_capacity, size_t *lower_needed,
-                                                 size_t *upper_needed, uca_fault *fault) {
-    uint8_t none[2];
-    return uca_prefix_bounds(collator, settings, uca_private_bytes(text), size, lower ? lower : none, lower_capacity,
-                             upper ? upper : none + 1, upper_capacity, lower_needed, upper_needed, fault);
-}
-
-static inline uint32_t uca_private_matches(const uca_collator *collator, const uint8_t *text, size_t size, uca_match *matches,
-                                           size_t matches_capacity, uint32_t *points, size_t points_capacity,
-                                           uca_element *elements, size_t elements_capacity, uca_matches_needed *needed,
-                                           uca_fault *fault) {
-    uca_match no_match[1];
-    uint32_t no_point[1];
-    uca_element no_element[1];
-    return uca_matches(collator, uca_private_bytes(text), size, matches ? matches : no_match, matches_capacity,
-                       points ? points : no_point, points_capacity, elements ? elements : no_element, elements_capacity, needed,
-                       fault);
-}
-
-#define uca_open uca_private_open
-#define uca_check uca_private_check
-#define uca_compare uca_private_compare
-#define uca_compare_levels uca_private_compare_levels
-#define uca_sort_key uca_private_sort_key
-#define uca_packed_key uca_private_packed_key
-#define uca_write_key uca_private_write_key
-#define uca_prefix_bounds uca_private_prefix_bounds
-#define uca_matches uca_private_matches
+/* The name of a status, and of a kind: a few English words, which a later version may change. They are never freed. */
+const char *uca_status_name(uint32_t status);
+const char *uca_kind_name(uint32_t kind);
 
 #ifdef __cplusplus
 }

@@ -1,40 +1,31 @@
 #!/usr/bin/env perl
 # Writes texts of languages from CLDR, for comparisons of collators: cldr_lines.pl CLDR FOLDER, for each FOLDER/TAG.rules a file
 # TAG.lines. They are the locale's exemplar characters, alone, in capitals and in pairs; the words of its names of languages,
-# countries, cities, months and currencies; and the strings of CLDR's own rules in TAG.text, alone and within words.
+# countries, cities, months and currencies; and the strings of CLDR's own rules in TAG.text, alone and within words. The XML is read by
+# XML::LibXML, of Debian's package libxml-libxml-perl.
 use strict;
 use warnings;
 use utf8;
 no warnings 'nonchar';
-use Unicode::Normalize qw(NFD);
+use XML::LibXML;
 my ($cldr, $folder) = @ARGV;
 my $most_words = 4000;
 my $few = 75; # exemplars of which all pairs are taken
 
-# The locale's file of main, or that of the nearest locale above it.
+# The locale's file of main, or that of the nearest locale above it, or else undef.
 sub main_of {
     my ($tag) = @_;
     (my $locale = $tag) =~ s/-u-co-.*//;
     $locale =~ tr/-/_/;
     $locale = 'root' if $locale eq 'und';
-    $locale =~ s/_[^_]+$// or return '' while !-e "$cldr/main/$locale.xml";
-    open my $file, '<:utf8', "$cldr/main/$locale.xml" or return '';
-    local $/;
-    return <$file>;
-}
-
-sub decoded {
-    my ($text) = @_;
-    my %named = (amp => '&', lt => '<', gt => '>', quot => '"', apos => "'");
-    $text =~ s/&(\w+);/$named{$1}/g;
-    return $text;
+    $locale =~ s/_[^_]+$// or return undef while !-e "$cldr/main/$locale.xml";
+    return XML::LibXML->load_xml(location => "$cldr/main/$locale.xml", load_ext_dtd => 0, no_network => 1);
 }
 
 # The characters and strings of a set of exemplars.
 sub exemplars_of {
     my ($set) = @_;
     my @found;
-    $set = decoded($set);
     $set =~ s/^\[|\]$//g;
     while ($set =~ /\G\s*(?:\{([^}]+)\}|(\\u[0-9A-Fa-f]{4}|\\.|[^\s\\{])(?:-(\\u[0-9A-Fa-f]{4}|\\.|[^\s\\{]))?)/gc) {
         my ($string, $first, $last) = ($1, $2, $3);
@@ -44,11 +35,13 @@ sub exemplars_of {
     return @found;
 }
 
+# Words of the names that a file of main has; of many, some.
 sub words_of {
     my ($xml) = @_;
     my %seen;
-    while ($xml =~ m{<(language|territory|script|variant|month|day|displayName|exemplarCity|currency)\b[^>]*>([^<]+)<}g) {
-        $seen{$_} = 1 for grep { /\p{L}/ } split /[\s()\[\],;:.\/{}0-9]+/, decoded($2);
+    my $names = join ' | ', map { "//${_}[not(*)]" } qw(language territory script variant month day displayName exemplarCity currency);
+    for my $name ($xml->findnodes($names)) {
+        $seen{$_} = 1 for grep { /\p{L}/ } split /[\s()\[\],;:.\/{}0-9]+/, $name->textContent;
     }
     my @words = sort keys %seen;
     my $step = @words / $most_words;
@@ -79,15 +72,15 @@ for my $path (sort glob "$folder/*.rules") {
     my ($tag) = $path =~ m{([^/]+)\.rules$};
     my $xml = main_of($tag);
     my (@letters, %lines);
-    while ($xml =~ m{<exemplarCharacters(?: type="(\w+)")?[^>]*>([^<]+)<}g) {
-        my @found = exemplars_of($2);
-        push @letters, @found unless defined $1;
+    for my $set ($xml ? $xml->findnodes('//exemplarCharacters') : ()) {
+        my @found = exemplars_of($set->textContent);
+        push @letters, @found unless $set->hasAttribute('type');
         $lines{$_} = $lines{uc $_} = $lines{ucfirst lc $_} = 1 for @found;
     }
     my @strings = strings_of("$folder/$tag.text");
     if (@letters <= $few) { for my $first (@letters) { $lines{"$first$_"} = 1 for @letters } }
     $lines{$_} = $lines{"a$_"} = $lines{"${_}b"} = 1 for @strings;
-    $lines{$_} = 1 for words_of($xml);
+    $lines{$_} = 1 for $xml ? words_of($xml) : ();
     open my $out, '>:utf8', "$folder/$tag.lines" or die;
     print $out map { "$_\n" } grep { !/[\n\r]/ && length } sort keys %lines;
     close $out or die;

@@ -12,3 +12,12 @@ debian() {
     timeout 120 apt-get -q -o Dir::Etc::SourceList="$work/apt/sources.list" -o Dir::Etc::SourceParts=/dev/null \
         -o Dir::State::Lists="$work/apt/lists" -o Dir::Cache="$work/apt/cache" -o APT::Sandbox::User=root "$@" >>"$work/apt/log" 2>&1
 }
+
+# unpacks FOLDER PACKAGES..: these packages, and what they need that is not installed, unpacked in a folder
+unpacks() {
+    local folder=$1 packages
+    shift
+    debian update && mkdir -p "$folder" && : >"$work/apt/log" && debian -s install --no-install-recommends "$@" || return 1
+    mapfile -t packages < <(sed -n 's/^Inst \([^ ]*\) .*/\1/p' "$work/apt/log" | sort -u)
+    (cd "$folder" && debian download "${packages[@]}" && for package in *.deb; do dpkg-deb -x "$package" . && rm "$package" || exit; done)
+}

@@ -1,6 +1,6 @@
 /* Allocations of a call are refused one at a time. Link with --wrap=malloc,realloc,free. Each call has to return its answer or
- * UCA_NO_MEMORY, to leave its collators as they were, and to free what it took. Comparing has to take no memory at all, nor has
- * uca_write_key. */
+ * UCA_NO_MEMORY, to leave its collators as they were, and to free what it took. Some calls may not allocate at all, such as comparing
+ * and uca_write_key. */
 #include "checks.h"
 
 static long calls, refused, live;
@@ -58,13 +58,15 @@ static long refuses_the_rest(void) {
     uint8_t key[256], whole[256], packed[256], lower[16], upper[16];
     size_t needed, size, packed_size, lower_size, upper_size;
     long count, none_left = 0, tried = 0;
+    uca_text made;
     refused = 0;
     open_small(&collator);
     long open_blocks = live;
     CHECK(uca_sort_key(&collator, &settings, TEXT(text), whole, sizeof whole, &size, &fault) == UCA_OK);
     CHECK(uca_packed_key(&collator, &settings, TEXT(text), packed, sizeof packed, &packed_size, &fault) == UCA_OK);
     CHECK(uca_fingerprint(&collator, &settings, &right) == UCA_OK);
-    for (int call = 0; call < 5; call++) {
+    CHECK(uca_text_of(TEXT(text), &made, &fault) == UCA_OK);
+    for (int call = 0; call < 7; call++) {
         for (count = 1, none_left = 0; !none_left; count = next(count), tried++) {
             uca_collator other = UCA_CLOSED;
             uint32_t status;
@@ -83,6 +85,12 @@ static long refuses_the_rest(void) {
             } else if (call == 3) {
                 status = uca_packed_key(&collator, &settings, TEXT(text), key, sizeof key, &needed, &fault);
                 if (status == UCA_OK) CHECK(needed == packed_size && memcmp(key, packed, packed_size) == 0);
+            } else if (call == 4) {
+                status = uca_sort_key_of(&collator, &settings, &made, key, sizeof key, &needed);
+                if (status == UCA_OK) CHECK(needed == size && memcmp(key, whole, size) == 0);
+            } else if (call == 5) {
+                status = uca_packed_key_of(&collator, &settings, &made, key, sizeof key, &needed);
+                if (status == UCA_OK) CHECK(needed == packed_size && memcmp(key, packed, packed_size) == 0);
             } else {
                 status = uca_clone(&collator, &other);
                 CHECK(other.private_is_open == (status == UCA_OK));
@@ -94,12 +102,18 @@ static long refuses_the_rest(void) {
             CHECK(live == open_blocks && collator.private_is_open);
         }
     }
+    uint32_t complete;
+    uint64_t line, column;
     int32_t order;
     calls = 0;
     CHECK(uca_compare(&collator, &settings, TEXT(text), TEXT("cz"), &order, &fault) == UCA_OK && order == 1);
     CHECK(uca_check(TEXT(text), &fault) == UCA_OK && uca_version() == UCA_VERSION);
     CHECK(uca_write_key(&collator, &settings, TEXT(text), key, sizeof key, &needed, &fault) == UCA_OK && needed == size && memcmp(key, whole, size) == 0);
     CHECK(uca_write_key(&collator, &settings, TEXT(text), key, 3, &needed, &fault) == UCA_OK && needed == size);
+    CHECK(uca_text_of(TEXT(text), &made, &fault) == UCA_OK && uca_compare_texts(&collator, &settings, &made, &made, &order) == UCA_OK && order == 0);
+    CHECK(uca_is_complete(&collator, TEXT(text), &complete, &fault) == UCA_OK && complete == 1);
+    uca_locate(TEXT(text), 2, &line, &column);
+    CHECK(line == 1 && column == 3);
     CHECK(calls == 0);
     uca_close(&collator);
     CHECK(live == 0);

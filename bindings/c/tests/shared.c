@@ -1,5 +1,5 @@
 /* Eight threads use one collator at once, by each call that only reads it. It is in a page that can't be written meanwhile.
- * shared ROUNDS: each thread makes 143 calls a round. */
+ * shared ROUNDS: each thread makes 383 calls a round. */
 #define _DEFAULT_SOURCE
 #include "checks.h"
 #include <pthread.h>
@@ -30,12 +30,23 @@ static void add_text(const uca_collator *collator, const char *word, uint64_t *s
     const uint8_t *text = (const uint8_t *)word;
     size_t size = strlen(word), needed, upper_needed;
     uint8_t key[256], upper[256];
+    uint32_t complete;
+    uca_text made, other;
     uca_fault fault;
     int32_t order;
+    if (uca_text_of(text, size, &made, &fault)) *sum += 1;
     for (size_t i = 0; i < WORDS; i++) {
+        if (uca_text_of((const uint8_t *)words[i], strlen(words[i]), &other, &fault) || uca_compare_texts(collator, &settings, &made, &other, &order)) *sum += 1;
+        else *sum = *sum * 31 + (uint64_t)(order + 1);
         if (uca_compare(collator, &settings, text, size, (const uint8_t *)words[i], strlen(words[i]), &order, &fault)) *sum += 1;
         else *sum = *sum * 31 + (uint64_t)(order + 1);
     }
+    if (uca_is_complete(collator, text, size, &complete, &fault)) *sum += 1;
+    else *sum = *sum * 31 + complete;
+    if (uca_sort_key_of(collator, &settings, &made, key, sizeof key, &needed)) *sum += 1;
+    else add(sum, key, needed);
+    if (uca_packed_key_of(collator, &settings, &made, key, sizeof key, &needed)) *sum += 1;
+    else add(sum, key, needed);
     if (uca_sort_key(collator, &settings, text, size, key, sizeof key, &needed, &fault)) *sum += 1;
     else add(sum, key, needed);
     if (uca_packed_key(collator, &settings, text, size, key, sizeof key, &needed, &fault)) *sum += 1;

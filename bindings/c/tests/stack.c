@@ -14,6 +14,7 @@ struct text {
 
 static struct text table, rules, long_text, other_text;
 static uca_collator collator = UCA_CLOSED;
+static uca_text made, other_made;
 static uca_settings settings = UCA_SETTINGS(UCA_IDENTICAL, UCA_SHIFTED);
 static uint8_t *key;
 static size_t room;
@@ -113,6 +114,44 @@ static void *takes_a_fingerprint(void *none) {
     return none;
 }
 
+static void *asks_completeness(void *none) {
+    uca_fault fault;
+    uint32_t complete;
+    CHECK(uca_is_complete(&collator, long_text.bytes, long_text.size, &complete, &fault) == UCA_OK);
+    return none;
+}
+
+static void *locates(void *none) {
+    uint64_t line, column;
+    uca_locate(long_text.bytes, long_text.size, long_text.size, &line, &column);
+    return none;
+}
+
+static void *makes_texts(void *none) {
+    uca_fault fault;
+    CHECK(uca_text_of(long_text.bytes, long_text.size, &made, &fault) == UCA_OK);
+    CHECK(uca_text_of(other_text.bytes, other_text.size, &other_made, &fault) == UCA_OK);
+    return none;
+}
+
+static void *compares_texts(void *none) {
+    int32_t order;
+    CHECK(uca_compare_texts(&collator, &settings, &made, &other_made, &order) == UCA_OK);
+    return none;
+}
+
+static void *makes_a_key_of_a_text(void *none) {
+    size_t needed;
+    CHECK(uca_sort_key_of(&collator, &settings, &made, key, room, &needed) == UCA_OK);
+    return none;
+}
+
+static void *packs_a_key_of_a_text(void *none) {
+    size_t needed;
+    CHECK(uca_packed_key_of(&collator, &settings, &made, key, room, &needed) == UCA_OK);
+    return none;
+}
+
 static void *does_nothing(void *none) { return none; }
 
 /* How many bytes of a painted stack a thread has written. */
@@ -152,6 +191,12 @@ int main(int count, char **words) {
     printf("uca_packed_key %zu\n", taken(packs_a_key, NULL) - own);
     printf("uca_write_key %zu\n", taken(writes_a_key, NULL) - own);
     printf("uca_prefix_bounds %zu\n", taken(finds_bounds, NULL) - own);
+    printf("uca_is_complete %zu\n", taken(asks_completeness, NULL) - own);
+    printf("uca_locate %zu\n", taken(locates, NULL) - own);
+    printf("uca_text_of %zu\n", taken(makes_texts, NULL) - own);
+    printf("uca_compare_texts %zu\n", taken(compares_texts, NULL) - own);
+    printf("uca_sort_key_of %zu\n", taken(makes_a_key_of_a_text, NULL) - own);
+    printf("uca_packed_key_of %zu\n", taken(packs_a_key_of_a_text, NULL) - own);
     printf("uca_fingerprint %zu\n", taken(takes_a_fingerprint, NULL) - own);
     uca_close(&other);
     printf("uca_close %zu\n", taken(closes, &collator) - own);

@@ -10,7 +10,46 @@ static void layout(void) {
     CHECK(offsetof(uca_settings, reserved) == 8 && sizeof(uca_digest) == 32);
     CHECK(UCA_OK == 0 && UCA_NOT_UTF8 == 1 && UCA_LONG_RUN == 2 && UCA_NOT_OPEN == 3 && UCA_BAD_SETTINGS == 4 && UCA_NO_MEMORY == 5);
     CHECK(UCA_BAD_TABLE == 6 && UCA_BAD_RULES == 7 && UCA_BAD_TAILORING == 8 && UCA_INCOMPLETE == 9);
-    CHECK(strcmp(uca_status_name(UCA_INCOMPLETE), "incomplete text") == 0 && strcmp(uca_status_name(99), "unknown status") == 0);
+    CHECK(sizeof(uca_text) == 16 && offsetof(uca_text, private_bytes) == 0 && offsetof(uca_text, private_size) == 8);
+}
+
+/* Each number has a name of its own, and other numbers have one that says so. */
+static void names(void) {
+    static const uint32_t last_kinds[] = {UCA_TABLE_TOO_LARGE, UCA_RULES_NOT_UTF8, UCA_TAILOR_TOO_MANY_ELEMENTS};
+    CHECK(strcmp(uca_status_name(UCA_OK), "ok") == 0 && strcmp(uca_status_name(UCA_INCOMPLETE), "incomplete text") == 0);
+    for (uint32_t status = 0; status < 20; status++) {
+        CHECK((strcmp(uca_status_name(status), "unknown status") == 0) == (status > UCA_INCOMPLETE));
+        for (uint32_t other = 0; other < status && status <= UCA_INCOMPLETE; other++) CHECK(strcmp(uca_status_name(status), uca_status_name(other)) != 0);
+    }
+    CHECK(strcmp(uca_kind_name(UCA_NO_KIND), "no kind") == 0 && strcmp(uca_kind_name(UCA_RULES_EMPTY_STRING), "empty string") == 0);
+    for (uint32_t kind = 0; kind < 100; kind++) {
+        int is_known = kind % 20 == 0 ? kind == 0 : kind < 60 && kind <= last_kinds[kind / 20];
+        CHECK((strcmp(uca_kind_name(kind), "unknown kind") != 0) == is_known);
+    }
+    CHECK(strcmp(uca_status_name(UINT32_MAX), "unknown status") == 0 && strcmp(uca_kind_name(UINT32_MAX), "unknown kind") == 0);
+}
+
+/* Lines and columns of bytes, among them those of characters of two to four bytes, of what is not UTF-8, and past the end. */
+static void locating(void) {
+    static const char text[] = "a\xC3\xA1" "b\n\n\xF0\x9F\x98\x80\r\nx\xFF\x80y";
+    static const uint64_t places[][2] = {{1, 1}, {1, 2}, {1, 3}, {1, 3}, {1, 4}, {2, 1}, {3, 1}, {3, 2}, {3, 2}, {3, 2}, {3, 2}, {3, 3},
+                                         {4, 1}, {4, 2}, {4, 3}, {4, 3}, {4, 4}, {4, 4}};
+    uint64_t line, column;
+    for (uint64_t at = 0; at < sizeof places / sizeof places[0]; at++) {
+        uca_locate(TEXT(text), at, &line, &column);
+        if (line != places[at][0] || column != places[at][1]) fprintf(stderr, "byte %u:\n", (unsigned)at);
+        CHECK(line == places[at][0] && column == places[at][1]);
+    }
+    uca_locate(TEXT(text), UINT64_MAX, &line, &column);
+    CHECK(line == 4 && column == 4);
+    uca_locate(NULL, 0, 7, &line, &column);
+    CHECK(line == 1 && column == 1);
+    static const char rules[] = "&z<\xC3\xA5\n<<<\xC3\x85<";
+    uca_collator collator = UCA_CLOSED;
+    uca_fault fault;
+    CHECK(uca_open(&collator, TEXT(small_table), TEXT(rules), &fault) == UCA_BAD_RULES && fault.kind == UCA_RULES_EMPTY_STRING);
+    uca_locate(TEXT(rules), fault.at, &line, &column);
+    CHECK(line == 2 && column == 6);
 }
 
 static void versions(void) {
@@ -252,6 +291,100 @@ static void bounds(void) {
     CHECK(lower[0] == 0xEE && upper[0] == 0xEE && lower_size == 4 && upper_size == 4);
 }
 
+/* Where a text is complete: `c` is not, since `ch` is a letter. */
+static void completeness(void) {
+    static const struct { const char *text; uint32_t complete; } cases[] = {
+        {"", 1}, {"a", 1}, {"ab", 1}, {"c", 0}, {"ac", 0}, {"ch", 1}, {"acc", 0}, {"ca", 1}};
+    uca_collator collator = UCA_CLOSED;
+    uca_fault fault;
+    uint32_t complete = 9;
+    CHECK(uca_is_complete(&collator, TEXT("a"), &complete, &fault) == UCA_NOT_OPEN && complete == 9);
+    SAME_FAULT(0, 0, 0);
+    open_small(&collator);
+    for (size_t i = 0; i < sizeof cases / sizeof cases[0]; i++) {
+        complete = 9;
+        CHECK(uca_is_complete(&collator, (const uint8_t *)cases[i].text, strlen(cases[i].text), &complete, &fault) == UCA_OK);
+        if (complete != cases[i].complete) fprintf(stderr, "%s:\n", cases[i].text);
+        CHECK(complete == cases[i].complete);
+        SAME_FAULT(0, 0, 0);
+    }
+    complete = 9;
+    CHECK(uca_is_complete(&collator, TEXT("a\xFF"), &complete, &fault) == UCA_NOT_UTF8 && complete == 9);
+    SAME_FAULT(0, 1, 1);
+    uca_close(&collator);
+}
+
+/* A text that was checked once has the order and the keys of its bytes, at each strength and under each option. */
+static void texts(void) {
+    static const char *const words[] = {"", "a", "A", "a b", "\xC3\xA1" "b", "ch", "cz", "Chch a\xCC\x81\xCC\xA3", "\xE4\xB8\x80 z", "\xCC\x81"};
+    enum { COUNT = sizeof words / sizeof words[0] };
+    uca_collator collator = UCA_CLOSED;
+    uca_settings tertiary = UCA_TERTIARY_SETTINGS, refused = UCA_SETTINGS(UCA_TERTIARY, 3);
+    uca_text made[COUNT], empty = UCA_EMPTY_TEXT, kept;
+    uca_fault fault;
+    int32_t order = 9, expected;
+    uint8_t out[64];
+    size_t needed = 77;
+    for (size_t i = 0; i < COUNT; i++) {
+        memset(&fault, 0xEE, sizeof fault);
+        CHECK(uca_text_of((const uint8_t *)words[i], strlen(words[i]), &made[i], &fault) == UCA_OK);
+        SAME_FAULT(0, 0, 0);
+    }
+    kept = made[1];
+    CHECK(uca_text_of(TEXT("ab\xFF"), &kept, &fault) == UCA_NOT_UTF8 && memcmp(&kept, &made[1], sizeof kept) == 0);
+    SAME_FAULT(0, 1, 2);
+    CHECK(uca_text_of(NULL, 0, &kept, &fault) == UCA_OK);
+    CHECK(uca_compare_texts(&collator, &tertiary, &made[1], &made[5], &order) == UCA_NOT_OPEN && order == 9);
+    CHECK(uca_sort_key_of(&collator, &tertiary, &made[1], out, sizeof out, &needed) == UCA_NOT_OPEN && needed == 77);
+    open_small(&collator);
+    CHECK(uca_compare_texts(&collator, &refused, &made[1], &made[5], &order) == UCA_BAD_SETTINGS && order == 9);
+    CHECK(uca_sort_key_of(&collator, &refused, &made[1], out, sizeof out, &needed) == UCA_BAD_SETTINGS && needed == 77);
+    CHECK(uca_packed_key_of(&collator, &refused, &made[1], out, sizeof out, &needed) == UCA_BAD_SETTINGS && needed == 77);
+    CHECK(uca_compare_texts(&collator, &tertiary, &empty, &kept, &order) == UCA_OK && order == 0);
+    CHECK(uca_compare_texts(&collator, &tertiary, &empty, &made[1], &order) == UCA_OK && order == -1);
+    for (uint32_t number = 0; number < 15; number++) {
+        uca_settings settings = UCA_SETTINGS(1 + number / 3, number % 3);
+        for (size_t i = 0; i < COUNT; i++) {
+            for (size_t j = 0; j < COUNT; j++) {
+                order = 9;
+                CHECK(uca_compare(&collator, &settings, (uint8_t *)words[i], strlen(words[i]), (uint8_t *)words[j], strlen(words[j]), &expected, &fault) == UCA_OK);
+                CHECK(uca_compare_texts(&collator, &settings, &made[i], &made[j], &order) == UCA_OK && order == expected);
+            }
+            for (int packed = 0; packed < 2; packed++) {
+                uint8_t found[2][512];
+                size_t sizes[2] = {0, 1};
+                CHECK((packed ? uca_packed_key : uca_sort_key)(&collator, &settings, (uint8_t *)words[i], strlen(words[i]), found[0], 512, &sizes[0], &fault) == UCA_OK);
+                CHECK((packed ? uca_packed_key_of : uca_sort_key_of)(&collator, &settings, &made[i], found[1], 512, &sizes[1]) == UCA_OK);
+                CHECK(sizes[0] == sizes[1] && memcmp(found[0], found[1], sizes[0]) == 0);
+                memset(found[1], 0xEE, 8);
+                CHECK((packed ? uca_packed_key_of : uca_sort_key_of)(&collator, &settings, &made[i], found[1], 2, &sizes[1]) == UCA_OK && sizes[0] == sizes[1]);
+                CHECK(memcmp(found[0], found[1], sizes[0] < 2 ? sizes[0] : 2) == 0 && found[1][2] == 0xEE);
+                CHECK((packed ? uca_packed_key_of : uca_sort_key_of)(&collator, &settings, &made[i], NULL, 0, &sizes[1]) == UCA_OK && sizes[0] == sizes[1]);
+            }
+        }
+    }
+    uca_close(&collator);
+}
+
+/* Each pointer to bytes or items may be null where there are none. */
+static void nulls(void) {
+    uca_settings settings = UCA_TERTIARY_SETTINGS;
+    uca_collator collator = UCA_CLOSED;
+    uca_matches_needed matches;
+    uca_fault fault;
+    size_t needed, upper;
+    uint32_t level, complete = 9;
+    int32_t order;
+    CHECK(uca_open(&collator, NULL, 0, NULL, 0, &fault) == UCA_OK);
+    CHECK(uca_compare_levels(&collator, &settings, NULL, 0, NULL, 0, &order, &level, &fault) == UCA_OK && order == 0 && level == 3);
+    CHECK(uca_matches(&collator, NULL, 0, NULL, 0, NULL, 0, NULL, 0, &matches, &fault) == UCA_OK && matches.matches == 0);
+    CHECK(uca_matches(&collator, TEXT("ab"), NULL, 0, NULL, 0, NULL, 0, &matches, &fault) == UCA_OK && matches.points == 2);
+    CHECK(uca_sort_key(&collator, &settings, NULL, 0, NULL, 0, &needed, &fault) == UCA_OK && needed == 4);
+    CHECK(uca_prefix_bounds(&collator, &settings, NULL, 0, NULL, 0, NULL, 0, &needed, &upper, &fault) == UCA_OK && needed == 0 && upper == 0);
+    CHECK(uca_is_complete(&collator, NULL, 0, &complete, &fault) == UCA_OK && complete == 1);
+    uca_close(&collator);
+}
+
 /* The digests are those of the canonical text of the table and of the settings, computed outside by sha256sum. */
 static void fingerprints(const char *expected) {
     uca_settings settings = UCA_TERTIARY_SETTINGS, shifted = UCA_SETTINGS(UCA_TERTIARY, UCA_SHIFTED);
@@ -335,7 +468,9 @@ static void cloning(void) {
 
 int main(int count, char **words) {
     layout();
+    names();
     versions();
+    locating();
     checking();
     comparing();
     settings();
@@ -345,6 +480,9 @@ int main(int count, char **words) {
     same_keys();
     packed_keys();
     bounds();
+    completeness();
+    texts();
+    nulls();
     fingerprints(count > 1 ? words[1] : NULL);
     opening();
     cloning();

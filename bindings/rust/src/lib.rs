@@ -16,9 +16,10 @@ use std::alloc::{handle_alloc_error, Layout};
 use std::cmp::Ordering;
 use std::ffi::c_void;
 use std::fmt;
+use std::marker::PhantomData;
 
 mod ffi {
-    use super::{c_void, RawFault, RawSettings};
+    use super::{c_void, RawFault, RawSettings, RawText};
 
     #[repr(C)]
     pub struct RawCollator {
@@ -38,6 +39,12 @@ mod ffi {
         pub fn uca_packed_key(c: *const RawCollator, s: *const RawSettings, text: *const u8, size: usize, out: *mut u8, capacity: usize, needed: *mut usize, fault: *mut RawFault) -> u32;
         pub fn uca_write_key(c: *const RawCollator, s: *const RawSettings, text: *const u8, size: usize, out: *mut u8, capacity: usize, needed: *mut usize, fault: *mut RawFault) -> u32;
         pub fn uca_prefix_bounds(c: *const RawCollator, s: *const RawSettings, text: *const u8, size: usize, lower: *mut u8, lower_capacity: usize, upper: *mut u8, upper_capacity: usize, lower_needed: *mut usize, upper_needed: *mut usize, fault: *mut RawFault) -> u32;
+        pub fn uca_is_complete(c: *const RawCollator, text: *const u8, size: usize, complete: *mut u32, fault: *mut RawFault) -> u32;
+        pub fn uca_text_of(bytes: *const u8, size: usize, text: *mut RawText, fault: *mut RawFault) -> u32;
+        pub fn uca_compare_texts(c: *const RawCollator, s: *const RawSettings, a: *const RawText, b: *const RawText, order: *mut i32) -> u32;
+        pub fn uca_sort_key_of(c: *const RawCollator, s: *const RawSettings, text: *const RawText, out: *mut u8, capacity: usize, needed: *mut usize) -> u32;
+        pub fn uca_packed_key_of(c: *const RawCollator, s: *const RawSettings, text: *const RawText, out: *mut u8, capacity: usize, needed: *mut usize) -> u32;
+        pub fn uca_locate(bytes: *const u8, size: usize, at: u64, line: *mut u64, column: *mut u64);
         pub fn uca_fingerprint(c: *const RawCollator, s: *const RawSettings, out: *mut [u8; 32]) -> u32;
     }
 }
@@ -48,6 +55,13 @@ struct RawFault {
     kind: u32,
     text: u32,
     at: u64,
+}
+
+#[repr(C)]
+#[derive(Clone, Copy)]
+struct RawText {
+    bytes: *const u8,
+    size: usize,
 }
 
 #[repr(C)]
@@ -162,6 +176,40 @@ impl PackedKey {
 /// A call that makes a key.
 type MakesKey = unsafe extern "C" fn(*const ffi::RawCollator, *const RawSettings, *const u8, usize, *mut u8, usize, *mut usize, *mut RawFault) -> u32;
 
+/// The same of a text that was checked.
+type MakesKeyOf = unsafe extern "C" fn(*const ffi::RawCollator, *const RawSettings, *const RawText, *mut u8, usize, *mut usize) -> u32;
+
+/// A text that was checked once, so that calls over it need not check it: to sort texts by comparing them, check each once.
+#[derive(Clone, Copy)]
+pub struct Text<'t> {
+    raw: RawText,
+    text: PhantomData<&'t str>,
+}
+
+// It is a borrowed string.
+unsafe impl Send for Text<'_> {}
+unsafe impl Sync for Text<'_> {}
+
+impl<'t> Text<'t> {
+    /// A text, if it has no more than 60 nonstarters in a row.
+    pub fn new(text: &'t str) -> Result<Text<'t>, Error> {
+        let (mut raw, mut fault) = (RawText { bytes: text.as_ptr(), size: 0 }, RawFault::default());
+        let status = unsafe { ffi::uca_text_of(text.as_ptr(), text.len(), &mut raw, &mut fault) };
+        answer(status, fault, Text { raw, text: PhantomData })
+    }
+
+    pub fn as_str(&self) -> &'t str {
+        // These are the bytes of the string that it was made of.
+        unsafe { std::str::from_utf8_unchecked(std::slice::from_raw_parts(self.raw.bytes, self.raw.size)) }
+    }
+}
+
+impl fmt::Debug for Text<'_> {
+    fn fmt(&self, f: &mut fmt::Formatter<'_>) -> fmt::Result {
+        f.debug_tuple("Text").field(&self.as_str()).finish()
+    }
+}
+
 /// The ends of the range that the keys of all texts are in whose primary weights begin with those of a text: just these keys are not
 /// before `lower`, and before `upper` where there is such an end.
 #[derive(Clone, Debug, PartialEq, Eq)]
@@ -239,19 +287,38 @@ impl Collator {
     }
 
     fn key_by(&self, makes_key: MakesKey, text: &str, bytes_of_each: usize) -> Result<Vec<u8>, Error> {
-        let mut out = vec![0; bytes_of_each * text.len() + 32];
-        loop {
-            let (mut needed, mut fault) = (0, RawFault::default());
+        filled(bytes_of_each * text.len() + 32, |out, needed| {
+            let mut fault = RawFault::default();
             let status = unsafe {
-                makes_key(&self.raw, &self.settings.raw(), text.as_ptr(), text.len(), out.as_mut_ptr(), out.len(), &mut needed, &mut fault)
+                makes_key(&self.raw, &self.settings.raw(), text.as_ptr(), text.len(), out.as_mut_ptr(), out.len(), needed, &mut fault)
             };
-            answer(status, fault, ())?;
-            let whole = needed <= out.len();
-            out.resize(needed, 0);
-            if whole {
-                return Ok(out);
-            }
-        }
+            answer(status, fault, ())
+        })
+    }
+
+    /// The order of two texts that were checked.
+    pub fn compare_texts(&self, a: Text<'_>, b: Text<'_>) -> Ordering {
+        let mut order = 0;
+        let status = unsafe { ffi::uca_compare_texts(&self.raw, &self.settings.raw(), &a.raw, &b.raw, &mut order) };
+        assert_eq!(status, 0, "the collator has a table, and its settings have a meaning");
+        order.cmp(&0)
+    }
+
+    /// The sort key of a text that was checked.
+    pub fn key_of(&self, text: Text<'_>) -> Result<Key, Error> {
+        self.key_of_by(ffi::uca_sort_key_of, text, 8).map(Key)
+    }
+
+    /// The packed sort key of a text that was checked.
+    pub fn packed_key_of(&self, text: Text<'_>) -> Result<PackedKey, Error> {
+        self.key_of_by(ffi::uca_packed_key_of, text, 4).map(PackedKey)
+    }
+
+    fn key_of_by(&self, makes_key: MakesKeyOf, text: Text<'_>, bytes_of_each: usize) -> Result<Vec<u8>, Error> {
+        filled(bytes_of_each * text.raw.size + 32, |out, needed| {
+            let status = unsafe { makes_key(&self.raw, &self.settings.raw(), &text.raw, out.as_mut_ptr(), out.len(), needed) };
+            answer(status, RawFault::default(), ())
+        })
     }
 
     /// Writes the first bytes of a text's sort key, as many as fit, and returns how many the whole key has. It allocates nothing, and
@@ -283,6 +350,13 @@ impl Collator {
         }
     }
 
+    /// Whether every text that begins with this one has its keys in the range of `prefix_bounds`.
+    pub fn is_complete(&self, text: &str) -> Result<bool, Error> {
+        let (mut complete, mut fault) = (0, RawFault::default());
+        let status = unsafe { ffi::uca_is_complete(&self.raw, text.as_ptr(), text.len(), &mut complete, &mut fault) };
+        answer(status, fault, complete == 1)
+    }
+
     /// The digest of all that keys depend on: store it with them.
     pub fn fingerprint(&self) -> Result<[u8; 32], Error> {
         let mut out = [0; 32];
@@ -295,6 +369,28 @@ impl Drop for Collator {
     fn drop(&mut self) {
         unsafe { ffi::uca_close(&mut self.raw) }
     }
+}
+
+/// The bytes that a call fills: once more where the first bytes, of this number, are too few.
+fn filled(size: usize, fill: impl Fn(&mut [u8], &mut usize) -> Result<(), Error>) -> Result<Vec<u8>, Error> {
+    let mut out = vec![0; size];
+    loop {
+        let mut needed = 0;
+        fill(&mut out, &mut needed)?;
+        let whole = needed <= out.len();
+        out.resize(needed, 0);
+        if whole {
+            return Ok(out);
+        }
+    }
+}
+
+/// The line of a byte of a table or of rules, and the character of that line, both counted from 1: where the byte `at` of an
+/// [`Error`] about rules is.
+pub fn locate(bytes: &[u8], at: u64) -> (u64, u64) {
+    let (mut line, mut column) = (0, 0);
+    unsafe { ffi::uca_locate(bytes.as_ptr(), bytes.len(), at, &mut line, &mut column) };
+    (line, column)
 }
 
 /// Whether a text can be collated, or where not.

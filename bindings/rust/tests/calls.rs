@@ -1,7 +1,7 @@
-//! One collator in many threads, its clones, and keys as bytes.
+//! One collator in many threads, its clones, keys as bytes, and texts that are checked once.
 use std::cmp::Ordering;
 use std::thread;
-use uca::{Collator, Key, Settings, Strength, Variable};
+use uca::{locate, Collator, Key, Settings, Strength, Text, Variable};
 
 const TABLE: &[u8] = b"0061 ; [.1000.0020.0002]\n0041 ; [.1000.0020.0008]\n0062 ; [.1001.0020.0002]\n";
 const WORDS: [&str; 5] = ["b", "A", "ba", "a", ""];
@@ -60,4 +60,35 @@ fn a_fault_says_where_it_is() {
     let fault = opened().key(&"\u{301}".repeat(61)).unwrap_err();
     assert_eq!((fault.status, fault.text, fault.at), (2, 1, 120));
     assert_eq!(fault.to_string(), "uca: status 2, kind 0, text 1, at 120");
+}
+
+#[test]
+fn texts_are_checked_once() {
+    fn shared(_: impl Send + Sync + Copy) {}
+    let collator = opened();
+    let mut texts = WORDS.map(|word| Text::new(word).unwrap());
+    shared(texts[0]);
+    texts.sort_by(|a, b| collator.compare_texts(*a, *b));
+    assert_eq!(texts.map(|text| text.as_str()), ["", "a", "A", "b", "ba"]);
+    for text in texts {
+        assert_eq!(collator.key_of(text), collator.key(text.as_str()));
+        assert_eq!(collator.packed_key_of(text), collator.packed_key(text.as_str()));
+    }
+    assert_eq!(format!("{:?}", texts[4]), "Text(\"ba\")");
+    let marks = "\u{301}".repeat(61);
+    let fault = Text::new(&marks).unwrap_err();
+    assert_eq!((fault.status, fault.text, fault.at), (2, 1, 120));
+}
+
+#[test]
+fn a_letter_of_two_characters_leaves_its_first_incomplete() {
+    let collator = Collator::open(TABLE, "&a<bb".as_bytes(), Settings::default()).unwrap();
+    assert_eq!((collator.is_complete("a"), collator.is_complete("ab")), (Ok(true), Ok(false)));
+}
+
+#[test]
+fn a_byte_of_rules_has_a_line_and_a_column() {
+    let rules = "&a<á\n<b<".as_bytes();
+    let fault = Collator::open(TABLE, rules, Settings::default()).unwrap_err();
+    assert_eq!((fault.status, locate(rules, fault.at)), (7, (2, 4)));
 }

@@ -1,3 +1,4 @@
 pub mod Looks
 pub mod Reports
 pub mod Settings
+pub mod Texts

@@ -1,5 +1,5 @@
 -- What the exports report of the outcome of a call: a status and a fault.
-use Rattle.std.specs.Prelude.{◌≡◌, ℕ, ◌==◌, ℤ, pos, negsuc, List, Result, Ok, Err, if◌then◌else◌}
+use Rattle.std.specs.Prelude.{◌≡◌, ℕ, ◌==◌, ℤ, Bool, pos, negsuc, List, Result, Ok, Err, if◌then◌else◌}
 use Rattle.std.specs.Option.{option_map_or}
 use Rattle.std.specs.declared.cmp.Ordering.{Ordering}
 use Rattle.std.specs.declared.cmp.Ordering.TheVariants.{Less, Equal, Greater}
@@ -9,6 +9,7 @@ use Rattle.uca_tailor.specs.declared.faults.RuleCause.{RuleCause}
 use Rattle.uca_tailor.specs.declared.faults.RuleCause.TheVariants as rules
 use Rattle.uca_tailor.specs.declared.faults.TailorCause.{TailorCause}
 use Rattle.uca_tailor.specs.declared.faults.TailorCause.TheVariants as tailoring
+use Rattle.uca_handle.specs.Matches.{number_of}
 use Rattle.uca_handle.specs.declared.bounds.BoundsSize.{BoundsSize}
 use Rattle.uca_handle.specs.declared.faults.BoundsFault.{BoundsFault}
 use Rattle.uca_handle.specs.declared.faults.BoundsFault.TheVariants as bounds
@@ -112,6 +113,12 @@ bounds_report (Err bounds.Closed) = plain CLOSED
 bounds_report (Err (bounds.Text f)) = text_report 1 f
 bounds_report (Err bounds.OutOfMemory) = plain NO_MEMORY
 
+abbrev pub completeness_report : Result Bool KeyFault → Report
+completeness_report (Ok _) = plain OK
+completeness_report (Err key.Closed) = plain CLOSED
+completeness_report (Err (key.Text f)) = text_report 1 f
+completeness_report (Err key.OutOfMemory) = plain NO_MEMORY
+
 abbrev pub fingerprint_status : Result (List ℕ) FingerprintFault → ℕ
 fingerprint_status (Ok _) = OK
 fingerprint_status (Err fingerprint.Closed) = CLOSED
@@ -144,6 +151,11 @@ upper_size_after before (Err _) = before
 abbrev pub digest_after : Digest → Result (List ℕ) FingerprintFault → Digest
 digest_after before (Ok digest) = record { bytes = digest }
 digest_after before (Err _) = before
+
+-- 1 where the text is complete, else 0
+abbrev pub complete_after : ℕ → Result Bool KeyFault → ℕ
+complete_after before (Ok complete) = number_of complete
+complete_after before (Err _) = before
 
 -- a call reports an outcome of which this holds
 pub record Reports {A : Type 0} (report_of : A → Report) (status : ℕ) (fault : Fault) (Holds : A → Type 0) : Type 0 where

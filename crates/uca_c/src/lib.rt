@@ -6,25 +6,28 @@ ghost use Rattle.std.specs.Prelude.{◌≡◌, ◌+◌, ◌*◌, None, MatchOpti
 ghost use Rattle.ucd_table.specs.declared.version.TheConstants.{UNICODE_VERSION};
 ghost use Rattle.uca_handle.specs.Calls.{Checks, Compares, Fingerprints, MakesKey, MakesPackedKey, Opens, PutsBounds, Shares, WritesKey};
 ghost use Rattle.uca_handle.specs.Collator.{held};
-ghost use Rattle.uca_c.specs.Reports.{IsRefused, Reports, ReportsStatus, bounds_report, check_report, compare_report, digest_after, fingerprint_status, key_report, lower_size_after, open_report, order_after, share_status, size_after, upper_size_after};
+ghost use Rattle.uca_handle.specs.Completeness.{TellsComplete};
+ghost use Rattle.uca_handle.specs.Places.{place_of};
+ghost use Rattle.uca_c.specs.Reports.{IsRefused, Reports, ReportsStatus, bounds_report, check_report, compare_report, complete_after, completeness_report, digest_after, fingerprint_status, key_report, lower_size_after, open_report, order_after, share_status, size_after, upper_size_after};
 ghost use Rattle.uca_c.specs.Settings.{settings_named};
 
 mod looks;
 mod numbers;
 mod reports;
 mod settings;
+mod texts;
 
 pub use looks::MatchesNeeded;
 use numbers::BAD_SETTINGS;
 pub use reports::{Digest, Fault};
 use reports::{
-    NO_FAULT, of_bounds, of_check, of_comparison, of_fingerprint, of_opening, of_sharing,
-    order_number, report_key,
+    NO_FAULT, of_bounds, of_check, of_comparison, of_completeness, of_fingerprint, of_opening,
+    of_sharing, order_number, report_key,
 };
 pub use settings::RawSettings;
 use settings::settings_of;
 use std::alloc::Global;
-use uca_handle::Collator;
+use uca_handle::{Collator, locate};
 use unicode_normalization::UNICODE_VERSION;
 
 /// The version of the library: 65536 times the major, and 256 times the minor number, and the patch.
@@ -219,6 +222,37 @@ pub extern "C" fn uca_prefix_bounds(
     let report = of_bounds(outcome);
     *fault = report.fault;
     report.status
+}
+
+/// Tells whether a text is complete: 1 if it is, else 0. Then every text that begins with it has its keys between the two ends.
+#[unsafe(no_mangle)]
+pub extern "C" fn uca_is_complete(
+    collator: &mut Collator,
+    text: &[u8],
+    complete: &mut u32,
+    fault: &mut Fault,
+) -> u32
+    ensures complete { Reports completeness_report result fault.new (λ outcome. TellsComplete (held collator.old) text.now outcome × (complete.new ≡ complete_after complete.old outcome)) }
+    ensures same { held collator.new ≡ held collator.old }
+{
+    let outcome = collator.is_complete(text);
+    if let Ok(found) = outcome {
+        *complete = u32::from(found);
+    }
+    let report = of_completeness(outcome);
+    *fault = report.fault;
+    report.status
+}
+
+/// Tells at which line a byte is, and at which character of the line, both counted from 1.
+#[unsafe(no_mangle)]
+pub extern "C" fn uca_locate(bytes: &[u8], at: u64, line: &mut u64, column: &mut u64)
+    ensures line { line.new ≡ (place_of bytes.now at).line }
+    ensures column { column.new ≡ (place_of bytes.now at).column }
+{
+    let place = locate(bytes, at);
+    *line = place.line;
+    *column = place.column;
 }
 
 /// Reports the fingerprint of a collator's table and settings.

@@ -1,5 +1,5 @@
 ghost use Rattle.std.specs.Prelude.{◌≡◌};
-ghost use Rattle.uca_c.specs.Reports.{bounds_report, check_report, compare_report, fingerprint_status, key_report, open_report, order_number, placed, plain, rule_kind, share_status, size_after, table_kind, tailoring_kind, text_report};
+ghost use Rattle.uca_c.specs.Reports.{bounds_report, check_report, compare_report, completeness_report, fingerprint_status, key_report, open_report, order_number, placed, plain, rule_kind, share_status, size_after, table_kind, tailoring_kind, text_report};
 
 use crate::numbers::*;
 use std::cmp::Ordering;
@@ -193,8 +193,8 @@ pub(crate) fn of_comparison(outcome: Result<Ordering, CompareFault>) -> Report
     }
 }
 
-/// What `uca_sort_key` and `uca_write_key` report.
-fn of_key(outcome: Result<usize, KeyFault>) -> Report
+/// What `uca_sort_key` and its like report.
+pub(crate) fn of_key(outcome: Result<usize, KeyFault>) -> Report
     ensures { result ≡ key_report outcome }
 {
     match outcome {
@@ -231,6 +231,18 @@ pub(crate) fn of_bounds(outcome: Result<BoundsSize, BoundsFault>) -> Report
         Err(BoundsFault::Closed) => Report::plain(CLOSED),
         Err(BoundsFault::Text(fault)) => Report::of_text(1, fault),
         Err(BoundsFault::OutOfMemory) => Report::plain(NO_MEMORY),
+    }
+}
+
+/// What `uca_is_complete` reports.
+pub(crate) fn of_completeness(outcome: Result<bool, KeyFault>) -> Report
+    ensures { result ≡ completeness_report outcome }
+{
+    match outcome {
+        Ok(_) => Report::plain(OK),
+        Err(KeyFault::Closed) => Report::plain(CLOSED),
+        Err(KeyFault::Text(fault)) => Report::of_text(1, fault),
+        Err(KeyFault::OutOfMemory) => Report::plain(NO_MEMORY),
     }
 }
 

@@ -1,11 +1,13 @@
 pub mod Calls
 pub mod Collator
+pub mod Completeness
 pub mod Fingerprint
 pub mod Held
 pub mod Levels
 pub mod Listed
 pub mod Matches
 pub mod Opening
+pub mod Places
 pub mod Placing
 pub mod Texts
 pub mod FingerprintLaws

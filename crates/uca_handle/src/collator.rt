@@ -3,10 +3,11 @@ ghost use Rattle.std.specs.Arc.{arc_value};
 ghost use Rattle.std.specs.Box.{box_value};
 
 use crate::bounds::{BoundsSize, put_bounds};
+use crate::completeness::completeness_of;
 use crate::digest::digest_of;
 use crate::faults::{BoundsFault, CompareFault, FingerprintFault, KeyFault, OpenFault, ShareFault};
 use crate::handle::Handle;
-use crate::keys::{put_key, put_packed_key};
+use crate::keys::{put_key, put_packed_key, put_packed_text_key, put_text_key};
 use crate::levels::{Decision, decision_of};
 use crate::loose::Loose;
 use crate::matches::{ElementForm, MatchForm, MatchesSize, put_matches};
@@ -17,8 +18,10 @@ use std::alloc::{AllocError, Global};
 use std::cmp::Ordering;
 use std::mem::replace;
 use std::sync::Arc;
+use uca_levels::compare;
 use uca_table::Table;
 use uca_weights::{Settings, Variable};
+use uca_window::Passage;
 
 /// A table that several collators own together.
 type Shared = Box<Arc<Table, Global>, Global>;
@@ -39,10 +42,13 @@ impl Drop for Collator {
 }
 
 impl Collator {
+    ghost use Rattle.uca_window.specs.Passage.{bytes_of, text_of};
     ghost use Rattle.uca_handle.specs.Calls.{Compares, Fingerprints, MakesKey, MakesPackedKey, Opens, PutsBounds, Shares, WritesKey};
     ghost use Rattle.uca_handle.specs.Collator.{held};
+    ghost use Rattle.uca_handle.specs.Completeness.{TellsComplete};
     ghost use Rattle.uca_handle.specs.Levels.{ComparesLevels};
     ghost use Rattle.uca_handle.specs.Matches.{PutsMatches};
+    ghost use Rattle.uca_handle.specs.Texts.{text_order};
 
     /// A collator without a table.
     pub fn closed(alloc: Global) -> Collator
@@ -131,6 +137,18 @@ impl Collator {
         order_of(table_in(self.handle.get_mut()), s, a, b)
     }
 
+    /// The order of the sort keys of two texts that were checked before, or `None` where the collator has no table. It does not
+    /// allocate.
+    pub fn compare_texts(&mut self, s: Settings, a: &Passage, b: &Passage) -> Option<Ordering>
+        ensures order { result ≡ text_order (held self.old) s (text_of a.now) (text_of b.now) }
+        ensures same { held self.new ≡ held self.old }
+    {
+        if !self.is_open {
+            return None;
+        }
+        Some(compare(table_in(self.handle.get_mut()), s, a, b))
+    }
+
     /// Puts the sort key of a text into the front of a buffer, or as many of its bytes as fit, and returns how many bytes it
     /// has.
     pub fn sort_key(
@@ -166,6 +184,40 @@ impl Collator {
             return Err(KeyFault::Closed);
         }
         put_packed_key(alloc, table_in(self.handle.get_mut()), s, text, out)
+    }
+
+    /// Puts the sort key of a text that was checked before into the front of a buffer, as [`Collator::sort_key`] does.
+    pub fn sort_key_of(
+        &mut self,
+        alloc: Global,
+        s: Settings,
+        text: &Passage,
+        out: &mut [u8],
+    ) -> Result<usize, KeyFault>
+        ensures key { MakesKey (held self.old) s (bytes_of text.now) out.old out.new result }
+        ensures same { held self.new ≡ held self.old }
+    {
+        if !self.is_open {
+            return Err(KeyFault::Closed);
+        }
+        put_text_key(alloc, table_in(self.handle.get_mut()), s, text, out)
+    }
+
+    /// Puts the packed sort key of a text that was checked before into the front of a buffer, as [`Collator::packed_key`] does.
+    pub fn packed_key_of(
+        &mut self,
+        alloc: Global,
+        s: Settings,
+        text: &Passage,
+        out: &mut [u8],
+    ) -> Result<usize, KeyFault>
+        ensures key { MakesPackedKey (held self.old) s (bytes_of text.now) out.old out.new result }
+        ensures same { held self.new ≡ held self.old }
+    {
+        if !self.is_open {
+            return Err(KeyFault::Closed);
+        }
+        put_packed_text_key(alloc, table_in(self.handle.get_mut()), s, text, out)
     }
 
     /// Writes the sort key of a text into the front of a buffer, or as many of its bytes as fit, and returns how many bytes it
@@ -205,6 +257,18 @@ impl Collator {
             lower,
             upper,
         )
+    }
+
+    /// Whether a text is complete: then every text that begins with it has its keys between the ends that
+    /// [`Collator::prefix_bounds`] puts. It does not allocate.
+    pub fn is_complete(&mut self, text: &[u8]) -> Result<bool, KeyFault>
+        ensures complete { TellsComplete (held self.old) text.now result }
+        ensures same { held self.new ≡ held self.old }
+    {
+        if !self.is_open {
+            return Err(KeyFault::Closed);
+        }
+        completeness_of(table_in(self.handle.get_mut()), text)
     }
 
     /// The SHA-256 digest of what sort keys depend on: the canonical text of the table, the settings, and the version of

@@ -6,11 +6,14 @@
 //! [`Collator::packed_key`], [`Collator::write_key`] and [`Collator::prefix_bounds`] work on bytes: they check them, and
 //! report where a text ends or is not safe. [`Collator::compare_levels`] and [`Collator::matches`] show why texts are in
 //! their order. [`Collator::fingerprint`] is of the table and the settings alone.
+//! [`Collator::compare_texts`], [`Collator::sort_key_of`] and [`Collator::packed_key_of`] take texts that were checked before, and
+//! [`locate`] finds the line of a byte.
 #![tactic(auto)]
 
 pub mod bounds;
 mod bytes;
 pub mod collator;
+mod completeness;
 mod digest;
 pub mod faults;
 pub mod handle;
@@ -20,6 +23,7 @@ pub mod levels;
 mod loose;
 pub mod matches;
 mod opening;
+pub mod places;
 mod placing;
 pub mod texts;
 
@@ -30,4 +34,5 @@ pub use faults::{
 };
 pub use levels::Decision;
 pub use matches::{ElementForm, MatchForm, MatchesSize};
-pub use texts::check;
+pub use places::{Place, locate};
+pub use texts::{check, text_of_checked};

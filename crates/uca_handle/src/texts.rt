@@ -1,12 +1,13 @@
 ghost use Rattle.std.specs.Prelude.{◌≡◌, chars, MatchResult};
 ghost use Rattle.uca_model.specs.Lines.{IsTextLine};
-ghost use Rattle.uca_window.specs.Passage.{text_of};
+ghost use Rattle.uca_window.specs.Passage.{bytes_of, text_of};
 ghost use Rattle.uca_handle.specs.Calls.{Checks, ComparesBy};
 ghost use Rattle.uca_handle.specs.Texts.{IsFault};
 
 use crate::faults::{CompareFault, TextFault};
 use simdutf8::compat::from_utf8;
 use std::cmp::Ordering;
+use std::str::from_utf8_unchecked;
 use uca_levels::compare;
 use uca_table::Table;
 use uca_weights::Settings;
@@ -44,6 +45,14 @@ pub fn check(text: &[u8]) -> Result<(), TextFault>
         Ok(_) => Ok(()),
         Err(fault) => Err(fault),
     }
+}
+
+/// The text that bytes are which were checked before.
+pub fn text_of_checked(bytes: &[u8]) -> Passage<'_>
+    requires { IsTextLine bytes.now }
+    ensures { bytes_of result ≡ bytes.now }
+{
+    Passage::of_safe(unsafe { from_utf8_unchecked(bytes) })
 }
 
 /// The order of the sort keys of two texts, or the fault of the first of them that has one.

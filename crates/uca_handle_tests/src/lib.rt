@@ -5,3 +5,5 @@
 mod looks;
 #[cfg(test)]
 mod tests;
+#[cfg(test)]
+mod texts;

@@ -13,16 +13,6 @@
 #include <stdint.h>
 #include <uca.h>
 
-/* Objects of bytes are never null, so the wrappers of the header are not needed. */
-#undef uca_open
-#undef uca_check
-#undef uca_compare
-#undef uca_compare_levels
-#undef uca_sort_key
-#undef uca_packed_key
-#undef uca_prefix_bounds
-#undef uca_matches
-
 #ifndef LIBRARY_FOLDER
 #define LIBRARY_FOLDER ""
 #endif
