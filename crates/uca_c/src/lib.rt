@@ -168,7 +168,7 @@ pub extern "C" fn uca_packed_key(
 }
 
 /// Writes the sort key of a text into the front of a buffer, or as many of its bytes as fit, and reports how many it has. It
-/// takes no memory.
+/// does not allocate.
 #[unsafe(no_mangle)]
 pub extern "C" fn uca_write_key(
     collator: &mut Collator,

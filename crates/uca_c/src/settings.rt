@@ -3,7 +3,7 @@ ghost use Rattle.uca_c.specs.Settings.{has_zeros, settings_named, strength_named
 
 use uca_weights::{Settings, Strength, Variable};
 
-/// Settings by their numbers, with room for others, which have to be 0.
+/// Settings by their numbers, and fields for later ones, which have to be 0.
 #[repr(C)]
 #[derive(Clone, Copy)]
 pub struct RawSettings {

@@ -126,7 +126,7 @@ impl Collator {
         Ok(())
     }
 
-    /// The order of the sort keys of two texts, or the fault of the first of them that has one. It takes no memory.
+    /// The order of the sort keys of two texts, or the fault of the first of them that has one. It does not allocate.
     pub fn compare(&mut self, s: Settings, a: &[u8], b: &[u8]) -> Result<Ordering, CompareFault>
         ensures compares { Compares (held self.old) s a.now b.now result }
         ensures same { held self.new ≡ held self.old }
@@ -221,7 +221,7 @@ impl Collator {
     }
 
     /// Writes the sort key of a text into the front of a buffer, or as many of its bytes as fit, and returns how many bytes it
-    /// has. It takes no memory. The text is read once for each level, so a key takes longer than by [`Collator::sort_key`].
+    /// has. It does not allocate. The text is read once for each level.
     pub fn write_key(&mut self, s: Settings, text: &[u8], out: &mut [u8]) -> Result<usize, KeyFault>
         ensures key { WritesKey (held self.old) s text.now out.old out.new result }
         ensures same { held self.new ≡ held self.old }
@@ -284,7 +284,7 @@ impl Collator {
     }
 
     /// The order of the sort keys of two texts, with the level that decides it, or the fault of the first of them that has one. It
-    /// takes no memory. Both texts are read again for each level, so it takes longer than [`Collator::compare`].
+    /// does not allocate. Both texts are read again for each level, so it takes longer than [`Collator::compare`].
     pub fn compare_levels(
         &mut self,
         s: Settings,

@@ -23,7 +23,7 @@ pub(crate) fn passage_of(bytes: &[u8]) -> Result<Passage<'_>, TextFault>
     }
 }
 
-/// The text that bytes are after a look for faults. It is not inlined, so that a text in ASCII doesn't pay for its room.
+/// The text that bytes are after a look for faults. It is not inlined, so that a text in ASCII does not pay for its stack frame.
 #[inline(never)]
 fn checked(bytes: &[u8]) -> Result<Passage<'_>, TextFault>
     ensures { MatchResult result (λ p. IsTextLine bytes.now × (text_of p ≡ chars bytes.now)) (IsFault bytes.now) }
@@ -37,7 +37,7 @@ fn checked(bytes: &[u8]) -> Result<Passage<'_>, TextFault>
     }
 }
 
-/// Whether bytes are a text that can be collated: UTF-8 whose runs of nonstarters are short. It takes no memory.
+/// Whether bytes are a text that can be collated: UTF-8 whose runs of nonstarters are short. It does not allocate.
 pub fn check(text: &[u8]) -> Result<(), TextFault>
     ensures { Checks text.now result }
 {

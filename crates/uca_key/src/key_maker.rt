@@ -12,8 +12,8 @@ use uca_table::Table;
 use uca_weights::{Element, Settings};
 use uca_window::{Passage, nfd_of};
 
-/// Makes the sort keys of texts one after the other. It keeps the room that it works in from one text to the next, so most
-/// texts take no memory but for their keys.
+/// Makes the sort keys of texts one by one. It keeps its buffers from one text to the next, so most texts allocate nothing but
+/// their keys.
 #[derive(Debug, Drop)]
 pub struct KeyMaker {
     text: Vec<char>,
@@ -21,7 +21,7 @@ pub struct KeyMaker {
 }
 
 impl KeyMaker {
-    /// One that has no room yet.
+    /// One whose buffers are empty.
     pub fn new(alloc: Global) -> KeyMaker {
         KeyMaker {
             text: Vec::new(alloc),
@@ -29,7 +29,8 @@ impl KeyMaker {
         }
     }
 
-    // Takes room for the characters and the elements of most texts of so many bytes, so that neither grows while they are read.
+    // Reserves capacity for the characters and the elements of most texts of this many bytes, so that neither buffer grows while a
+    // text is read.
     fn reserve(&mut self, bytes: usize) -> Result<(), AllocError> {
         self.text.clear();
         self.text.reserve(bytes)?;

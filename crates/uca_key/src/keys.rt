@@ -13,7 +13,7 @@ use uca_window::Passage;
 /// The sort key of a text: the weights of each level that are not zero, each as two bytes, high byte first, with the
 /// separator 0000 between two levels; and at the strength `Identical` the code points of the text in NFD, each as
 /// three bytes, after a fourth separator (UTS #10, sections 7.1 to 7.3). That of the empty text at the strength `Primary` is
-/// empty and takes no memory. `AllocError`: an allocation was refused.
+/// empty and allocates nothing. `AllocError`: an allocation was refused.
 pub fn key_of(alloc: Global, t: &Table, s: Settings, p: &Passage) -> Result<Vec<u8>, AllocError>
     ensures value { IfOk result (λ v. v.items ≡ sort_key t.now s (text_of p.now)) }
     ensures empty { bytes_of p.now ≡ [] → levels s.strength ≡ 1 → IsOk result }

@@ -24,7 +24,7 @@ pub fn packed_keys_begin_with_complete_texts()
 {}
 
 /// A packed key that begins with the sort key of a text at the strength `Primary` belongs to a text whose primary weights
-/// begin with those of the other. So between the two ends stand no packed keys of other texts.
+/// begin with those of the other. So no packed key of another text lies between the two ends.
 pub fn packed_keys_begin_with_primary_weights()
     ensures { PackedKeysBeginWithPrimaryWeights }
 {}

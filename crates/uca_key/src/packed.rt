@@ -10,7 +10,7 @@ use crate::levels::{push_level, push_separator};
 use std::alloc::AllocError;
 use uca_weights::{Element, Variable, Weigher};
 
-// How many common weights one byte stands for, and that byte.
+// How many common weights one byte counts, and that byte.
 const FULL_RUN: u8 = 84;
 
 const FULL_RUN_BYTE: u8 = 0xA9;

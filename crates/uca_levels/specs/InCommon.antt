@@ -7,7 +7,7 @@ use Rattle.uca_model.specs.Window.{WindowState, Fits, credit}
 use Rattle.uca_levels.specs.RemainingWeights.{WeightsState, remaining_with_zeros}
 use Rattle.uca_levels.specs.Reads.{InStep}
 
--- both marks stand at a place, where they were set, and else it is the start
+-- both marks are at a place, where they were set, and else it is the start
 pub record AreMarked (marked : Bool) (place : ℕ) (a b : SourceState) : Type 0 where
   pub none : marked ≡ false → place ≡ 0
   pub first : marked ≡ true → a.mark ≡ place

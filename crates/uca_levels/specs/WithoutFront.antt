@@ -22,7 +22,7 @@ pub record BeginsApart (t : ElementTable) (text : List ℕ) : Type 0 where
   pub same : text ≡ c ∷ later
   pub apart : joining t c ≡ 0
 
--- a text joins nothing that stands before it: it is empty, or begins with such a character
+-- a text joins nothing that comes before it: it is empty, or begins with such a character
 abbrev pub JoinsNothing : ElementTable → List ℕ → Type 0
 JoinsNothing t text = (text ≡ []) ⊎ BeginsApart t text
 

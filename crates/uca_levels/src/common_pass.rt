@@ -66,7 +66,7 @@ fn goes_on<'t, S: Source, T: Source>(
     }
 }
 
-/// The order of two texts at the first level. Their sources stand at the start. Each is read once, and has its mark at
+/// The order of two texts at the first level. Their sources are at the start. Each is read once, and has its mark at
 /// the safe cut of the texts, if the second result says that marks were set. Where none were, the cut is the start.
 pub(crate) fn first_order<S: Source, T: Source>(
     t: &Table,

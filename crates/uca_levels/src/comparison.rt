@@ -13,12 +13,12 @@ use uca_table::Table;
 use uca_weights::Settings;
 use uca_window::Source;
 
-/// The order of the sort keys of two texts (UTS #10, section 7.4, step S4), wherever their sources stand, and whatever
+/// The order of the sort keys of two texts (UTS #10, section 7.4, step S4), wherever their sources are, and whatever
 /// marks they have. With `d` the first level at which the texts differ, or the last one where they do not, each source
 /// goes back at most `d` times, and is asked at most `d * (n + 1)` times where its text has `n` characters. Later levels
 /// begin at the safe cut `m` of the texts, so that it is asked at most `(n + 1) + (d - 1) * (n - m + 1)` times.
 ///
-/// It takes no memory. Each level is read through a [`Weights`](crate::Weights) for each text, or through a
+/// It does not allocate. Each level is read through a [`Weights`](crate::Weights) for each text, or through a
 /// [`Points`](crate::Points), so that of either text at most `MAX_LOOKAHEAD` code points more than the longest key has are
 /// held at a time: the clauses `bound` of `Weights::new` and `next`, and of `Points::new` and `next`, say so.
 pub fn compare_sources<S: Source, T: Source>(

@@ -79,7 +79,7 @@ pub(crate) fn common_front(a: &str, b: &str) -> usize
 }
 
 /// What is left of two texts from the last place on at which both may be cut, of those in the bytes that they have in
-/// common. What stands before it can't decide their order.
+/// common. What comes before it cannot decide their order.
 pub(crate) fn without_front<'t>(
     t: &Table,
     a: &'t str,

@@ -10,7 +10,7 @@ use std::marker::Model;
 use uca_window::{Source, Window};
 
 /// The code points of a text in NFD one by one, which are its list at the fifth level (UTS #10, section 7.3, step
-/// S3.10). It borrows a source at each call. It takes no memory. Of the text it holds at most `MAX_LOOKAHEAD` code
+/// S3.10). It borrows a source at each call. It does not allocate. Of the text it holds at most `MAX_LOOKAHEAD` code
 /// points more than one: `bound`.
 #[derive(Drop)]
 pub struct Points {

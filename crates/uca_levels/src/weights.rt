@@ -16,7 +16,7 @@ use uca_weights::{Variable, Weigher};
 use uca_window::Source;
 
 /// The weights of one level of a text that are not zero, one by one (UTS #10, section 7.3, Form Sort Keys, step S3). It
-/// borrows a source at each call that reads. It takes no memory. Of the text it holds at most `MAX_LOOKAHEAD` code points
+/// borrows a source at each call that reads. It does not allocate. Of the text it holds at most `MAX_LOOKAHEAD` code points
 /// more than the longest key has: `bound`.
 #[derive(Drop)]
 pub struct Weights<'t> {
