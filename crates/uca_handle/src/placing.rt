@@ -41,14 +41,7 @@ fn put_point(point: char, at: usize, out: &mut [u8]) -> usize
 }
 
 /// Puts the weights of a level of a text.
-fn put_weights(
-    t: &Table,
-    v: Variable,
-    level: u8,
-    text: &str,
-    at: usize,
-    out: &mut [u8],
-) -> usize
+fn put_weights(t: &Table, v: Variable, level: u8, text: &str, at: usize, out: &mut [u8]) -> usize
     requires first { 1 ≤ level }
     requires last { level ≤ 4 }
     requires safe { IsSafe (chars text.now) }

@@ -42,4 +42,3 @@ IsSafe-rest xs ys safe =
 pub chars-split : (text front back : List ℕ) (at : ℕ) → IsUtf8 text → IsCharBoundary text at → front ≡ take at text → back ≡ drop at text → chars text ≡ chars front ++ chars back
 chars-split text front back at utf8 boundary first last =
     parts-at text back at utf8 boundary last ∙ ap (λ u. chars u ++ chars back) (sym first)
-

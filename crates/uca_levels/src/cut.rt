@@ -115,7 +115,12 @@ pub(crate) fn joins_nothing(t: &Table, text: &str) -> bool
 
 /// What is left of two texts from the last place on at which neither joins what is before it, of those in the bytes that they
 /// have in common.
-pub(crate) fn apart_after<'t>(t: &Table, a: &'t str, b: &'t str, common: usize) -> (&'t str, &'t str)
+pub(crate) fn apart_after<'t>(
+    t: &Table,
+    a: &'t str,
+    b: &'t str,
+    common: usize,
+) -> (&'t str, &'t str)
     requires { take common a.now ≡ take common b.now }
     ensures { AreApart t.now (chars a.now) (chars b.now) (chars result.0.now) (chars result.1.now) }
 {

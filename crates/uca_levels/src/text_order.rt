@@ -8,8 +8,8 @@ ghost use Rattle.uca_levels.specs.CellWeights.{cell_weights_left};
 ghost use Rattle.uca_levels.specs.Decides.{IsOfLevel};
 ghost use Rattle.uca_levels.specs.Streams.{given_before};
 
-use crate::comparison::compare_sources;
 use crate::cell_weights::CellWeights;
+use crate::comparison::compare_sources;
 use crate::cut::{apart_after, common_front, without_front};
 use crate::stream::order_of;
 use crate::text_weights::TextWeights;
