@@ -1,23 +1,11 @@
 -- The fronts of keys: keys whose fronts differ are in the order of these.
-use Rattle.std.proofs.Common.{◌≡◌, inl, inr, ℕ, zero, suc, ◌+◌, ◌*◌, ◌^◌, ◌<◌, ◌≤◌, ◌==◌, List, [], ◌∷◌, ◌++◌, take, chars, flat_map, get_or, nat_le, refl, sym, ap, ◌∙◌, arith, eqb-true}
+use Rattle.std.proofs.Common.{◌≡◌, inl, inr, ℕ, zero, suc, ◌+◌, ◌-◌, ◌*◌, ◌^◌, ◌<◌, ◌≤◌, ◌==◌, List, [], ◌∷◌, drop, get_or, nat_le, refl, sym, ap, ◌∙◌, arith, eqb-true}
 use Rattle.std.proofs.lemmas.Bool.{cases_Bool, eqb-false, leb-true, leb-false}
-use Rattle.std.proofs.lemmas.Cmp.{nat_list_cmp_total}
+use Rattle.std.proofs.lemmas.List.{get_or-drop}
 use Rattle.std.proofs.Math.Nat.{pow-le-pow_right}
-use Rattle.std.specs.declared.cmp.Ordering.{Ordering}
-use Rattle.std.specs.declared.cmp.Ordering.TheVariants.{Less, Equal, Greater}
-use Rattle.std.specs.Ordering.{nat_cmp, ordering_reverse}
+use Rattle.std.specs.declared.cmp.Ordering.TheVariants.{Less, Equal}
 use Rattle.std.specs.Cmp.{nat_cmp_is}
-use Rattle.std.specs.List.{AllByRecursion}
-use Rattle.unicode_normalization.specs.Forms.{nfd}
-use Rattle.uca_weights.specs.declared.settings.Settings.{Settings}
-use Rattle.uca_weights.specs.Settings.{levels}
-use Rattle.uca_weights.specs.VariableWeighting.{weighted}
-use Rattle.uca_model.specs.CollationElements.{elements}
-use Rattle.uca_model.specs.Laws.{AreBytes}
-use Rattle.uca_model.specs.LevelWeights.{level_weights}
-use Rattle.uca_model.specs.OrderOutput.{line_key}
-use Rattle.uca_model.specs.SortKey.{all_levels, code_point_bytes, joined, key_order, sort_key, weight_bytes}
-use Rattle.uca_model.specs.Table.{ElementTable}
+use Rattle.uca_model.specs.SortKey.{key_order}
 use Rattle.uca_commands.specs.KeyFronts.{front, IsFront}
 
 -- the first n bytes of a key are bytes
@@ -88,72 +76,41 @@ front_less (suc n) a b first second less =
           front_less n a b first_n second_n (omega (arith, front-more n a, front-more n b, here, there, less))
     ]
 
-IsFront-less : (a b : List ℕ) (m n : ℕ) → IsFront a m → IsFront b n → m < n → key_order a b ≡ Less
-IsFront-less a b m n first second less = front_less 8 a b first.bytes second.bytes (omega (arith, first.value, second.value))
+-- the key whose front is less is less
+pub IsFront-less : (n : ℕ) (a b : List ℕ) (x y : ℕ) → IsFront n a x → IsFront n b y → x < y → key_order a b ≡ Less
+IsFront-less n a b x y first second less = front_less n a b first.bytes second.bytes (omega (arith, first.value, second.value))
 
-IsFront-greater : (a b : List ℕ) (m n : ℕ) → IsFront a m → IsFront b n → n < m → key_order a b ≡ Greater
-IsFront-greater a b m n first second less = nat_list_cmp_total.antisymm a b ∙ ap ordering_reverse (IsFront-less b a n m second first less)
+-- ---- a front of which some bytes are known
 
--- where the fronts of two keys differ, the keys are in their order
-pub IsFront-order : (a b : List ℕ) (m n : ℕ) (o : Ordering) → IsFront a m → IsFront b n → o ≡ nat_cmp m n → (o ≡ Equal → ⊥) → o ≡ key_order a b
-IsFront-order a b m n o first second is differs = elim (cases_Bool (nat_le m n)) [
-  | inr more ↦
-      let greater : n < m = leb-false m n more in
-      is ∙ sym (nat_cmp_is m n Greater greater) ∙ sym (IsFront-greater a b m n first second greater)
-  | inl le ↦
-      let at_most : m ≤ n = leb-true m n le in
-      elim (cases_Bool (m == n)) [
-        | inl same ↦ absurd (differs (is ∙ sym (nat_cmp_is m n Equal (eqb-true m n same))))
-        | inr other ↦
-            let differ : m ≡ n → ⊥ = eqb-false m n other in
-            let less : m < n = omega arith in
-            is ∙ sym (nat_cmp_is m n Less less) ∙ sym (IsFront-less a b m n first second less)
-      ]
-]
+one_byte_more : (f p q g byte : ℕ) → q ≡ 256 * p → (f * p + g) * 256 + byte ≡ f * q + (g * 256 + byte)
+one_byte_more f p q g byte is = rw is (grind arith)
 
--- ---- the bytes of sort keys
+front-parts : (d n : ℕ) (key : List ℕ) → front (d + n) key ≡ front d key * 256 ^ n + front n (drop d key)
+front-parts d zero key =
+    let none : d + zero ≡ d = omega arith in
+    let whole : front (d + zero) key ≡ front d key = ap (λ m. front m key) none in
+    omega (arith, whole, front-none (drop d key))
+front-parts d (suc n) key =
+    let next : d + suc n ≡ suc (d + n) = omega arith in
+    let power : 256 ^ suc n ≡ 256 * 256 ^ n = omega arith in
+    ap (λ m. front m key) next ∙ front-more (d + n) key ∙ ap (λ whole. whole * 256 + get_or key (d + n) 0) (front-parts d n key)
+    ∙ ap (λ byte. (front d key * 256 ^ n + front n (drop d key)) * 256 + byte) (sym (get_or-drop d key n 0))
+    ∙ one_byte_more (front d key) (256 ^ n) (256 ^ suc n) (front n (drop d key)) (get_or (drop d key) n 0) power
+    ∙ ap (λ last. front d key * 256 ^ suc n + last) (sym (front-more n (drop d key)))
 
-bytes-append : (xs ys : List ℕ) → AreBytes xs → AreBytes ys → AreBytes (xs ++ ys)
-bytes-append [] ys first second = second
-bytes-append (x ∷ xs) ys first second = (first.0, bytes-append xs ys first.1 second)
+pub IsFront-none : (key : List ℕ) → IsFront 0 key 0
+IsFront-none key = record { bytes = λ i low. absurd (omega arith); value = sym (front-none key) }
 
-bytes-weights : (ws : List ℕ) → AreBytes (flat_map weight_bytes ws)
-bytes-weights [] = tt
-bytes-weights (w ∷ ws) = (omega arith, (omega arith, bytes-weights ws))
-
-bytes-points : (cs : List ℕ) → AreBytes (flat_map code_point_bytes cs)
-bytes-points [] = tt
-bytes-points (c ∷ cs) = (omega arith, (omega arith, (omega arith, bytes-points cs)))
-
-bytes-joined : (levels : List (List ℕ)) → AllByRecursion AreBytes levels → AreBytes (joined levels)
-bytes-joined [] each = tt
-bytes-joined (x ∷ []) each = each.0
-bytes-joined (x ∷ y ∷ levels) each = bytes-append x (0 ∷ 0 ∷ joined (y ∷ levels)) each.0 (omega arith, (omega arith, bytes-joined (y ∷ levels) each.1))
-
-bytes-take : (n : ℕ) (levels : List (List ℕ)) → AllByRecursion AreBytes levels → AllByRecursion AreBytes (take n levels)
-bytes-take zero levels each = tt
-bytes-take (suc n) [] each = tt
-bytes-take (suc n) (x ∷ levels) each = (each.0, bytes-take n levels each.1)
-
-bytes-all_levels : (ws : List (List ℕ)) (points : List ℕ) → AllByRecursion AreBytes (all_levels ws points)
-bytes-all_levels ws points =
-    (bytes-weights (level_weights 1 ws), (bytes-weights (level_weights 2 ws), (bytes-weights (level_weights 3 ws), (bytes-weights (level_weights 4 ws), (bytes-points points, tt)))))
-
--- a sort key has bytes
-bytes-sort_key : (t : ElementTable) (s : Settings) (text : List ℕ) → AreBytes (sort_key t s text)
-unfolding sort_key
-bytes-sort_key t s text =
-    let ws : List (List ℕ) = weighted s.weighting (elements t (nfd text)) in
-    bytes-joined (take (levels s.strength) (all_levels ws (nfd text))) (bytes-take (levels s.strength) (all_levels ws (nfd text)) (bytes-all_levels ws (nfd text)))
-
-bytes-at : (key : List ℕ) → AreBytes key → (i : ℕ) → get_or key i 0 < 256
-bytes-at [] each i = omega arith
-bytes-at (x ∷ xs) each zero = each.0
-bytes-at (x ∷ xs) each (suc i) = bytes-at xs each.1 i
-
--- every key has a front
-pub IsFront-line_key : (t : ElementTable) (s : Settings) (line : List ℕ) → IsFront (line_key t s line) (front 8 (line_key t s line))
-IsFront-line_key t s line = record {
-  bytes = λ i low. bytes-at (line_key t s line) (bytes-sort_key t s (chars line)) i;
-  value = refl;
+-- the bytes that follow a front
+pub IsFront-more : (d : ℕ) (key : List ℕ) (p w : ℕ) → IsFront d key p → IsFront 8 (drop d key) w → IsFront (d + 8) key (p * 256 ^ 8 + w)
+IsFront-more d key p w first second = record {
+  bytes = λ i low. elim (cases_Bool (nat_le d i)) [
+    | inl past ↦
+        let from : d ≤ i = leb-true d i past in
+        let place : d + (i - d) ≡ i = omega arith in
+        let at : get_or (drop d key) (i - d) 0 ≡ get_or key i 0 = get_or-drop d key (i - d) 0 ∙ ap (λ k. get_or key k 0) place in
+        omega (arith, at, second.bytes (i - d) (omega arith))
+    | inr before ↦ let below : i < d = leb-false d i before in first.bytes i below
+  ];
+  value = omega (arith, front-parts d 8 key, first.value, second.value);
 }

@@ -3,3 +3,5 @@ pub mod SendingLemmas
 pub mod NoLines
 pub mod OrderingLemmas
 pub mod KeyFrontLemmas
+pub mod SortLemmas
+pub mod LineSortLemmas

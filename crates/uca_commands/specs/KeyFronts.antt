@@ -6,7 +6,7 @@ unfoldable pub front : ℕ → List ℕ → ℕ
 front zero key = 0
 front (suc n) key = front n key * 256 + get_or key n 0
 
--- a number is that of the first eight bytes of a key
-pub record IsFront (key : List ℕ) (number : ℕ) : Type 0 where
-  pub bytes : (i : ℕ) → i < 8 → get_or key i 0 < 256
-  pub value : number ≡ front 8 key
+-- a number is that of the first n bytes of a key
+pub record IsFront (n : ℕ) (key : List ℕ) (number : ℕ) : Type 0 where
+  pub bytes : (i : ℕ) → i < n → get_or key i 0 < 256
+  pub value : number ≡ front n key

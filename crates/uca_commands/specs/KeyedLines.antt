@@ -10,3 +10,7 @@ key_of l = key_at l.of.now.ends.now l.of.now.keys.now l.number
 -- the first line from where it begins
 abbrev pub line_of : KeyedLine → List ℕ
 line_of l = get_or (lines_of (drop l.start l.of.now.input.now)) 0 []
+
+-- the line, whatever bytes of its key are beside it
+abbrev pub bare : KeyedLine → KeyedLine
+bare l = record l { front = 0 }

@@ -4,3 +4,4 @@ pub mod Ordering
 pub mod KeyFronts
 pub mod KeyPieces
 pub mod KeyedLines
+pub mod LineSorting

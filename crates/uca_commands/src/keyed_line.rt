@@ -7,8 +7,8 @@ ghost use Rattle.uca_commands.specs.KeyPieces.{key_at, piece};
 use std::cmp::Ordering;
 use uca_lines::first_line;
 
-/// How many bytes the front of a key has.
-const FRONT: usize = 8;
+/// How many bytes of a key a line has beside it.
+pub(crate) const FRONT: usize = 8;
 
 /// The lines of an input, with their sort keys: one key after the other, and where each ends.
 #[derive(Clone, Copy)]
@@ -21,14 +21,12 @@ pub(crate) struct KeyedLines<'a> {
 /// A line and its sort key.
 #[derive(Clone, Copy)]
 pub(crate) struct KeyedLine<'a> {
-    // The first bytes of the key as a number, so that most comparisons of lines look at no key.
-    front: u64,
+    // Eight bytes of the key as a number, those by which lines are sorted next.
+    pub(crate) front: u64,
     of: &'a KeyedLines<'a>,
-    // The line's number, from 0, and where it begins. Numbers take half the room of what they name.
+    // The line's number, from 0, and where it begins. Numbers take half the memory of what they name.
     number: u32,
     start: u32,
-    ghost begins: { start < length of.now.input.now },
-    ghost fronts: { IsFront (key_at of.now.ends.now of.now.keys.now number) front },
 }
 
 // The byte at a place of a key, zero after its end.
@@ -43,13 +41,20 @@ fn digit(key: &[u8], at: usize) -> u8
 
 // The first eight bytes of a key as a number, the first byte first.
 fn front_of(key: &[u8]) -> u64
-    ensures { IsFront key.now result }
+    ensures { IsFront 8 key.now result }
 {
     let mut front = 0;
     for at in 0..FRONT {
         front = front * 256 + digit(key, at) as u64;
     }
     front
+}
+
+// What follows so many bytes, if there is more.
+fn bytes_after(bytes: &[u8], count: usize) -> &[u8]
+    ensures { result.now ≡ drop count bytes.now }
+{
+    &bytes[count.min(bytes.len())..]
 }
 
 // Where a key ends. There is none of this number: 0.
@@ -94,17 +99,15 @@ impl<'a> KeyedLines<'a> {
 }
 
 impl<'a> KeyedLine<'a> {
-    ghost use Rattle.uca_commands.specs.KeyedLines.{key_of, line_of};
+    ghost use Rattle.uca_commands.specs.KeyedLines.{bare, key_of, line_of};
 
     /// The line of this number, which starts at this place.
     pub(crate) fn new(of: &'a KeyedLines<'a>, number: u32, start: u32) -> KeyedLine<'a>
-        requires { start < length of.now.input.now }
         ensures key { key_of result ≡ key_at of.now.ends.now of.now.keys.now number }
         ensures line { line_of result ≡ get_or (lines_of (drop start of.now.input.now)) 0 [] }
     {
-        let front = front_of(of.key(number as usize));
         KeyedLine {
-            front,
+            front: 0,
             of,
             number,
             start,
@@ -115,7 +118,11 @@ impl<'a> KeyedLine<'a> {
     pub(crate) fn line(&self) -> &'a [u8]
         ensures { result.now ≡ line_of self.now }
     {
-        let (line, _) = first_line(&self.of.input[self.start as usize..]);
+        let rest = bytes_after(self.of.input, self.start as usize);
+        if rest.is_empty() {
+            return rest;
+        }
+        let (line, _) = first_line(rest);
         line
     }
 
@@ -126,13 +133,24 @@ impl<'a> KeyedLine<'a> {
         self.of.key(self.number as usize)
     }
 
+    /// The line, with the eight bytes of its key after so many.
+    pub(crate) fn with_front(&self, depth: usize) -> KeyedLine<'a>
+        ensures same { bare result ≡ bare self.now }
+        ensures front { IsFront 8 (drop depth (key_of self.now)) result.front }
+    {
+        let front = front_of(bytes_after(self.key(), depth));
+        KeyedLine {
+            front,
+            of: self.of,
+            number: self.number,
+            start: self.start,
+        }
+    }
+
     /// The order of the sort keys of two lines.
     pub(crate) fn compare_keys(&self, other: &KeyedLine<'_>) -> Ordering
         ensures { result ≡ key_order (key_of self.now) (key_of other.now) }
     {
-        match self.front.cmp(&other.front) {
-            Ordering::Equal => self.key().cmp(other.key()),
-            order => order,
-        }
+        self.key().cmp(other.key())
     }
 }

@@ -6,6 +6,7 @@
 pub mod commands;
 pub mod faults;
 mod keyed_line;
+mod line_sort;
 mod output;
 
 pub use commands::order::order;

@@ -1,11 +1,9 @@
 ghost use Rattle.std.specs.Prelude.{◌≡◌, ◌+◌, ◌^◌, ◌<◌, ◌≤◌, ◌++◌, ◌∷◌, [], length, map, All, IfOk, OnOk, MatchResult, IfErr};
-ghost use Rattle.std.specs.List.Sorted.{IsPermutation, IsSortedByKey, IsStableByKey};
 ghost use Rattle.uca_io.specs.OutputBuffer.{accepted, Accepts, FailsPartway};
 ghost use Rattle.uca_io.specs.Writer.{WritesAll, WritesFront};
 ghost use Rattle.uca_weights.specs.declared.limits.TheConstants.{MAX_INPUT};
 ghost use Rattle.uca_model.specs.Lines.{line_feed, lines_of, IsTextLine};
 ghost use Rattle.uca_model.specs.OrderOutput.{text_of_lines};
-ghost use Rattle.uca_model.specs.SortKey.{key_order};
 ghost use Rattle.uca_commands.specs.KeyPieces.{pieces};
 ghost use Rattle.uca_commands.specs.KeyedLines.{key_of, line_of};
 ghost use Rattle.uca_commands.specs.Ordering.{AreKeys, Orders, RefusesOrder, StopsInOrder, WritesInOrder};
@@ -13,6 +11,7 @@ ghost use Rattle.uca_commands.specs.Commands.{Does, Fails, order_command};
 
 use crate::faults::CliFault;
 use crate::keyed_line::{KeyedLine, KeyedLines};
+use crate::line_sort::sort_lines;
 use crate::output::text_of_line;
 use std::alloc::{AllocError, Global};
 use uca_key::KeyMaker;
@@ -64,15 +63,6 @@ fn keyed_lines<'a>(alloc: Global, of: &'a KeyedLines<'a>) -> Result<Vec<KeyedLin
         left = rest;
     }
     Ok(lines)
-}
-
-/// Sorts lines by their keys. Lines of equal keys stay in the order that they had.
-fn sort_lines(lines: &mut Vec<KeyedLine<'_>>) -> Result<(), AllocError>
-    ensures same { IsPermutation lines.old.items lines.new.items }
-    ensures sorted { OnOk result (IsSortedByKey key_of key_order lines.new.items) }
-    ensures stable { IsStableByKey key_of key_order lines.old.items lines.new.items }
-{
-    lines.sort_by(|a, b| a.compare_keys(b))
 }
 
 /// Writes bytes to a block of output, however many they are.
@@ -141,9 +131,10 @@ pub fn write_in_order<W: Writer>(
         keys: &keys.bytes,
         ends: &keys.ends,
     };
-    let mut lines = keyed_lines(alloc, &of)?;
-    sort_lines(&mut lines)?;
-    write_keyed(&lines, w)?;
+    let mut sorted = keyed_lines(alloc, &of)?;
+    let lines = sorted.as_mut_slice();
+    sort_lines(alloc, lines)?;
+    write_keyed(lines, w)?;
     Ok(lines.len() as u64)
 }
 

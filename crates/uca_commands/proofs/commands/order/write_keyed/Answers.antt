@@ -1,5 +1,5 @@
 use Rattle.std.proofs.Common.{◌≡◌, ℕ, ◌+◌, ◌-◌, ◌<◌, List, [], ◌∷◌, ◌++◌, length, drop, get_or, map, refl, sym, ap, ◌∙◌, arith, drop_of_length-le}
-use Rattle.std.proofs.lemmas.List.{drop_more, get_or_read, length-drop}
+use Rattle.std.proofs.lemmas.List.{drop_more, length-drop}
 use Rattle.std.proofs.lemmas.Result.{err_from_is_err_and}
 use Rattle.uca_io.proofs.BufferLemmas.{Accepts-none, FailsPartway-front}
 use Rattle.uca_io.proofs.SendLemmas.{sent_more, stopped_there}
@@ -9,10 +9,6 @@ use Rattle.uca_commands.specs.KeyedLines.{line_of}
 use Rattle.uca_commands.specs.declared.keyed_line.KeyedLine.{KeyedLine}
 use Rattle.uca_commands.proofs.SendingLemmas.{flushed}
 use Rattle.uca_commands.proofs.commands.order.write_keyed.Goals as goal
-
--- a line with LF
-abbrev ended : KeyedLine → List ℕ
-ended k = line_of k ++ line_feed ∷ []
 
 -- the text of some lines
 abbrev text : List KeyedLine → List ℕ
@@ -30,25 +26,23 @@ loop-keyed-init g c =
     }
 
 -- the next line, and those after it
-text_more : (ks : List KeyedLine) (i : ℕ) (k : KeyedLine) (sent whole : List ℕ) → i < length ks → k ≡ get_or ks i k → sent ++ text (drop i ks) ≡ whole → sent ++ (ended k ++ text (drop (i + 1) ks)) ≡ whole
-text_more ks i k sent whole within is complete = ap (λ l. sent ++ (ended l ++ text (drop (i + 1) ks))) is ∙ ap (λ l. sent ++ text l) (sym (drop_more ks i k within)) ∙ complete
+text_more : (ks : List KeyedLine) (i : ℕ) (d : KeyedLine) (line sent whole : List ℕ) → i < length ks → line ≡ line_of (get_or ks i d) → sent ++ text (drop i ks) ≡ whole → sent ++ ((line ++ line_feed ∷ []) ++ text (drop (i + 1) ks)) ≡ whole
+text_more ks i d line sent whole within is complete = ap (λ l. sent ++ ((l ++ line_feed ∷ []) ++ text (drop (i + 1) ks))) is ∙ ap (λ l. sent ++ text l) (sym (drop_more ks i d within)) ∙ complete
 
 pub returns-in_err-send_line : goal.returns-in_err-send_line
 returns-in_err-send_line g c =
     let p = err_from_is_err_and c.from_residual.result c.from_residual.ensures.1 in
     let ks : List KeyedLine = c.args.lines.now in let i : ℕ = c.loop-keyed.keyed-index in
-    let k : KeyedLine = c.keyed-item.result in
     let piece : List ℕ = c.line.result.now ++ line_feed ∷ [] in let rest : List ℕ = text (drop (i + 1) ks) in
-    let complete : c.loop-keyed.invariant.sent ++ (piece ++ rest) ≡ text ks = ap (λ line. c.loop-keyed.invariant.sent ++ ((line ++ line_feed ∷ []) ++ rest)) c.line.ensures ∙ text_more ks i k c.loop-keyed.invariant.sent (text ks) c.loop-keyed-test.true (get_or_read ks i k c.loop-keyed-test.true c.keyed-item.is k) c.loop-keyed.invariant.complete in
+    let complete : c.loop-keyed.invariant.sent ++ (piece ++ rest) ≡ text ks = text_more ks i _ c.line.result.now c.loop-keyed.invariant.sent (text ks) c.loop-keyed-test.true c.line.ensures c.loop-keyed.invariant.complete in
     rw (p.1, p.2) (FailsPartway-front _ _ c.new-out.result (text ks) _ c.new-out.ensures.waiting c.new-out.ensures.written
     (stopped_there _ _ _ c.new-out.result c.loop-keyed.out c.loop-keyed.invariant.sent piece rest (text ks) piece _ c.loop-keyed.invariant.sends complete refl c.in_err-send_line.ensures.sends))
 
 pub loop-keyed-preserved : goal.loop-keyed-preserved
 loop-keyed-preserved g c =
     let ks : List KeyedLine = c.args.lines.now in let i : ℕ = c.loop-keyed.keyed-index in
-    let k : KeyedLine = c.keyed-item.result in
     let piece : List ℕ = c.line.result.now ++ line_feed ∷ [] in let rest : List ℕ = text (drop (i + 1) ks) in
-    let complete : c.loop-keyed.invariant.sent ++ (piece ++ rest) ≡ text ks = ap (λ line. c.loop-keyed.invariant.sent ++ ((line ++ line_feed ∷ []) ++ rest)) c.line.ensures ∙ text_more ks i k c.loop-keyed.invariant.sent (text ks) c.loop-keyed-test.true (get_or_read ks i k c.loop-keyed-test.true c.keyed-item.is k) c.loop-keyed.invariant.complete in
+    let complete : c.loop-keyed.invariant.sent ++ (piece ++ rest) ≡ text ks = text_more ks i _ c.line.result.now c.loop-keyed.invariant.sent (text ks) c.loop-keyed-test.true c.line.ensures c.loop-keyed.invariant.complete in
     let more = sent_more _ _ _ c.new-out.result c.loop-keyed.out c.send_line.new.out c.loop-keyed.invariant.sent piece rest (text ks) piece c.loop-keyed.invariant.sends complete refl c.in_ok-send_line.ensures.sends in
     let left : length (drop i ks) ≡ length ks - i = length-drop i ks in
     let less : length (drop (i + 1) ks) ≡ length ks - (i + 1) = length-drop (i + 1) ks in

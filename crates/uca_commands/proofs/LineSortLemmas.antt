@@ -1,0 +1,256 @@
+-- Lines that are sorted by eight bytes of their keys, and then run by run.
+use Rattle.std.proofs.Common.{◌≡◌, inl, inr, ℕ, ◌+◌, ◌-◌, ◌*◌, ◌^◌, ◌<◌, ◌≤◌, ◌==◌, Bool, true, false, not, ◌&&◌, List, [], ◌∷◌, ◌++◌, length, get_or, set, take, drop, map, filter, All, IsPermutation, is_lt, nat_le, refl, sym, ap, ap₂, subst, ◌∙◌, arith, eqb-true}
+use Rattle.std.proofs.Math.Seq.{take-add}
+use Rattle.std.proofs.lemmas.Bool.{cases_Bool, eqb-false, leb-true, leb-false}
+use Rattle.std.proofs.lemmas.Cmp.{nat_list_cmp_total, tied_itself, nat_cmp_total}
+use Rattle.std.proofs.lemmas.List.{drop-drop, get_or_default, get_or-drop, get_or-map, get_or-set_other, get_or-set_same, get_or-take, length-drop, length-map, length-take-le, map-append, take_all, take-append-drop, length-append}
+use Rattle.std.proofs.lemmas.List.Elements.{All-map, All-weaker}
+use Rattle.std.proofs.lemmas.List.Sorted.{All-permutation, IsNonDecreasingBy-from_sort, IsPermutation-map}
+use Rattle.std.proofs.lemmas.Map.Text.{is_eq-slice_cmp}
+use Rattle.std.proofs.lemmas.Slice.{drop-put_mid, take-put_mid}
+use Rattle.std.proofs.lemmas.Slice.Eq.{bytes_eq-Decides}
+use Rattle.std.specs.declared.cmp.Ordering.{Ordering}
+use Rattle.std.specs.declared.cmp.Ordering.TheVariants.{Less, Equal, Greater}
+use Rattle.std.specs.List.Sorted.{IsSortedByKey, IsStableByKey, ties}
+use Rattle.std.specs.Ordering.{is_eq, nat_cmp, ordering_reverse}
+use borrow.Rule.Slice.PartMut.{mid_of, put_mid}
+use Rattle.uca_model.specs.SortKey.{key_order}
+use Rattle.uca_commands.specs.KeyFronts.{front, IsFront}
+use Rattle.uca_commands.specs.KeyedLines.{bare, key_of}
+use Rattle.uca_commands.specs.LineSorting.{IsRun, SharesFront, ShowsFronts, SortsByFront, SortsByKey, SortsLines}
+use Rattle.uca_commands.specs.declared.keyed_line.KeyedLine.{KeyedLine}
+use Rattle.uca_commands.proofs.KeyFrontLemmas.{IsFront-less, IsFront-more}
+use Rattle.uca_commands.proofs.SortLemmas.{before, filter-map, filter-refined, IsBelow, SortsByKey-after, SortsByKey-append, SortsByKey-short}
+
+-- ---- keys that tie
+
+-- keys of which neither is less are the same
+same_order : (o r : Ordering) → r ≡ ordering_reverse o → (not (is_lt o) && not (is_lt r)) ≡ true → o ≡ Equal
+same_order Less r is tie = cc
+same_order Equal r is tie = refl
+same_order Greater r is tie = let less : is_lt r ≡ true = ap is_lt is in let none : not (is_lt r) ≡ false = ap not less in cc
+
+equal_keys : (a b : List ℕ) → key_order a b ≡ Equal → a ≡ b
+equal_keys a b is = (bytes_eq-Decides a b).0 (sym (is_eq-slice_cmp a b) ∙ ap is_eq is)
+
+tied_keys : (x y : KeyedLine) → ties (before key_of) x y ≡ true → key_of x ≡ key_of y
+tied_keys x y tie = equal_keys (key_of x) (key_of y) (same_order (key_order (key_of x) (key_of y)) (key_order (key_of y) (key_of x)) (nat_list_cmp_total.antisymm (key_of y) (key_of x)) tie)
+
+-- whether the bytes beside one line are less than those beside another
+abbrev front_before : KeyedLine → KeyedLine → Bool
+front_before a b = is_lt (nat_cmp a.front b.front)
+
+-- the line with the bytes of its key that follow the first `depth`
+abbrev shown : ℕ → KeyedLine → KeyedLine
+shown depth l = record l { front = front 8 (drop depth (key_of l)) }
+
+not_before : (n : ℕ) → (not (is_lt (nat_cmp n n)) && not (is_lt (nat_cmp n n))) ≡ true
+not_before n = ap (λ o. not (is_lt o) && not (is_lt o)) (tied_itself nat_cmp_total n)
+
+tied_fronts : (depth : ℕ) (x y : KeyedLine) → IsFront 8 (drop depth (key_of y)) y.front → ties (before key_of) x y ≡ true → ties front_before (shown depth x) y ≡ true
+tied_fronts depth x y shows tie =
+    let same : y.front ≡ front 8 (drop depth (key_of x)) = shows.value ∙ ap (λ k. front 8 (drop depth k)) (sym (tied_keys x y tie)) in
+    subst (λ n. (not (is_lt (nat_cmp (front 8 (drop depth (key_of x))) n)) && not (is_lt (nat_cmp n (front 8 (drop depth (key_of x)))))) ≡ true) (sym same) (not_before (front 8 (drop depth (key_of x))))
+
+-- lines that tie by their keys are among those that tie by the bytes beside them
+tied_lines : (depth : ℕ) (x : KeyedLine) (ls : List KeyedLine) → ShowsFronts depth ls → filter (ties (before key_of) x) (map bare ls) ≡ map bare (filter (ties (before key_of) x) (filter (ties front_before (shown depth x)) ls))
+tied_lines depth x ls shows =
+    let each : All (λ y. ties (before key_of) x y ≡ true → ties front_before (shown depth x) y ≡ true) ls
+        = All-weaker (λ y. IsFront 8 (drop depth (key_of y)) y.front) (λ y. ties (before key_of) x y ≡ true → ties front_before (shown depth x) y ≡ true) (λ y is. tied_fronts depth x y is) ls shows in
+    filter-map bare (ties (before key_of) x) ls ∙ ap (map bare) (sym (filter-refined (ties (before key_of) x) (ties front_before (shown depth x)) ls each))
+
+-- a sort by the bytes beside the lines leaves lines of equal keys in their order
+pub stable_by_front : (depth : ℕ) (xs ys : List KeyedLine) → ShowsFronts depth xs → SortsByFront xs ys → IsStableByKey key_of key_order (map bare xs) (map bare ys)
+stable_by_front depth xs ys shows sorts x =
+    let shown_ys : ShowsFronts depth ys = All-permutation (λ y. IsFront 8 (drop depth (key_of y)) y.front) xs ys sorts.same shows in
+    tied_lines depth x ys shown_ys ∙ ap (λ ls. map bare (filter (ties (before key_of) x) ls)) (sorts.stable (shown depth x)) ∙ sym (tied_lines depth x xs shows)
+
+-- ---- lines of which one follows the other
+
+abbrev Lines : Type 0
+Lines = List KeyedLine
+
+keys_apart : (depth p : ℕ) (a b : KeyedLine) → IsFront depth (key_of a) p → IsFront depth (key_of b) p → IsFront 8 (drop depth (key_of a)) a.front → IsFront 8 (drop depth (key_of b)) b.front
+    → a.front < b.front → before key_of b a ≡ false
+keys_apart depth p a b first second of_a of_b less =
+    let order : key_order (key_of a) (key_of b) ≡ Less =
+    IsFront-less (depth + 8) (key_of a) (key_of b) (p * 256 ^ 8 + a.front) (p * 256 ^ 8 + b.front) (IsFront-more depth (key_of a) p a.front first of_a) (IsFront-more depth (key_of b) p b.front second of_b) (omega arith) in
+    ap is_lt (nat_list_cmp_total.antisymm (key_of b) (key_of a) ∙ ap ordering_reverse order)
+
+-- ---- runs
+
+-- the first lines are sorted by their keys, and the others still follow them as they are
+pub record RunsSorted (ys now : Lines) (from : ℕ) : Type 0 where
+  pub long : length now ≡ length ys
+  pub within : from ≤ length ys
+  pub rest : drop from now ≡ drop from ys
+  pub apart : (i j : ℕ) (c d : KeyedLine) → i < from → from ≤ j → j < length ys → (get_or ys i c).front < (get_or ys j d).front
+  pub done : SortsLines (take from ys) (take from now)
+
+pub RunsSorted-none : (ys : Lines) → RunsSorted ys ys 0
+RunsSorted-none ys = record {
+  long = refl;
+  within = omega arith;
+  rest = refl;
+  apart = λ i j c d low above below. absurd (omega arith);
+  done = SortsByKey-short key_of [] (omega arith);
+}
+
+pub RunsSorted-all : (ys now : Lines) (from : ℕ) → RunsSorted ys now from → length now ≤ from → SortsLines ys now
+RunsSorted-all ys now from runs all =
+    subst (λ ls. SortsLines ls now) (take_all from ys (omega (arith, runs.long))) (subst (λ ls. SortsLines (take from ys) ls) (take_all from now all) runs.done)
+
+-- what is known of lines that were sorted by the bytes beside them
+pub record AreFronts (depth p : ℕ) (ys : Lines) : Type 0 where
+  pub common : All (λ l. IsFront depth (key_of l) p) ys
+  pub shows : ShowsFronts depth ys
+  pub sorted : IsSortedByKey (λ l. l.front) nat_cmp ys
+
+-- the lines at and after a place are as they were
+same_at : (ys now : Lines) (from i : ℕ) (d : KeyedLine) → drop from now ≡ drop from ys → from ≤ i → get_or now i d ≡ get_or ys i d
+same_at ys now from i d rest above =
+    let place : from + (i - from) ≡ i = omega arith in
+    ap (λ k. get_or now k d) (sym place) ∙ sym (get_or-drop from now (i - from) d) ∙ ap (λ ls. get_or ls (i - from) d) rest ∙ get_or-drop from ys (i - from) d ∙ ap (λ k. get_or ys k d) place
+
+drop_past : (ys now : Lines) (from to : ℕ) → drop from now ≡ drop from ys → from ≤ to → drop to now ≡ drop to ys
+drop_past ys now from to rest above =
+    let sum : from + (to - from) ≡ to = omega arith in
+    ap (λ n. drop n now) (sym sum) ∙ sym (drop-drop (to - from) from now) ∙ ap (drop (to - from)) rest ∙ drop-drop (to - from) from ys ∙ ap (λ n. drop n ys) sum
+
+module _ (ys now : Lines) (from to : ℕ) (runs : RunsSorted ys now from) (run : IsRun now from to) where
+  alike : (i : ℕ) (d : KeyedLine) → from ≤ i → i < to → (get_or ys i d).front ≡ (get_or ys from d).front
+  alike i d above below =
+      ap (λ l. l.front) (sym (same_at ys now from i d runs.rest above)) ∙ run.alike i d above below ∙ ap (λ l. l.front) (same_at ys now from from d runs.rest (omega arith))
+
+  apart_more : IsSortedByKey (λ l. l.front) nat_cmp ys → (i j : ℕ) (c d : KeyedLine) → i < to → to ≤ j → j < length ys → (get_or ys i c).front < (get_or ys j d).front
+  apart_more sorted i j c d low above below = elim (cases_Bool (nat_le from i)) [
+    | inr early ↦ let less : i < from = leb-false from i early in runs.apart i j c d less (omega (arith, run.some)) below
+    | inl late ↦
+        let past : from ≤ i = leb-true from i late in
+        let default : get_or ys i c ≡ get_or ys i d = get_or_default ys i c d (omega arith) in
+        let here : (get_or ys i c).front ≡ (get_or ys from d).front = ap (λ l. l.front) default ∙ alike i d past low in
+        let up : (get_or ys to d).front ≤ (get_or ys j d).front = IsNonDecreasingBy-from_sort (λ l. l.front) ys sorted to j d above below in
+        let before_it : (get_or ys from d).front ≤ (get_or ys to d).front = IsNonDecreasingBy-from_sort (λ l. l.front) ys sorted from to d (omega (arith, run.some)) (omega arith) in
+        let others : (get_or ys to d).front ≡ (get_or ys from d).front → ⊥ = λ same. run.ends d (omega (arith, runs.long))
+            (ap (λ l. l.front) (same_at ys now from to d runs.rest (omega (arith, run.some))) ∙ same ∙ ap (λ l. l.front) (sym (same_at ys now from from d runs.rest (omega arith)))) in
+        omega (arith, here, up, before_it, others)
+  ]
+
+  -- the lines of the run
+  abbrev pub lines_of_run : Lines
+  lines_of_run = mid_of from (to - from) now
+
+  run-is : lines_of_run ≡ take (to - from) (drop from ys)
+  run-is = ap (take (to - from)) runs.rest
+
+  at_run : (j : ℕ) (d : KeyedLine) → j < to - from → get_or (take (to - from) (drop from ys)) j d ≡ get_or ys (from + j) d
+  at_run j d low = get_or-take (to - from) (drop from ys) j d low ∙ get_or-drop from ys j d
+
+  length-run : length (take (to - from) (drop from ys)) ≡ to - from
+  length-run = length-take-le (to - from) (drop from ys) (omega (arith, run.some, run.within, runs.long, runs.within, length-drop from ys))
+
+  -- its keys share eight bytes more
+  pub shared_by_run : (depth p : ℕ) → AreFronts depth p ys → SharesFront (depth + 8) lines_of_run
+  shared_by_run depth p are = subst (SharesFront (depth + 8)) (sym run-is) (go (drop from ys) refl)
+    where
+      go : (rest : Lines) → rest ≡ drop from ys → SharesFront (depth + 8) (take (to - from) (drop from ys))
+      go [] is = absurd (omega (arith, ap length is, length-drop from ys, run.some, run.within, runs.long))
+      go (l ∷ ls) is = record {
+        number = p * 256 ^ 8 + (get_or ys from l).front;
+        each = λ j d low.
+            let near : j < to - from = omega (arith, length-run) in
+            let inside : from + j < length ys = omega (arith, run.within, runs.long) in
+            let at : get_or (take (to - from) (drop from ys)) j d ≡ get_or ys (from + j) l = at_run j d near ∙ get_or_default ys (from + j) d l inside in
+            let whole : IsFront (depth + 8) (key_of (get_or ys (from + j) l)) (p * 256 ^ 8 + (get_or ys (from + j) l).front) =
+            IsFront-more depth (key_of (get_or ys (from + j) l)) p (get_or ys (from + j) l).front (are.common (from + j) l inside) (are.shows (from + j) l inside) in
+            subst (λ x. IsFront (depth + 8) (key_of x) (p * 256 ^ 8 + (get_or ys from l).front)) (sym at)
+            (subst (λ n. IsFront (depth + 8) (key_of (get_or ys (from + j) l)) (p * 256 ^ 8 + n)) (alike (from + j) l (omega arith) (omega arith)) whole);
+      }
+
+  -- no key of the run is less than one before it
+  below_run : (depth p : ℕ) → AreFronts depth p ys → All (IsBelow (before key_of) (map bare (take from ys)) (map bare (take (to - from) (drop from ys)))) (map bare (take from ys))
+  below_run depth p are =
+      All-map (IsBelow (before key_of) (map bare (take from ys)) (map bare (take (to - from) (drop from ys)))) bare (take from ys)
+      (λ i c low. All-map (λ b. before key_of b (bare (get_or (take from ys) i c)) ≡ false) bare (take (to - from) (drop from ys))
+      (λ j d more.
+          let less : i < from = omega (arith, length-take-le from ys runs.within) in
+          let near : j < to - from = omega (arith, length-run) in
+          let inside : from + j < length ys = omega (arith, run.within, runs.long) in
+          subst (λ a. before key_of (get_or (take (to - from) (drop from ys)) j d) a ≡ false) (sym (get_or-take from ys i c less))
+          (subst (λ b. before key_of b (get_or ys i c) ≡ false) (sym (at_run j d near))
+          (keys_apart depth p (get_or ys i c) (get_or ys (from + j) d) (are.common i c (omega arith)) (are.common (from + j) d inside) (are.shows i c (omega arith)) (are.shows (from + j) d inside)
+          (runs.apart i (from + j) c d less (omega arith) inside)))))
+
+  -- one run more
+  pub RunsSorted-more : (depth p : ℕ) (mid new : Lines) → AreFronts depth p ys → SortsLines lines_of_run mid → length mid ≡ to - from → new ≡ put_mid from (to - from) now mid → RunsSorted ys new to
+  RunsSorted-more depth p mid new are sorts count is =
+      let within_now : from ≤ length now = omega (arith, runs.long, runs.within) in
+      let sum : from + (to - from) ≡ to = omega (arith, run.some) in
+      let front_new : take to new ≡ take from now ++ mid = ap (take to) is ∙ take-put_mid from (to - from) now mid to (omega (arith, count, sum)) within_now in
+      let back_new : drop to new ≡ drop to now = ap (drop to) is ∙ drop-put_mid from (to - from) now mid to (omega (arith, sum)) within_now count in
+      let front_ys : take to ys ≡ take from ys ++ take (to - from) (drop from ys) = ap (λ n. take n ys) (sym sum) ∙ take-add from (to - from) ys in
+      let rest : drop to now ≡ drop to ys = drop_past ys now from to runs.rest (omega (arith, run.some)) in
+      let both : SortsByKey key_of (map bare (take from ys) ++ map bare (take (to - from) (drop from ys))) (map bare (take from now) ++ map bare mid) =
+      SortsByKey-append key_of (map bare (take from ys)) (map bare (take (to - from) (drop from ys))) (map bare (take from now)) (map bare mid) runs.done
+      (subst (λ ls. SortsLines ls mid) run-is sorts) (below_run depth p are) in
+      record {
+        long = omega (arith, ap length (sym (take-append-drop to new)), length-append (take to new) (drop to new), ap length front_new, length-append (take from now) mid, length-take-le from now within_now, count, sum, ap length back_new, length-drop to now, runs.long, run.within);
+        within = omega (arith, run.within, runs.long);
+        rest = back_new ∙ rest;
+        apart = apart_more are.sorted;
+        done = subst (λ ls. SortsLines ls (take to new)) (sym front_ys) (subst (λ ls. SortsLines (take from ys ++ take (to - from) (drop from ys)) ls) (sym front_new)
+            (subst (λ ls. SortsByKey key_of ls (map bare (take from now ++ mid))) (sym (map-append bare (take from ys) (take (to - from) (drop from ys))))
+            (subst (λ ls. SortsByKey key_of (map bare (take from ys) ++ map bare (take (to - from) (drop from ys))) ls) (sym (map-append bare (take from now) mid)) both)));
+      }
+
+-- ---- a sort by whole keys
+
+-- the keys stand in the same order where nothing is beside the lines
+sorted_bare : (ys : Lines) → IsSortedByKey key_of key_order ys → IsSortedByKey key_of key_order (map bare ys)
+sorted_bare ys up k d low more =
+    let long : length (map bare ys) ≡ length ys = length-map ys bare in
+    let here : get_or (map bare ys) k d ≡ bare (get_or ys k d) = get_or-map bare ys k d d (omega arith) in
+    let next : get_or (map bare ys) (k + 1) d ≡ bare (get_or ys (k + 1) d) = get_or-map bare ys (k + 1) d d (omega arith) in
+    ap₂ (before key_of) next here ∙ up k d low (omega arith)
+
+pub SortsLines-from_whole : (xs ys : Lines) → IsPermutation xs ys → IsSortedByKey key_of key_order ys → IsStableByKey key_of key_order xs ys → SortsLines xs ys
+SortsLines-from_whole xs ys same sorted stable = record {
+  same = IsPermutation-map bare xs ys same;
+  sorted = sorted_bare ys sorted;
+  stable = λ x. filter-map bare (ties (before key_of) x) ys ∙ ap (map bare) (stable x) ∙ sym (filter-map bare (ties (before key_of) x) xs);
+}
+
+-- ---- a round
+
+-- lines that show bytes of their keys are as they were
+shown_common : (depth p : ℕ) (ls xs : Lines) → map bare xs ≡ map bare ls → All (λ l. IsFront depth (key_of l) p) ls → All (λ l. IsFront depth (key_of l) p) xs
+shown_common depth p ls xs same common k d low =
+    let whole : All (λ l. IsFront depth (key_of l) p) (map bare xs) = subst (All (λ l. IsFront depth (key_of l) p)) (sym same) (All-map (λ l. IsFront depth (key_of l) p) bare ls common) in
+    let here : get_or (map bare xs) k d ≡ bare (get_or xs k d) = get_or-map bare xs k d d low in
+    subst (λ l. IsFront depth (key_of l) p) here (whole k d (omega (arith, length-map xs bare)))
+
+pub AreFronts-sorted : (depth p : ℕ) (ls xs ys : Lines) → All (λ l. IsFront depth (key_of l) p) ls → map bare xs ≡ map bare ls → ShowsFronts depth xs → SortsByFront xs ys → AreFronts depth p ys
+AreFronts-sorted depth p ls xs ys common same shows sorts = record {
+  common = All-permutation (λ l. IsFront depth (key_of l) p) xs ys sorts.same (shown_common depth p ls xs same common);
+  shows = All-permutation (λ l. IsFront 8 (drop depth (key_of l)) l.front) xs ys sorts.same shows;
+  sorted = sorts.sorted;
+}
+
+pub SortsLines-round : (depth : ℕ) (ls xs ys zs : Lines) → map bare xs ≡ map bare ls → ShowsFronts depth xs → SortsByFront xs ys → SortsLines ys zs → SortsLines ls zs
+SortsLines-round depth ls xs ys zs same shows sorts runs =
+    subst (λ ms. SortsByKey key_of ms (map bare zs)) same
+    (SortsByKey-after key_of (map bare xs) (map bare ys) (map bare zs) (IsPermutation-map bare xs ys sorts.same) (stable_by_front depth xs ys shows sorts) runs)
+
+-- the bytes of one line's key are beside it
+pub shows_one_more : (depth : ℕ) (ls : Lines) (i : ℕ) (l : KeyedLine) → i < length ls → ((k : ℕ) (d : KeyedLine) → k < i → IsFront 8 (drop depth (key_of (get_or ls k d))) (get_or ls k d).front)
+    → IsFront 8 (drop depth (key_of l)) l.front → (k : ℕ) (d : KeyedLine) → k < i + 1 → IsFront 8 (drop depth (key_of (get_or (set ls i l) k d))) (get_or (set ls i l) k d).front
+shows_one_more depth ls i l within before_it here k d low = elim (cases_Bool (k == i)) [
+  | inl at ↦
+      let is : k ≡ i = eqb-true k i at in
+      let read : get_or (set ls i l) k d ≡ l = ap (λ n. get_or (set ls i l) n d) is ∙ get_or-set_same ls i l d within in
+      subst (λ x. IsFront 8 (drop depth (key_of x)) x.front) (sym read) here
+  | inr other ↦
+      let differ : k ≡ i → ⊥ = eqb-false k i other in
+      let read : get_or (set ls i l) k d ≡ get_or ls k d = get_or-set_other ls i k l d (differ) in
+      subst (λ x. IsFront 8 (drop depth (key_of x)) x.front) (sym read) (before_it k d (omega arith))
+]

@@ -1,0 +1,90 @@
+//! A stable sort of lines by their sort keys: by eight bytes of the keys at a time, which each line has beside it.
+ghost use Rattle.std.specs.Prelude.{◌≡◌, ◌*◌, ◌<◌, ◌≤◌, length, map, OnOk};
+ghost use Rattle.uca_commands.specs.KeyedLines.{bare};
+ghost use Rattle.uca_commands.specs.LineSorting.{IsRun, SharesFront, ShowsFronts, SortsByFront, SortsLines};
+
+use crate::keyed_line::{FRONT, KeyedLine};
+use std::alloc::{AllocError, Global};
+use std::cmp::Ordering;
+
+// How often lines whose keys begin alike are sorted by eight bytes more.
+const ROUNDS: usize = 16;
+
+// Sorts lines by comparing whole keys.
+fn sort_whole(alloc: Global, lines: &mut [KeyedLine<'_>]) -> Result<(), AllocError>
+    ensures len { length lines.new ≡ length lines.old }
+    ensures sorts { OnOk result (SortsLines lines.old lines.new) }
+{
+    lines.sort_by(alloc, |a, b| a.compare_keys(b))
+}
+
+// Sorts lines by the bytes beside them.
+fn sort_by_front(alloc: Global, lines: &mut [KeyedLine<'_>]) -> Result<(), AllocError>
+    ensures len { length lines.new ≡ length lines.old }
+    ensures sorts { OnOk result (SortsByFront lines.old lines.new) }
+{
+    lines.sort_by_key(alloc, |line| line.front)
+}
+
+// Takes the eight bytes of each key after so many.
+fn take_fronts(lines: &mut [KeyedLine<'_>], depth: usize)
+    ensures same { map bare lines.new ≡ map bare lines.old }
+    ensures fronts { ShowsFronts depth lines.new }
+{
+    for at in 0..lines.len() {
+        lines[at] = lines[at].with_front(depth);
+    }
+}
+
+// Where the lines end that have the same bytes beside them as the one at a place.
+fn run_end(lines: &[KeyedLine<'_>], from: usize) -> usize
+    requires { from < length lines.now }
+    ensures { IsRun lines.now from result }
+{
+    for to in from + 1..lines.len() {
+        if lines[to].front != lines[from].front {
+            return to;
+        }
+    }
+    lines.len()
+}
+
+// Sorts lines whose keys have the same bytes up to a round.
+fn sort_round(alloc: Global, lines: &mut [KeyedLine<'_>], round: usize) -> Result<(), AllocError>
+    requires { SharesFront (8 * round) lines.old }
+    ensures len { length lines.new ≡ length lines.old }
+    ensures sorts { OnOk result (SortsLines lines.old lines.new) }
+{
+    if lines.len() < 2 {
+        return Ok(());
+    }
+    if round >= ROUNDS {
+        return sort_whole(alloc, lines);
+    }
+    take_fronts(lines, FRONT * round);
+    sort_by_front(alloc, lines)?;
+    let mut from = 0;
+    while from < lines.len() {
+        let to = run_end(lines, from);
+        sort_round(alloc, &mut lines[from..to], round + 1)?;
+        from = to;
+    }
+    Ok(())
+}
+
+// Whether each line comes after the one before it, or each before it.
+fn is_one_run(lines: &[KeyedLine<'_>]) -> bool {
+    lines.is_sorted_by(|a, b| a.compare_keys(b) != Ordering::Greater)
+        || lines.is_sorted_by(|a, b| a.compare_keys(b) == Ordering::Greater)
+}
+
+/// Sorts lines by their keys. Lines of equal keys stay in the order that they had.
+pub(crate) fn sort_lines(alloc: Global, lines: &mut [KeyedLine<'_>]) -> Result<(), AllocError>
+    ensures len { length lines.new ≡ length lines.old }
+    ensures sorts { OnOk result (SortsLines lines.old lines.new) }
+{
+    if is_one_run(lines) {
+        return sort_whole(alloc, lines);
+    }
+    sort_round(alloc, lines, 0)
+}
