@@ -56,7 +56,7 @@ tied_fronts depth x y shows tie =
 tied_lines : (depth : ℕ) (x : KeyedLine) (ls : List KeyedLine) → ShowsFronts depth ls → filter (ties (before key_of) x) (map bare ls) ≡ map bare (filter (ties (before key_of) x) (filter (ties front_before (shown depth x)) ls))
 tied_lines depth x ls shows =
     let each : All (λ y. ties (before key_of) x y ≡ true → ties front_before (shown depth x) y ≡ true) ls
-        = All-weaker (λ y. IsFront 8 (drop depth (key_of y)) y.front) (λ y. ties (before key_of) x y ≡ true → ties front_before (shown depth x) y ≡ true) (λ y is. tied_fronts depth x y is) ls shows in
+    = All-weaker (λ y. IsFront 8 (drop depth (key_of y)) y.front) (λ y. ties (before key_of) x y ≡ true → ties front_before (shown depth x) y ≡ true) (λ y is. tied_fronts depth x y is) ls shows in
     filter-map bare (ties (before key_of) x) ls ∙ ap (map bare) (sym (filter-refined (ties (before key_of) x) (ties front_before (shown depth x)) ls each))
 
 -- a sort by the bytes beside the lines leaves lines of equal keys in their order
@@ -132,7 +132,7 @@ module _ (ys now : Lines) (from to : ℕ) (runs : RunsSorted ys now from) (run :
         let up : (get_or ys to d).front ≤ (get_or ys j d).front = IsNonDecreasingBy-from_sort (λ l. l.front) ys sorted to j d above below in
         let before_it : (get_or ys from d).front ≤ (get_or ys to d).front = IsNonDecreasingBy-from_sort (λ l. l.front) ys sorted from to d (omega (arith, run.some)) (omega arith) in
         let others : (get_or ys to d).front ≡ (get_or ys from d).front → ⊥ = λ same. run.ends d (omega (arith, runs.long))
-            (ap (λ l. l.front) (same_at ys now from to d runs.rest (omega (arith, run.some))) ∙ same ∙ ap (λ l. l.front) (sym (same_at ys now from from d runs.rest (omega arith)))) in
+        (ap (λ l. l.front) (same_at ys now from to d runs.rest (omega (arith, run.some))) ∙ same ∙ ap (λ l. l.front) (sym (same_at ys now from from d runs.rest (omega arith)))) in
         omega (arith, here, up, before_it, others)
   ]
 
@@ -173,13 +173,13 @@ module _ (ys now : Lines) (from to : ℕ) (runs : RunsSorted ys now from) (run :
       All-map (IsBelow (before key_of) (map bare (take from ys)) (map bare (take (to - from) (drop from ys)))) bare (take from ys)
       (λ i c low. All-map (λ b. before key_of b (bare (get_or (take from ys) i c)) ≡ false) bare (take (to - from) (drop from ys))
       (λ j d more.
-          let less : i < from = omega (arith, length-take-le from ys runs.within) in
-          let near : j < to - from = omega (arith, length-run) in
-          let inside : from + j < length ys = omega (arith, run.within, runs.long) in
-          subst (λ a. before key_of (get_or (take (to - from) (drop from ys)) j d) a ≡ false) (sym (get_or-take from ys i c less))
-          (subst (λ b. before key_of b (get_or ys i c) ≡ false) (sym (at_run j d near))
-          (keys_apart depth p (get_or ys i c) (get_or ys (from + j) d) (are.common i c (omega arith)) (are.common (from + j) d inside) (are.shows i c (omega arith)) (are.shows (from + j) d inside)
-          (runs.apart i (from + j) c d less (omega arith) inside)))))
+      let less : i < from = omega (arith, length-take-le from ys runs.within) in
+      let near : j < to - from = omega (arith, length-run) in
+      let inside : from + j < length ys = omega (arith, run.within, runs.long) in
+      subst (λ a. before key_of (get_or (take (to - from) (drop from ys)) j d) a ≡ false) (sym (get_or-take from ys i c less))
+      (subst (λ b. before key_of b (get_or ys i c) ≡ false) (sym (at_run j d near))
+      (keys_apart depth p (get_or ys i c) (get_or ys (from + j) d) (are.common i c (omega arith)) (are.common (from + j) d inside) (are.shows i c (omega arith)) (are.shows (from + j) d inside)
+      (runs.apart i (from + j) c d less (omega arith) inside)))))
 
   -- one run more
   pub RunsSorted-more : (depth p : ℕ) (mid new : Lines) → AreFronts depth p ys → SortsLines lines_of_run mid → length mid ≡ to - from → new ≡ put_mid from (to - from) now mid → RunsSorted ys new to

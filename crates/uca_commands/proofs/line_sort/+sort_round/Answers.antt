@@ -9,9 +9,11 @@ pub sort_round-requires : goal.sort_round-requires
 sort_round-requires t c =
     let are : AreFronts (8 * c.args.round) c.requires.number c.sort_by_front.new.lines =
     AreFronts-sorted (8 * c.args.round) c.requires.number c.args.lines.now c.take_fronts.new.lines c.sort_by_front.new.lines c.requires.each c.take_fronts.ensures.same c.take_fronts.ensures.fronts c.in_ok-sort_by_front.ensures.sorts in
-    let depth : 8 * c.args.round + 8 ≡ 8 * (c.args.round + 1) = omega arith in
-    (omega arith, subst (λ n. SharesFront n (mid_of c.loop-from.from (c.run_end-to.result - c.loop-from.from) c.loop-from.lines)) depth
-    (shared_by_run c.sort_by_front.new.lines c.loop-from.lines c.loop-from.from c.run_end-to.result c.loop-from.invariant c.run_end-to.ensures (8 * c.args.round) c.requires.number are))
+    let depth : 8 * c.args.round + 8 ≡ 8 * (c.args.round + 1) = omega arith in (
+      omega arith,
+      subst (λ n. SharesFront n (mid_of c.loop-from.from (c.run_end-to.result - c.loop-from.from) c.loop-from.lines)) depth
+          (shared_by_run c.sort_by_front.new.lines c.loop-from.lines c.loop-from.from c.run_end-to.result c.loop-from.invariant c.run_end-to.ensures (8 * c.args.round) c.requires.number are),
+    )
 
 pub loop-from-preserved : goal.loop-from-preserved
 loop-from-preserved t c =
