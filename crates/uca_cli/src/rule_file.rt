@@ -56,7 +56,11 @@ fn tailored_by<U: Reader>(alloc: Global, t: &Table, reader: &mut U) -> Result<Ta
 }
 
 /// The table tailored by the rules in a reader.
-pub fn tailored_in<U: Reader>(alloc: Global, t: Table, reader: &mut U) -> Result<Table, CliFault>
+pub(crate) fn tailored_in<U: Reader>(
+    alloc: Global,
+    t: Table,
+    reader: &mut U,
+) -> Result<Table, CliFault>
     ensures ok { IfOk result (TailorsBy (U.state reader.old) (U.state reader.new) t) }
     ensures err { IfErr result (StopsTailoring (U.state reader.old) (U.state reader.new) t) }
     ensures calls { U.calls reader.new ≤ U.calls reader.old + (MAX_RULES + 1) }

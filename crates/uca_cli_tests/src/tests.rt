@@ -15,7 +15,7 @@ use std::process::Abort;
 use std::test::Fail;
 use uca_allkeys::ReadCause;
 use uca_cli::{CliFault, InputCause, InputFault, Job, Task, perform, status_of};
-use uca_lines::read_input;
+use uca_lines::read_lines;
 use uca_tailor::{RuleCause, TailorCause};
 use uca_testing::{Expecting, Pieces, Repeating, repeated};
 use uca_weights::{Reader, Reading, Settings, Strength, Variable, WriteCause, Writer};
@@ -212,11 +212,11 @@ fn an_input_past_the_limit_is_refused(rt: HostRuntime) {
 fn an_input_at_the_limit_is_read(rt: HostRuntime) {
     let reader = Repeating::new(0, 67_108_864, false);
     let mut input = reader;
-    let mut answer = read_input(rt.alloc(), &mut input);
+    let mut answer = read_lines(rt.alloc(), &mut input);
     if let Err(InputFault { cause, .. }) = &answer {
         assert!(rt; *cause == InputCause::OutOfMemory);
         input = reader;
-        answer = read_input(rt.alloc(), &mut input);
+        answer = read_lines(rt.alloc(), &mut input);
     }
     let bytes = answer.ok().expect(&rt, "an input");
     assert!(rt; bytes.len() == 67_108_864);

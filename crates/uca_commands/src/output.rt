@@ -61,7 +61,7 @@ impl KeyRoom {
 }
 
 /// The text of a line that was checked.
-pub fn text_of_line(line: &[u8]) -> Passage<'_>
+pub(crate) fn text_of_line(line: &[u8]) -> Passage<'_>
     requires { IsTextLine line.now }
     ensures { text_of result ≡ chars line.now }
 {
@@ -173,7 +173,7 @@ fn send_lines<W: Writer>(
 }
 
 /// Writes what a command writes for each line of an input, which was checked.
-pub fn write_lines<W: Writer>(
+pub(crate) fn write_lines<W: Writer>(
     alloc: Global,
     form: LineForm,
     t: &Table,

@@ -42,7 +42,7 @@ module _ (t : ElementTable) (v : Variable) (a b : List ℕ) (table : IsTable t) 
       ]
 
   -- the order at a strength is that of the lists of its last level, where no level before it decides
-  pub orders-last : (strength : Strength) (level : ℕ) (o : Ordering) → levels strength ≡ level → 1 ≤ level → NoneBefore t v a b level
+  orders-last : (strength : Strength) (level : ℕ) (o : Ordering) → levels strength ≡ level → 1 ≤ level → NoneBefore t v a b level
       → o ≡ key_order (sort_key t (with strength v) a) (sort_key t (with strength v) b) → OrdersLevel level (level_list t v a level) (level_list t v b level) o
   orders-last strength level o is first none same =
       let last : level ≤ 5 = omega (arith, is, (levels-within strength).1) in
@@ -53,8 +53,13 @@ module _ (t : ElementTable) (v : Variable) (a b : List ℕ) (table : IsTable t) 
       subst (OrdersLevel level (level_list t v a level) (level_list t v b level)) (sym order) here
 
 -- the characters of text that is lent are scalar values
-pub scalars-lent : (bytes lent : List ℕ) → lent ≡ bytes → IsUtf8 lent → All IsScalar (chars bytes)
+scalars-lent : (bytes lent : List ℕ) → lent ≡ bytes → IsUtf8 lent → All IsScalar (chars bytes)
 scalars-lent bytes lent same utf8 = subst (λ bs. All IsScalar (chars bs)) same (scalars-text lent utf8)
+
+-- the same order, of texts that are lent
+pub orders-lent : (t : ElementTable) (v : Variable) (a b lent_a lent_b : List ℕ) (strength : Strength) (level : ℕ) (o : Ordering) → IsTable t → lent_a ≡ a → IsUtf8 lent_a → lent_b ≡ b → IsUtf8 lent_b → levels strength ≡ level → 1 ≤ level → NoneBefore t v (chars a) (chars b) level
+    → o ≡ key_order (sort_key t (with strength v) (chars a)) (sort_key t (with strength v) (chars b)) → OrdersLevel level (level_list t v (chars a) level) (level_list t v (chars b) level) o
+orders-lent t v a b lent_a lent_b strength level o table same_a utf8_a same_b utf8_b is first none same = orders-last t v (chars a) (chars b) table (scalars-lent a lent_a same_a utf8_a) (scalars-lent b lent_b same_b utf8_b) strength level o is first none same
 
 -- a level that does not decide leaves it to the next one
 pub none-next : (t : ElementTable) (v : Variable) (a b : List ℕ) (level : ℕ) (o : Ordering) → NoneBefore t v a b level → OrdersLevel level (level_list t v a level) (level_list t v b level) o → o ≡ Equal → (next : ℕ) → next ≡ level + 1 → NoneBefore t v a b next

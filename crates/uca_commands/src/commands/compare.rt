@@ -50,7 +50,7 @@ fn send_order<W: Writer>(
 }
 
 /// Writes the order of each pair of neighbouring lines of an input that was checked.
-pub fn write_orders<W: Writer>(
+pub(crate) fn write_orders<W: Writer>(
     t: &Table,
     s: Settings,
     bytes: &[u8],

@@ -46,7 +46,7 @@ fn send_findings<W: Writer>(
 }
 
 /// Writes which conditions a table breaks, each as a line, and returns 1 where there are any.
-pub fn write_findings<W: Writer>(t: &Table, w: &mut W) -> Result<u8, WriteFault>
+pub(crate) fn write_findings<W: Writer>(t: &Table, w: &mut W) -> Result<u8, WriteFault>
     ensures writes { MatchResult result
         (λ _. WritesAll (W.state w.old) (W.state w.new) (lint_output t.now))
         (WritesFront (W.state w.old) (W.state w.new) (lint_output t.now)) }

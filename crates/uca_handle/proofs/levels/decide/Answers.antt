@@ -1,15 +1,12 @@
-use Rattle.std.proofs.Common.{◌≡◌, All, refl, sym, ◌∙◌, arith}
-use Rattle.std.specs.Char.{IsScalar}
+use Rattle.std.proofs.Common.{◌≡◌, refl, sym, ◌∙◌, arith}
 use Rattle.std.specs.declared.cmp.Ordering.{Ordering}
 use Rattle.std.specs.declared.cmp.Ordering.TheVariants.{Equal}
 use Rattle.uca_weights.specs.Settings.{levels}
-use Rattle.uca_model.specs.DecidingLevel.{OrdersLevel}
-use Rattle.uca_model.specs.LevelWeights.{level_list}
 use Rattle.uca_model.proofs.LevelLemmas.{levels-within}
-use Rattle.uca_window.specs.Passage.{text_of}
+use Rattle.uca_window.specs.Passage.{bytes_of, text_of}
 use Rattle.uca_levels.proofs.LevelsFromCut.{undecided-first, undecided-next, decided-here}
 use Rattle.uca_levels.proofs.ReadsLemmas.{from_ne, from_not_ne}
-use Rattle.uca_handle.proofs.LevelSteps.{with, orders-last, none-next, scalars-lent}
+use Rattle.uca_handle.proofs.LevelSteps.{with, orders-lent, none-next}
 use Rattle.uca_handle.proofs.levels.decide.Goals as goal
 
 pub each-init : goal.each-init
@@ -24,48 +21,33 @@ strength_of-requires-clause-last c = omega (arith, c.each.invariant.last, (level
 
 pub returns-then-is_ne : goal.returns-then-is_ne
 returns-then-is_ne c =
-    let t = c.args.t.now in
-    let v = c.args.s.weighting in
-    let a = text_of c.args.a.now in
-    let b = text_of c.args.b.now in
     let o : Ordering = c.compare-order.result in
-    let of_a : All IsScalar a = scalars-lent _ _ c.as_str-text_a.ensures.text c.as_str-text_a.utf8 in
-    let of_b : All IsScalar b = scalars-lent _ _ c.as_str-text_b.ensures.text c.as_str-text_b.utf8 in
-    let orders : OrdersLevel c.each.level (level_list t v a c.each.level) (level_list t v b c.each.level) o =
-    orders-last t v a b c.longest-longest.ensures.valid of_a of_b c.strength_of.result c.each.level o c.strength_of.ensures c.each.invariant.first c.each.invariant.none c.compare-order.ensures in
-    let found = decided-here t c.args.s a b c.each.level o (c.each.invariant.none c.args.s.strength c.each.invariant.last) c.each.invariant.last orders (from_ne o (sym c.is_ne.ensures ∙ c.if-is_ne.true)) in
+    let orders =
+    orders-lent c.args.t.now c.args.s.weighting (bytes_of c.args.a.now) (bytes_of c.args.b.now) _ _ c.strength_of.result c.each.level o c.longest-longest.ensures.valid
+    c.as_str-text_a.ensures.text c.as_str-text_a.utf8 c.as_str-text_b.ensures.text c.as_str-text_b.utf8 c.strength_of.ensures c.each.invariant.first c.each.invariant.none c.compare-order.ensures in
+    let found = decided-here c.args.t.now c.args.s _ _ c.each.level o (c.each.invariant.none c.args.s.strength c.each.invariant.last) c.each.invariant.last orders (from_ne o (sym c.is_ne.ensures ∙ c.if-is_ne.true)) in
     record { order = sym found.0; level = sym found.1 }
 
 pub returns-then-level-last : goal.returns-then-level-last
 returns-then-level-last c =
-    let t = c.args.t.now in
-    let v = c.args.s.weighting in
-    let a = text_of c.args.a.now in
-    let b = text_of c.args.b.now in
     let o : Ordering = c.compare-order.result in
-    let of_a : All IsScalar a = scalars-lent _ _ c.as_str-text_a.ensures.text c.as_str-text_a.utf8 in
-    let of_b : All IsScalar b = scalars-lent _ _ c.as_str-text_b.ensures.text c.as_str-text_b.utf8 in
-    let orders : OrdersLevel c.each.level (level_list t v a c.each.level) (level_list t v b c.each.level) o =
-    orders-last t v a b c.longest-longest.ensures.valid of_a of_b c.strength_of.result c.each.level o c.strength_of.ensures c.each.invariant.first c.each.invariant.none c.compare-order.ensures in
+    let orders =
+    orders-lent c.args.t.now c.args.s.weighting (bytes_of c.args.a.now) (bytes_of c.args.b.now) _ _ c.strength_of.result c.each.level o c.longest-longest.ensures.valid
+    c.as_str-text_a.ensures.text c.as_str-text_a.utf8 c.as_str-text_b.ensures.text c.as_str-text_b.utf8 c.strength_of.ensures c.each.invariant.first c.each.invariant.none c.compare-order.ensures in
     let equal : o ≡ Equal = from_not_ne o (sym c.is_ne.ensures ∙ c.if-is_ne.false) in
     let top : c.each.level ≡ levels c.args.s.strength = c.if-level-last.true ∙ c.levels-last.ensures in
-    let past = undecided-next t c.args.s a b c.each.level o (c.each.invariant.none c.args.s.strength c.each.invariant.last) c.each.invariant.last orders equal in
+    let past = undecided-next c.args.t.now c.args.s _ _ c.each.level o (c.each.invariant.none c.args.s.strength c.each.invariant.last) c.each.invariant.last orders equal in
     record { order = equal ∙ sym (past.same (omega (arith, top))); level = top ∙ sym (past.last (omega (arith, top))) }
 
 pub each-preserved : goal.each-preserved
 each-preserved c =
-    let t = c.args.t.now in
-    let v = c.args.s.weighting in
-    let a = text_of c.args.a.now in
-    let b = text_of c.args.b.now in
     let o : Ordering = c.compare-order.result in
-    let of_a : All IsScalar a = scalars-lent _ _ c.as_str-text_a.ensures.text c.as_str-text_a.utf8 in
-    let of_b : All IsScalar b = scalars-lent _ _ c.as_str-text_b.ensures.text c.as_str-text_b.utf8 in
-    let orders : OrdersLevel c.each.level (level_list t v a c.each.level) (level_list t v b c.each.level) o =
-    orders-last t v a b c.longest-longest.ensures.valid of_a of_b c.strength_of.result c.each.level o c.strength_of.ensures c.each.invariant.first c.each.invariant.none c.compare-order.ensures in
+    let orders =
+    orders-lent c.args.t.now c.args.s.weighting (bytes_of c.args.a.now) (bytes_of c.args.b.now) _ _ c.strength_of.result c.each.level o c.longest-longest.ensures.valid
+    c.as_str-text_a.ensures.text c.as_str-text_a.utf8 c.as_str-text_b.ensures.text c.as_str-text_b.utf8 c.strength_of.ensures c.each.invariant.first c.each.invariant.none c.compare-order.ensures in
     let other : c.each.level ≡ levels c.args.s.strength → ⊥ = λ top. c.if-level-last.false (top ∙ sym c.levels-last.ensures) in
     record {
       first = omega arith;
       last = omega (arith, other, c.each.invariant.last);
-      none = none-next t v a b c.each.level o c.each.invariant.none orders (from_not_ne o (sym c.is_ne.ensures ∙ c.if-is_ne.false)) _ refl;
+      none = none-next c.args.t.now c.args.s.weighting _ _ c.each.level o c.each.invariant.none orders (from_not_ne o (sym c.is_ne.ensures ∙ c.if-is_ne.false)) _ refl;
     }
