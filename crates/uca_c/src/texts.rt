@@ -1,4 +1,4 @@
-// The exports over texts that were checked before. That the bytes are still the text that was found is the caller's to keep.
+// The exports over texts that were checked before. The caller has to keep their bytes as they were.
 ghost use Rattle.std.specs.Prelude.{◌≡◌, MatchOption, chars};
 ghost use Rattle.uca_model.specs.Lines.{IsTextLine};
 ghost use Rattle.uca_handle.specs.Calls.{MakesKey, MakesPackedKey};

@@ -47,7 +47,7 @@ pub fn check(text: &[u8]) -> Result<(), TextFault>
     }
 }
 
-/// The text that bytes are which were checked before.
+/// The text of bytes that were checked before.
 pub fn text_of_checked(bytes: &[u8]) -> Passage<'_>
     requires { IsTextLine bytes.now }
     ensures { bytes_of result ≡ bytes.now }
