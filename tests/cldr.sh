@@ -1,11 +1,11 @@
 #!/usr/bin/env bash
 # Every collation of CLDR that rules can say: tools/cldr-rules writes its rules, uca tailors CLDR's root table by them, and ICU's
-# collator of that locale orders the same lines (tests/cldr_lines.pl). The table of docs/LANGUAGES.md says what comes of it. With
+# collator of that locale orders the same lines (tests/cldr_lines.pl). The table of tests/cldr.md says what comes of it. With
 # the word `table` it prints that table. Besides, the words of the languages of rules/ rise over that table, and by ICU.
 source "$(dirname "${BASH_SOURCE[0]}")/checks.bash"
 source tests/debian.bash
 source tests/icu.bash
-pages=docs/LANGUAGES.md
+page=tests/cldr.md
 
 # leaves CLDR's folder `common` in $cldr
 cldr_is_here() {
@@ -84,7 +84,7 @@ if [ "${1:-}" = table ]; then
 fi
 
 # others TAG: how many neighbours the page lets differ
-others() { awk -F' *[|] *' -v tag="$1" '$2 == tag && NF == 9 { print $7 }' "$pages"; }
+others() { awk -F' *[|] *' -v tag="$1" '$2 == tag && NF == 9 { print $7 }' "$page"; }
 
 taken=0
 agreed=0
@@ -92,7 +92,7 @@ while IFS='|' read -r _ tag relations collator _ without differ _ _; do
     tag=${tag// /}
     wanted=$(others "$tag")
     if [ -z "$wanted" ]; then
-        is "$tag: a row of $pages" "one" "none:$relations"
+        is "$tag: a row of $page" "one" "none:$relations"
         continue
     fi
     is "$tag: other neighbours than ICU's by its ${collator// /}, at most as the page says; first: $(cut -d';' -f2- "$rules/$tag.found")" "yes" \

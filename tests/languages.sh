@@ -26,7 +26,7 @@ nowhere='br ceb de-AT-u-co-phonebk gl hsb hy km ku ky lv my ps smn tk ug uz vi-u
 is "each file of rules has words, and each of words rules" "same" "$(diff <(ls rules | sed 's/\.rules$//') <(ls tests/rules | sed 's/\.words$//') >/dev/null && echo same)"
 is "each file says what it is, and its source" "" "$(for file in rules/*.rules; do [ "$(head -c 2 "$file")" = '# ' ] && grep -q '^# Source: ' "$file" || echo "$file"; done)"
 is "a file that follows CLDR names its version" "" "$(grep -l '^# Source: CLDR' rules/*.rules | xargs grep -L '^# Source: CLDR [0-9][0-9]')"
-is "each file is in the list of docs/LANGUAGES.md" "" "$(for file in rules/*.rules; do grep -qF "| \`$(basename "$file" .rules)\` |" docs/LANGUAGES.md || echo "$file"; done)"
+is "the table of docs/LANGUAGES.md is that of tools/language-table" "" "$(diff <(sed -n '/^| Language |/,/^$/p' docs/LANGUAGES.md | sed '$d') <(tools/language-table))"
 
 find rules -name '*.rules' -printf '%f\n' | sed 's/\.rules$//' | LC_ALL=C sort >"$work/tags"
 xargs -P "$(nproc)" -I{} bash -c 'echo "{} $(is_rising {} | paste -sd" ")"' <"$work/tags" >"$work/found"

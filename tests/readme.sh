@@ -13,7 +13,7 @@ is "the C program is that of bindings/c" "yes" "$(perl -0777 -ne '/^```c\n(.*?)^
 is "the Python program is that of bindings/python" "yes" "$(perl -0777 -ne '/^```python\n(.*?)^```$/ms and print $1' docs/EXAMPLES.md | cmp -s - bindings/python/example.py && echo yes)"
 is "README has 120 lines at most" "yes" "$([ "$(wc -l <README.md)" -le 120 ] && echo yes)"
 is "the pages that README and docs link to are there" "" "$(for page in README.md CHANGELOG.md docs/*.md examples/*/README.md; do
-    grep -o '](\([^):#]*\)' "$page" | sed 's/^](//' | while read -r link; do
+    grep -o '](\([^):# ]*\)[)#]' "$page" | sed 's/^](//; s/.$//' | while read -r link; do
         [ -e "$(dirname "$page")/$link" ] || echo "$page: $link"
     done
 done)"
