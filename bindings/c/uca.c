@@ -1,7 +1,7 @@
 /*
- * The part of libuca that is C. It replaces null pointers, which the proved functions do not take even where there are no bytes, it keeps
- * texts that were checked, and it names numbers. The proved functions do all else. The Makefile renames those that are called here
- * from uca_NAME to uca_proved_NAME.
+ * The part of libuca that is written in C. It replaces null pointers, which the proved functions do not accept even for a size of 0,
+ * it keeps texts that were checked, and it names statuses and kinds. The proved functions do everything else. The Makefile renames
+ * those that are called here from uca_NAME to uca_proved_NAME.
  */
 #include "uca.h"
 
@@ -9,7 +9,7 @@ static const uint8_t no_bytes[1];
 
 static const uint8_t *given(const uint8_t *bytes) { return bytes ? bytes : no_bytes; }
 
-/* The caller's array. In place of a null one, of which no item is written, all threads share one of these. */
+/* The caller's array. A null one is replaced by one of these, which all threads share: nothing is written to it. */
 static uint8_t *room(uint8_t *bytes) {
     static uint8_t none[1];
     return bytes ? bytes : none;
@@ -54,7 +54,7 @@ uint32_t uca_proved_matches(const uca_collator *, const uint8_t *, size_t, uca_m
                             size_t, uca_matches_needed *, uca_fault *);
 void uca_proved_locate(const uint8_t *, size_t, uint64_t, uint64_t *, uint64_t *);
 
-/* These require bytes that uca_proved_check has found to be a text. */
+/* These require bytes that uca_proved_check has accepted. */
 uint32_t uca_proved_compare_texts(const uca_collator *, const uca_settings *, const uint8_t *, size_t, const uint8_t *, size_t,
                                   int32_t *);
 uint32_t uca_proved_sort_key_of(const uca_collator *, const uca_settings *, const uint8_t *, size_t, uint8_t *, size_t, size_t *);

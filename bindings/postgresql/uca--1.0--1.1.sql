@@ -1,6 +1,6 @@
 \echo Use "CREATE EXTENSION uca" or "ALTER EXTENSION uca UPDATE" to load this file. \quit
 
--- Collations by name. Each is a text search dictionary of this template: the server dumps dictionaries before tables, and notes which
+-- Named collations. Each is a text search dictionary of this template: the server dumps dictionaries before tables, and records which
 -- indexes name one.
 CREATE FUNCTION uca_init(internal) RETURNS internal
     AS 'MODULE_PATHNAME', 'uca_pg_init' LANGUAGE C STRICT;
@@ -8,8 +8,8 @@ CREATE FUNCTION uca_lexize(internal, internal, internal, internal) RETURNS inter
     AS 'MODULE_PATHNAME', 'uca_pg_lexize' LANGUAGE C STRICT;
 CREATE TEXT SEARCH TEMPLATE uca (INIT = uca_init, LEXIZE = uca_lexize);
 
--- The functions of 1.0 by the collation named uca; these by the one that the last argument names. A collation makes keys only while its
--- files have the fingerprint that was fixed, so all are immutable.
+-- The functions of 1.0 use the collation named uca; these use the one that their last argument names. A collation makes keys only while
+-- its files have the fixed fingerprint, so all are immutable.
 CREATE FUNCTION uca_key(text, regdictionary) RETURNS bytea
     AS 'MODULE_PATHNAME', 'uca_pg_packed_key' LANGUAGE C IMMUTABLE STRICT PARALLEL SAFE;
 CREATE FUNCTION uca_sort_key(text, regdictionary) RETURNS bytea
@@ -25,8 +25,8 @@ CREATE FUNCTION uca_fingerprint(regdictionary) RETURNS bytea
 CREATE OR REPLACE FUNCTION uca_fingerprint() RETURNS bytea
     AS 'MODULE_PATHNAME', 'uca_pg_fingerprint' LANGUAGE C IMMUTABLE PARALLEL SAFE;
 
--- Whether the primary weights of the first text begin with those of the second: whether its key is from uca_prefix_lower of the second up
--- to uca_prefix_upper.
+-- Whether the primary weights of the first text begin with those of the second: whether its key is in the range from uca_prefix_lower to
+-- uca_prefix_upper of the second.
 CREATE FUNCTION uca_begins(text, text) RETURNS boolean
     AS 'MODULE_PATHNAME', 'uca_pg_begins' LANGUAGE C IMMUTABLE STRICT PARALLEL SAFE;
 CREATE FUNCTION uca_begins(text, text, regdictionary) RETURNS boolean
@@ -43,7 +43,7 @@ CREATE FUNCTION uca_hash_extended(text, bigint) RETURNS bigint
 CREATE OPERATOR CLASS uca_hash_ops FOR TYPE text USING hash AS
     OPERATOR 1 =~~,
     FUNCTION 1 uca_hash(text), FUNCTION 2 uca_hash_extended(text, bigint);
--- No ALTER OPERATOR says this before PostgreSQL 17, and indexes may depend on the operator.
+-- ALTER OPERATOR cannot do this before PostgreSQL 17, and indexes may depend on the operator, so it cannot be dropped.
 UPDATE pg_catalog.pg_operator SET oprcanhash = true, oprcanmerge = true WHERE oid = '@extschema@.=~~(pg_catalog.text, pg_catalog.text)'::pg_catalog.regoperator;
 
 CREATE FUNCTION uca_create(name text, table_file text, rules_file text DEFAULT '', strength text DEFAULT 'tertiary', variable text DEFAULT 'non-ignorable')
@@ -60,13 +60,13 @@ BEGIN
     RETURN format('@extschema@.%I', name)::regdictionary;
 END $$;
 
--- The fingerprint that is fixed, and the one that the files have now, in hexadecimal digits.
+-- The fixed fingerprint, and the one that the files have now, in hexadecimal digits.
 CREATE FUNCTION uca_fixed(regdictionary) RETURNS text
     AS 'MODULE_PATHNAME', 'uca_pg_fixed' LANGUAGE C STABLE STRICT;
 CREATE FUNCTION uca_found(regdictionary) RETURNS text
     AS 'MODULE_PATHNAME', 'uca_pg_found' LANGUAGE C VOLATILE STRICT;
 
--- What depends on a collation: on its name; and on the functions and operators that name none, if it is the default one.
+-- What depends on a collation: on its name or, if it is the default one, on the functions and operators that take no name.
 CREATE FUNCTION uca_dependents(dictionary regdictionary) RETURNS TABLE (classid oid, objid oid, description text) LANGUAGE sql STABLE AS $$
     SELECT DISTINCT d.classid, d.objid, pg_catalog.pg_describe_object(d.classid, d.objid, 0)
     FROM pg_catalog.pg_depend d
@@ -81,7 +81,7 @@ CREATE FUNCTION uca_dependents(dictionary regdictionary) RETURNS TABLE (classid 
                                     AND p.oid = m.objid AND 'pg_catalog.regdictionary'::pg_catalog.regtype = ANY (p.proargtypes))))
 $$;
 
--- Fixes the fingerprints that files have now, and then rebuilds what depends on these collations: indexes, and generated columns.
+-- Fixes the fingerprints that the files have now, and then rebuilds the indexes and generated columns that depend on these collations.
 CREATE FUNCTION uca_fix_and_rebuild(dictionaries regdictionary[]) RETURNS void LANGUAGE plpgsql AS $$
 DECLARE
     dictionary regdictionary;
@@ -101,20 +101,20 @@ BEGIN
                        JOIN pg_catalog.pg_attribute a ON a.attrelid = f.adrelid AND a.attnum = b.number)
                 ON d.classid = 'pg_catalog.pg_attrdef'::regclass AND f.oid = d.objid
             ORDER BY 1, 2 LOOP
-        CONTINUE WHEN stale.index_kind = 'I'; -- its parts come by themselves
+        CONTINUE WHEN stale.index_kind = 'I'; -- a partitioned index: its partitions have rows of their own
         IF stale.index_kind = 'i' THEN
             EXECUTE format('REINDEX INDEX %s', stale.relation);
         ELSIF stale.base IS NOT NULL THEN
-            EXECUTE format('UPDATE %s SET %I = %I', stale.relation, stale.base, stale.base); -- a column that the generated one is made of
+            EXECUTE format('UPDATE %s SET %I = %I', stale.relation, stale.base, stale.base); -- a column that the generated one is computed from
         ELSE
-            RAISE WARNING 'uca: % depends on keys that are others now', stale.description;
+            RAISE WARNING 'uca: % depends on keys that have changed', stale.description;
             CONTINUE;
         END IF;
         RAISE NOTICE 'uca: % is rebuilt', stale.description;
     END LOOP;
 END $$;
 
--- The default collation by the settings uca.table_file, uca.rules_file, uca.strength and uca.variable, where the first one is there.
+-- The default collation, made or altered by the settings uca.table_file, uca.rules_file, uca.strength and uca.variable if the first is set.
 CREATE FUNCTION uca_by_settings() RETURNS regdictionary LANGUAGE plpgsql AS $$
 DECLARE
     made regdictionary := (SELECT t.oid FROM pg_catalog.pg_ts_dict t WHERE t.dictname = 'uca' AND t.dictnamespace = '@extschema@'::regnamespace);
@@ -137,7 +137,7 @@ BEGIN
     RETURN made;
 END $$;
 
--- Fixes what the files of collations have now. Where others were fixed and something depends on them, it wants to be forced.
+-- Fixes the fingerprints that the files of collations have now. If another was fixed and something depends on it, this needs `force`.
 CREATE FUNCTION uca_fix_these(dictionaries regdictionary[], force boolean) RETURNS void LANGUAGE plpgsql AS $$
 DECLARE
     changed regdictionary[];
@@ -163,13 +163,13 @@ BEGIN
     RETURN decode(@extschema@.uca_fixed(dictionary), 'hex');
 END $$;
 
--- All collations at once, as after a new version of a table that they share.
+-- Fixes all collations at once, for example after an update of a table that they share.
 CREATE FUNCTION uca_fix_all(force boolean DEFAULT false) RETURNS void LANGUAGE sql AS $$
     SELECT @extschema@.uca_fix_these(ARRAY(SELECT d.oid::pg_catalog.regdictionary FROM pg_catalog.pg_ts_dict d JOIN pg_catalog.pg_ts_template t ON t.oid = d.dicttemplate
         WHERE t.tmplname = 'uca' AND t.tmplnamespace = '@extschema@'::pg_catalog.regnamespace), force)
 $$;
 
--- The default collation of 1.0, where indexes depend on it. It keeps the fingerprint that was fixed.
+-- Makes the default collation of 1.0 if indexes depend on it. It keeps the fingerprint that was fixed.
 DO $$
 DECLARE
     table_file text := nullif(current_setting('uca.table_file', true), '');
@@ -189,7 +189,7 @@ END $$;
 ALTER EXTENSION uca DROP TABLE uca_fixed;
 DROP TABLE uca_fixed;
 
--- A new collation, restored from a dump or not, gets the fingerprint of its files here and now.
+-- A new collation, restored from a dump or not, gets the fingerprint that its files have here and now.
 CREATE FUNCTION uca_fix_new() RETURNS event_trigger LANGUAGE plpgsql AS $$
 DECLARE
     dictionary regdictionary;

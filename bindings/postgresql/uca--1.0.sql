@@ -1,7 +1,7 @@
 \echo Use "CREATE EXTENSION uca" to load this file. \quit
 
--- The packed key of a text, for indexes, under the table and the settings of uca.table_file, uca.rules_file, uca.strength and
--- uca.variable.
+-- The packed key of a text, for indexes, under the table and the settings that uca.table_file, uca.rules_file, uca.strength and
+-- uca.variable give.
 CREATE FUNCTION uca_key(text) RETURNS bytea
     AS 'MODULE_PATHNAME', 'uca_pg_packed_key' LANGUAGE C IMMUTABLE STRICT PARALLEL SAFE;
 
@@ -9,22 +9,22 @@ CREATE FUNCTION uca_key(text) RETURNS bytea
 CREATE FUNCTION uca_sort_key(text) RETURNS bytea
     AS 'MODULE_PATHNAME', 'uca_pg_sort_key' LANGUAGE C IMMUTABLE STRICT PARALLEL SAFE;
 
--- The ends of the range that the keys of all texts are in whose primary weights begin with those of a text: none is before the lower one,
--- and all are before the upper one.
+-- The ends of the range that holds the keys of all texts whose primary weights begin with those of a text: each such key is at or after
+-- the lower end and before the upper one.
 CREATE FUNCTION uca_prefix_lower(text) RETURNS bytea
     AS 'MODULE_PATHNAME', 'uca_pg_prefix_lower' LANGUAGE C IMMUTABLE STRICT PARALLEL SAFE;
 CREATE FUNCTION uca_prefix_upper(text) RETURNS bytea
     AS 'MODULE_PATHNAME', 'uca_pg_prefix_upper' LANGUAGE C IMMUTABLE STRICT PARALLEL SAFE;
 
--- -1, 0 or 1 if the first text comes before, with or after the second.
+-- -1, 0 or 1 if the first text comes before, is equal to or comes after the second.
 CREATE FUNCTION uca_cmp(text, text) RETURNS integer
     AS 'MODULE_PATHNAME', 'uca_pg_cmp' LANGUAGE C IMMUTABLE STRICT PARALLEL SAFE;
 
--- The digest of all that keys depend on.
+-- The digest of everything that keys depend on.
 CREATE FUNCTION uca_fingerprint() RETURNS bytea
     AS 'MODULE_PATHNAME', 'uca_pg_fingerprint' LANGUAGE C STABLE PARALLEL SAFE;
 
--- An empty row: no fingerprint was fixed yet. uca_fix() stores that of now, and each session compares it at its first use.
+-- While it has no row, no fingerprint is fixed. uca_fix() stores the current one, and each session compares it at its first use.
 CREATE TABLE uca_fixed (fingerprint bytea NOT NULL);
 SELECT pg_catalog.pg_extension_config_dump('uca_fixed', '');
 GRANT SELECT ON uca_fixed TO PUBLIC;

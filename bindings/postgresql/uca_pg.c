@@ -1,10 +1,10 @@
 /*
  * An extension of PostgreSQL that sorts and indexes text by libuca: keys as bytea, and operator classes for text.
  *
- * A collation is a text search dictionary of the template `uca`. Its options name the files and the settings, and the fingerprint that was
- * fixed when it was made. The server keeps dictionaries in its catalog, tells each session when one changes, notes which indexes name
+ * A collation is a text search dictionary of the template `uca`. Its options name the files, the settings, and the fingerprint that was
+ * fixed when it was made. The server keeps dictionaries in its catalog, tells each session when one changes, records which indexes name
  * one, and dumps them before any table. A collation makes keys only while its files have its fingerprint, so its functions are
- * immutable. The functions that take no collation use the one named `uca`, in the schema of the extension.
+ * immutable. Functions that take no collation use the one named `uca`, in the schema of the extension.
  */
 #include "postgres.h"
 #include "catalog/pg_authid.h"
@@ -32,19 +32,19 @@
 
 PG_MODULE_MAGIC;
 
-/* A table has at most 64 MiB, and rules have less. */
+/* A table has at most 64 MiB; rules have less. */
 #define MOST_BYTES ((size_t)64 << 20)
 
-/* The upper end of a range without one has this many bytes FF after those of the lower end, which are none or all FF. No byte string
- * comes after all keys of every table, since a weight can be FFFF and a text as long as one likes. A key that is not before this end is of
- * a text that goes on with 2048 primary weights FFFF in a row. */
+/* If a range has no upper end, this many bytes FF after the lower end, which has only bytes FF, are used as one. No byte string comes
+ * after all keys of every table, since a weight can be FFFF and a text of any length. A key at or after this end belongs to a text with
+ * 2048 more primary weights FFFF in a row. */
 #define BYTES_OF_LAST_END 4096
 
 #define DIGITS (2 * sizeof(uca_digest))
 
-/* What the options of a dictionary say. */
+/* The options of a dictionary. */
 struct definition {
-    const char *table, *rules; /* files; no rules if empty */
+    const char *table, *rules; /* names of files; if the second is empty, there are no rules */
     uca_settings settings;
     const char *fixed; /* the fingerprint in hexadecimal digits, or null */
 };
@@ -52,8 +52,8 @@ struct definition {
 /* A collation that this session has used. */
 struct collation {
     Oid oid; /* of its dictionary */
-    uint64 seen; /* the number of changes when it was last found right */
-    char *options; /* those that its table was found right by, or null */
+    uint64 seen; /* the number of changes when it was last checked */
+    char *options; /* those that its table was checked against, or null */
     uca_collator collator;
     uca_settings settings;
 };
@@ -83,13 +83,13 @@ static void path_changed(const char *value, void *extra) { changes++; }
 
 static void setting_changed(int value, void *extra) { changes++; }
 
-/* Plans may have keys of before as constants. */
+/* Cached plans may have earlier keys as constants. */
 static void dictionaries_changed(Datum arg, int cache, uint32 hash) {
     changes++;
     ResetPlanCache();
 }
 
-/* The number of a word, or an error. */
+/* The number that a word names, or an error. */
 static int number_of(const struct config_enum_entry *words, const char *option, const char *word) {
     const struct config_enum_entry *entry = words;
     while (entry->name && strcmp(entry->name, word) != 0) entry++;
@@ -109,7 +109,7 @@ static void report(const char *function, uint32_t status, const uca_fault *fault
                                           (unsigned long long)fault->at)));
 }
 
-/* The bytes of a file in this context of memory. */
+/* The bytes of a file, in the current memory context. */
 static uint8_t *contents(const char *path, size_t *size) {
     FILE *file = AllocateFile(path, PG_BINARY_R);
     size_t room = 1 << 16, got;
@@ -126,7 +126,7 @@ static uint8_t *contents(const char *path, size_t *size) {
     return bytes;
 }
 
-/* Opens a collator by files. What is wrong with their contents is reported with the file's name. */
+/* Opens a collator with files. A fault in their contents is reported with the name of the file. */
 static void open_files(uca_collator *collator, const char *table_file, const char *rules_file) {
     uca_fault fault;
     size_t table_size, rules_size = 0;
@@ -151,7 +151,7 @@ static void digits_of(const uca_collator *collator, const uca_settings *settings
     digits[DIGITS] = '\0';
 }
 
-/* Reads the options of a dictionary, or reports which one is wrong. */
+/* Parses the options of a dictionary, or reports which one is wrong. */
 static struct definition definition_of(List *options) {
     struct definition definition = {"", "", UCA_TERTIARY_SETTINGS, NULL};
     ListCell *cell;
@@ -170,7 +170,7 @@ static struct definition definition_of(List *options) {
     return definition;
 }
 
-/* The options of a dictionary as the catalog has them; its name goes to `name`. */
+/* The options of a dictionary, as the catalog has them. Writes its name to `name`. */
 static char *options_of(Oid oid, Oid schema, char **name) {
     HeapTuple tuple = SearchSysCache1(TSDICTOID, ObjectIdGetDatum(oid)), template;
     Form_pg_ts_dict row;
@@ -203,7 +203,7 @@ static void report_setting(const char *setting, const char *value, const char *f
                             "or SELECT uca_fix(), which says what depends on them.")));
 }
 
-/* The default collation can be named by settings, too. Where they are there, they have to say what it is. */
+/* Settings can name the default collation too. If they are set, they must agree with it. */
 static void check_settings(const struct definition *definition) {
     if (!*table_path) return;
     if (strcmp(table_path, definition->table) != 0) report_setting("uca.table_file", table_path, definition->table);
@@ -218,8 +218,8 @@ static bool has_settings(const struct preloaded *preloaded, const uca_settings *
     return memcmp(&preloaded->settings, settings, sizeof *settings) == 0;
 }
 
-/* Shares a table that the postmaster has loaded, if there is one of these files with the fingerprint that was fixed. Where it was loaded
-   for these settings, its fingerprint is known. */
+/* Shares a table that the postmaster has loaded, if there is one of these files with the fixed fingerprint. If it was loaded for these
+ * settings, its fingerprint is already known. */
 static bool takes_preloaded(struct collation *collation, const struct definition *definition) {
     int round, i;
     for (round = 0; round < 2; round++) {
@@ -237,7 +237,7 @@ static bool takes_preloaded(struct collation *collation, const struct definition
     return false;
 }
 
-/* Gives a collation the table of its definition, if that has the fingerprint that was fixed. */
+/* Gives a collation the table of its definition, if that has the fixed fingerprint. */
 static void load(struct collation *collation, const struct definition *definition, const char *name) {
     char digits[DIGITS + 1];
     uca_close(&collation->collator);
@@ -251,7 +251,7 @@ static void load(struct collation *collation, const struct definition *definitio
                     errdetail("The fingerprint of \"%s\"%s%s%s is %s; fixed was %s.",
                               definition->table, *definition->rules ? " with \"" : "",
                               definition->rules, *definition->rules ? "\"" : "", digits, definition->fixed),
-                    errhint("Put back what was there; or SELECT uca_fix(%s), which says what depends on it.", quote_literal_cstr(name))));
+                    errhint("Restore the files and settings; or SELECT uca_fix(%s), which says what depends on it.", quote_literal_cstr(name))));
 }
 
 static void make_right(struct collation *collation, Oid schema, bool is_default) {
@@ -313,7 +313,7 @@ static struct collation *default_of(Oid function) {
     return last = collation_by(default_in(schema), schema, true);
 }
 
-/* The collation that the argument at a place names, or the default one of a function that has no such argument. */
+/* The collation that an argument names, or the default one if the function has no such argument. */
 static struct collation *collation_of(FunctionCallInfo fcinfo, int place) {
     static struct collation *last;
     Oid oid;
@@ -323,7 +323,7 @@ static struct collation *collation_of(FunctionCallInfo fcinfo, int place) {
     return last;
 }
 
-/* A call of the library that makes a key: uca_packed_key for uca_key of SQL, and uca_sort_key for uca_sort_key. */
+/* A call of the library that makes a key: uca_packed_key for SQL's uca_key, and uca_sort_key for SQL's uca_sort_key. */
 typedef uint32_t key_call(const uca_collator *, const uca_settings *, const uint8_t *, size_t, uint8_t *, size_t, size_t *, uca_fault *);
 
 static bytea *key_of(struct collation *collation, const uca_settings *settings, const text *given, key_call *makes_key, const char *function,
@@ -357,7 +357,7 @@ Datum uca_pg_sort_key(PG_FUNCTION_ARGS) {
     PG_RETURN_BYTEA_P(key_of(collation, &collation->settings, PG_GETARG_TEXT_PP(0), uca_sort_key, "uca_sort_key", 8));
 }
 
-/* Whether the primary weights of a text begin with those of another: whether its key at primary begins with the other's. */
+/* Whether the primary weights of a text begin with those of another: whether its primary key begins with the other's. */
 PG_FUNCTION_INFO_V1(uca_pg_begins);
 Datum uca_pg_begins(PG_FUNCTION_ARGS) {
     struct collation *collation = collation_of(fcinfo, 2);
@@ -367,7 +367,7 @@ Datum uca_pg_begins(PG_FUNCTION_ARGS) {
     PG_RETURN_BOOL(VARSIZE(front) <= VARSIZE(whole) && memcmp(VARDATA(whole), VARDATA(front), VARSIZE(front) - VARHDRSZ) == 0);
 }
 
-/* The upper end of a range without one, whose lower end has `size` bytes. */
+/* The upper end to use for a range without one, whose lower end has `size` bytes. */
 static bytea *last_end(size_t size) {
     bytea *end;
     size += BYTES_OF_LAST_END;
@@ -378,7 +378,7 @@ static bytea *last_end(size_t size) {
     return end;
 }
 
-/* One of the two ends of the keys of all texts whose primary weights begin with those of a text. */
+/* One of the two ends of the range of uca_prefix_bounds. */
 static Datum bound(FunctionCallInfo fcinfo, bool is_upper) {
     struct collation *collation = collation_of(fcinfo, 1);
     text *given = PG_GETARG_TEXT_PP(0);
@@ -419,7 +419,7 @@ static int32_t order_of(struct collation *collation, const text *a, const text *
     return order;
 }
 
-/* The order of the two first arguments. A B-tree calls this often, so detoasted copies are freed. */
+/* The order of the first two arguments. A B-tree calls this often, so detoasted copies are freed. */
 static int32_t order_of_arguments(FunctionCallInfo fcinfo) {
     struct collation *collation = collation_of(fcinfo, 2);
     text *a = PG_GETARG_TEXT_PP(0), *b = PG_GETARG_TEXT_PP(1);
@@ -460,7 +460,7 @@ Datum uca_pg_hash_extended(PG_FUNCTION_ARGS) {
     return hash;
 }
 
-/* How many keys a sort remembers, and of how long texts. */
+/* How many keys a sort remembers, and how long a text with a remembered key may be. */
 #define MOST_REMEMBERED 32768
 #define LONGEST_REMEMBERED 255
 
@@ -470,11 +470,11 @@ struct remembered {
     uint8_t *bytes;
 };
 
-/* What a sort has beside its texts. */
+/* The state of a sort. */
 struct sorting {
-    Oid function; /* by which the default collation is found, once there is a text: an empty index needs none */
+    Oid function; /* finds the default collation when the first text comes: an empty index needs none */
     struct collation *collation;
-    struct remembered *remembered; /* null until one is; each at a place by the address of its text */
+    struct remembered *remembered; /* null until a key is remembered; the address of a text gives its index */
 };
 
 static struct collation *collation_of_sort(SortSupport support) {
@@ -492,7 +492,7 @@ static int compare_texts(Datum x, Datum y, SortSupport support) {
     return order;
 }
 
-/* The key of a text. A text lies at one address for as long as its sort goes on in memory, and is compared several times. */
+/* The key of a text, which is compared several times. As long as a sort runs in memory, each text stays at one address. */
 static const struct remembered *remembered(struct sorting *sorting, const text *given) {
     MemoryContext context = GetMemoryChunkContext(sorting);
     size_t size = VARSIZE_ANY_EXHDR(given), room = 5 * size + 64;
@@ -517,7 +517,7 @@ static const struct remembered *remembered(struct sorting *sorting, const text *
     return it;
 }
 
-/* Whether a key of it is remembered: of a short text, as it lies in memory. */
+/* Whether the key of a text is remembered: it is short, and neither compressed nor stored elsewhere. */
 static bool is_short(const text *given) {
     return (VARATT_IS_SHORT(given) || !VARATT_IS_EXTENDED(given)) && VARSIZE_ANY_EXHDR(given) <= LONGEST_REMEMBERED;
 }
@@ -531,12 +531,12 @@ static int compare_alike(Datum x, Datum y, SortSupport support) {
     collation_of_sort(support);
     a_key = remembered(support->ssup_extra, a);
     b_key = remembered(support->ssup_extra, b);
-    if (a_key == b_key) return compare_texts(x, y, support); /* the second took the first one's place */
+    if (a_key == b_key) return compare_texts(x, y, support); /* the second key has replaced the first */
     order = memcmp(a_key->bytes + a_key->text_size, b_key->bytes + b_key->text_size, Min(a_key->key_size, b_key->key_size));
     return order ? order : (a_key->key_size > b_key->key_size) - (a_key->key_size < b_key->key_size);
 }
 
-/* The first eight bytes of a key as a number. Where the key at primary has so many, they are its own, and it takes less time. */
+/* The first eight bytes of a key, as a number. If the primary key has eight bytes, they are the same, and it is faster to make. */
 static Datum abbreviated(Datum original, SortSupport support) {
     struct collation *collation = collation_of_sort(support);
     text *given = DatumGetTextPP(original);
@@ -553,7 +553,7 @@ static Datum abbreviated(Datum original, SortSupport support) {
     return UInt64GetDatum(pg_ntoh64(front));
 }
 
-/* An abbreviated key takes no more time than a comparison or two of texts, so it is worth it even where many are alike. */
+/* An abbreviated key costs no more than a comparison or two of texts, so it pays even if many are equal. */
 static bool is_aborted(int count, SortSupport support) { return false; }
 
 #if PG_VERSION_NUM < 150000
@@ -582,7 +582,7 @@ Datum uca_pg_sort_support(PG_FUNCTION_ARGS) {
     PG_RETURN_VOID();
 }
 
-/* The fingerprint that was fixed, of a collation that makes keys. */
+/* The fixed fingerprint of a collation, once its files have been checked against it. */
 PG_FUNCTION_INFO_V1(uca_pg_fingerprint);
 Datum uca_pg_fingerprint(PG_FUNCTION_ARGS) {
     struct collation *collation = collation_of(fcinfo, 0);
@@ -592,7 +592,7 @@ Datum uca_pg_fingerprint(PG_FUNCTION_ARGS) {
     PG_RETURN_BYTEA_P(out);
 }
 
-/* The fingerprint that is fixed in the options of a collation, whatever its files are; null where there is none. */
+/* The fingerprint in the options of a collation, whatever its files are; null if there is none. */
 PG_FUNCTION_INFO_V1(uca_pg_fixed);
 Datum uca_pg_fixed(PG_FUNCTION_ARGS) {
     char *name;
@@ -601,7 +601,7 @@ Datum uca_pg_fixed(PG_FUNCTION_ARGS) {
     PG_RETURN_TEXT_P(cstring_to_text(definition.fixed));
 }
 
-/* The fingerprint of files in hexadecimal digits. */
+/* The fingerprint of files, in hexadecimal digits. */
 static void digits_of_files(const struct definition *definition, char *digits) {
     uca_collator collator = UCA_CLOSED;
     open_files(&collator, definition->table, definition->rules);
@@ -625,7 +625,7 @@ Datum uca_pg_found(PG_FUNCTION_ARGS) {
     PG_RETURN_TEXT_P(cstring_to_text(digits));
 }
 
-/* The template calls this with the options of a new or altered dictionary, and refuses what makes no collation. */
+/* The template calls this with the options of a new or altered dictionary. It refuses those that make no collation. */
 PG_FUNCTION_INFO_V1(uca_pg_init);
 Datum uca_pg_init(PG_FUNCTION_ARGS) {
     struct definition definition = definition_of((List *)PG_GETARG_POINTER(0));
@@ -640,13 +640,13 @@ Datum uca_pg_init(PG_FUNCTION_ARGS) {
     PG_RETURN_POINTER(NULL);
 }
 
-/* A collation knows no lexemes. */
+/* A collation has no lexemes. */
 PG_FUNCTION_INFO_V1(uca_pg_lexize);
 Datum uca_pg_lexize(PG_FUNCTION_ARGS) { PG_RETURN_POINTER(NULL); }
 
 /* ---- Tables that the postmaster loads */
 
-/* Cuts a word off the front of a list that colons separate. */
+/* Cuts the first word off a list separated by colons. */
 static char *cut(char **rest) {
     char *word = *rest ? *rest : "", *colon = strchr(word, ':');
     *rest = colon ? colon + 1 : NULL;
@@ -669,7 +669,7 @@ static void preload(struct preloaded *preloaded, char *entry) {
     digits_of(&preloaded->collator, &preloaded->settings, preloaded->digits);
 }
 
-/* Loads the tables of uca.preload. What can't be loaded is logged: the server starts, and sessions read the files themselves. */
+/* Loads the tables of uca.preload. One that can't be loaded is logged: the server still starts, and sessions read the files themselves. */
 static void preload_all(void) {
     MemoryContext scratch = AllocSetContextCreate(TopMemoryContext, "preload of uca", ALLOCSET_DEFAULT_SIZES);
     MemoryContext before = MemoryContextSwitchTo(scratch);
@@ -710,7 +710,7 @@ void _PG_init(void) {
     CacheRegisterSyscacheCallback(TSDICTOID, dictionaries_changed, (Datum)0);
     DefineCustomStringVariable("uca.table_file", "The file of the table of the default collation.", NULL,
                                &table_path, "", PGC_SUSET, 0, NULL, path_changed, NULL);
-    DefineCustomStringVariable("uca.rules_file", "The file of the rules that tailor it; none if empty.", NULL,
+    DefineCustomStringVariable("uca.rules_file", "The file of the rules that tailor it; if empty, there are none.", NULL,
                                &rules_path, "", PGC_SUSET, 0, NULL, path_changed, NULL);
     DefineCustomEnumVariable("uca.strength", "How many levels are compared.", NULL,
                              &strength, UCA_TERTIARY, strengths, PGC_SUSET, 0, NULL, setting_changed, NULL);

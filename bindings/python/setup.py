@@ -1,7 +1,7 @@
-"""Builds the extension of the package. pyproject.toml has all else.
+"""Builds the extension module of the package. pyproject.toml has everything else.
 
-uca.h is that of the installed library, which pkg-config finds, or that of this checkout. The folder of the library is kept in the
-extension, which looks there when it is imported.
+uca.h is the one of the installed library, which pkg-config finds, or else the one in this checkout. The extension keeps the folder of
+the library, and looks there when it is imported.
 """
 
 import os
@@ -11,7 +11,7 @@ from setuptools import Extension, setup
 
 
 def installed(variable):
-    """What pkg-config says of the installed library, or nothing."""
+    """A variable of the installed library's uca.pc, or "" if pkg-config finds none."""
     words = [os.environ.get("PKG_CONFIG", "pkg-config"), "--variable=" + variable, "uca"]
     try:
         return subprocess.run(words, check=True, stdout=subprocess.PIPE, stderr=subprocess.DEVNULL, text=True).stdout.strip()
@@ -36,6 +36,6 @@ setup(
             py_limited_api=True,
         )
     ],
-    # What an earlier build left may name another folder of the library.
+    # The files of an earlier build may name another folder of the library.
     options={"bdist_wheel": {"py_limited_api": "cp310"}, "build_ext": {"force": True}},
 )

@@ -5,19 +5,19 @@
  *     SELECT uca_load('uca', 'allkeys.txt');                           -- or with rules: uca_load(name, table, rules)
  *     SELECT uca_load('es', 'allkeys.txt', 'es.rules', 'tertiary', 'non-ignorable');
  *     SELECT t FROM words ORDER BY t COLLATE uca;
- *     CREATE INDEX by_key ON words(uca_key(t));                        -- a packed key as a blob, by the collation 'uca'
+ *     CREATE INDEX by_key ON words(uca_key(t));                        -- a packed key, a blob, under the collation 'uca'
  *     SELECT t FROM words ORDER BY uca_key(t);
- *     SELECT uca_key(t, 'es') FROM words;                              -- by the collation of this name
- *     SELECT uca_sort_key(t) FROM words;                               -- the sort key of the standard, longer, in the same order
+ *     SELECT uca_key(t, 'es') FROM words;                              -- under the collation of this name
+ *     SELECT uca_sort_key(t) FROM words;                               -- the sort key of the standard: longer, in the same order
  *     SELECT t FROM words WHERE uca_key(t) >= uca_prefix_lower('l') AND uca_key(t) < uca_prefix_upper('l');
- *                                                                      -- the texts whose primary weights begin so; or by uca_sort_key
+ *                                                -- the texts whose primary weights begin with those of 'l'; or with uca_sort_key
  *     SELECT t FROM words WHERE uca_begins(t, 'l');                    -- the same without an index
- *     SELECT uca_fingerprint('uca');                                   -- of the table and the settings
+ *     SELECT uca_fingerprint('uca');                                   -- of the table, the rules and the settings
  *
- * uca_load has to run on each connection before a statement that needs its collation. The first time that it loads a name in a
- * database, it stores the fingerprint in the table uca_fixed there; from then on it refuses another table, rules or settings under
- * that name. A file that it names is read by the process, so it cannot be called from triggers and views. Bytes that are no text
- * come after all texts, by their bytes, since a collation of SQLite cannot fail; uca_key and uca_sort_key report them.
+ * Call uca_load on each connection before a statement that needs its collation. The first time it loads a name in a database, it
+ * stores the fingerprint in the table uca_fixed there; from then on it refuses another table, rules or settings under that name.
+ * It reads files in this process, so triggers and views cannot call it. A collation of SQLite cannot fail, so invalid texts come
+ * after all others, in the order of their bytes; uca_key and uca_sort_key report them.
  */
 #include <sqlite3ext.h>
 SQLITE_EXTENSION_INIT1
@@ -26,7 +26,7 @@ SQLITE_EXTENSION_INIT1
 #include <stdlib.h>
 #include <string.h>
 
-/* A collation by its name. The registry of a connection has it, and each function of SQLite that uses it. */
+/* A named collation. Its owners are the registry of its connection and SQLite's own entry for the collation. */
 struct collation {
     uca_collator collator;
     uca_settings settings;
@@ -88,7 +88,7 @@ static void report(sqlite3_context *context, const char *function, uint32_t stat
     sqlite3_free(text);
 }
 
-/* The collation that an optional argument names; 'uca' without one. */
+/* The collation that an optional argument names; without the argument, 'uca'. */
 static struct collation *wanted(sqlite3_context *context, int count, sqlite3_value **values, int place) {
     const char *name = count > place ? (const char *)sqlite3_value_text(values[place]) : "uca";
     struct collation *collation = name ? named(sqlite3_user_data(context), name) : NULL;
@@ -96,7 +96,7 @@ static struct collation *wanted(sqlite3_context *context, int count, sqlite3_val
     return collation;
 }
 
-/* A call of the library that makes a key: uca_packed_key for uca_key of SQL, and uca_sort_key for uca_sort_key. */
+/* A call of the library that makes a key: uca_packed_key for SQL's uca_key, and uca_sort_key for SQL's uca_sort_key. */
 typedef uint32_t key_call(const uca_collator *, const uca_settings *, const uint8_t *, size_t, uint8_t *, size_t, size_t *, uca_fault *);
 
 static void key_by(key_call *makes_key, const char *function, sqlite3_context *context, int count, sqlite3_value **values) {
@@ -124,9 +124,9 @@ static void key(sqlite3_context *context, int count, sqlite3_value **values) { k
 
 static void sort_key(sqlite3_context *context, int count, sqlite3_value **values) { key_by(uca_sort_key, "uca_sort_key", context, count, values); }
 
-/* An upper end for a range without one, whose lower end has `size` bytes, none or all of them FF. No byte string comes after all keys of
- * every table, since a weight can be FFFF and a text as long as one likes. A key that is not before this end is of a text that goes on with
- * 2048 primary weights FFFF in a row. */
+/* An upper end for a range without one. Its lower end has `size` bytes, all of them FF. No byte string comes after all keys of every
+ * table, since a weight can be FFFF and a text of any length. A key at or after this end belongs to a text with 2048 more primary weights
+ * FFFF in a row. */
 static void last_end(sqlite3_context *context, size_t size) {
     uint8_t *end = sqlite3_malloc64(size += 4096);
     if (!end) {
@@ -137,7 +137,7 @@ static void last_end(sqlite3_context *context, size_t size) {
     sqlite3_result_blob64(context, end, size, sqlite3_free);
 }
 
-/* One of the two ends of the keys of all texts whose primary weights begin with those of a text. */
+/* One of the two ends of the range of uca_prefix_bounds. */
 static void bound(sqlite3_context *context, int count, sqlite3_value **values, int is_upper) {
     struct collation *collation = wanted(context, count, values, 1);
     if (!collation || sqlite3_value_type(values[0]) == SQLITE_NULL) return;
@@ -167,7 +167,7 @@ static void lower_bound(sqlite3_context *context, int count, sqlite3_value **val
 
 static void upper_bound(sqlite3_context *context, int count, sqlite3_value **values) { bound(context, count, values, 1); }
 
-/* The key of a text at primary, to be freed by sqlite3_free; null where an error was reported. */
+/* The primary key of a text, to be freed with sqlite3_free; null if an error was reported. */
 static uint8_t *primary_key(sqlite3_context *context, struct collation *collation, sqlite3_value *value, size_t *needed) {
     const uint8_t *text = sqlite3_value_text(value);
     size_t size = sqlite3_value_bytes(value), capacity = 4 * size + 64;
@@ -186,7 +186,7 @@ static uint8_t *primary_key(sqlite3_context *context, struct collation *collatio
     }
 }
 
-/* Whether the primary weights of a text begin with those of another: whether its key at primary begins with the other's. */
+/* Whether the primary weights of a text begin with those of another: whether its primary key begins with the other's. */
 static void begins(sqlite3_context *context, int count, sqlite3_value **values) {
     struct collation *collation = wanted(context, count, values, 2);
     size_t whole_size, front_size;
@@ -208,7 +208,7 @@ static void fingerprint(sqlite3_context *context, int count, sqlite3_value **val
     else sqlite3_result_blob(context, digest.bytes, sizeof digest.bytes, SQLITE_TRANSIENT);
 }
 
-/* The bytes of a file, to be freed by sqlite3_free; null where it cannot be read. */
+/* The bytes of a file, to be freed with sqlite3_free; null if it cannot be read. */
 static uint8_t *contents(const char *path, size_t *size) {
     FILE *file = fopen(path, "rb");
     uint8_t *bytes = NULL;
@@ -230,7 +230,7 @@ static uint8_t *contents(const char *path, size_t *size) {
     return failed ? NULL : bytes;
 }
 
-/* The place of a word among others, or a number that no setting has. */
+/* The index of a word among others, or a number that no setting has. */
 static uint32_t place_of(const char *word, const char *const *words, uint32_t count) {
     for (uint32_t i = 0; i < count; i++)
         if (word && strcmp(word, words[i]) == 0) return i;
@@ -246,7 +246,7 @@ static uca_settings settings_of(int count, sqlite3_value **values) {
     return settings;
 }
 
-/* Opens a collator by the files that arguments name; whether it did. */
+/* Opens a collator with the files that the arguments name. Returns whether it did. */
 static int opens(sqlite3_context *context, struct collation *collation, int count, sqlite3_value **values) {
     size_t table_size = 0, rules_size = 0;
     const char *table_path = (const char *)sqlite3_value_text(values[1]);
@@ -264,8 +264,8 @@ static int opens(sqlite3_context *context, struct collation *collation, int coun
     return are_read && status == UCA_OK;
 }
 
-/* Runs a statement of a database's with a name and a digest bound, up to its first row. Returns what SQLite says; whether there is a row,
-   and whether its first column is the digest, go to `has_row` and `is_same`. */
+/* Runs a statement on a database up to its first row, with a name and a digest bound. Returns SQLite's result. Writes to `has_row` whether
+ * there is a row, and to `is_same` whether its first column is the digest. */
 static int run(sqlite3 *connection, const char *sql, const char *schema, const char *name, const uca_digest *digest, int *has_row,
                int *is_same) {
     sqlite3_stmt *statement = NULL;
@@ -284,7 +284,7 @@ static int run(sqlite3 *connection, const char *sql, const char *schema, const c
     return sqlite3_finalize(statement);
 }
 
-/* Whether a database has fixed no other fingerprint for a name. Where it has fixed none and may, it fixes this one. */
+/* Whether a database has no other fingerprint fixed for a name. If it has none and `may_fix` allows it, fixes this one. */
 static int fits(sqlite3_context *context, sqlite3 *connection, const char *schema, const char *name, const uca_digest *digest, int may_fix) {
     int has_row, is_same, result;
     result = run(connection, "SELECT 1 FROM \"%w\".sqlite_schema WHERE type = 'table' AND name = 'uca_fixed'",
@@ -308,7 +308,7 @@ static int fits(sqlite3_context *context, sqlite3 *connection, const char *schem
     return 0;
 }
 
-/* Whether no open database has fixed another fingerprint for the name of a collation. The main one fixes this one, if it has fixed none. */
+/* Whether no open database has another fingerprint fixed for the name of a collation. If the main one has none, fixes this one there. */
 static int fits_all(sqlite3_context *context, sqlite3 *connection, struct collation *collation) {
     uca_digest digest;
     uca_fault none = {0, 0, 0};
@@ -386,7 +386,7 @@ int sqlite3_ucasqlite_init(sqlite3 *connection, char **error, const sqlite3_api_
     if (!registry) return SQLITE_NOMEM;
     registry->first = NULL;
     int flags = SQLITE_UTF8 | SQLITE_DETERMINISTIC | SQLITE_INNOCUOUS;
-    /* The first function lets the registry go, with the connection. */
+    /* The first function frees the registry when the connection closes. */
     int result = sqlite3_create_function_v2(connection, "uca_load", -1, SQLITE_UTF8 | SQLITE_DIRECTONLY, registry, load, NULL, NULL, let_all_go);
     for (int count = 2; count <= 3; count++)
         if (result == SQLITE_OK) result = sqlite3_create_function_v2(connection, "uca_begins", count, flags, registry, begins, NULL, NULL, NULL);

@@ -1,4 +1,4 @@
-//! Text in the order that the readers of a language expect: a safe binding of libuca.
+//! Sorts text as the readers of a language expect: a safe binding of libuca.
 //!
 //! ```no_run
 //! # fn main() -> Result<(), Box<dyn std::error::Error>> {
@@ -109,7 +109,7 @@ impl Default for Settings {
     }
 }
 
-/// A call was refused. The numbers are those of `uca.h`.
+/// Why a call was refused. The numbers are those of `uca.h`.
 #[derive(Clone, Copy, Debug, PartialEq, Eq)]
 pub struct Error {
     pub status: u32,
@@ -133,7 +133,7 @@ fn answer<T>(status: u32, fault: RawFault, value: T) -> Result<T, Error> {
     }
 }
 
-/// A sort key: keys compare as their texts do, where they were made under one table and the same settings.
+/// A sort key. Keys made under the same table and settings compare as their texts do.
 #[derive(Clone, Debug, PartialEq, Eq, PartialOrd, Ord, Hash)]
 pub struct Key(Vec<u8>);
 
@@ -153,7 +153,7 @@ impl Key {
     }
 }
 
-/// A packed sort key: shorter bytes, in the order of the sort keys under the same table and settings.
+/// A packed sort key: shorter than the sort key, and in the same order under the same table and settings.
 #[derive(Clone, Debug, PartialEq, Eq, PartialOrd, Ord, Hash)]
 pub struct PackedKey(Vec<u8>);
 
@@ -176,10 +176,10 @@ impl PackedKey {
 /// A call that makes a key.
 type MakesKey = unsafe extern "C" fn(*const ffi::RawCollator, *const RawSettings, *const u8, usize, *mut u8, usize, *mut usize, *mut RawFault) -> u32;
 
-/// The same of a text that was checked.
+/// A call that makes a key of a checked text.
 type MakesKeyOf = unsafe extern "C" fn(*const ffi::RawCollator, *const RawSettings, *const RawText, *mut u8, usize, *mut usize) -> u32;
 
-/// A text that was checked once, so that calls over it need not check it: to sort texts by comparing them, check each once.
+/// A text that was checked once, so that later calls need not check it. To sort texts by comparing them, check each once.
 #[derive(Clone, Copy)]
 pub struct Text<'t> {
     raw: RawText,
@@ -191,7 +191,7 @@ unsafe impl Send for Text<'_> {}
 unsafe impl Sync for Text<'_> {}
 
 impl<'t> Text<'t> {
-    /// A text, if it has no more than 60 nonstarters in a row.
+    /// Checks a text: it may have at most 60 nonstarters in a row.
     pub fn new(text: &'t str) -> Result<Text<'t>, Error> {
         let (mut raw, mut fault) = (RawText { bytes: text.as_ptr(), size: 0 }, RawFault::default());
         let status = unsafe { ffi::uca_text_of(text.as_ptr(), text.len(), &mut raw, &mut fault) };
@@ -199,7 +199,7 @@ impl<'t> Text<'t> {
     }
 
     pub fn as_str(&self) -> &'t str {
-        // These are the bytes of the string that it was made of.
+        // These are the bytes of the string that it was made from.
         unsafe { std::str::from_utf8_unchecked(std::slice::from_raw_parts(self.raw.bytes, self.raw.size)) }
     }
 }
@@ -210,8 +210,8 @@ impl fmt::Debug for Text<'_> {
     }
 }
 
-/// The ends of the range that the keys of all texts are in whose primary weights begin with those of a text: just these keys are not
-/// before `lower`, and before `upper` where there is such an end.
+/// The ends of the range that holds the keys of all texts whose primary weights begin with those of a text. Exactly these keys are at
+/// or after `lower` and, if there is an upper end, before `upper`.
 #[derive(Clone, Debug, PartialEq, Eq)]
 pub struct PrefixBounds {
     pub lower: Vec<u8>,
@@ -224,7 +224,7 @@ pub struct Collator {
     settings: Settings,
 }
 
-// The library lets a collator go to another thread, and any number of threads read one at once.
+// The library lets a collator move to another thread, and any number of threads read one at once.
 unsafe impl Send for Collator {}
 unsafe impl Sync for Collator {}
 
@@ -235,7 +235,7 @@ impl fmt::Debug for Collator {
 }
 
 impl Clone for Collator {
-    /// Another collator over the same table. Where memory for it is refused, this ends as a refused `Box` does; `try_clone` reports it.
+    /// Another collator over the same table. A failed allocation ends the program, as it does for a `Box`; `try_clone` returns an error.
     fn clone(&self) -> Collator {
         self.try_clone().unwrap_or_else(|_| handle_alloc_error(Layout::new::<ffi::RawCollator>()))
     }
@@ -246,11 +246,11 @@ impl Collator {
         Collator { raw: ffi::RawCollator { table: std::ptr::null_mut(), is_open: false }, settings }
     }
 
-    /// The table of a text in the format of `allkeys.txt`, tailored by rules.
+    /// A collator of a table in the format of `allkeys.txt`, tailored by rules.
     pub fn open(table: &[u8], rules: &[u8], settings: Settings) -> Result<Collator, Error> {
         let mut collator = Collator::closed(settings);
         let mut fault = RawFault::default();
-        // The pointers are those of slices, which are not null.
+        // The pointers come from slices, so they are not null.
         let status = unsafe { ffi::uca_open(&mut collator.raw, table.as_ptr(), table.len(), rules.as_ptr(), rules.len(), &mut fault) };
         answer(status, fault, collator)
     }
@@ -296,7 +296,7 @@ impl Collator {
         })
     }
 
-    /// The order of two texts that were checked.
+    /// The order of two checked texts.
     pub fn compare_texts(&self, a: Text<'_>, b: Text<'_>) -> Ordering {
         let mut order = 0;
         let status = unsafe { ffi::uca_compare_texts(&self.raw, &self.settings.raw(), &a.raw, &b.raw, &mut order) };
@@ -304,12 +304,12 @@ impl Collator {
         order.cmp(&0)
     }
 
-    /// The sort key of a text that was checked.
+    /// The sort key of a checked text.
     pub fn key_of(&self, text: Text<'_>) -> Result<Key, Error> {
         self.key_of_by(ffi::uca_sort_key_of, text, 8).map(Key)
     }
 
-    /// The packed sort key of a text that was checked.
+    /// The packed sort key of a checked text.
     pub fn packed_key_of(&self, text: Text<'_>) -> Result<PackedKey, Error> {
         self.key_of_by(ffi::uca_packed_key_of, text, 4).map(PackedKey)
     }
@@ -321,8 +321,8 @@ impl Collator {
         })
     }
 
-    /// Writes the first bytes of a text's sort key, as many as fit, and returns how many the whole key has. It allocates nothing, and
-    /// takes longer than `key`.
+    /// Writes as many of the first bytes of a text's sort key as fit, and returns the size of the whole key. It does not allocate, and is
+    /// slower than `key`.
     pub fn write_key(&self, text: &str, out: &mut [u8]) -> Result<usize, Error> {
         let (mut needed, mut fault) = (0, RawFault::default());
         let status = unsafe {
@@ -332,7 +332,7 @@ impl Collator {
     }
 
     /// The range of the keys, packed or not, of all texts whose primary weights begin with those of a text. A text that begins with it
-    /// can be outside, where the next character joins the last ones: as `cho` is outside of the range of `c` where `ch` is a letter.
+    /// can be outside, if its next character joins the last ones: `cho` is outside the range of `c` if `ch` is a letter.
     pub fn prefix_bounds(&self, text: &str) -> Result<PrefixBounds, Error> {
         let (mut lower, mut upper) = (vec![0; 4 * text.len() + 32], vec![0; 4 * text.len() + 32]);
         loop {
@@ -350,14 +350,14 @@ impl Collator {
         }
     }
 
-    /// Whether every text that begins with this one has its keys in the range of `prefix_bounds`.
+    /// Whether the keys of every text that begins with this one are in the range of `prefix_bounds`. In doubt it is false.
     pub fn is_complete(&self, text: &str) -> Result<bool, Error> {
         let (mut complete, mut fault) = (0, RawFault::default());
         let status = unsafe { ffi::uca_is_complete(&self.raw, text.as_ptr(), text.len(), &mut complete, &mut fault) };
         answer(status, fault, complete == 1)
     }
 
-    /// The digest of all that keys depend on: store it with them.
+    /// The digest of everything that keys depend on. Store it with them.
     pub fn fingerprint(&self) -> Result<[u8; 32], Error> {
         let mut out = [0; 32];
         let status = unsafe { ffi::uca_fingerprint(&self.raw, &self.settings.raw(), &mut out) };
@@ -371,7 +371,7 @@ impl Drop for Collator {
     }
 }
 
-/// The bytes that a call fills: once more where the first bytes, of this number, are too few.
+/// The bytes that a call fills: `size` of them at first, and more if these are too few.
 fn filled(size: usize, fill: impl Fn(&mut [u8], &mut usize) -> Result<(), Error>) -> Result<Vec<u8>, Error> {
     let mut out = vec![0; size];
     loop {
@@ -385,15 +385,15 @@ fn filled(size: usize, fill: impl Fn(&mut [u8], &mut usize) -> Result<(), Error>
     }
 }
 
-/// The line of a byte of a table or of rules, and the character of that line, both counted from 1: where the byte `at` of an
-/// [`Error`] about rules is.
+/// The line and the column (in characters) of a byte of a table or of rules, both counted from 1: where the byte `at` of an [`Error`]
+/// about rules is.
 pub fn locate(bytes: &[u8], at: u64) -> (u64, u64) {
     let (mut line, mut column) = (0, 0);
     unsafe { ffi::uca_locate(bytes.as_ptr(), bytes.len(), at, &mut line, &mut column) };
     (line, column)
 }
 
-/// Whether a text can be collated, or where not.
+/// Checks that bytes are a text that can be collated; the error says where they are not.
 pub fn check(text: &[u8]) -> Result<(), Error> {
     let mut fault = RawFault::default();
     let status = unsafe { ffi::uca_check(text.as_ptr(), text.len(), &mut fault) };
@@ -405,7 +405,7 @@ pub fn version() -> u32 {
     unsafe { ffi::uca_version() }
 }
 
-/// The version of Unicode by which texts are decomposed, in the same form.
+/// The version of Unicode that decides how texts are decomposed, in the same form.
 pub fn unicode_version() -> u32 {
     unsafe { ffi::uca_unicode_version() }
 }

@@ -1,10 +1,11 @@
-"""Text in the order that the readers of a language expect: a binding of libuca.
+"""Sorts text as the readers of a language expect: a binding of libuca.
 
     collator = uca.Collator.from_files("allkeys.txt", "sv.rules")
     words.sort(key=collator.key)
 
-Texts are `str`, or UTF-8 as `bytes`. The library is the file that UCA_LIBRARY names in the environment, or else `libuca.so.1` in the
-folder that pkg-config named when this package was installed, beside this package, or where the loader looks.
+Texts are `str`, or UTF-8 as `bytes`. The library is the file that the environment variable UCA_LIBRARY names. Without it, the package
+looks for `libuca.so.1` in the folder that pkg-config named when the package was installed, then in its own folder, then where the
+loader looks.
 """
 
 from __future__ import annotations
@@ -79,7 +80,7 @@ def _number(name: str, value: int, first: int, last: int) -> int:
 
 
 class Element(NamedTuple):
-    """A collation element. As a `str` it is as in a table, [.1C47.0020.0002]."""
+    """A collation element. As a `str` it is written as in a table, such as [.1C47.0020.0002]."""
 
     primary: int
     secondary: int
@@ -91,9 +92,9 @@ class Element(NamedTuple):
 
 
 class Match(NamedTuple):
-    """Characters of a text in NFD that are taken together: a key of the table with its elements, or a character that begins no key there,
-    with its implicit ones. A key may have marks after others that are not taken with it, so the matches have the characters of the text,
-    and not always in its order."""
+    """Characters of a text in NFD that are matched together: a key of the table with its elements, or a character that begins no key, with
+    its implicit elements. A match can take a mark and pass over marks before it, so the matches have all characters of the text, but not
+    always in its order."""
 
     text: str
     is_key: bool
@@ -101,7 +102,7 @@ class Match(NamedTuple):
 
 
 class Comparison(NamedTuple):
-    """An order, -1, 0 or 1, and the level that decides it: the first at which the texts differ, or the last where they do not."""
+    """An order (-1, 0 or 1) and the level that decides it: the first at which the texts differ, or the last if they do not."""
 
     order: int
     level: int
@@ -111,16 +112,16 @@ class Collator(_uca.Collator):
     """A table, rules that tailor it, and settings.
 
     table     the text of a table in the format of allkeys.txt; the published one takes 12 MB of memory
-    rules     the text of rules in the profile of UTS #35 that docs/FORMATS.md describes, or nothing
+    rules     the text of rules in the profile of UTS #35 that docs/FORMATS.md describes, or an empty text
     strength  how many levels are compared: PRIMARY (letters), SECONDARY (and accents), TERTIARY (and case), QUATERNARY (and
-              punctuation, where it is SHIFTED) or IDENTICAL (and the texts themselves in NFD)
-    variable  how punctuation counts: NON_IGNORABLE (as letters, before all others), BLANKED (not at all) or SHIFTED (at the fourth
-              level alone)
+              punctuation, if it is SHIFTED) or IDENTICAL (and the texts themselves in NFD)
+    variable  how punctuation is weighted: NON_IGNORABLE (like letters, and before them), BLANKED (ignored) or SHIFTED (at the fourth
+              level only)
 
-    Raises TableError and RulesError, which say where the fault is; ValueError for a strength or option that does not exist; TypeError
-    for what is no text.
+    Raises TableError or RulesError, which say where the fault is; ValueError for a strength or option that does not exist; TypeError
+    for an argument that is neither str nor bytes.
 
-    Several threads may use one collator. A call keeps the interpreter's lock until it returns, so that one call at a time runs and more
+    Several threads may use one collator. A call holds the interpreter's lock until it returns, so one call runs at a time, and more
     threads make no more keys in a second.
     """
 
@@ -135,8 +136,8 @@ class Collator(_uca.Collator):
         strength: int = TERTIARY,
         variable: int = NON_IGNORABLE,
     ) -> Collator:
-        """A collator of the files of a table and of rules. Raises OSError where a file cannot be read, and otherwise what the class
-        raises, with the file in `filename` and in the message."""
+        """A collator of a file with a table and one with rules. Raises OSError if a file cannot be read, and otherwise what the class
+        raises, with the name of the file in `filename` and in the message."""
         with open(table, "rb") as file:
             table_text = file.read()
         rules_text = b""
@@ -151,31 +152,31 @@ class Collator(_uca.Collator):
             raise
 
     def clone(self, *, strength: int | None = None, variable: int | None = None) -> Collator:
-        """Another collator over the same table, in little time and memory, with these settings or the same ones."""
+        """Another collator over the same table, with the given settings or, by default, the same ones. It is cheap: the table is shared."""
         return self._share(
             _number("strength", self.strength if strength is None else strength, 1, 5),
             _number("variable", self.variable if variable is None else variable, 0, 2),
         )
 
     def sorted(self, items: Iterable[_Item], *, key: Callable[[_Item], str | bytes] | None = None, reverse: bool = False) -> list[_Item]:
-        """A new list of texts in order, in the time of `sorted` with packed_key. With `key`, a list of other things by the text that it
-        gives of each. Things that come with one another keep their order. Raises TextError, whose `text` is the number of the text at
-        fault, counted from 1."""
+        """A new sorted list of texts, as fast as the built-in `sorted` with packed_key. With `key`, the items can be anything: they are
+        sorted by the text that `key` returns for each. Items with equal texts keep their order. Raises TextError, whose `text` is the
+        number of the text at fault, counted from 1."""
         listed: list[Any] = list(items)
         keys = iter(self.packed_keys(listed if key is None else map(key, listed)))
-        # `sorted` asks for the key of each item once, from the first to the last: each gets the next key. A call of Python's own costs more.
+        # `sorted` calls `key` once for each item, from the first to the last, so each gets the next key. A Python function would cost more.
         return sorted(listed, key=partial(next, keys), reverse=reverse)
 
     def sort(self, items: list[_Item], *, key: Callable[[_Item], str | bytes] | None = None, reverse: bool = False) -> None:
-        """Sorts a list in place, as `sorted` would. At an error the list is as it was."""
+        """Sorts a list in place, as `sorted` would. On an error the list is unchanged."""
         items[:] = self.sorted(items, key=key, reverse=reverse)
 
     def matches(self, text: str | bytes) -> list[Match]:
-        """The matches of a text one after the other, with their collation elements. The settings do not matter. Raises TextError."""
+        """The matches of a text, with their collation elements. They do not depend on the settings. Raises TextError."""
         return [Match(points, is_key, tuple(map(Element._make, elements))) for points, is_key, elements in self._matches(text)]
 
     def explain(self, a: str | bytes, b: str | bytes) -> Comparison:
-        """What `compare` says, and the level that decides it. Raises TextError, whose `text` is 1 or 2."""
+        """What `compare` returns, and the level that decides it. Raises TextError, whose `text` is 1 or 2."""
         return Comparison._make(self._explain(a, b))
 
     def __enter__(self) -> Collator:

@@ -1,11 +1,11 @@
-"""What a call is refused with: where the fault is, and its cause in a sentence."""
+"""The exceptions for refused calls: where the fault is, and its cause in a sentence."""
 
 from __future__ import annotations
 
 import re
 
 NOT_UTF8, LONG_RUN, NOT_OPEN, BAD_SETTINGS, _NO_MEMORY, BAD_TABLE, BAD_RULES, BAD_TAILORING = range(1, 9)
-INCOMPLETE = 9  # No call returns it any more.
+INCOMPLETE = 9  # No longer returned.
 
 _STATUSES = {
     NOT_UTF8: "this is not UTF-8",
@@ -42,12 +42,12 @@ _KINDS = {
     46: "the item would have more than 64 collation elements",
 }
 
-# An operator of a relation, or what an operator may be in without being one.
+# The operator of a relation, or something that can contain the sign of an operator: a quoted string, an escape, a comment.
 _OPERATOR = re.compile(r"'[^']*'|\\.|#[^\n\f\r\x85\u2028\u2029]*|(<{1,3}|=)", re.DOTALL)
 
 _CODE_POINT = rb"(?!0{0,2}D[89A-F])(?:10|0?[0-9A-F])?[0-9A-F]{4}"
 _ELEMENT = rb"\[[.*](?:[0-9A-F]{4}\.){2}[0-9A-F]{4}(?:\.[0-9A-F]{4,6})?\]"
-# The front of an entry of a table, as far as it is in its form.
+# The front of an entry of a table, as far as it is well-formed.
 _ENTRY = re.compile(
     rb"[ \t]*(?:%b(?:[ \t]+|(?=;)|$)){0,32}(?:(?<=[0-9A-F \t]);[ \t]*(?:%b[ \t]*){0,64})?" % (_CODE_POINT, _ELEMENT), re.IGNORECASE
 )
@@ -58,14 +58,14 @@ class Error(ValueError):
     """A call was refused, and changed nothing.
 
     status     the uca_status of uca.h: NOT_UTF8, LONG_RUN, NOT_OPEN, BAD_SETTINGS, BAD_TABLE, BAD_RULES or BAD_TAILORING
-    kind       the uca_kind of uca.h, why a table or rules are refused; else 0
+    kind       the uca_kind of uca.h: why a table or rules were refused; else 0
     text       which text of the call is at fault, from 1; 0 for a table and rules
-    at         as in uca.h: a byte of the text in UTF-8 or of the rules, from 0; a line or a relation, from 1
-    line       the line, from 1, or None where the fault has no place
-    column     the character of that line, from 1, or None
-    character  the character there, "" at the end of the line; a byte that is not UTF-8 as "\\\\xff"
+    at         as in uca.h: a byte of the text in UTF-8 or of the rules, from 0; or a line or a relation, from 1
+    line       the line, from 1, or None if the fault has no place
+    column     the character in that line, from 1, or None
+    character  the character there, or "" at the end of the line; a byte that is not UTF-8 is written as "\\\\xff"
     cause      why, in a sentence
-    filename   the file at fault, where Collator.from_files read it
+    filename   the file at fault, if Collator.from_files read it
     """
 
     __module__ = "uca"
@@ -87,13 +87,13 @@ class TextError(Error):
 
 
 class TableError(Error):
-    """A table is refused."""
+    """A table was refused."""
 
     __module__ = "uca"
 
 
 class RulesError(Error):
-    """Rules are refused, or cannot tailor the table."""
+    """Rules were refused, or cannot tailor the table."""
 
     __module__ = "uca"
 
@@ -112,7 +112,7 @@ def _encoded(text: str | bytes) -> bytes:
 
 
 def _decoded(text: bytes) -> str:
-    """As many characters as there are, a byte that is not UTF-8 being one."""
+    """The text with its number of characters, where a byte that is not UTF-8 counts as one."""
     try:
         return text.decode("utf-8", "surrogatepass")
     except UnicodeDecodeError:
@@ -120,7 +120,7 @@ def _decoded(text: bytes) -> str:
 
 
 def _character(text: bytes, at: int, whole: bool) -> str:
-    """The character that begins at a byte. `whole` says that the text was a str, which may have lone surrogates."""
+    """The character that begins at a byte. `whole` is true if the text was a str, which may have lone surrogates."""
     front = text[at : at + 4]
     for size in range(1, len(front) + 1):
         try:
@@ -131,7 +131,7 @@ def _character(text: bytes, at: int, whole: bool) -> str:
 
 
 def _byte_of_line(table: bytes, line: int, kind: int) -> tuple[int, int]:
-    """Where a line of a table begins, and the byte of it that is at fault."""
+    """Where a line of a table begins, and which byte of the line is at fault."""
     begin = 0
     for _ in range(line - 1):
         begin = table.find(b"\n", begin) + 1
@@ -171,7 +171,7 @@ def _place(status: int, kind: int, at: int, source: str | bytes) -> tuple[int, i
 
 
 def _shown(character: str) -> str:
-    """A character for a message: by itself, unless it cannot be seen or joins what comes before it."""
+    """A character for a message: itself, unless it is invisible or joins what comes before it."""
     if len(character) != 1:
         return character or "the end of the line"
     number = "U+%04X" % ord(character)
@@ -180,7 +180,7 @@ def _shown(character: str) -> str:
 
 
 def error_of(status: int, kind: int, text: int, at: int, source: str | bytes | None) -> Error:
-    """The exception of a status and a fault, for the extension."""
+    """The exception for a status and a fault. The extension calls it."""
     cause = _KINDS.get(kind) or _STATUSES.get(status, "status %d, kind %d" % (status, kind))
     if isinstance(source, str) and (status == NOT_UTF8 or kind == 27):
         cause = "a lone surrogate is no character"

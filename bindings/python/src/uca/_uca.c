@@ -1,9 +1,9 @@
 /*
- * The calls of libuca for Python, by its stable ABI. The library is loaded when the package is imported, by `load`, so that the
- * environment can name it.
+ * The calls of libuca for Python, by its stable ABI. `load` loads the library when the package is imported, so that the environment can
+ * name it.
  *
- * Any number of calls may read a collator of the library at once, and `close` and `__init__` alone change one. Every call here keeps the
- * interpreter's lock from its beginning to its end, and none runs Python code while it is in the library, so these two run alone.
+ * Any number of calls may read a collator of the library at once; only `close` and `__init__` change one. Every call here holds the
+ * interpreter's lock from beginning to end, and none runs Python code while it is in the library, so no other call runs beside these two.
  */
 #define PY_SSIZE_T_CLEAN
 #include <Python.h>
@@ -26,7 +26,7 @@ static struct {
     EACH_CALL(member)
 } library;
 
-/* Makes the exception of a fault: a callable that `load` is given. */
+/* The callable, given to `load`, that makes the exception for a fault. */
 static PyObject *error_of;
 
 typedef struct {
@@ -35,7 +35,7 @@ typedef struct {
     uca_settings settings;
 } Collator;
 
-/* A text as bytes, which are held while it is used. */
+/* A text as bytes, which `held` keeps alive. */
 typedef struct {
     PyObject *held;
     const uint8_t *bytes;
@@ -44,7 +44,7 @@ typedef struct {
 
 typedef __typeof__(uca_sort_key) *MakeKey;
 
-/* Sets the exception of a status. `source` is the text, table or rules at fault. */
+/* Raises the exception for a status. `source` is the text, table or rules at fault. */
 static void refuse(uint32_t status, const uca_fault *fault, size_t number, PyObject *source) {
     if (status == UCA_NO_MEMORY) {
         PyErr_NoMemory();
@@ -167,7 +167,7 @@ static PyObject *collator_compare(Collator *self, PyObject *words) {
     return PyLong_FromLong(order);
 }
 
-/* The order of two texts and the level that decides it, as a pair. */
+/* The order of two texts and the level that decides it, in a pair. */
 static PyObject *collator_explain(Collator *self, PyObject *words) {
     PyObject *a, *b;
     Text a_text, b_text;
@@ -191,7 +191,7 @@ static PyObject *collator_explain(Collator *self, PyObject *words) {
     return Py_BuildValue("iI", (int)order, (unsigned)level);
 }
 
-/* Room for the matches of a text. */
+/* Arrays for the matches of a text, and their capacities. */
 typedef struct {
     uca_match *matches;
     uint32_t *points;
@@ -220,7 +220,7 @@ static bool has_room(const Matches *found, const uca_matches_needed *size) {
 
 /* A match: its text, whether it is a key, and its elements, each as three weights and whether it is variable. */
 static PyObject *match_of(const uca_match *match, const uint32_t *points, const uca_element *elements) {
-    /* Code points as numbers of four bytes in the order of this machine's are UTF-32. */
+    /* Code points as 32-bit numbers in the byte order of this machine are UTF-32. */
     const uint16_t one = 1;
     int order = *(const uint8_t *)&one ? -1 : 1;
     PyObject *text = PyUnicode_DecodeUTF32((const char *)points, 4 * (Py_ssize_t)match->points, NULL, &order);
@@ -251,7 +251,7 @@ static PyObject *list_of(const Matches *found, const uca_matches_needed *size) {
     return list;
 }
 
-/* The matches of a text. A first call, without room, says how many they are. */
+/* The matches of a text. The first call, with no capacity, finds out how many there are. */
 static PyObject *collator_matches(Collator *self, PyObject *from) {
     Text text;
     if (!take(from, "a text has", 0, &text))
@@ -276,7 +276,7 @@ static PyObject *collator_matches(Collator *self, PyObject *from) {
     return list;
 }
 
-/* The key of a text, which is text `number` of a list where that is not 0. */
+/* The key of a text. `number` is its number in a list, or 0 if it is not in one. */
 static PyObject *key_of(Collator *self, MakeKey make, PyObject *from, size_t number) {
     uint8_t near[16384];
     Text text;
@@ -303,7 +303,7 @@ static PyObject *collator_key(Collator *self, PyObject *text) { return key_of(se
 
 static PyObject *collator_packed_key(Collator *self, PyObject *text) { return key_of(self, library.uca_packed_key, text, 0); }
 
-/* The keys of texts, in a list of its own in which each text gives way to its key. */
+/* The keys of texts: a new list of the texts, in which each text is replaced by its key. */
 static PyObject *keys_of(Collator *self, MakeKey make, PyObject *texts) {
     if (PyUnicode_Check(texts) || PyBytes_Check(texts)) {
         PyErr_SetString(PyExc_TypeError, "a list of texts is wanted, and not one text");
@@ -374,35 +374,35 @@ static PyMethodDef collator_methods[] = {
     {"_matches", (PyCFunction)collator_matches, METH_O, NULL},
     {"_share", (PyCFunction)collator_share, METH_VARARGS, NULL},
     {"close", (PyCFunction)collator_close, METH_NOARGS,
-     "close($self, /)\n--\n\nGives up the table, which is freed with the last clone that has it. Every call but close and clone is then refused."},
+     "close($self, /)\n--\n\nReleases the table, which is freed with the last clone that shares it. All calls but close are refused from then on."},
     {"compare", (PyCFunction)collator_compare, METH_VARARGS,
-     "compare($self, a, b, /)\n--\n\n-1, 0 or 1 where `a` comes before, with or after `b`.\n\nRaises TextError, whose `text` is 1 or 2."},
+     "compare($self, a, b, /)\n--\n\n-1, 0 or 1 if `a` comes before, is equal to or comes after `b`.\n\nRaises TextError, whose `text` is 1 or 2."},
     {"key", (PyCFunction)collator_key, METH_O,
-     "key($self, text, /)\n--\n\nThe sort key of a text: bytes that compare as the texts do. At three levels it has some six bytes "
-     "for a letter.\n\nRaises TextError."},
+     "key($self, text, /)\n--\n\nThe sort key of a text: bytes that compare as the texts do. At three levels it has about six bytes "
+     "per letter.\n\nRaises TextError."},
     {"packed_key", (PyCFunction)collator_packed_key, METH_O,
-     "packed_key($self, text, /)\n--\n\nThe packed sort key of a text: bytes in the same order, less than half as many for most texts. A "
+     "packed_key($self, text, /)\n--\n\nThe packed sort key of a text: bytes in the same order, but for most texts less than half as many. A "
      "packed key cannot be\ncompared with a sort key.\n\nRaises TextError."},
     {"sort_key", (PyCFunction)collator_key, METH_O, "sort_key($self, text, /)\n--\n\nThe same as key."},
     {"sort_keys", (PyCFunction)collator_sort_keys, METH_O,
-     "sort_keys($self, texts, /)\n--\n\nThe sort keys of texts, as a list in their order. Other threads wait until all are made.\n\nRaises "
+     "sort_keys($self, texts, /)\n--\n\nThe sort keys of texts, in a list in the same order. Other threads wait until all are made.\n\nRaises "
      "TextError, whose `text` is the number of the text at fault, counted from 1."},
     {"packed_keys", (PyCFunction)collator_packed_keys, METH_O,
-     "packed_keys($self, texts, /)\n--\n\nThe packed keys of texts, as sort_keys makes the sort keys."},
+     "packed_keys($self, texts, /)\n--\n\nThe packed keys of texts, in a list, as from sort_keys."},
     {"prefix_bounds", (PyCFunction)collator_prefix_bounds, METH_O,
-     "prefix_bounds($self, text, /)\n--\n\nThe ends of the range that the keys, packed or not, of all texts are in whose primary weights "
-     "begin with\nthose of `text`: just these keys are not before the first end, and before the second. The second is None where there is "
-     "no\nsuch end.\n\nA text that begins with `text` can be outside: where the next character joins the last ones, as in `cho` after `c` where "
+     "prefix_bounds($self, text, /)\n--\n\nThe ends of the range that holds the keys, packed or not, of all texts whose primary weights "
+     "begin with\nthose of `text`: exactly these keys are at or after the first end and before the second. The second is None if there is "
+     "no\nupper end.\n\nA text that begins with `text` can be outside, if its next character joins the last ones, as in `cho` after `c` if "
      "`ch`\nis a letter.\n\nRaises TextError."},
     {"fingerprint", (PyCFunction)collator_fingerprint, METH_NOARGS,
-     "fingerprint($self, /)\n--\n\nThe 32 bytes of the SHA-256 digest of all that keys depend on. Store it with keys, and make them again where "
+     "fingerprint($self, /)\n--\n\nThe 32 bytes of the SHA-256 digest of everything that keys depend on. Store it with keys, and rebuild them if "
      "it differs.\nIt takes about as long as reading the table did."},
     {NULL, NULL, 0, NULL},
 };
 
 static PyGetSetDef collator_fields[] = {
     {"strength", (getter)collator_strength, NULL, "PRIMARY to IDENTICAL: how many levels are compared.", NULL},
-    {"variable", (getter)collator_variable, NULL, "NON_IGNORABLE, BLANKED or SHIFTED: how punctuation counts.", NULL},
+    {"variable", (getter)collator_variable, NULL, "NON_IGNORABLE, BLANKED or SHIFTED: how punctuation is weighted.", NULL},
     {NULL, NULL, NULL, NULL, NULL},
 };
 
@@ -443,7 +443,7 @@ static bool find(void *handle, const char *name, void *call) {
     return found;
 }
 
-/* Loads a library that stays loaded, and takes the callable that makes exceptions. */
+/* Loads the library, which stays loaded, and keeps the callable that makes exceptions. */
 static PyObject *load(PyObject *Py_UNUSED(module), PyObject *words) {
     PyObject *path, *maker;
     if (!PyArg_ParseTuple(words, "O&O:load", PyUnicode_FSConverter, &path, &maker))
@@ -467,9 +467,9 @@ static PyMethodDef module_methods[] = {
     {"load", load, METH_VARARGS, NULL},
     {"version", version, METH_NOARGS, "version()\n--\n\nThe version of the library, as three numbers."},
     {"unicode_version", unicode_version, METH_NOARGS,
-     "unicode_version()\n--\n\nThe version of Unicode by which texts are decomposed, as three numbers."},
+     "unicode_version()\n--\n\nThe version of Unicode that decides how texts are decomposed, as three numbers."},
     {"check", check, METH_O,
-     "check(text, /)\n--\n\nRaises TextError where a text cannot be collated: where it is not UTF-8, or has more than 60 nonstarters in a row."},
+     "check(text, /)\n--\n\nRaises TextError if a text cannot be collated: if it is not UTF-8, or has more than 60 nonstarters in a row."},
     {NULL, NULL, 0, NULL},
 };
 
