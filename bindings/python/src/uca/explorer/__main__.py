@@ -15,9 +15,9 @@ from ._server import Explorer, Server
 
 def main() -> int:
     parser = argparse.ArgumentParser(prog="python -m uca.explorer", description=(about or "").split("\n\n", 1)[1])
-    parser.add_argument("--table", metavar="FILE", help="the table, in the format of allkeys.txt; else UCA_TABLE or an installed one")
-    parser.add_argument("--rules", metavar="FOLDER", help="a folder of files *.rules; else the installed one")
-    parser.add_argument("--port", type=int, default=0, help="a port of the loopback address; else one that is free")
+    parser.add_argument("--table", metavar="FILE", help="the table, in the format of allkeys.txt; by default that of UCA_TABLE, or an installed one")
+    parser.add_argument("--rules", metavar="FOLDER", help="a folder with *.rules files; by default the installed one")
+    parser.add_argument("--port", type=int, default=0, help="a port of the loopback address; by default a free one")
     parser.add_argument("--no-browser", action="store_true", help="only print the address")
     words = parser.parse_args()
     try:

@@ -45,7 +45,7 @@ class Files:
 
 
 def _tables() -> list[str]:
-    """Where a table may be: as `ucasort` looks for one."""
+    """Where a table may be, in the order in which `ucasort` looks for one."""
     named = os.environ.get("UCA_TABLE")
     if named:
         return [named]

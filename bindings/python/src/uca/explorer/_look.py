@@ -1,4 +1,4 @@
-"""What the page shows of words and of their keys. All of it comes from calls of a collator."""
+"""What the page shows about words and their keys. All of it comes from calls of a collator."""
 
 from __future__ import annotations
 
@@ -10,12 +10,12 @@ import uca
 
 from ._rules import lines_of_items
 
-# What is drawn of one word, in characters.
+# The longest word that is drawn, in characters.
 LONGEST_WORD = 200
 
 
 class Look:
-    """A table under rules, as it is looked at with some settings."""
+    """A table with rules and settings, and what they show."""
 
     def __init__(self, collator: uca.Collator, rules: str) -> None:
         self.collator = collator
@@ -23,12 +23,12 @@ class Look:
         self.rule_lines = lines_of_items(rules, self.decomposed)
 
     def decomposed(self, text: str) -> str:
-        """A text in NFD, by the version of Unicode of the library: it is the fifth level of the key."""
+        """A text in NFD, by the library's version of Unicode: it is the fifth level of the key."""
         points = _pieces(self.identical.key(text), uca.IDENTICAL)[4]
         return "".join(chr(int.from_bytes(points[at : at + 3], "big")) for at in range(0, len(points), 3))
 
     def order(self, words: Sequence[str]) -> list[tuple[int, int | None]]:
-        """Words in their order, by their numbers, each with the level at which it differs from the one before: 0 where it does not."""
+        """Words in their order, by their numbers, each with the level at which it differs from the one before, or 0 if it does not."""
         rows: list[tuple[int, int | None]] = []
         before = None
         for at in self.collator.sorted(range(len(words)), key=words.__getitem__):
@@ -82,7 +82,7 @@ class Look:
         return {**_point(c), "parts": [_point(part) for part in points] if points != c else []}
 
     def _levels(self, key: bytes, found: Sequence[uca.Match]) -> list[dict[str, Any]]:
-        """The weights of each level, and of which match each is, where that is known."""
+        """The weights of each level, and the match that each comes from, if that is known."""
         levels = []
         for level, piece in enumerate(_pieces(key, self.collator.strength), 1):
             size = 3 if level == 5 else 2
@@ -111,7 +111,7 @@ def _pieces(key: bytes, strength: int) -> list[bytes]:
 
 
 def _packed_pieces(key: bytes, strength: int) -> list[bytes]:
-    """The levels of a packed key. What ends the first level, 0000, is left out; what ends a later one is part of it."""
+    """The levels of a packed key. The end of the first level, 0000, is left out; the end of a later one is part of it."""
     if strength == uca.PRIMARY:
         return [key]
     first = _pieces(key, uca.SECONDARY)[0]
@@ -126,7 +126,7 @@ def _packed_pieces(key: bytes, strength: int) -> list[bytes]:
 
 
 def _places(points: str, found: Sequence[uca.Match]) -> list[list[int]]:
-    """Where the code points of each match are in the text. A match takes the first of several that are the same."""
+    """The places in the text of the code points of each match. Of several equal ones, a match takes the first."""
     left: dict[str, list[int]] = {}
     for at in range(len(points) - 1, -1, -1):
         left.setdefault(points[at], []).append(at)
@@ -134,7 +134,7 @@ def _places(points: str, found: Sequence[uca.Match]) -> list[list[int]]:
 
 
 def _owners(level: int, variable: int, found: Sequence[uca.Match]) -> list[tuple[str, str]]:
-    """For each weight of a level the match that it is of, by UTS #10, section 4. The caller compares the weights with those of the key."""
+    """The match that each weight of a level comes from, by UTS #10, section 4. The caller compares the weights with those of the key."""
     owners, after = [], False
     if level == 5:
         return [(c, "%06X" % ord(c)) for match in found for c in match.text]

@@ -1,4 +1,4 @@
-"""Where rules name an item: for the page, which says of a match which rule gave it its elements."""
+"""Where rules name an item: the page shows which rule gave a match its elements."""
 
 from __future__ import annotations
 
@@ -39,7 +39,7 @@ def _items(rules: str) -> Iterator[tuple[str, int]]:
 
 
 def lines_of_items(rules: str, decomposed: Callable[[str], str]) -> dict[str, int]:
-    """The line of the last relation of each item, by its text in NFD. The rules have been read without a fault."""
+    """For each item, by its text in NFD, the line of its last relation. The rules must be free of faults."""
     lines, line, before = {}, 1, 0
     for text, at in _items(rules):
         line += rules.count("\n", before, at)

@@ -1,4 +1,4 @@
-"""Serves the page: on the loopback address, to requests of the page itself, and with bounds on all that comes in."""
+"""Serves the page: on the loopback address, to the page's own requests only, and with limits on everything that comes in."""
 
 from __future__ import annotations
 
@@ -20,7 +20,7 @@ ADDRESS = "127.0.0.1"
 MOST_BYTES = 1 << 20
 MOST_BYTES_OF_TABLE = 1 << 26
 MOST_WORDS = 20000
-# How many tables of the reader's and how many looks are kept. A look with a table of its own takes some 12 MB.
+# How many of the reader's tables and how many looks are kept. A look with a table of its own takes about 12 MB.
 MOST_TABLES = 2
 MOST_LOOKS = 6
 
@@ -37,7 +37,7 @@ _HEADERS = {
 
 
 class Refused(Exception):
-    """A request that is none of the page's, or is out of bounds."""
+    """A request that does not come from the page, or is over a limit."""
 
     def __init__(self, status: int, why: str) -> None:
         super().__init__(why)
@@ -52,7 +52,7 @@ def _wanted(question: Any, name: str, type_of: type, default: Any) -> Any:
 
 
 class Explorer:
-    """Answers what the page asks. One question at a time is worked on."""
+    """Answers the page's questions, one at a time."""
 
     def __init__(self, files: Files) -> None:
         self.files = files
@@ -84,7 +84,7 @@ class Explorer:
         return {"name": name}
 
     def look(self, question: Any) -> dict[str, Any]:
-        """Words in their order, and what the chosen one is made of."""
+        """Words in their order, and what the chosen word is made of."""
         if type(question) is not dict:
             raise Refused(400, "question")
         rules = _wanted(question, "rules", str, "")
@@ -127,7 +127,7 @@ class Explorer:
         return look
 
     def _collator(self, name: str, rules: str, strength: int, variable: int) -> uca.Collator:
-        """A collator, which shares its table with a look that has it."""
+        """A collator, which shares its table with an earlier look if one has the same table and rules."""
         for (a, b, _, _), look in self.looks.items():
             if (a, b) == (name, rules):
                 return look.collator.clone(strength=strength, variable=variable)
@@ -176,7 +176,7 @@ class _Handler(BaseHTTPRequestHandler):
         self.wfile.write(body)
 
     def _checked_path(self) -> str:
-        """The path below the token. Whatever does not come from the page, or from who has its address, is refused."""
+        """The path below the token. Refuses a request that comes neither from the page nor from someone who has its address."""
         own = "%s:%d" % (ADDRESS, self.server.server_port)
         if self.headers.get("Host") != own or self.headers.get("Origin", "http://" + own) != "http://" + own:
             raise Refused(403, "host")

@@ -6,12 +6,12 @@ const FIRST_WORDS = "cote côte coté côté lomo llama luz Llano co-op coop CO-
 const at = (id) => document.getElementById(id);
 const field = Object.fromEntries(["table", "language", "strength", "variable", "rules", "words", "other"].map((id) => [id, at(id)]));
 const state = {
-  languages: [], limits: {}, table: "", opened: null, fault: null, // the name of a table, rules that were opened, and where the rules are at fault
+  languages: [], limits: {}, table: "", opened: null, fault: null, // the name of the table, the opened rules, and where the rules are at fault
   words: [], order: [], place: -1, chosen: null, drawn: "", // the list, the chosen row and its word, and which rows are drawn
-  asked: 0, askedWord: 0, busy: 0, waiting: 0, // questions that were asked, those without an answer yet, and the timer of the next one
+  asked: 0, askedWord: 0, busy: 0, waiting: 0, // questions asked, questions without an answer yet, and the timer of the next one
 };
 
-/* An element with classes, attributes and children. Text only ever becomes text. */
+/* An element with classes, attributes and children. Text is never parsed as markup. */
 function make(name, { cls, text, kids, ...attributes } = {}) {
   const made = document.createElement(name);
   if (cls) made.className = cls;
@@ -21,7 +21,7 @@ function make(name, { cls, text, kids, ...attributes } = {}) {
   return made;
 }
 
-/* A character as it can be seen: a mark on a dotted circle, and what has no glyph by its number. */
+/* A character made visible: a mark on a dotted circle, and an open box for a blank or a control. */
 function glyph(point) {
   if (point.kind === "M") return "\u25cc" + point.text;
   if (point.kind === "Z" || point.kind === "C") return "\u2423";
@@ -35,7 +35,7 @@ const RIGHT_TO_LEFT = /^[^\p{L}]*[\p{sc=Hebr}\p{sc=Arab}\p{sc=Syrc}\p{sc=Thaa}\p
 const isRightToLeft = (text) => RIGHT_TO_LEFT.test(text);
 const levelName = (level) => (level ? `level ${level}: ${LEVELS[level]}` : LEVELS[0]);
 
-/* ---- asking */
+/* ---- questions */
 
 async function post(path, body, kind) {
   state.busy++;
@@ -60,7 +60,7 @@ function question() {
   return asked;
 }
 
-/* Asks for what the fields say now. An answer to an earlier question is dropped. */
+/* Asks what the fields now say. The answer to an earlier question is dropped. */
 async function ask() {
   const number = ++state.asked;
   const numberOfWord = ++state.askedWord;
@@ -86,7 +86,7 @@ function askSoon() {
 
 /* ---- faults */
 
-/* The place in a text of a line and a column, which are counted from 1 and in code points. */
+/* The place in a text of a line and a column. Both are counted from 1, columns in code points. */
 function placeOf(text, line, column) {
   let place = 0;
   for (let n = 1; n < line; n++) place = text.indexOf("\n", place) + 1;
@@ -115,7 +115,7 @@ function showRulesFault(fault) {
   at("rules-fault").textContent = `Line ${fault.line}, column ${fault.column}${isSeen ? `, ${character}` : ""}: ${fault.cause}.`;
 }
 
-/* Puts the caret at the fault, where the browser scrolls to it. */
+/* Puts the caret at the fault, and scrolls there. */
 function goToFault() {
   field.rules.focus();
   field.rules.setSelectionRange(state.fault, state.fault);
@@ -129,7 +129,7 @@ function showWordsFault(what) {
 
 /* ---- the list */
 
-/* A list of more rows than this is drawn as far as it can be seen, with so many rows more at both ends: to lay out thousands takes long. */
+/* Of a list with more rows than ALL_ROWS only the visible ones are drawn, and MORE_ROWS at each end: laying out thousands is slow. */
 const ALL_ROWS = 200;
 const MORE_ROWS = 20;
 
@@ -138,7 +138,7 @@ function show(asked, answer, isOfChosen) {
   showWordsFault(answer.words ? `word ${answer.words.line}, character ${answer.words.column}: ${answer.words.cause}` : "");
   document.body.classList.toggle("is-stale", !answer.order);
   if (!answer.order) {
-    at("count").textContent = "This is how it was before the fault.";
+    at("count").textContent = "This is the order before the fault.";
     return;
   }
   state.words = asked.words;
@@ -166,7 +166,7 @@ function rowOf(place) {
   return row;
 }
 
-/* Draws the rows that can be seen, and the chosen one. `isNew` says that the rows are others than before. */
+/* Draws the visible rows, and the chosen one. `isNew` is true if the rows have changed. */
 function drawRows(isNew) {
   const list = at("order");
   const count = state.order.length;
@@ -188,7 +188,7 @@ function drawRows(isNew) {
   else list.removeAttribute("aria-activedescendant");
 }
 
-/* Chooses a row of the list, and asks for what its word is made of. The word beside it is the next one. */
+/* Chooses a row of the list, and asks what its word is made of. The other word is the next one in the list. */
 function choose(place) {
   state.place = place < state.order.length ? place : -1;
   state.chosen = state.place < 0 ? null : wordAt(place);
@@ -199,7 +199,7 @@ function choose(place) {
   askWord();
 }
 
-/* The order is known: only the word is asked for. */
+/* The order is known, so this asks only about the word. */
 async function askWord() {
   const number = ++state.askedWord;
   const answer = await post("look", JSON.stringify({ ...question(), words: [] }), "application/json").catch(() => null);
@@ -247,7 +247,7 @@ function characterRow(c) {
 
 const SVG = "http://www.w3.org/2000/svg";
 
-/* The lines from the places of code points in the text to their places in the matches. `far` is one that another code point is passed for. */
+/* The lines from the places of code points in the text to their places in the matches. A `far` one passes over other code points. */
 function lines(word, isMirrored) {
   const svg = document.createElementNS(SVG, "svg");
   const count = word.decomposed.length;
@@ -276,7 +276,7 @@ function elementOf(text) {
   return make("span", { cls: "element point", kids });
 }
 
-/* What a match is, in a few words. */
+/* The kind of a match, in a few words. */
 function kindOf(match) {
   if (!match.is_key) return "implicit";
   const isFar = match.places.some((place, n) => n && place !== match.places[n - 1] + 1);
@@ -357,10 +357,10 @@ function showPair(pair) {
 
 /* ---- rules, tables and files */
 
-/* What a field of text makes of a text: all ends of lines are LF. */
+/* A text as a text field shows it: all line ends are LF. */
 const asShown = (text) => text.replace(/\r\n?/g, "\n");
 
-/* The rules as they were opened, as long as nobody has changed them: then they are the same bytes. */
+/* The rules exactly as they were opened, byte for byte, unless they were changed in the field. */
 function currentRules() {
   const text = field.rules.value;
   return state.opened !== null && asShown(state.opened.rules) === text ? state.opened.rules : text;
@@ -393,7 +393,7 @@ async function openRulesFile(event) {
     openRules(new TextDecoder("utf-8", { fatal: true, ignoreBOM: true }).decode(await file.arrayBuffer()), file.name);
     field.language.value = "";
   } catch {
-    at("rules-fault").textContent = "This file is not UTF-8, or has more than a mebibyte.";
+    at("rules-fault").textContent = "This file is not UTF-8, or is larger than 1 MiB.";
   }
 }
 
