@@ -1,7 +1,7 @@
 #!/usr/bin/env perl
 # Runs two builds of the program on random tables, rules and texts, and reports each call whose output, messages or status
-# differ: beside.pl OLD NEW COUNT [SEED]. The tables have keys with marks in front and inside, prefixes that are no keys, the
-# same mark twice, weights of zero in all patterns and variable elements.
+# differ: beside.pl OLD NEW COUNT [SEED]. The tables have keys with marks at the front and inside, prefixes that are not keys, the
+# same mark twice, zero weights in all patterns, and variable elements.
 use strict;
 use warnings;
 use File::Temp qw(tempdir);
@@ -20,7 +20,7 @@ sub point { return rand() < 0.6 ? among(@starters) : rand() < 0.7 ? among(@marks
 sub points { my ($most) = @_; return map { point() } 0 .. int rand $most }
 sub text_of { my $text = join '', map { chr } @_; utf8::encode($text); return $text }
 
-# one weight: often zero, sometimes at an end of its range
+# a weight: often zero, sometimes at an end of its range
 sub weight { my ($base, $range) = @_; return rand() < 0.25 ? 0 : rand() < 0.02 ? among(1, 0xFFFF, 0x7FFF, 0x8000) : $base + int rand $range }
 sub element {
     return sprintf '[%s%04X.%04X.%04X]', rand() < 0.15 ? '*' : '.', weight(0x1000, 12), weight(0x20, 4), weight(2, 4);

@@ -1,9 +1,9 @@
 #!/usr/bin/env bash
-# `uca key`, `uca compare` of sorted neighbours and `uca order` beside ICU over one script at a time, in the same run: ratios of the
-# processor's time for a line, without the load, at strength tertiary with non-ignorable variable elements, and those of keys and
-# comparisons at strength quaternary with shifted ones. Then the same for texts that are as bad as they can be, in microseconds a
-# line, and how time and memory grow with the input. Prints tables; it is no test. corpora.sh [BYTES [OLD]]: with the path of another
-# build, its worst texts are measured too.
+# Measures `uca key`, `uca compare` of sorted neighbours and `uca order` beside ICU, one script at a time, in the same run: ratios of
+# processor time per line, without loading, at strength tertiary with non-ignorable variable elements, and for keys and comparisons also
+# at strength quaternary with shifted ones. Then measures the worst texts, in microseconds per line, and how time and memory grow with
+# the input. Prints tables; it is not a test. corpora.sh [BYTES [OLD]]: given the path of another build, also measures the worst texts
+# with that.
 source "$(dirname "${BASH_SOURCE[0]}")/shared.bash"
 source tests/debian.bash
 source bench/lists.bash
@@ -40,7 +40,7 @@ corpus() {
     [ -s "$work/lines" ]
 }
 
-# each INPUT COMMAND..: nanoseconds of a line, without the load
+# each INPUT COMMAND..: nanoseconds per line, without loading
 each() {
     local input=$1 load loaded lines
     shift
@@ -76,7 +76,7 @@ for name in Latin Vietnamese Greek Cyrillic Arabic Hebrew Thai Devanagari Indic 
     echo
 done
 
-# worst NAME LINES: a text that is as bad as it can be, as so many lines
+# worst NAME LINES: one of the worst texts, as this many lines
 worst() {
     perl -CS -e '
         my ($name, $lines) = @ARGV;
@@ -109,7 +109,7 @@ for name in "sixty marks" "sixty marks, two classes" contractions U+FDFA "Hangul
     echo "$row"
 done
 
-# Keys of 32 code points, and texts that begin them at each character and never end one.
+# Keys of 32 code points, and texts that begin one at each character and never complete one.
 perl -e '
     my @key = ("0061") x 31;
     print "0061;[.1000.0020.0002]\n0062;[.1001.0020.0002]\n@key 0063;[.1002.0020.0002]\n@key 0064;[.1003.0020.0002]\n"' >"$work/long-keys"
@@ -123,7 +123,7 @@ for program in "${programs[1]:-}" "${programs[0]}"; do
 done
 echo "$row"
 
-# growth BYTES: a row for so many bytes of mixed lines: time and memory of each job with the load, and the ratio to ICU's
+# growth BYTES: a row for this many bytes of mixed lines: time and memory of each job with loading, and the ratio to ICU's
 growth() {
     local job input icu icu_memory ours memory
     perl bench/corpus.pl "$work/lists" "$1" <<<"$lists" >"$work/lines" 2>/dev/null || refuses "no lines could be made"

@@ -1,4 +1,4 @@
-# Lines of one to four words from lists of words in several scripts, from a fixed seed: corpus.pl FOLDER BYTES <LISTS
+# Writes lines of one to four words from word lists in several scripts, with a fixed seed: corpus.pl FOLDER BYTES <LISTS
 # A line of LISTS is `SCRIPT SHARE PACKAGE FILE ENCODING`. The shares of the words and of the bytes go to standard error.
 use strict;
 use warnings;
@@ -7,7 +7,7 @@ use Encode ();
 my ($folder, $left) = @ARGV;
 srand 20_200_310;
 
-# kept_of FILE: some megabyte of a list's lines, in a hundred runs that stand evenly
+# kept_of FILE: about a megabyte of a list's lines, in a hundred evenly spaced runs
 sub kept_of {
     my ($file) = @_;
     my $size = -s $file;

@@ -1,5 +1,5 @@
-// Nanoseconds of a call of the C library and of ICU's over the lines of a file: library TABLE LINES STRENGTH VARIABLE
-// Each figure is that of the fastest of some rounds.
+// Nanoseconds per call of the C library and of ICU over the lines of a file: library TABLE LINES STRENGTH VARIABLE
+// Each figure is from the fastest of several rounds.
 #include "uca.h"
 #include <stdio.h>
 #include <stdlib.h>
@@ -133,7 +133,7 @@ static double same(const char *text, int (*order)(const struct line *, const str
     return best;
 }
 
-/* What a call takes beside its work: a comparison by a collator that has no table; and the checks of two empty texts. */
+/* The overhead of a call: a comparison with a collator that has no table, and the checks of two empty texts. */
 static int closed_order(const struct line *a, const struct line *b) {
     static uca_collator closed = UCA_CLOSED;
     uca_fault fault;

@@ -1,8 +1,8 @@
 #!/usr/bin/env bash
-# The C library beside ICU's C API, in one run, over lines of one to four words of Debian's lists, which it brings without installing
-# them: nanoseconds of a call, of all scripts and of Latin ones. Then SQLite's index and order by uca_key (packed keys) and by
-# uca_sort_key beside those by ICU's keys, over 1,000,000 lines of all scripts, where Debian's libsqlite3-dev is there. It needs
-# Debian's libicu-dev. It is no test.
+# Measures the C library beside ICU's C API, in one run, over lines of one to four words from Debian's word lists, which it downloads
+# without installing them: nanoseconds per call, for all scripts and for Latin. Then, if Debian's libsqlite3-dev is installed, measures
+# SQLite's index and order by uca_key (packed keys) and by uca_sort_key beside those by ICU's keys, over 1,000,000 lines of all scripts.
+# It needs Debian's libicu-dev. It is not a test.
 uca=none # the program is not measured here
 source "$(dirname "${BASH_SOURCE[0]}")/shared.bash"
 source tests/debian.bash

@@ -1,10 +1,9 @@
-# Words of Debian's lists in several scripts, which it brings without installing them. Sourced by measurements, after
-# tests/debian.bash.
+# Debian's word lists in several scripts, which it downloads without installing them. Measurements source it after tests/debian.bash.
 
-# refuses WHY: ends the script, since a program did not do its work
+# refuses WHY: ends the script because a program did not do its work
 refuses() { echo "$script: $1"; exit 1; }
 
-# The lists: the script, its share of a hundred words, package, file and encoding.
+# The lists: script, share of a hundred words, package, file and encoding.
 lists='
 Latin 5 wamerican usr/share/dict/american-english UTF-8
 Latin 5 wbritish usr/share/dict/british-english UTF-8
@@ -29,7 +28,7 @@ Japanese 3 edict usr/share/edict/edict EUC-JP
 Chinese 3 elpa-pyim-basedict usr/share/emacs/site-lisp/elpa-src/pyim-basedict-0.5.4/pyim-basedict.pyim UTF-8
 '
 
-# fetched: unpacks the lists that can be had, and reports which cannot
+# fetched: unpacks the lists that are available, and reports which are not
 fetched() {
     local package
     mkdir "$work/debs" "$work/lists"

@@ -1,5 +1,5 @@
-// The processor's seconds of the fastest of some runs of a command, and the most KiB that one of them held:
-// measured RUNS INPUT OUTPUT COMMAND.. It is small itself, since a starter's memory is counted as that of what it starts.
+// The processor seconds of the fastest of several runs of a command, and the most KiB that any of them held:
+// measured RUNS INPUT OUTPUT COMMAND.. It is small itself, because a parent's memory counts as that of its child.
 #define _GNU_SOURCE
 #include <fcntl.h>
 #include <stdio.h>

@@ -1,7 +1,7 @@
 // A collator beside uca over the lines of standard input: peer icu|LOCALE key|compare|order [shifted].
-// ICU's is its root collator with normalization, any other word names a locale of the C library. `key` writes each line's key
-// as digits, `compare` a word for each two neighbours, `order` the lines by their keys, those of equal keys as they stand.
-// With `shifted`, ICU compares four levels with shifted variable elements.
+// `icu` is ICU's root collator with normalization; any other word names a locale of the C library. `key` writes each line's key as
+// digits, `compare` a word for each pair of neighbours, and `order` the lines by their keys, those with equal keys in their given
+// order. With `shifted`, ICU compares four levels with shifted variable elements.
 #include <locale.h>
 #include <stdio.h>
 #include <stdlib.h>
@@ -50,7 +50,7 @@ static int next_line(char **at, struct line *line) {
     return 1;
 }
 
-// How many bytes the key has; it is whole only where that is at most `room`.
+// How many bytes the key has. It is complete only if that is at most `room`.
 static size_t write_key(const struct line *line, unsigned char *key, size_t room) {
 #ifdef WITH_ICU
     if (root) {

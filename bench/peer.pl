@@ -1,4 +1,4 @@
-# Perl's Unicode::Collate beside uca over the lines of standard input: peer.pl key|compare|order, as peer.c does it.
+# Perl's Unicode::Collate over the lines of standard input, for comparison with uca: peer.pl key|compare|order, as in peer.c.
 use strict;
 use warnings;
 use Unicode::Collate;

@@ -1,8 +1,8 @@
 #!/usr/bin/env bash
-# Time and memory of `uca key`, `uca compare` and `uca order` beside ICU, glibc and perl's Unicode::Collate over the same lines in
-# the same run: words of Debian's lists in several scripts, which it brings without installing them. Prints tables; it is no
-# test, but ends where a program does not give the answers that it was measured for. Times are those of the processor.
-# With the path of another build of the program as its one word, that is measured too, as `before`.
+# Measures time and memory of `uca key`, `uca compare` and `uca order` beside ICU, glibc and perl's Unicode::Collate over the same
+# lines in the same run: words from Debian's lists in several scripts, which it downloads without installing them. Prints tables. It
+# is not a test, but it stops if a program does not give the answers that it is measured for. Times are processor times.
+# Given the path of another build of the program, it measures that too, as `before`.
 source "$(dirname "${BASH_SOURCE[0]}")/shared.bash"
 before=${1:-}
 [ -z "$before" ] || before=$(cd "$from" && readlink -f "$before")
@@ -12,7 +12,7 @@ bytes=20000000
 few=400000 # the bytes that perl has, which is slow
 steps=(1000000 4000000 16000000)
 
-# The programs that are measured, ICU first, since the others are shown beside it.
+# The programs to measure. ICU is first, since the others are compared with it.
 gather_programs() {
     programs=(ICU uca glibc sort perl)
     if ! gcc -O2 -DWITH_ICU -o "$work/peer" bench/peer.c -licui18n -licuuc 2>/dev/null; then
@@ -50,7 +50,7 @@ does() {
     esac
 }
 
-# is_answered PROGRAM JOB INPUT: ends the script unless the answers are as many as they should be, and of their kind; leaves
+# is_answered PROGRAM JOB INPUT: ends the script unless there are as many answers as there should be, of the right kind; leaves
 # $greater, how many lines of an order are greater than the next by the program's own comparison
 is_answered() {
     local name="$1 $2" judge=$1
@@ -67,7 +67,7 @@ is_answered() {
     esac
 }
 
-# takes PROGRAM JOB INPUT: the figures of its fastest run of five, perl's of one; sees that it did its work; leaves $lines, $seconds and $memory
+# takes PROGRAM JOB INPUT: the figures of the fastest of five runs, for perl of one run; checks its work; leaves $lines, $seconds and $memory
 takes() {
     local runs=5
     [ "$1" = perl ] && runs=1
@@ -127,7 +127,7 @@ tells_growth() {
     done
 }
 
-# parts BYTES FILE: so many bytes of a sorted corpus, in runs of lines that stand evenly: neighbours are as near as in all of it
+# parts BYTES FILE: this many bytes of a sorted corpus, in evenly spaced runs of lines, so that neighbours are as similar as in all of it
 parts() {
     awk -v part=$(($1 * 320 / bytes)) 'int(NR / 100) % 320 < part' "$2"
 }
@@ -148,7 +148,7 @@ makes_inputs() {
         cmp -s - "$work/compare" || refuses "uca order has not the order of the keys of uca key"
 }
 
-# tells_machine: the versions, and what other work there was
+# tells_machine: the versions, and how busy the machine was otherwise
 tells_machine() {
     [ "${programs[0]}" = ICU ] && echo "ICU $(echo U_ICU_VERSION | gcc -E -include unicode/uvernum.h - | tail -n 1 | tr -d '"')"
     echo "glibc $(getconf GNU_LIBC_VERSION | cut -d' ' -f2), Unicode::Collate $(perl -MUnicode::Collate -e 'print Unicode::Collate->VERSION')"

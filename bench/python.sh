@@ -1,7 +1,7 @@
 #!/usr/bin/env bash
-# Sorting in Python by keys of the package `uca` and of PyICU, in one run, over 200,000 lines of one to four words of Debian's lists, of
-# all scripts and of Latin ones, and of one or two Latin words. It brings the lists and python3-icu without installing them, and needs Debian's python3-dev,
-# python3-setuptools, python3-wheel, python3-pip and libicu72. It is no test.
+# Measures sorting in Python by keys of the package `uca` and of PyICU, in one run, over 200,000 lines from Debian's word lists: one to
+# four words of all scripts, the same of Latin, and one or two Latin words. It downloads the lists and python3-icu without installing
+# them, and needs Debian's python3-dev, python3-setuptools, python3-wheel, python3-pip and libicu72. It is not a test.
 uca=none # the program is not measured here
 source "$(dirname "${BASH_SOURCE[0]}")/shared.bash"
 source tests/debian.bash

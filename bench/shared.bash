@@ -1,5 +1,5 @@
-# What the measurements share: a folder of their own, the built program, the table that Debian's perl ships, and the time and
-# memory of a program. Each sources it. Where one has set `uca`, that program is measured, and none is built.
+# What the measurements share: a temporary folder, the built program, the table that Debian's perl ships, and the time and memory of
+# a program. Each sources it. If one has set `uca`, that program is measured, and none is built.
 set -u
 from=$PWD
 cd "$(dirname "${BASH_SOURCE[0]}")/.." || exit 2
@@ -16,7 +16,7 @@ for folder in $(perl -e 'print join " ", @INC'); do
 done
 [ -n "$published" ] || { echo "$script: no allkeys.txt in perl's folders"; exit 1; }
 
-# measured RUNS INPUT COMMAND..: the processor's seconds of the fastest of these runs and the most KiB that they held; leaves answers
+# measured RUNS INPUT COMMAND..: the processor seconds of the fastest of these runs and the most KiB that they held; leaves answers
 measured() {
     local runs=$1 input=$2
     shift 2

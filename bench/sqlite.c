@@ -1,7 +1,7 @@
-// SQLite over rows of a file: an index and an order by uca_key (packed keys) and by uca_sort_key beside the same by ICU's keys:
+// SQLite over the rows of a file: an index and an order by uca_key (packed keys) and by uca_sort_key beside the same by ICU's keys:
 // sqlite TABLE LINES EXTENSION [ROUNDS]
-// Each figure is the processor time of the fastest of some rounds, which are interleaved. What the keys themselves take is what
-// the same blobs do not take where a function of a row's number has them ready.
+// Each figure is the processor time of the fastest of several rounds, which are interleaved. The time of making the keys is the
+// difference from the same work with ready blobs, which a function returns by a row's number.
 #include <sqlite3.h>
 #include <stdio.h>
 #include <stdlib.h>
@@ -12,7 +12,7 @@
 
 static UCollator *icu;
 
-/* The keys of all rows, which were made before, by their numbers from 1 on. */
+/* The keys of all rows, made beforehand, by the numbers of the rows from 1 on. */
 struct blob {
     void *bytes;
     int size;

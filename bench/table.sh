@@ -1,9 +1,9 @@
 #!/usr/bin/env bash
-# How long a table's text takes to be read, beside perl's Unicode::Collate on the same file in the same run, and how that
-# grows with the text. Prints times, memory and ratios; it is no test.
+# Measures how long it takes to read a table, beside perl's Unicode::Collate on the same file in the same run, and how that grows
+# with the text. Prints times, memory and ratios; it is not a test.
 source "$(dirname "${BASH_SOURCE[0]}")/shared.bash"
 
-# beside NAME FILE WORD: the same file by uca and by perl, which calls it by this word; both read it and write nothing
+# beside NAME FILE WORD: uca and perl read the same file and write nothing; WORD is what perl calls it
 beside() {
     read -r ours our_memory <<<"$(measured 3 /dev/null "$uca" key --table "$2")"
     read -r theirs their_memory <<<"$(measured 3 /dev/null perl -MUnicode::Collate -e 'Unicode::Collate->new(table => $ARGV[0])' "$3")"

@@ -1,7 +1,7 @@
 #!/usr/bin/env bash
-# How long rules take over the table that Debian's perl ships and over one of a million entries, beyond the time in which the
-# table is read, and how that grows with the relations: bench/tailoring.sh [PROGRAM]. Without a word the present program is
-# built and measured. Prints the processor's seconds; it is no test.
+# Measures how long rules take over the table that Debian's perl ships and over one of a million entries, beyond the time to read the
+# table, and how that grows with the relations: bench/tailoring.sh [PROGRAM]. Without PROGRAM, the current program is built and
+# measured. Prints processor seconds; it is not a test.
 uca=${1:+$(readlink -f "$1")}
 source "$(dirname "${BASH_SOURCE[0]}")/shared.bash"
 [ -x "$uca" ] || { echo "$script: $1 is no program"; exit 1; }
@@ -11,9 +11,9 @@ perl -e '
     printf "%04X %04X;[.%04X.0020.0002]\n", 0x3400 + int($_ / 0x4000), 0x4E00 + $_ % 0x4000, 1 + $_ % 0x7000 for 0 .. 999_999
 ' >"$work/million"
 
-# relations KIND COUNT TABLE: so many relations. `one`: items of the second level after one key; `many`: each after one of 26
-# keys; `third`: as `one`, of the third level; `mixed`: chains of ten of all levels, after keys and earlier items; `wide`: as
-# `one`, with 64 elements each, of which the first two relations make the anchor.
+# relations KIND COUNT TABLE: this many relations. `one`: second-level items after one key; `many`: each after one of 26 keys;
+# `third`: like `one`, at the third level; `mixed`: chains of ten at all levels, after keys and earlier items; `wide`: like `one`,
+# with 64 elements each, for which the first two relations make the anchor.
 relations() {
     perl -CO -e '
         my ($kind, $count, $table) = @ARGV;

@@ -1,7 +1,7 @@
-# Completions of bash for uca. Commands, options and values are read from the program's own help, so that none is listed twice.
+# Bash completions for uca. Commands, options and values are read from the program's own help, so that they are listed only there.
 _uca() {
     local word=$2 before=$3 help
-    [ "$1" != ./uca ] || [ -x crates/uca/out/uca ] || return # its help would be run without a proof, which takes a minute
+    [ "$1" != ./uca ] || [ -x crates/uca/out/uca ] || return # without a build its help would run without a proof, which takes a minute
     if [ "$COMP_CWORD" -le 1 ]; then
         mapfile -t COMPREPLY < <(compgen -W "$("$1" --help 2>&1 | sed -n '/^Commands:/,/^$/s/^  \([a-z]*\) .*/\1/p')" -- "$word")
         return

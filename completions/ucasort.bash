@@ -1,4 +1,4 @@
-# Completions of bash for ucasort. Options and languages are read from ucasort itself, so that none is listed twice.
+# Bash completions for ucasort. Options and languages are read from ucasort itself, so that they are listed only there.
 _ucasort() {
     local word=$2 before=$3
     [ "$word" = = ] && word=
