@@ -1,6 +1,6 @@
 #!/usr/bin/env bash
-# The C library and those that call it: C, C++, Go, Java, Python, Rust, SQLite and PostgreSQL. Each sorts 50,000 lines as `uca order` does.
-# What a caller needs is Debian's; where it cannot be had, the script says so and leaves that caller out.
+# The C library and its callers: C, C++, Go, Java, Python, Rust, SQLite and PostgreSQL. Each must sort 50,000 lines as `uca order` does.
+# What a caller needs comes from Debian; if it is not available, the script says so and skips that caller.
 source "$(dirname "${BASH_SOURCE[0]}")/checks.bash"
 source tests/debian.bash
 source tests/postgres.bash
@@ -19,7 +19,7 @@ make -s -C bindings/c install OUT="$work/c" PREFIX="$work/usr" >"$work/log" 2>&1
     { cat "$work/log"; echo "$script: the C library could not be built"; exit 1; }
 usr=$work/usr
 
-# What the library shows, and what it takes.
+# What the library exports, and what it needs.
 names="uca_check uca_clone uca_close uca_compare uca_compare_levels uca_compare_texts uca_fingerprint uca_is_complete uca_kind_name uca_locate uca_matches uca_open uca_packed_key uca_packed_key_of uca_prefix_bounds uca_sort_key uca_sort_key_of uca_status_name uca_text_of uca_unicode_version uca_version uca_write_key"
 is "the names of the shared library" "$names" "$(nm -D --defined-only "$usr/lib/libuca.so.1" | awk '{ print $3 }' | sort | paste -sd' ')"
 is "the names of the archive" "$names" "$(nm --extern-only --defined-only "$usr/lib/libuca.a" 2>/dev/null | awk 'NF == 3 { print $3 }' | sort | paste -sd' ')"
@@ -35,14 +35,14 @@ else
     left_out "pkg-config"
 fi
 
-# compiles NAME WORDS..: a program of C, warnings being errors
+# compiles NAME WORDS..: a C program, with warnings as errors
 compiles() {
     local name=$1
     shift
     cc -std=c11 -Wall -Wextra -Werror -O1 -g -I"$usr/include" -o "$work/$name" "$@" || { echo "$script: $name could not be compiled"; failed=$((failed + 1)); }
 }
 
-# The digest of a table and of settings, made outside: the form of keys, strength, option, and the version of Unicode.
+# The digest of a table and of settings, computed independently: the form of keys, strength, option, and the version of Unicode.
 # digest_of TABLE WORDS..
 digest_of() {
     { ./uca table --table "$@"; printf '\001\003\000\022\000\000'; } | sha256sum | cut -d' ' -f1
@@ -86,14 +86,14 @@ compiles example bindings/c/example.c "$usr/lib/libuca.a"
 printf '&l<ll<<<Ll<<<LL' >"$work/rules"
 is "the example of C" "lomo luna llano mano" "$(printf 'mano\nluna\nllano\nlomo\n' | "$work/example" "$table" "$work/rules" | paste -sd' ')"
 
-# The example sorts by keys, and equal keys in any order: so its lines are compared by their keys.
+# The example sorts by keys and leaves equal keys in any order, so the keys of its lines are compared.
 keys_in_order() { ./uca key --table "$table" | md5sum; }
 is "lines by keys in C" "$(keys_in_order <"$work/ordered")" "$("$work/example" "$table" <"$work/lines" | keys_in_order)"
 
 # program_of LANGUAGE: the program of docs/C.md in this language
 program_of() { sed -n "/^\`\`\`$1\$/,/^\`\`\`\$/p" docs/C.md | sed '1d; $d'; }
 
-# sorts NAME WORDS..: a program that these words run sorts some words by rules, and the lines
+# sorts NAME WORDS..: the program that WORDS run sorts some words by rules, and the lines
 sorts() {
     local name=$1
     shift
@@ -110,7 +110,7 @@ else
     left_out "C++, since there is no c++"
 fi
 
-# go_is_here: the command go, installed or brought into $work
+# go_is_here: finds the command go, installed or downloaded into $work
 go_is_here() {
     command -v pkg-config >/dev/null || return 1
     command -v go >/dev/null && return
@@ -128,7 +128,7 @@ else
     left_out "Go, since golang-go or pkg-config cannot be had"
 fi
 
-# jna_is_here: JNA, installed or brought into $work, where its own library has to be on the class path; leaves the path to its jar in $jna
+# jna_is_here: finds JNA, installed or downloaded into $work, where its own library must be on the class path; leaves the path to its jar in $jna
 jna_is_here() {
     local own=$work/java/com/sun/jna/linux-x86-64
     command -v javac >/dev/null && mkdir "$work/java" || return 1
@@ -147,7 +147,7 @@ else
     left_out "Java, since javac or libjna-java cannot be had"
 fi
 
-# in_python PYTHON: the package, installed with the library that pkg-config finds, and without one
+# in_python PYTHON: tests the package, installed with the library that pkg-config finds, and without one
 in_python() {
     local tree=$work/tree python=$work/venv/bin/python has_pkg_config
     local -a installs=("$python" -m pip install -q --no-index --no-build-isolation)
@@ -174,7 +174,7 @@ fi
 
 if command -v cargo >/dev/null && cargo --version >/dev/null 2>&1; then
     cp -r bindings/rust "$work/rust"
-    # in_rust WORDS..: cargo with these words of env and its own
+    # in_rust WORDS..: cargo, with words of env before its own
     in_rust() { (cd "$work/rust" && LD_LIBRARY_PATH=$usr/lib env "$@" --offline) >"$work/log" 2>&1 || { cat "$work/log"; return 1; }; }
     in_rust UCA_LIB_DIR="$usr/lib" cargo build -q --example check
     is "Rust" "well" "$(LD_LIBRARY_PATH=$usr/lib "$work/rust/target/debug/examples/check" "$table" "$work/lines" "$work/ordered" "$digest" 2>&1)"
@@ -192,7 +192,7 @@ else
     left_out "Rust, since there is no cargo"
 fi
 
-# in_sqlite: the tests of SQLite's extension
+# in_sqlite: the tests of the SQLite extension
 in_sqlite() {
     local folder=$work/sqlite
     mkdir "$folder"
@@ -216,7 +216,7 @@ else
     left_out "SQLite, since sqlite3 or its header is not there"
 fi
 
-# in_postgresql: the tests of PostgreSQL's extension that C.md and EXAMPLES.md tell; those of databases are in tests/postgresql.sh
+# in_postgresql: the tests of the PostgreSQL extension that C.md and EXAMPLES.md describe; those of databases are in tests/postgresql.sh
 in_postgresql() {
     extension_is_built && chmod 644 "$work/lines" "$work/ordered" || return 1
     sed 's/"/""/g; s/.*/"&"/' "$work/lines" >"$work/lines.csv"

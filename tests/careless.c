@@ -1,6 +1,6 @@
 /*
- * A program that copies its input to its output, and answers failures as `uca` does; or, by its word, makes one of the mistakes that
- * tests/failures.sh has to see.
+ * A program that copies its input to its output, and reports failures as `uca` does; or makes the mistake that its argument names, which
+ * tests/failures.sh must notice.
  */
 #include <errno.h>
 #include <stdio.h>

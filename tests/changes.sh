@@ -1,11 +1,11 @@
 #!/usr/bin/env bash
-# tools/changed-code-points: the code points about which two tables differ, and the keys of texts without them.
+# tools/changed-code-points: the code points in which two tables differ, and the keys of texts without them.
 source "$(dirname "${BASH_SOURCE[0]}")/checks.bash"
 
 is_built
 export UCA=$PWD/crates/uca/out/uca
 
-# changed OLD NEW: the code points in a line
+# changed OLD NEW: the code points, on one line
 changed() { tools/changed-code-points "$@" 2>&1 | paste -sd' '; }
 
 runs table

@@ -1,4 +1,4 @@
-# What the scripts of this folder share: a folder of their own, checks that are counted, and their sum. Each sources it.
+# What the scripts of this folder share: a temporary folder, checks that are counted, and the summary. Each sources it.
 set -u
 cd "$(dirname "${BASH_SOURCE[0]}")/.." || exit 2
 script=tests/$(basename "$0")
@@ -25,12 +25,12 @@ runs() {
     status=$?
 }
 
-# is_built: ends the script where the program cannot be built
+# is_built: ends the script if the program cannot be built
 is_built() {
     ./uca --prove || { echo "$script: the program could not be built"; exit 1; }
 }
 
-# published_table: the path of the table that Debian's perl ships, empty where it is not there
+# published_table: the path of the table that Debian's perl ships, or nothing if it is not installed
 published_table() {
     local folder
     for folder in $(perl -e 'print join " ", @INC' 2>/dev/null); do

@@ -1,13 +1,14 @@
 #!/usr/bin/env bash
-# Every collation of CLDR that rules can say: tools/cldr-rules writes its rules, uca tailors CLDR's root table by them, and ICU's
-# collator of that locale orders the same lines (tests/cldr_lines.pl). The table of tests/cldr.md says what comes of it. With
-# the word `table` it prints that table. Besides, the words of the languages of rules/ rise over that table, and by ICU.
+# Every CLDR collation that rules can express: tools/cldr-rules writes its rules, uca tailors CLDR's root table by them, and ICU's
+# collator of that locale orders the same lines (tests/cldr_lines.pl). The table in tests/cldr.md has the results; with the argument
+# `table` the script prints it. The script also checks that the words of the languages of rules/ are in ascending order under that
+# table, and by ICU.
 source "$(dirname "${BASH_SOURCE[0]}")/checks.bash"
 source tests/debian.bash
 source tests/icu.bash
 page=tests/cldr.md
 
-# leaves CLDR's folder `common` in $cldr
+# leaves the path of CLDR's folder `common` in $cldr
 cldr_is_here() {
     cldr=/usr/share/unicode/cldr/common
     [ -f "$cldr/uca/allkeys_CLDR.txt" ] && return 0
@@ -17,7 +18,7 @@ cldr_is_here() {
     [ -f "$cldr/uca/allkeys_CLDR.txt" ]
 }
 
-# tools/cldr-rules reads XML by XML::LibXML: the installed one, or Debian's packages brought into $work
+# tools/cldr-rules reads XML with XML::LibXML: the installed one, or Debian's packages, downloaded into $work
 xml_is_here() {
     local parts
     perl -MXML::LibXML -e 1 2>/dev/null && return
@@ -28,7 +29,7 @@ xml_is_here() {
     perl -MXML::LibXML -e 1 2>/dev/null
 }
 
-# compares TAG: a row of the table, with how many neighbours differ with the rules and without any; run by xargs
+# compares TAG: a row of the table, with how many neighbours differ with the rules and without; run by xargs
 compares() {
     local tag=$1 found plain collator relations same=
     crates/uca/out/uca key --table "$table" --rules "$rules/$tag.rules" <"$rules/$tag.lines" 2>"$rules/$tag.error" | tr -d ' ' >"$rules/$tag.ours"
@@ -59,7 +60,7 @@ export rules=$work/rules table=$cldr/uca/allkeys_CLDR.txt icu=$work/icu_keys
 export -f compares
 mkdir "$rules"
 
-# What rules can't say at all is refused; everything else is taken.
+# A collation that rules can't express at all is refused; everything else is accepted.
 unsaid='zh zh-u-co-big5han zh-u-co-stroke zh-u-co-zhuyin'
 tools/cldr-rules --cldr "$cldr" zh-u-co-big5han >"$work/out" 2>"$work/err"
 status=$?
@@ -103,7 +104,7 @@ while IFS='|' read -r _ tag relations collator _ without differ _ _; do
     agreed=$((agreed + 1))
     is "$tag: the rules are seen: without them some neighbours stand in another relation" "yes" "$([ "$without" -gt 0 ] && echo yes)"
 done <"$work/rows"
-# The words of rules/ over CLDR's root table, and by ICU's collator of the language.
+# The words of rules/ under CLDR's root table, and by ICU's collator of the language.
 for words in tests/rules/*.words; do
     tag=$(basename "$words" .words)
     crates/uca/out/uca key --table "$table" --rules "rules/$tag.rules" <"$words" | LC_ALL=C sort -cu 2>/dev/null

@@ -1,6 +1,6 @@
 #!/usr/bin/env perl
-# How two collators order the same lines: cldr_compare.pl LINES OURS THEIRS, files of lines and of their keys as digits. Writes how
-# many neighbours there are in the order of our keys, how many of them stand in another relation by theirs, and the first of these.
+# Compares how two collators order the same lines: cldr_compare.pl LINES OURS THEIRS, files of lines and of their keys as digits.
+# Writes how many neighbours there are in the order of our keys, how many of these compare differently by theirs, and the first few.
 use strict;
 use warnings;
 no warnings 'nonchar';

@@ -1,8 +1,8 @@
 #!/usr/bin/env perl
-# Writes texts of languages from CLDR, for comparisons of collators: cldr_lines.pl CLDR FOLDER, for each FOLDER/TAG.rules a file
-# TAG.lines. They are the locale's exemplar characters, alone, in capitals and in pairs; the words of its names of languages,
-# countries, cities, months and currencies; and the strings of CLDR's own rules in TAG.text, alone and within words. The XML is read by
-# XML::LibXML, of Debian's package libxml-libxml-perl.
+# Writes texts of languages from CLDR, for comparing collators: cldr_lines.pl CLDR FOLDER writes a file TAG.lines for each
+# FOLDER/TAG.rules. The texts are the locale's exemplar characters, alone, in capitals and in pairs; the words of its names of
+# languages, countries, cities, months and currencies; and the strings of CLDR's own rules in TAG.text, alone and within words. It
+# reads XML with XML::LibXML, from Debian's package libxml-libxml-perl.
 use strict;
 use warnings;
 use utf8;
@@ -12,7 +12,7 @@ my ($cldr, $folder) = @ARGV;
 my $most_words = 4000;
 my $few = 75; # exemplars of which all pairs are taken
 
-# The locale's file of main, or that of the nearest locale above it, or else undef.
+# The locale's file in main, or that of its nearest parent locale, or undef.
 sub main_of {
     my ($tag) = @_;
     (my $locale = $tag) =~ s/-u-co-.*//;
@@ -35,7 +35,7 @@ sub exemplars_of {
     return @found;
 }
 
-# Words of the names that a file of main has; of many, some.
+# Words of the names in a file of main; if there are many, some of them.
 sub words_of {
     my ($xml) = @_;
     my %seen;
@@ -48,7 +48,7 @@ sub words_of {
     return $step <= 1 ? @words : map { $words[$_ * $step] } 0 .. $most_words - 1;
 }
 
-# The strings of CLDR's own rules, whether they could be taken or not; of long lists some.
+# The strings of CLDR's own rules, whether or not they could be converted; of long lists, some.
 sub strings_of {
     my ($path) = @_;
     open my $file, '<:utf8', $path or die;

@@ -1,6 +1,6 @@
 #!/usr/bin/env bash
-# The Unicode Consortium's CollationTest files of version 13, which Debian's source package haskell-unicode-collation has, under
-# the table that Debian's perl ships: `uca check` on each, and every line that fails, by name.
+# `uca check` on the Unicode Consortium's CollationTest files of version 13, under the table that Debian's perl ships. The files come
+# from Debian's source package haskell-unicode-collation. Every line that fails is named.
 source "$(dirname "${BASH_SOURCE[0]}")/checks.bash"
 source tests/debian.bash
 
@@ -31,7 +31,7 @@ is "lines without end" "|uca: input line 67108865: TooLarge" "$(cat "$work/out")
 published=$(published_table)
 [ -n "$published" ] || { echo "$script: no allkeys.txt in perl's folders, so no test file was tried"; sum_up; exit; }
 
-# fetched: brings the source package, and leaves its folder of test files in $files
+# fetched: downloads the source package, and leaves the path of its folder of test files in $files
 fetched() {
     mkdir "$work/source"
     debian update || return 1
@@ -59,7 +59,7 @@ all_failing() {
     done
 }
 
-# tried FILE WORDS..: the report of a file, by a count of its lines by another way, and its failing lines
+# tried FILE WORDS..: the report of a file, checked against an independent count of its lines, and its failing lines
 tried() {
     local file=$files/$1 lines skipped
     lines=$(grep -cE '^[0-9A-F]{4}' "$file")
@@ -67,7 +67,7 @@ tried() {
     shift
     all_failing "$file" "$@"
     is "$(basename "$file"): lines and skipped" "lines $lines|skipped $skipped" "${report%|*}"
-    # These three stand for ranges that were not assigned in version 13; version 14 made them unified ideographs, and so they are here.
+    # These three are in ranges that were not assigned in version 13. Version 14 made them unified ideographs, and so they are here.
     is "$(basename "$file"): failing lines of other code points" "" "$(grep -vE '^(9FFD|2A6DE|2B735) ' "$work/failing")"
     echo "$script: $(basename "$file"): ${report//|/, }; failing lines: $(wc -l <"$work/failing"), all of 9FFD, 2A6DE and 2B735"
 }
@@ -75,7 +75,7 @@ tried() {
 tried CollationTest_NON_IGNORABLE_SHORT.txt
 tried CollationTest_SHIFTED_SHORT.txt --variable shifted --strength quaternary
 
-# Added ideographs change no line of these files: they were not assigned either, and a file has no code point of the range.
+# Added ideographs change no line of these files: they were not assigned either, and the files have no code point of the range.
 cp "$work/failing" "$work/failing_without"
 tried CollationTest_SHIFTED_SHORT.txt --variable shifted --strength quaternary --ideographs 323B0..33479
 is "failing lines with added ideographs" "same" "$(cmp -s "$work/failing" "$work/failing_without" && echo same)"

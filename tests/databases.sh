@@ -1,5 +1,5 @@
 #!/usr/bin/env bash
-# docs/DATABASES.md: keys in an index of SQLite, packed keys, prefixes as ranges of keys, and the fingerprint of an order.
+# What docs/DATABASES.md says: keys in an SQLite index, packed keys, prefixes as ranges of keys, and the fingerprint of an order.
 source "$(dirname "${BASH_SOURCE[0]}")/checks.bash"
 export LC_ALL=C.UTF-8
 
@@ -12,7 +12,7 @@ make -s -C bindings/c all OUT="$work/c" >"$work/log" 2>&1 &&
     cc -std=c11 -Wall -Wextra -Werror -O1 -Iinclude -o "$work/bounds_of" bindings/c/tests/bounds.c "$work/c/libuca.a" ||
     { cat "$work/log"; echo "$script: the C library could not be built"; exit 1; }
 
-# Words whose beginnings are looked for: those of Latin languages, and generated ones.
+# Words whose prefixes are searched for: those of Latin languages, and generated ones.
 cat tests/rules/{cs,da,de-u-co-phonebk,es,hu,pl,tr,vi}.words >"$work/words"
 keys() { ./uca key --table "$published" "$@" | tr -d ' '; }
 keys <"$work/words" >"$work/keys"
@@ -54,7 +54,7 @@ is "the words of each language rise by their packed keys" "" "$(for rules in rul
     packed 3 "$rules" <"tests/rules/$(basename "$rules" .rules).words" | LC_ALL=C sort -cu 2>/dev/null || echo "$rules"
 done)"
 
-# Where the next character may join the end of a text, the text has a range, too: what becomes another letter is outside of it.
+# A text also has a range if the next character may join its end: what then becomes another letter is outside the range.
 # in_range LANGUAGE BEGINNING WORDS..: which of the words are in the range of the beginning
 in_range() {
     local rules=rules/$1.rules low high key word
@@ -107,7 +107,7 @@ else
     echo "$script: there is no sqlite3, so no database was tried"
 fi
 
-# The extension of SQLite: what a database has fixed under a name stays so.
+# The SQLite extension: what a database has fixed under a name stays fixed.
 if command -v sqlite3 >/dev/null && echo '#include <sqlite3ext.h>' | cc -E - >/dev/null 2>&1; then
     cc -std=c11 -Wall -Wextra -Werror -O2 -shared -fPIC -Iinclude -o "$work/uca_sqlite.so" bindings/sqlite/uca_sqlite.c "$work/c/libuca.a"
     db=$work/fixed.db
@@ -143,7 +143,7 @@ else
     echo "$script: left out: the extension of SQLite, since sqlite3 or its header is not there"
 fi
 
-# The fingerprint: the same for another spelling of the same order, another one for another order.
+# The fingerprint: the same for another spelling of the same order, and different for another order.
 fingerprint() { { ./uca table "$@" </dev/null; echo "strength tertiary, variable non-ignorable, Unicode 18, ideographs 15.1"; } | sha256sum; }
 ./uca table --table "$published" </dev/null >"$work/canonical"
 { echo '# the same, turned round'; grep -v '^@' "$work/canonical" | tac; grep '^@' "$work/canonical"; } >"$work/turned"

@@ -1,4 +1,4 @@
-# Brings packages of Debian without installing them: apt with its own folders in $work. Sourced by scripts that have $work.
+# Downloads Debian packages without installing them: apt with its own folders in $work. Sourced by scripts that have $work.
 
 # debian WORDS..: apt-get with these words; `update` comes first
 debian() {
@@ -13,7 +13,7 @@ debian() {
         -o Dir::State::Lists="$work/apt/lists" -o Dir::Cache="$work/apt/cache" -o APT::Sandbox::User=root "$@" >>"$work/apt/log" 2>&1
 }
 
-# unpacks FOLDER PACKAGES..: these packages, and what they need that is not installed, unpacked in a folder
+# unpacks FOLDER PACKAGES..: unpacks these packages, and their dependencies that are not installed, in a folder
 unpacks() {
     local folder=$1 packages
     shift

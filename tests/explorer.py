@@ -1,4 +1,4 @@
-"""Tests the explorer: explorer.py server|page WORDS. The shell script beside it says where all that it needs is."""
+"""Tests the explorer: explorer.py server|page WORDS. tests/explorer.sh passes the paths of everything it needs."""
 
 import argparse
 import http.client
@@ -16,7 +16,7 @@ RUN = "a" + "\u0301" * 61
 
 
 class Page:
-    """An explorer that was started, and its address."""
+    """A running explorer, and its address."""
 
     def __init__(self, words):
         command = [sys.executable, "-m", "uca.explorer", "--no-browser", "--table", words.table, "--rules", words.rules]
@@ -119,7 +119,7 @@ def shows_levels(page):
 
 
 def takes_keys_apart(page):
-    """Keys in pieces are the keys, and the weights have the characters that they are of."""
+    """The pieces of a key make up the key, and each weight has the characters that it comes from."""
     for strength in range(1, 6):
         for variable in range(3):
             for word in ("", "co-op", "a\u0323\u0302b", "\u0301", "\ufdfa 日本", "- -", "ABCDEFGHIJ" * 17, "a\u200db"):
@@ -153,7 +153,7 @@ SAYS = {  # what an assistive technology is told of each field
     "#save": ("button", "Save these rules"),
 }  # fmt: skip
 
-# The lowest contrast of any text that is shown with what is behind it, and that text.
+# The lowest contrast between any visible text and its background, and that text.
 CONTRAST = """
 const linear = (v) => (v /= 255) <= 0.03928 ? v / 12.92 : ((v + 0.055) / 1.055) ** 2.4;
 const light = ([r, g, b]) => 0.2126 * linear(r) + 0.7152 * linear(g) + 0.0722 * linear(b);
@@ -179,7 +179,7 @@ return worst;
 
 
 class Steered:
-    """The page in a browser, by what a reader does and sees."""
+    """The page in a browser: what a reader does and sees."""
 
     def __init__(self, browser, page, words):
         self.browser, self.page, self.words = browser, page, words
@@ -187,7 +187,7 @@ class Steered:
         browser.wait("return document.querySelectorAll('#order .row').length && document.querySelectorAll('#matches .match').length")
 
     def write(self, selector, text):
-        """Replaces the text of a field, as one that is pasted."""
+        """Replaces the text of a field, as pasting does."""
         self.browser.run("const e = document.querySelector(arguments[0]); e.value = arguments[1]; e.dispatchEvent(new Event('input'));", selector, text)
 
     def select(self, selector, value):
@@ -195,7 +195,7 @@ class Steered:
         self.settle()
 
     def settle(self):
-        """Waits until the page has nothing more to ask, twice: an answer may make it ask for a word."""
+        """Waits twice until the page has no more questions, since an answer may make it ask about a word."""
         self.browser.wait("return !state.busy && !state.waiting")
 
     def order(self):
@@ -220,7 +220,7 @@ class Steered:
         return "".join(self.browser.run("return [...document.querySelectorAll('#matches .element')].map((e) => e.textContent)"))
 
     def of_program(self, command, text, *options):
-        """What the program writes of a line."""
+        """What the program writes for a line."""
         given = [self.words.uca, command, "--table", self.words.table, *options]
         return subprocess.run(given, input=text + "\n", capture_output=True, text=True, check=True).stdout.rstrip("\n")
 

@@ -1,6 +1,6 @@
 #!/usr/bin/env bash
-# The explorer of the package of Python: its server, and its page in a browser. With the word `docs` it renews the pictures of
-# docs/EXPLORER.md. The browser is Debian's headless Chromium; where it cannot be had, the script says so and leaves the page out.
+# The explorer of the Python package: its server, and its page in a browser. With the argument `docs` it remakes the pictures of
+# docs/EXPLORER.md. The browser is Debian's headless Chromium; if it is not available, the script says so and skips the page.
 source "$(dirname "${BASH_SOURCE[0]}")/checks.bash"
 source tests/debian.bash
 source tests/python.bash
@@ -24,8 +24,8 @@ mkdir "$tree" && cp -r --parents bindings/python include "$tree" && "$python" -m
 python=$work/venv/bin/python
 export UCA_LIBRARY=$work/usr/lib/libuca.so.1
 
-# chromium_is_here: headless Chromium and its driver, installed or brought into $work; leaves their paths in $driver and $chromium. The
-# browser that Debian calls headless shell opens no page by itself, as the driver wants it to: so it gets one.
+# chromium_is_here: finds headless Chromium and its driver, installed or downloaded into $work; leaves their paths in $driver and
+# $chromium. Debian's headless shell opens no page by itself, which the driver expects, so it is given one.
 chromium_is_here() {
     local root=$work/root package
     driver=$(command -v chromedriver) && chromium=$(command -v chromium) && return
@@ -41,7 +41,7 @@ chromium_is_here() {
     LD_LIBRARY_PATH=$libraries timeout 60 "$chromium" --no-sandbox --version >>"$work/apt/log" 2>&1
 }
 
-# tries PART WORDS..: a part of tests/explorer.py, over a server of its own
+# tries PART WORDS..: a part of tests/explorer.py, with its own server
 tries() {
     "$python" tests/explorer.py "$1" --table "$table" --rules rules --uca "$PWD/crates/uca/out/uca" --work "$work" "${@:2}" 2>&1
 }

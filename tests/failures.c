@@ -1,18 +1,18 @@
 /*
- * Every failure in turn. Preloaded into a program, this forks the process at each of its steps of one kind. In the copy that step
- * fails, and the process waits for the copy and looks at what it answered. Then the process itself does the step and goes on. So the
- * copies are all the runs in which one step fails, and the process is the run in which none does.
+ * Makes each step of a program fail, one at a time. Preloaded into the program, this forks the process at each of its steps of one
+ * kind. In the copy that step fails; the process waits for the copy and checks its answer. Then the process itself does the step and
+ * goes on. So the copies are all the runs in which one step fails, and the process is the run in which none does.
  *
  * tests/failures.sh sets the environment:
  *   FAILURES_KIND    the kind of step, one of `kinds`
- *   FAILURES_RIGHT   a folder with the right output `out`, errors `err` and `status`, and with what stands on standard error after a
- *                    refused growth, `refused`, with `refused-status`
- *   FAILURES_REPORT  the file that the report is added to
- *   FAILURES_WHOLE   how many steps there are, where not all of them fail, but the first and last FAILURES_EACH and every
+ *   FAILURES_RIGHT   a folder with the right output `out`, errors `err` and `status`, and with the standard error after a refused
+ *                    allocation, `refused`, and its `refused-status`
+ *   FAILURES_REPORT  the file that the report is appended to
+ *   FAILURES_WHOLE   how many steps there are, if not all of them fail: then the first and last FAILURES_EACH do, and every
  *                    FAILURES_EVERYth between
  *   FAILURES_TABLE, FAILURES_RULES  the files of the table and of the rules
- *   FAILURES_LINES, FAILURES_UNREAD, FAILURES_BEGUN  set where the input is read line by line; where it is not read; where memory is taken
- *                    while the output is written, so that a part of it may stand after a refused growth
+ *   FAILURES_LINES, FAILURES_UNREAD, FAILURES_BEGUN  set if the input is read line by line; if it is not read; if memory is allocated
+ *                    while the output is written, so that a part of it may be written before a refused allocation
  *
  * The program has one thread, reads files and no pipes, and writes its output to a file.
  */
@@ -35,7 +35,7 @@
 enum kind { COUNTED, GROWTHS, READS, SHORT_READS, FAILED_WRITES, EMPTY_WRITES, FAILED_MESSAGES };
 static const char *const kinds[] = {"count", "growths", "reads", "short-reads", "failed-writes", "empty-writes", "failed-messages"};
 
-/* What a copy may take: seconds of the processor, and of any time. */
+/* The time limits of a copy: seconds of the processor, and of the clock. */
 enum { BUSY = 60, WAITED = 600 };
 
 enum { FILES = 16, NOT_DONE = 3 };
@@ -72,7 +72,7 @@ static void say(const char *form, ...) {
     syscall(SYS_write, report, text, size);
 }
 
-/* A file of the folder of right answers, or what a copy left, as it is now. */
+/* The contents of a file with a right answer, or of one that a copy has written. */
 static struct bytes view(int file) {
     struct stat of;
     struct bytes found = {"", 0};
@@ -98,7 +98,7 @@ static struct bytes right(const char *name) {
 
 static long number(const char *name) { return getenv(name) ? atol(getenv(name)) : 0; }
 
-/* A file without a name, at a number that the program will not have. */
+/* A file without a name, at a descriptor that the program will not use. */
 static int scratch(const char *name) {
     int low = memfd_create(name, MFD_CLOEXEC), high = fcntl(low, F_DUPFD_CLOEXEC, 100);
     close(low);
@@ -143,7 +143,7 @@ __attribute__((destructor)) static void end(void) {
         say("= %ld refused, %ld right, %ld reported, %ld wrong\n", failed, right_answers, reported, wrong);
 }
 
-/* Whether the step of this number is one of those that fail: by the rule, all of few, and of many the first and last and some between. */
+/* Whether the step with this number fails. By the rule, all of a few do; of many, the first, the last and some between. */
 static bool fails(long step) {
     if (!is_active || is_copy) return false;
     return whole == 0 || step <= each || step > whole - each || step % every == 0;
@@ -151,7 +151,7 @@ static bool fails(long step) {
 
 static bool is_same(struct bytes a, const char *at, size_t size) { return a.size == size && memcmp(a.at, at, size) == 0; }
 
-/* What a copy may have answered. */
+/* The answers that a copy may give. */
 struct wanted {
     const char *message; /* what it said, and its status; none: nothing but the right answer is one */
     int status;
@@ -181,7 +181,7 @@ static void judge(const char *what, long step, int ended, struct wanted wanted) 
     unview(errors);
 }
 
-/* Forks, and is true in the copy. The process waits for the copy, judges it, and finds its files where they were. */
+/* Forks, and returns true in the copy. The process waits for the copy, checks its answer, and restores its files' positions. */
 static bool copies(const char *what, long step, struct wanted wanted) {
     off_t places[FILES];
     for (int file = 0; file < FILES; file++) places[file] = lseek(file, 0, SEEK_CUR);
@@ -214,7 +214,7 @@ static bool copies(const char *what, long step, struct wanted wanted) {
     return false;
 }
 
-/* Whether this growth is refused. */
+/* Whether this allocation is refused. */
 static bool refuses(void) {
     if (!is_active || is_copy) return false;
     growths++;
@@ -242,7 +242,7 @@ static bool is_file(int file, bool is_named, const struct stat *wanted) {
     return is_named && file > 2 && fstat(file, &of) == 0 && of.st_dev == wanted->st_dev && of.st_ino == wanted->st_ino;
 }
 
-/* What the program says where a read of this file fails. Its table and its test file it reads line by line. */
+/* What the program says if a read of this file fails. It reads its table and its test file line by line. */
 static const char *of_failed_read(int file) {
     static char text[100];
     long line = file < FILES ? lines[file] + 1 : 0;
@@ -278,7 +278,7 @@ ssize_t read(int file, void *room, size_t size) {
     return got;
 }
 
-/* A copy's output from where its writer stops: an error, each of three in turn, or no byte taken. */
+/* A copy's output from the byte at which its writer stops: with an error, each of three in turn, or by writing no byte. */
 static ssize_t stopped(void) {
     static const int causes[] = {ENOSPC, EPIPE, EIO};
     if (kind == EMPTY_WRITES) return 0;
@@ -286,7 +286,7 @@ static ssize_t stopped(void) {
     return -1;
 }
 
-/* In the process: a copy for each count of bytes at which the writer can stop within this write. */
+/* In the process: makes a copy for each number of bytes at which the writer can stop within this write. */
 static bool stops(size_t size) {
     for (size_t count = 0; count < size; count++) {
         char text[100];
