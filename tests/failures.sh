@@ -1,13 +1,13 @@
 #!/usr/bin/env bash
-# Every failure in turn. In each run of a row one step fails: one growth of memory is refused, one read of the table, the rules or the
-# input fails or gives a single byte, or the output stops after so many bytes, by an error or by taking none. The answer has to be
-# the right one or to report that failure and its place, with nothing written but the front of the right output.
+# Makes each step fail, one at a time. In each run of a row one step fails: an allocation is refused, a read of the table, the rules or
+# the input fails or returns a single byte, or the output stops after some bytes, with an error or by writing no byte. The answer must
+# be right, or report that failure and its place, with nothing written but the beginning of the right output.
 #
-# tests/failures.c makes these runs out of one, as copies of the process at each step. The rows are the commands of the program with
-# their options, their refusals, and tests of crates. Of a row with more than 800 steps the first 400, the last 400 and every
-# 211th between fail; over the published table 60, 60 and every 4001st. Of a test with at most 8,000 growths each one fails. Of one
-# with more 120, 120 and every 997th fail; with more than 20,000, or where its name says that its input is at its limit or has no end,
-# 20, 20 and every 9973rd. The names of the tests of which not all growths fail are printed.
+# tests/failures.c makes all these runs out of one, as copies of the process at each step. The rows are the commands of the program with
+# their options, their refusals, and tests of crates. In a row with more than 800 steps, the first 400, the last 400 and every 211th
+# between fail; over the published table 60, 60 and every 4001st. In a test with at most 8,000 allocations, each one fails. In one with
+# more, 120, 120 and every 997th fail; with more than 20,000, or if its name says that its input is at its limit or has no end, 20, 20
+# and every 9973rd. The script prints the names of the tests in which not all allocations fail.
 source "$(dirname "${BASH_SOURCE[0]}")/checks.bash"
 
 command -v cc >/dev/null || { echo "$script: left out, since there is no C compiler"; sum_up; exit; }
@@ -18,7 +18,7 @@ export work
 mkdir "$work/rows"
 jobs=$work/jobs
 
-# row NAME INPUT WORDS..: a row, of which the files of INPUT are copied; leaves its folder in $folder
+# row NAME INPUT WORDS..: a row, with copies of the files of INPUT; leaves its folder in $folder
 row() {
     folder=$work/rows/$1
     mkdir "$folder"
@@ -31,7 +31,7 @@ row() {
     : >"$folder/notes"
 }
 
-# notes NAME=VALUE..: what failures.c has to know of this row
+# notes NAME=VALUE..: what failures.c must know about this row
 notes() { printf '%s\n' "$@" >>"$folder/notes"; }
 
 # tries KIND..: kinds of steps that fail in this row
@@ -48,7 +48,7 @@ preloaded() {
     echo "$status" >"$folder/$kind.status"
 }
 
-# rightly FOLDER: the right answer of a row, and how many growths and reads there are
+# rightly FOLDER: the right answer of a row, and how many allocations and reads there are
 rightly() {
     preloaded "$1" count
     mv "$1/count.out" "$1/out"
@@ -56,7 +56,7 @@ rightly() {
     mv "$1/count.status" "$1/status"
 }
 
-# fails_in_turn FOLDER KIND: each step of this kind fails; KIND.result says how that went
+# fails_in_turn FOLDER KIND: makes each step of this kind fail; KIND.result has the result
 fails_in_turn() {
     local folder=$1 kind=$2 notes growths reads whole each every many few rarely all
     mapfile -t notes <"$folder/notes"
@@ -78,10 +78,10 @@ fails_in_turn() {
 }
 export -f preloaded rightly fails_in_turn
 
-# in_parallel FUNCTION: it is called with each line of the input as its words
+# in_parallel FUNCTION: calls it for each line of the input, with that line as its words
 in_parallel() { xargs -P "$(nproc)" -I@ bash -c "$1 @"; }
 
-# run_rows: the rows that there are
+# run_rows: runs all rows
 run_rows() {
     cut -d' ' -f1 "$jobs" | sort -u | in_parallel rightly
     in_parallel fails_in_turn <"$jobs"
@@ -92,7 +92,7 @@ said_of() {
     if [ -s "$1" ]; then grep '^!' "$1"; else echo "! there is no report"; fi
 }
 
-# all_rows WHAT: runs the rows that there are, each of which has to be without a wrong answer, counts them, and forgets them
+# all_rows WHAT: runs all rows, none of which may have a wrong answer; counts them, and forgets them
 all_rows() {
     local from=$SECONDS folder kind
     run_rows
@@ -110,7 +110,7 @@ forget_rows() {
     mkdir "$work/rows"
 }
 
-# What the checks see: a program that makes a mistake has steps with a wrong answer, and one that makes none has none.
+# The checks notice mistakes: a program that makes one has steps with a wrong answer, and one that makes none has none.
 number=0
 while read -r kinds mistake; do
     number=$((number + 1))
@@ -142,7 +142,7 @@ while read -r folder kinds mistake; do
 done <"$work/mistakes"
 forget_rows
 
-# The commands. Their lines hold contractions, marks between, an ideograph, an empty line, CR and LF, and none at the end.
+# The commands. Their lines hold contractions, marks between, an ideograph, an empty line, CR and LF, and no LF at the end.
 program=$PWD/crates/uca/out/uca
 ./uca table >"$work/table"
 printf '&a<b<c &e<<a/x\n&h<<<H=\\u0048\n# and no more' >"$work/rules"
@@ -179,7 +179,7 @@ over_tables check "$work/test" FAILURES_LINES=1 check
 over_tables lint "$work/none" FAILURES_UNREAD=1 lint
 over_tables table "$work/none" FAILURES_UNREAD=1 table
 
-# What is refused without any failure is still refused.
+# Input that is refused without any failure is still refused.
 refused() {
     local name=$1 input=$2
     shift 2
@@ -226,8 +226,8 @@ else
 fi
 all_rows "the program"
 
-# With a range of ideographs little more may be reported than without one: growths for its words and for the list of ranges.
-# A refused growth of what only makes a table quicker is no fault, and where rules follow, nothing of that kind is made before them.
+# With a range of ideographs little more may be reported than without one: allocations for its words and for the list of ranges. A
+# refused allocation of a part that only makes the table faster is not a fault; if rules follow, no such part is built before them.
 for set in plain rules; do
     words=(key)
     [ "$set" = rules ] && words+=(--rules "$work/rules")
@@ -250,7 +250,7 @@ done
 is "growths for a range of ideographs before rules" "few" "$(few "$(growths_of rules-ideographs)" "$(growths_of rules)")"
 forget_rows
 
-# The text of the built-in table, with a version, comments and more blanks, cut after each byte: the last line is still one, or is refused.
+# The text of the built-in table, with a version, comments and more blanks, cut after each byte: the last line is still valid, or is refused.
 { echo '@version 15.1.0'; sed 's/ ;/  ;/; s/$/ # what it is/' "$work/table"; } >"$work/text"
 perl -e '
     local $/;
@@ -285,7 +285,7 @@ done >"$work/answers"
 is "a table that is cut after each of its bytes" "" "$(diff "$work/wanted" "$work/answers" | head -n 5)"
 echo "$script: a table cut at $((size + 1)) places"
 
-# What never ends is refused at its limit.
+# Endless input is refused at its limit.
 for case in \
     "table line 1: LineTooLong=key --table /dev/zero" \
     "table line 67108865: TooLarge=key --table <(yes '')" \
@@ -296,8 +296,8 @@ for case in \
     is "endless: ${case#*=}" "3|0|uca: ${case%%=*}" "$?|$(wc -c <"$work/out")|$(cat "$work/err")"
 done
 
-# The tests of crates that take memory: they ask once more where a growth was refused, or end by that failure. uca_lines and
-# uca_commands have no tests of their own: those of uca_cli and the commands of the program, above, are what calls them.
+# The tests of crates that allocate: they try again after a refused allocation, or end with that failure. uca_lines and uca_commands
+# have no tests of their own: those of uca_cli and the commands of the program, above, call them.
 for crate in uca_weights uca_{io,window,table,allkeys,match,levels,key,tailor,conform,job,handle,cli}_tests; do
     folder=crates/$crate
     tests=$folder/out/${crate}_tests

@@ -1,5 +1,5 @@
 #!/usr/bin/env bash
-# The first run in a new copy of the repository: an answer without a proof, on a terminal and elsewhere, and the build.
+# The first run in a new clone of the repository: an answer without a proof, on a terminal and elsewhere, and the build.
 source "$(dirname "${BASH_SOURCE[0]}")/checks.bash"
 
 is_built
@@ -15,7 +15,7 @@ elsewhere() {
 at_terminal() {
     (cd "$1" && SHELL=/bin/bash script -qec "$2 >$work/out" /dev/null </dev/null >"$work/shown")
     status=$?
-    # Progress is shown on one line, which is written again each second.
+    # Progress is shown on one line, which is rewritten each second.
     tr -d '\r' <"$work/shown" | sed 's/.*\x1b\[K//' | grep -v '^$' >"$work/err"
 }
 
@@ -25,7 +25,7 @@ after="uca: this answer is not proved; ./uca --prove proves and builds the progr
 building="uca: proving and building the program: $proof"
 no_answer="uca: no answer without a proof:"
 
-# With the kit itself: one answer on a terminal, and one elsewhere beside it, with files of other folders.
+# With the kit itself: one answer on a terminal, and at the same time one elsewhere, with files of other folders.
 mkdir "$work/copy"
 tar -c --exclude='crates/*/out' uca crates.txt HANDLES crates | tar -x -C "$work/copy"
 table=$(published_table)
@@ -39,8 +39,8 @@ is "a first answer elsewhere, with files" "$(printf 'ö\nz\nå\nä\n' | ./uca $w
 is "it is said not to be proved there, too" "$before"$'\n'"$after" "$(cat "$work/said")"
 is "a first answer leaves no program" "" "$(find "$work/copy" -name out)"
 
-# With a kit that only says what it was asked for. `rt all` prints that many crates are done, and would go on for a long time; the
-# last step makes the program.
+# With a stand-in for the kit that only prints what it was asked to do. `rt all` prints that many crates are done, and would go on for
+# a long time; the last step makes the program.
 mkdir -p "$work/kit" "$work/new"
 cat >"$work/kit/rt" <<'RT'
 #!/usr/bin/env bash
@@ -72,7 +72,7 @@ PATH=$work/kit:$PATH
 export ASKED=$work/asked SAYS FAILS=
 ended=$'checked: ended status=0\nrun=ended status=0 runners=1 proved=no'
 
-# new_copy SAYS: one in which nothing was built, with this as what `rt try` writes beside the answer
+# new_copy SAYS: a clone in which nothing is built; SAYS is what `rt try` writes beside the answer
 new_copy() {
     SAYS=$1
     rm -rf "$work/new" "$ASKED"
@@ -99,7 +99,7 @@ for where in elsewhere at_terminal; do
         "uca: rt try --data handed-on-0=$work/new/rules/sv.rules -- table --table handed-on-0|uca: rt try --data handed-on-0=$work/new/crates.txt -- table --table handed-on-0|uca: rt try -- --help" \
         "$(paste -sd'|' "$ASKED")"
 
-    # That kit gives a text as its key.
+    # That kit returns a text itself as its key.
     new_copy "$ended"
     $where "$work/new" "printf 'b\na\n' | ./ucasort --table crates.txt"
     is "$where: ucasort takes an answer without a proof, which says so" "a|b|0|$before|$after" "$(paste -sd'|' "$work/out")|$status|$(said)"
@@ -148,7 +148,7 @@ elsewhere "$work/new" "printf 'b\n' | ./uca key"
 is "where there is no program either it says so" "|uca: the program could not be built|3" "$(cat "$work/out")|$(tail -n 1 "$work/err")|$status"
 FAILS=
 
-# A build says how far it is, and ends with the script.
+# A build shows its progress, and ends with the script.
 new_copy "$ended"
 (cd "$work/new" && SECONDS_OF_LIB=32 exec timeout --foreground 40 ./uca --prove) >"$work/out" 2>"$work/err"
 is "each half minute of a build has a line" "$building|uca: building: N of 17 crates proved, 30 s" "$(said | sed 's/building: [0-9]*/building: N/; s/3[0-9] s/30 s/')"

@@ -1,5 +1,5 @@
 #!/usr/bin/env bash
-# The program at home on its system: its manual, bash's completions, its installation, a terminal and a full disk.
+# The program on its system: its manual, bash completions, installation, a terminal and a full disk.
 source "$(dirname "${BASH_SOURCE[0]}")/checks.bash"
 
 is_built
@@ -9,7 +9,7 @@ ln -s "$uca" "$work/bin/uca"
 ln -s "$PWD/ucasort" "$work/bin/ucasort"
 PATH=$work/bin:$PATH
 
-# The manual has each command, each option and each value that the help of the program shows.
+# The manual has each command, each option and each value in the program's help.
 plain() { sed 's/\\-/-/g; s/\\f[BIR]//g; s/^\.[A-Z]* //' "$1" >"$work/manual"; }
 plain man/uca.1
 in_manual() { grep -qE -- "(^|[^a-z-])$1([^a-z-]|\$)" "$work/manual" || echo "$1"; }
@@ -39,7 +39,7 @@ if command -v groff >/dev/null; then
     done
 fi
 
-# Its examples print what it says.
+# The manual's examples print what it says.
 perl -ne '
     BEGIN { $n = 0; $folder = shift }
     s/\\-/-/g; s/\\e/\\/g;
@@ -52,7 +52,7 @@ for command in "$work"/*.command; do
 done
 is "examples that were run" "7" "$(find "$work" -name '*.command' | wc -l)"
 
-# One version everywhere; that of the built library is seen by tests/callers.sh.
+# One version everywhere; tests/callers.sh checks that of the built library.
 version=$(header_version)
 IFS=. read -r major minor patch <<<"$version"
 names_version() { is "the version in $1" "$2" "$(sed -n "$3" "$1" | head -n 1)"; }
@@ -71,7 +71,7 @@ names_version man/ucasort.1 "$version" 's/^This is the manual of version \(.*\)\
 names_version ucasort "$version" 's/^version=//p'
 names_version CHANGELOG.md "$version" 's/^## \([0-9][0-9.]*\).*/\1/p'
 
-# completed WORDS..: what bash offers for the last word
+# completed WORDS..: the completions that bash offers for the last word
 completed() {
     completed_of uca "$@"
 }
@@ -101,7 +101,7 @@ if command -v make >/dev/null; then
     is "the program that is installed" "a|b" "$(cd / && printf 'b\na\n' | "$work/root/usr/bin/uca" order --rules "$work/root/usr/share/uca/rules/es.rules" --table "$(published_table)" 2>&1 | paste -sd'|')"
     is "ucasort is installed with its languages" "zon|öra" "$(cd / && printf 'öra\nzon\n' | UCA_TABLE=$(published_table) "$work/root/usr/bin/ucasort" -l sv 2>&1 | paste -sd'|')"
 
-    # A table that is installed is the one that ucasort takes. One that is refused is not, and the other stays.
+    # ucasort uses the installed table. A refused table is not installed, and the earlier one stays.
     installs_table() { make -s install-table TABLE="$1" DESTDIR="$work/root" PREFIX=/usr >"$work/out" 2>"$work/err"; }
     printf '@version 1.2.3\n0062 ; [.1000.0020.0002]\n0061 ; [.1001.0020.0002]\n' >"$work/b_first"
     printf '0062 ; [.1000.0020.0002\n' >"$work/broken"
@@ -123,7 +123,7 @@ else
     echo "$script: there is no make, so nothing was installed"
 fi
 
-# A terminal as input is reported; nothing else is.
+# The program reports that its input is a terminal, and reports no other kind of input.
 notice='uca: reads from the keyboard; Ctrl-D on a line of its own ends the input'
 if command -v script >/dev/null; then
     for command in elements key compare order check lint table; do
@@ -139,7 +139,7 @@ fi
 runs key </dev/null
 is "another input than a terminal" "|0" "$(cat "$work/err")|$status"
 
-# A pipe that no one reads any more is an output that fails, and the fault says how far it came.
+# Writing to a pipe without a reader fails, and the fault says how far the output got.
 yes 'b' | head -n 200000 >"$work/many"
 { "$uca" key <"$work/many" 2>"$work/err"; echo $? >"$work/status"; } | head -n 1 >/dev/null
 is "key before head" "1|3" "$(grep -c '^uca: output byte [0-9]*: Failed$' "$work/err")|$(cat "$work/status")"

@@ -1,5 +1,5 @@
-# Builds tests/icu_keys.c as $work/icu_keys: with the ICU of the system, or with Debian's packages, which it brings without
-# installing them. Sourced by scripts that have $work, after tests/debian.bash.
+# Builds tests/icu_keys.c as $work/icu_keys: with the system's ICU, or with Debian's packages, which it downloads without installing
+# them. Sourced by scripts that have $work, after tests/debian.bash.
 
 icu_is_built() {
     local library

@@ -1,6 +1,6 @@
-// Sort keys of ICU for the lines of standard input, as digits: icu_keys TAG, a BCP 47 tag, or icu_keys --rules FILE. Only the rules
-// of the collation count: strength tertiary, nothing ignored for being variable, and no script order, case order or backward
-// level of the locale's. Ends with 4 where ICU has no such collation, and would fall back on another.
+// ICU's sort keys for the lines of standard input, as digits: icu_keys TAG, a BCP 47 tag, or icu_keys --rules FILE. Only the rules of
+// the collation apply: strength tertiary, variable elements non-ignorable, and none of the locale's script order, case order or
+// backward level. Exits with 4 if ICU has no such collation and would fall back to another.
 #include <stdio.h>
 #include <stdlib.h>
 #include <string.h>
@@ -10,7 +10,7 @@
 
 static UErrorCode status = U_ZERO_ERROR;
 
-// Whether the collator that was opened is one of the language and of the type that the locale names.
+// Whether the opened collator has the language and the type that the locale names.
 static int is_wanted(UCollator *collator, const char *locale) {
     char wanted[64] = "", found[64] = "", language[16], actual_language[16];
     const char *actual = ucol_getLocaleByType(collator, ULOC_ACTUAL_LOCALE, &status);
@@ -46,7 +46,7 @@ static UCollator *of_rules(const char *path) {
     return collator;
 }
 
-// The collator without what rules of the profile can't say.
+// The collator without what rules of the profile can't express.
 static void set_plain(UCollator *collator) {
     int32_t none = UCOL_REORDER_CODE_NONE;
     ucol_setReorderCodes(collator, &none, 1, &status);

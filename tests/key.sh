@@ -1,10 +1,10 @@
 #!/usr/bin/env bash
-# The built program from end to end: `uca key` on small inputs, on what it refuses, and on inputs at its limit.
+# The built program from end to end: `uca key` on small inputs, on inputs that it refuses, and on inputs at its limit.
 source "$(dirname "${BASH_SOURCE[0]}")/checks.bash"
 
 marks() { for _ in $(seq "$1"); do printf '\xcc\x81'; done; }
 
-# the bytes of a file as pairs of digits
+# the bytes of a file, as pairs of digits
 in_digits() { od -An -v -tx1 "$1" | tr -d ' \n'; }
 
 is_built
@@ -84,7 +84,7 @@ is "a word that is not UTF-8" "0|uca: a word of the command line is not UTF-8|2"
 status=$?
 is "a full disk" "uca: output byte 0: Failed|3" "$(cat "$work/err")|$status"
 
-# Where standard input is closed, the file of the table would be opened in its place.
+# If standard input is closed, the file of the table could be opened in its place.
 ./uca table >"$work/table"
 for command in elements key compare order; do
     ./uca "$command" --table "$work/table" <&- >"$work/out" 2>"$work/err"
@@ -107,7 +107,7 @@ is "a faulty table is reported before a closed input" "|uca: table line 1: BadEl
 status=$?
 is "a closed input that is not read" "same|0" "$(cmp -s "$work/out" "$work/table" && echo same)|$status"
 
-# At the limit: 64 MiB are taken, one byte more is refused before anything is written.
+# At the limit: 64 MiB are accepted; one byte more is refused before anything is written.
 limit=67108864
 yes 'strasse' | head -c "$limit" >"$work/large"
 from=$(date +%s)
@@ -118,7 +118,7 @@ printf 'x' >>"$work/large"
 runs key <"$work/large"
 is "one byte more than 64 MiB" "0|uca: input: TooLarge|3" "$(wc -c <"$work/out")|$(cat "$work/err")|$status"
 
-# Allocation failures, at each step that many words take, and for the input. The program alone, since bash has no room there.
+# Allocation failures, for many words and for the input. Only the program has the limit, since bash could not run in so little memory.
 if command -v prlimit >/dev/null; then
     mapfile -t many < <(yes a | head -n 40000)
     for limit in $(seq 2000000 250000 20000000); do
@@ -133,7 +133,7 @@ else
     echo "tests/key.sh: there is no prlimit, so no allocation failed"
 fi
 
-# A line of letters with sixty marks each takes time near to linear, too.
+# A line of letters with sixty marks each also takes nearly linear time.
 perl -e 'print(("a" . "\xCC\xA3\xCC\x81" x 30) x (67108864 / 121))' >"$work/marks"
 from=$(date +%s)
 runs key <"$work/marks"

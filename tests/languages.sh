@@ -1,14 +1,14 @@
 #!/usr/bin/env bash
-# The languages of rules/: the words of each (tests/rules) rise under its rules over the table that Debian's perl ships, by
-# comparison and by their keys; not without the rules; and by perl's own rules for the language, where it has any. That they rise
-# over CLDR's root table and by ICU's collators is seen by tests/cldr.sh.
+# The languages of rules/: the words of each (tests/rules) are in ascending order under its rules and the table that Debian's perl
+# ships, by comparison and by their keys; not without the rules; and by perl's own rules for the language, if it has any.
+# tests/cldr.sh checks that they are in that order under CLDR's root table and by ICU's collators.
 source "$(dirname "${BASH_SOURCE[0]}")/checks.bash"
 
 is_built
 published=$(published_table)
 [ -n "$published" ] || { echo "$script: no allkeys.txt in perl's folders, so no language was tried"; exit 0; }
 
-# is_rising TAG: how many neighbours are not less, whether the keys rise, and whether some neighbours fall without the rules
+# is_rising TAG: how many neighbours are not less, whether the keys rise, and whether some neighbours descend without the rules
 is_rising() {
     local words=tests/rules/$1.words rules=rules/$1.rules
     crates/uca/out/uca compare --table "$published" --rules "$rules" <"$words" | grep -cv '^less$'
@@ -18,8 +18,8 @@ is_rising() {
 export published
 export -f is_rising
 
-# Perl's names of these locales, where they are others than ours; it has none for the languages of `nowhere`, and older rules,
-# which order these words otherwise, for Armenian (և as a letter of its own) and Latvian (y after i).
+# Perl's names of these locales, if they differ from ours. It has none for the languages of `nowhere`, and older rules, which order
+# these words differently, for Armenian (և as a letter of its own) and Latvian (y after i).
 declare -A in_perl=([de-u-co-phonebk]=de__phonebook [es-u-co-trad]=es__traditional [sv]=sv__reformed [sr-Latn]=sr_Latn [no]=nb)
 nowhere='br ceb de-AT-u-co-phonebk gl hsb hy km ku ky lv my ps smn tk ug uz vi-u-co-trad yi'
 

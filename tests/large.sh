@@ -1,6 +1,6 @@
 #!/usr/bin/env bash
-# Long lists: lists in many parts come out of ucasort as `uca order` sorts them whole, by either way: parts that `uca order` sorts, and
-# keys that GNU sort sorts. examples/large-lists says what it takes on 300 MB.
+# Long lists: ucasort sorts a list in many parts as `uca order` sorts it whole, in both of its ways: `uca order` over the parts, and GNU
+# sort over the keys. examples/large-lists has the times for 300 MB.
 source "$(dirname "${BASH_SOURCE[0]}")/checks.bash"
 
 is_built
@@ -9,7 +9,7 @@ export UCA TMPDIR=$work/temporary
 mkdir "$TMPDIR"
 ./uca table >"$work/table"
 
-# sorts PART WORDS..: ucasort with parts of so many bytes; leaves out, err and status
+# sorts PART WORDS..: ucasort with parts of PART bytes; leaves out, err and status
 sorts() {
     local part=$1
     shift
@@ -64,7 +64,7 @@ for way in '' '-k 1'; do
     is "a reader that has enough of it, $way" "141" "$(cat "$work/status")"
 done
 
-# Lists in some fifty parts, each line three times, by rules too. One of the lines of many equal keys fills several parts.
+# Lists in about fifty parts, each line three times, also with rules. Lines with equal keys fill several parts.
 published=$(published_table)
 if [ -n "$published" ]; then
     cat "$work/texts" "$work/texts" "$work/texts" | shuf --random-source=<(yes) >"$work/many"

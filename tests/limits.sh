@@ -1,6 +1,6 @@
 #!/usr/bin/env bash
-# Each command in less and less memory: it has its own outcome, or reports that memory was refused, with nothing wrong written. And
-# each with 192 KiB of stack, over texts, tables and rules that ask for as much as they can: no input makes the stack grow.
+# Each command with less and less memory: it gives its usual outcome, or reports that memory was refused, with nothing wrong written.
+# And each with 192 KiB of stack, over texts, tables and rules that use as much as they can: no input makes the stack grow.
 source "$(dirname "${BASH_SOURCE[0]}")/checks.bash"
 
 is_built
@@ -11,8 +11,8 @@ perl tests/texts.pl 2000 >"$work/texts"
 perl -CSD -ne 'chomp; print join(" ", map { sprintf "%04X", ord } split //), ";# x\n" if length' "$work/texts" >"$work/tests"
 printf '&a<b<<c\n&z<ch<<<Ch\n' >"$work/rules"
 
-# outcome KIB WORDS..: of a run over $input in so much memory: `same` as without a limit, `refused` with a front of the right output,
-# `unstarted` where there is too little to load the program, or what else it was
+# outcome KIB WORDS..: of a run over $input in KIB of memory: `same` as without a limit, `refused` with the beginning of the right output,
+# `unstarted` if there is too little to load the program, or what else happened
 outcome() {
     local kib=$1 status
     shift

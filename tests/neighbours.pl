@@ -1,14 +1,14 @@
 #!/usr/bin/env perl
-# Writes texts of which each is made from the one before, one a line, from a fixed seed: neighbours.pl COUNT
-# They have long fronts in common, which end anywhere: inside a contraction, a run of marks, between variable or ignorable
-# characters; or differ in one place only, late or early, at one level or another.
+# Writes texts, one per line, each made from the one before, with a fixed seed: neighbours.pl COUNT
+# They have long common prefixes, which end anywhere: inside a contraction or a run of marks, or between variable or ignorable
+# characters. Or they differ in one place only, late or early, at one level or another.
 use strict;
 use warnings;
 use Unicode::Normalize;
 binmode STDOUT, ':utf8';
 my ($count) = @ARGV;
 
-# A generator of its own, so that every perl writes the same.
+# Its own generator, so that every perl writes the same.
 my $state = 20_261_124;
 sub below { my ($n) = @_; $state = ($state * 1_103_515_245 + 12_345) & 0x7FFFFFFF; return int(($state >> 8) % $n) }
 sub among { return $_[below(scalar @_)] }
@@ -28,7 +28,7 @@ my @characters = (
 );
 sub some { my ($most) = @_; return join '', map { among(@characters)->() } 1 .. below($most + 1) }
 
-# One character in another place, another case, composed or not, twice, or away.
+# One character moved, in the other case, composed or decomposed, doubled, or removed.
 sub changed {
     my ($text) = @_;
     my $at = below(2) ? below(1 + length $text) : length($text) - below(1 + (length($text) < 4 ? length $text : 4));
@@ -47,7 +47,7 @@ my $text = '';
 for (1 .. $count) {
     $text = below(12) ? changed($text) : some(60);
     $text = substr $text, 0, 90 if length $text > 90;
-    # A run of marks that no safe text has, or a line's end, would end the program that reads these.
+    # A run of marks that no valid text has, or a line end, would stop the program that reads these.
     $text = '' if NFD($text) =~ /\p{M}{25}/ || $text =~ /[\n\r]/;
     print "$text\n";
 }

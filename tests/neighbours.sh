@@ -1,7 +1,7 @@
 #!/usr/bin/env bash
-# The order of neighbours as `uca compare` finds it beside that of their keys by `uca key`, at every setting, under the table
-# that Debian's perl ships and three tailored ones: generated texts with long fronts in common that end where it matters.
-# COUNT is how many there are, 10,000 if it is not set.
+# The order of neighbours by `uca compare` and by their keys from `uca key`, at every setting, under the table that Debian's perl ships
+# and three tailored ones. The texts are generated, with long common prefixes that end where it matters. COUNT is how many there are,
+# by default 10,000.
 source "$(dirname "${BASH_SOURCE[0]}")/checks.bash"
 
 is_built
@@ -11,7 +11,7 @@ count=${COUNT:-10000}
 perl tests/neighbours.pl "$count" >"$work/texts"
 is "texts were generated" "$count" "$(wc -l <"$work/texts")"
 
-# by_keys WORDS..: the order of each line and the one before by their keys
+# by_keys WORDS..: how each line compares with the one before, by their keys
 by_keys() {
     ./uca key "$@" <"$work/texts" | perl -ne '
         chomp;

@@ -1,6 +1,6 @@
 #!/usr/bin/env bash
-# Sorted lists and findings from end to end: `uca order` on small inputs, beside a sort of stored keys, and at its limit;
-# `uca lint` on small tables and on the one that Debian's perl ships.
+# `uca order` and `uca lint` from end to end: `uca order` on small inputs, compared with a sort of stored keys, and at its limit; `uca
+# lint` on small tables and on the one that Debian's perl ships.
 source "$(dirname "${BASH_SOURCE[0]}")/checks.bash"
 
 is_built
@@ -49,7 +49,7 @@ done
 status=$?
 is "findings, and a full disk" "uca: output byte 0: Failed|3" "$(cat "$work/err")|$status"
 
-# findings_by_perl TABLE: which conditions the entries of a table break, by another reading of UTS #10, section 5
+# findings_by_perl TABLE: which conditions the entries of a table break, by an independent reading of UTS #10, section 5
 findings_by_perl() {
     perl -MUnicode::Normalize=getCombinClass -e '
         use strict; use warnings;
@@ -87,7 +87,7 @@ findings_by_perl() {
 
 published=$(published_table)
 if [ -n "$published" ]; then
-    # Lines in the order of their stored keys, which sort puts in order, lines of equal keys as they stand.
+    # The lines, sorted by their stored keys with sort; lines with equal keys keep their order.
     perl tests/texts.pl 20000 >"$work/texts"
     for settings in '--strength tertiary' '--strength primary' '--strength quaternary --variable shifted' '--strength identical --variable blanked'; do
         # shellcheck disable=SC2086
@@ -108,7 +108,7 @@ else
     echo "tests/order.sh: no allkeys.txt in perl's folders, so no published table was tried"
 fi
 
-# At the limit: 64 MiB of lines that stand in no order, in time near to linear.
+# At the limit: 64 MiB of unsorted lines, in nearly linear time.
 generated() { perl -e 'my $s = 20200310; while ($ARGV[0] > 0) { $s = ($s * 1103515245 + 12345) & 0x7FFFFFFF; printf "%07x\n", $s >> 3; $ARGV[0] -= 8 }' "$1"; }
 generated 67108864 | tr 'fg' 'hz' >"$work/large"
 from=$(date +%s)

@@ -1,5 +1,5 @@
 #!/usr/bin/env bash
-# The definitions beside values from outside: worked examples of the standards, perl's Unicode::Collate, ICU, lines of published files.
+# The definitions against values from outside: worked examples of the standards, perl's Unicode::Collate, ICU, lines of published files.
 source "$(dirname "${BASH_SOURCE[0]}")/checks.bash"
 export LC_ALL=C.UTF-8
 
@@ -8,12 +8,12 @@ published=$(published_table)
 [ -n "$published" ] || { echo "$script: no allkeys.txt in perl's folders, so nothing was tried"; exit 0; }
 ln -s "$published" "$work/published"
 
-# table NAME <TEXT, rules NAME TEXT: what the rows below call by that name; printf %b writes escapes here and in inputs
+# table NAME <TEXT, rules NAME TEXT: tables and rules that the rows below name; printf %b expands escapes here and in inputs
 table() { printf '%b' "$(cat)" >"$work/$1"; }
 rules() { printf '%b' "$2" >"$work/$1"; }
 
-# row DEFINITION WORDS INPUT WANTED SOURCE: the lines of the output, with LF or `|` between, or what is reported of a refusal; keys are
-# written as weights of four digits and code points of six
+# row DEFINITION WORDS INPUT WANTED SOURCE: the output must be WANTED, its lines separated by LF or `|`, or be refused with that report;
+# keys are written as weights of four digits and code points of six
 row() {
     local words=${2//--table /--table $work/} got
     words=${words//--rules /--rules $work/}
@@ -97,7 +97,7 @@ row 'level_weights' 'key --table published' '?\u0300!\u0301\u0315.\n?\u0300A\u03
 1FA2 020D 1FBC 0000 0020 0020 0024 0020 0000 0002 0002 0002 0002
 020D 0000 0024 0020 0024 0000 0002 0002 0002
 020D 1FA2 0000 0020 0024 0020 0000 0002 0002 0002' 'perl Unicode::Collate 1.31 getSortKey'
-# Below the fourth level the two weight the same.
+# Up to the third level, the two give the same weights.
 for variable in blanked shifted; do
     row 'level_weights' "key --table published --strength primary --variable $variable" '?\u0300!\u0301\u0315.\n?\u0300A\u0301\n1+2\na-\u0301b\n\u0301-\u0301\n-\x01\u0301a\n' \
 '
@@ -335,7 +335,7 @@ row 'extension_of' 'compare --table ring --strength primary' 'Z\nA\u030A\u0304\n
     'less greater equal equal less equal' 'perl Unicode::Collate 1.31 cmp, t/contract.t'
 row 'extension_of' 'compare --table ring --strength primary' 'A\u0327\u030A\nA\u030A\u0327\nA\u031A\u030A\nA\u030A\u031A\nA\n' \
     'equal equal equal greater' 'perl Unicode::Collate 1.31 cmp, t/contract.t'
-# a key of three code points whose first two are no key
+# a key of three code points whose first two are not a key
 row 'extension_of' 'compare --table tibetan' '\u0FB2\u0334\u0F81\n\u0F77\x00\u0334\n\u0FB2\u0334\u0F81\n\u0FB2\u0F80\x00\u0334\u0F71\n' \
     'less greater equal' 'perl Unicode::Collate 1.31 cmp, t/contract.t'
 row 'extension_of' 'key --table tibetan --strength primary' '\u0FB2\u0F71\u0F80\n\u0FB2\u0F81\n\u0F76\u0F71\n\u0FB3\u0F80\u0F71\n\u0FB2\u0334\u0F71\u0F80\n' \
@@ -572,7 +572,7 @@ end
 row 'broken' 'lint --table wf5-starter' '' '' 'UTS #10, 5, WF5: the last is a starter'
 row 'broken' 'lint --table published' '' 'WF5' 'perl Unicode::Collate 1.31, pod: 0FB2 0F71 0F80 and 0FB3 0F71 0F80 without 0FB2 0F71 and 0FB3 0F71'
 
-# Rules: orders that UTS #10 and ICU have of them
+# Rules: orders that UTS #10 and ICU give for them
 rules swedish '&z<\u00E5<<<\u00C5<\u00E4<<<\u00C4<\u00F6<<<\u00D6'
 row 'rules_of' 'compare --table published --rules swedish' 'z\n\u00F6\n' 'less' 'UTS #10, 1, Swedish: z < o with diaeresis'
 row 'rules_of' 'compare --table published' '\u00F6\nz\nof\n\u00F6f\n' 'less greater less' 'UTS #10, 1, German: o with diaeresis < z; German dictionary: of first'
@@ -706,13 +706,13 @@ row 'piece_of' 'compare --table published --rules past' 'a\n\u00A1\n\u2190\n\u00
 rules tight '&a<z<<y<<<x=w/e&b=v&a=u'
 row 'segments' 'compare --table published --rules tight' 'a\nu\nz\ny\nx\nb\nv\nxe\nw\n' 'equal less less less less equal greater equal' 'ICU 72 RuleBasedCollator'
 rules star '&a<z<y<x<<w<<v<<<u<<<t=s=r'
-# Lists are left out (docs/FORMATS.md): what ICU makes of one is what it makes of it written out.
+# Lists are left out (docs/FORMATS.md): the value is ICU's for the list, which the row has written out.
 row 'segments' 'compare --table published --rules star' 'a\nz\ny\nx\nw\nv\nu\nt\ns\nr\nb\n' \
     'less less less less less less less equal equal less' 'ICU 72 RuleBasedCollator, of &a<*zyx<<*wv<<<*ut=*sr'
-# `_` is no Pattern_Syntax (UAX #31), so it stands for itself here; ICU asks for quotes.
+# `_` is not Pattern_Syntax (UAX #31), so it needs no quotes here; ICU requires them.
 rules line '&a<z_y'
 row 'piece_of' 'compare --table published --rules line' 'a\nz_y\nb\n' 'less less' 'ICU 72 RuleBasedCollator, of &a<'\''z_y'\'''
-# Blanks within a string are skipped (docs/DECISIONS.md); ICU takes none there, so its value is that of the string without them.
+# Blanks within a string are skipped (docs/DECISIONS.md). ICU does not allow them there, so the value is for the string without them.
 rules wide '&a<z y #x\n x'
 row 'segments' 'compare --table published --rules wide' 'a\nzyx\nb\n' 'less less' 'ICU 72 RuleBasedCollator, of &a<zyx'
 refused 'faults' '<a' 'ICU 72 RuleBasedCollator, U_INVALID_FORMAT_ERROR'
