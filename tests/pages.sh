@@ -1,6 +1,6 @@
 #!/usr/bin/env bash
-# docs/HOW-IT-WORKS.md names what is there: each file, crate, command, function, type, lemma and definition in backquotes, and each
-# name with an underscore and each file in its drawings. Where it says in which file a name is, that file declares it.
+# docs/HOW-IT-WORKS.md names only things that exist: each file, crate, command, function, type, lemma and definition in backquotes, and
+# each name with an underscore and each file in its drawings. If it says in which file a name is, that file declares it.
 source "$(dirname "${BASH_SOURCE[0]}")/checks.bash"
 page=docs/HOW-IT-WORKS.md
 
@@ -28,7 +28,7 @@ find crates -path '*/must-fail/*.edit' | sed 's,^crates/\([^/]*\)/must-fail/\(.*
 } | sort -u >"$work/names"
 grep -oE 'Task::[A-Z][a-z]+' crates/uca_job/src/job.rt | sed 's/Task::/uca /' | tr '[:upper:]' '[:lower:]' | sort -u >"$work/commands"
 
-# is_there WORD: whether a file, a folder, a command or a name is
+# is_there WORD: whether a file, a folder, a command or a name exists
 is_there() {
     case $1 in
     *[![:ascii:]]*) return 0 ;; # a text, or rules

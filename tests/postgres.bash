@@ -1,7 +1,7 @@
-# A server of PostgreSQL with the extension, in a copy of the installed one. Sourced by scripts that have checks.bash, debian.bash, the
+# A PostgreSQL server with the extension, in a copy of the installed one. Sourced by scripts that have checks.bash, debian.bash, the
 # installed library in $usr, and $work.
 
-# server_headers RELEASE: Debian's headers of the server, installed or brought into $work; leaves their folder in $server
+# server_headers RELEASE: Debian's headers of the server, installed or downloaded into $work; leaves their folder in $server
 server_headers() {
     local release=$1
     server=/usr/include/postgresql/$release/server
@@ -12,14 +12,14 @@ server_headers() {
     [ -f "$server/postgres.h" ]
 }
 
-# postgresql_is_here: whether a server, its programs and its headers are there; leaves its version in $release
+# postgresql_is_here: whether a server, its programs and its headers are available; leaves its version in $release
 postgresql_is_here() {
     local all=(/usr/lib/postgresql/*/bin/initdb)
     release=$(printf '%s\n' "${all[@]}" | sed -n 's,^/usr/lib/postgresql/\([0-9]*\)/bin/initdb$,\1,p' | sort -n | tail -1)
     [ -n "$release" ] && command -v psql >/dev/null && server_headers "$release"
 }
 
-# extension_is_built: a copy of the server, with the extension; leaves the folder of its programs in $bin
+# extension_is_built: makes a copy of the server, with the extension; leaves the folder of its programs in $bin
 extension_is_built() {
     local pg=$work/pg
     bin=$pg/usr/lib/postgresql/$release/bin
@@ -32,7 +32,7 @@ extension_is_built() {
     trap 'stop_servers; rm -rf "$work"' EXIT
 }
 
-# as_nobody WORDS..: as a user without privileges, where this is root
+# as_nobody WORDS..: runs them as a user without privileges, if this is root
 as_nobody() {
     if [ "$(id -u)" -eq 0 ]; then
         (cd / && setpriv --reuid=nobody --regid=nogroup --clear-groups "$@")
@@ -41,7 +41,7 @@ as_nobody() {
     fi
 }
 
-# start_server NAME WORDS..: a server whose data and socket are in $work/NAME, with these words; it is made at its first start
+# start_server NAME WORDS..: starts a server whose data and socket are in $work/NAME, with these words; the first start creates it
 start_server() {
     local data=$work/$1
     shift
@@ -59,7 +59,7 @@ start_server() {
     return 1
 }
 
-# stop_server NAME: by the id of the server that start_server has started; returns when it has ended
+# stop_server NAME: stops the server, by the id that start_server kept; returns when it has ended
 stop_server() {
     [ -f "$work/$1/postmaster.pid" ] && kill -INT "$(head -1 "$work/$1/postmaster.pid")" 2>/dev/null
     for _ in $(seq 300); do

@@ -1,6 +1,6 @@
 #!/usr/bin/env bash
-# PostgreSQL as its users meet it: collations by name, indexes that cannot go stale in silence, dumps, the upgrade of the extension, one
-# table for all connections, and one ordered list over two servers. Its packages are Debian's; where they cannot be had, nothing is tried.
+# PostgreSQL as its users meet it: named collations, indexes that cannot silently go stale, dumps, upgrades of the extension, one table
+# for all connections, and one ordered list over two servers. Its packages come from Debian; if they are not available, nothing is tested.
 source "$(dirname "${BASH_SOURCE[0]}")/checks.bash"
 source tests/debian.bash
 source tests/postgres.bash
@@ -22,14 +22,14 @@ table=$work/files/table
 swedish=$work/files/sv.rules
 german=$work/files/de-u-co-phonebk.rules
 
-# says NAME WANTED DATABASE STATEMENTS..: what the first server answers, without contexts, in one line
+# says NAME WANTED DATABASE STATEMENTS..: checks the first server's answer, without contexts, in one line
 says() {
     local name=$1 wanted=$2 database=$3 statement words=()
     shift 3
     for statement in "$@"; do words+=(-c "$statement"); done
     is "$name" "$wanted" "$(sql one "$database" "${words[@]}" | sed "s,$work/,,g" | paste -sd'|')"
 }
-# A session that stays open: opens, then typed, then answered with the number of lines that it has to have by now, and closed.
+# A session that stays open: opens, then typed, then answered with the number of lines expected so far, and closed.
 opens() {
     rm -f "$work/typed"
     mkfifo "$work/typed"
@@ -122,7 +122,7 @@ is "the sort of texts is that of their keys, in memory, in files, and of the fir
         FROM (SELECT t FROM long ORDER BY t USING <~ LIMIT ${settings#*LIMIT }) AS a"
 done | paste -sd' ')"
 
-# ---- An index that cannot go stale in silence
+# ---- An index that cannot silently go stale
 new_database stale
 sql one postgres -c "ALTER DATABASE stale SET uca.table_file = '$table'"
 sql one stale -c "CREATE EXTENSION uca" -c "SELECT uca_fix()" -c "SELECT uca_create('sv', '$table', '$swedish')" -c "CREATE TABLE w (t text, k bytea GENERATED ALWAYS AS (uca_key(t, 'sv')) STORED)" \
@@ -141,7 +141,7 @@ is "they are fixed for all collations at once" "NOTICE:  uca: index by_key is re
 cp rules/sv.rules "$swedish"
 says "the old file again is another one now" "ERROR:  uca: the files or settings of the collation \"sv\" are not those that were fixed" stale "SELECT uca_key('a', 'sv')"
 sql one stale -c "SELECT uca_fix_all(force => true)" >/dev/null 2>&1
-# A session that is open, and has keys and a plan of before, sees that another one has fixed again.
+# An open session, with earlier keys and a plan, notices that another session has fixed a new fingerprint.
 sql one stale -c "SELECT uca_create('es', '$table', '$work/files/es.rules')" -c "CREATE INDEX by_es ON w (uca_key(t, 'es'))" >/dev/null
 opens stale
 typed "PREPARE p AS SELECT bool_and(uca_key('zon', 'es') = uca_key(t, 'es')) FROM w WHERE t = 'zon';" "EXECUTE p;"
@@ -166,7 +166,7 @@ fixed=$(sql one old -c "SELECT uca_fixed('uca'), uca_fixed('sv')")
 pg_dump -h "$work/one" -U tester old >"$work/plain.sql"
 pg_dump -h "$work/one" -U tester -C old >"$work/create.sql"
 pg_dump -h "$work/one" -U tester -Fc old >"$work/custom"
-# restored NAME: what the database has
+# restored NAME: what the restored database has
 restored() {
     sql one "$1" -c "SELECT count(*), bool_and(k = uca_key(t, 'sv')) FROM a" -c "SELECT string_agg(relname, ' ' ORDER BY relname) FROM pg_class WHERE relkind = 'i' AND relname LIKE 'a\\_%'" \
         -c "SELECT count(*) FROM a WHERE uca_key(t) = uca_key('b1')" -c "SELECT '$fixed' = uca_fixed('uca') || '|' || uca_fixed('sv')" -c "SELECT uca_fixed('sv') = uca_found('sv')" | paste -sd'|'
@@ -221,7 +221,7 @@ if [ -r /proc/self/smaps_rollup ]; then
     for _ in 1 2 3; do first_key; done | sort -n >"$work/shared"
     read -r time kilobytes <"$work/shared"
     echo "$script: the first key of a connection takes ${alone% *} ms and ${alone#* } KB of its own; from a table that the postmaster has loaded, $time ms and $kilobytes KB"
-    # The time is printed, and no test: other work on the machine changes it.
+    # The time is printed but not tested: other work on the machine changes it.
     is "the first key of a connection, from a table that is shared: at most 1 MB" "yes" "$(awk -v k="$kilobytes" 'BEGIN { print k <= 1024 ? "yes" : k }')"
     is "what cannot be loaded is logged" "uca.preload: \"/nowhere\" was not loaded|uca.preload: \"files/table::sixth\" was not loaded" "$(sed -n 's/.*WARNING:  //p' "$work/one.log" | grep preload | sed "s,$work/,," | paste -sd'|')"
     ./uca order --table "$table" --rules "$german" --variable shifted <"$work/words" >"$work/wanted"
@@ -256,7 +256,7 @@ sql one list -c "SELECT name FROM names ORDER BY uca_key(name)" >"$work/got"
 keys() { ./uca key --table "$table" --rules "$swedish" <"$1"; }
 is "one ordered list" "" "$(cmp <(keys "$work/got") <(keys "$work/wanted") 2>&1)$(cmp <(sort "$work/got") <(sort "$work/wanted") 2>&1)"
 is "both servers have a part of it" "yes" "$(awk '$1 == 0 { few = 1 } END { print few || NR != 2 ? "no" : "yes" }' <(sql one shard -c "SELECT count(*) FROM names_1") <(sql two shard -c "SELECT count(*) FROM names_2"))"
-# asked QUERY: the parts that a query asks, with what is sent to them
+# asked QUERY: the parts that a query reads, with what is sent to them
 asked() { sql one list -c "EXPLAIN (ANALYZE, VERBOSE, COSTS OFF, TIMING OFF, SUMMARY OFF) $1" | sed -n 's/^ *-> *Foreign Scan on public.\(names_[12]\).*(\(actual\|never\).*/\1 \2/p; s/^ *Foreign Scan on public.\(names_[12]\).*(\(actual\|never\).*/\1 \2/p; s/^ *Remote SQL: //p' | paste -sd'|'; }
 is "the first names ask the first server alone, and it sorts" "names_1 actual|SELECT name FROM public.names_1 ORDER BY public.uca_key(name) ASC NULLS LAST|names_2 never|SELECT name FROM public.names_2 ORDER BY public.uca_key(name) ASC NULLS LAST" \
     "$(asked "SELECT name FROM names ORDER BY uca_key(name) LIMIT 5")"
@@ -270,7 +270,7 @@ sed -i 's/^0062  *;.*/0062 ; [.1CA9.0020.0003]/' "$table" # b has another weight
 mkdir "$work/upgraded" && new=$work/three
 [ "$(id -u)" -eq 0 ] && chown nobody:nogroup "$work/upgraded"
 start_server three && stop_server three
-# The copied server runs in a folder of its own, where pg_upgrade writes.
+# The copied server runs in its own folder, where pg_upgrade writes.
 as_nobody env -C "$work/upgraded" "$bin/pg_upgrade" -b "$bin" -B "$bin" -d "$work/two" -D "$new" -U tester >"$work/log" 2>&1 || cat "$work/log"
 start_server three || echo "$script: the upgraded server does not start"
 is "indexes that pg_upgrade has copied are refused by a newer table, and rebuilt" \

@@ -1,6 +1,6 @@
 #!/usr/bin/env bash
-# Keys under the table that Debian's perl ships, beside those of perl's Unicode::Collate under the same table, over generated
-# texts; and the laws that keys of all settings have.
+# Keys under the table that Debian's perl ships, compared with those of perl's Unicode::Collate under the same table, over generated
+# texts; and the laws that keys obey at all settings.
 source "$(dirname "${BASH_SOURCE[0]}")/checks.bash"
 
 is_built
@@ -15,8 +15,8 @@ is "texts were generated" "$count" "$(wc -l <"$work/texts")"
 # ours STRENGTH VARIABLE: the keys of the texts
 ours() { ./uca key --table "$published" --strength "$1" --variable "$2" <"$work/texts"; }
 
-# theirs LEVEL VARIABLE: the keys of the same texts by perl, up to the separator after the level. What perl has at level 4 under
-# other options than shifted are code points of implicit weights, where UTS #10 has nothing, and is left out.
+# theirs LEVEL VARIABLE: the keys of the same texts by perl, up to the separator after the level. At level 4, under options other than
+# shifted, perl has code points of implicit weights, where UTS #10 has nothing; these are left out.
 theirs() {
     perl -MUnicode::Collate -e '
         binmode STDIN, ":utf8";
@@ -43,9 +43,8 @@ for variable in non-ignorable blanked shifted; do
     done
 done
 
-# Shifted, at level 4: perl gives the second element of an implicit pair no weight there, also where the pair stands in the
-# table, UTS #10 gives it FFFF. So the keys of texts with implicit weights (FB00 to FBFF) differ there, but the order is the
-# same, pair by pair.
+# Shifted, at level 4: perl gives the second element of an implicit pair no weight, even if the pair is in the table; UTS #10 gives it
+# FFFF. So the keys of texts with implicit weights (FB00 to FBFF) differ there, but the order is the same, pair by pair.
 ours quaternary shifted >"$work/ours"
 theirs 4 shifted >"$work/theirs"
 paste -d'|' "$work/ours" "$work/theirs" | awk -F'|' '
@@ -74,7 +73,7 @@ is "code points of the fifth level" "same" "$(cmp -s "$work/found" "$work/theirs
 ours primary non-ignorable >"$work/ours"
 is "primary weights of the elements" "same" "$(cmp -s "$work/ours" "$work/elements" && echo same)"
 
-# Comparison of neighbours is the order of their keys, at each setting.
+# Comparing neighbours gives the order of their keys, at each setting.
 for variable in non-ignorable blanked shifted; do
     for strength in primary secondary tertiary quaternary identical; do
         ours "$strength" "$variable" | awk '
@@ -85,7 +84,7 @@ for variable in non-ignorable blanked shifted; do
     done
 done
 
-# A key is the front of the key of each higher strength.
+# A key is a prefix of the key at each higher strength.
 for variable in non-ignorable blanked shifted; do
     : >"$work/lower"
     for strength in primary secondary tertiary quaternary identical; do

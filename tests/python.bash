@@ -1,7 +1,7 @@
-# Which python3 can build and install the package of bindings/python. Sourced by scripts that have $work.
+# Finds a python3 that can build and install the package of bindings/python. Sourced by scripts that have $work.
 
-# python_that_builds: the path of a python3 with Debian's python3-dev, -pip, -setuptools, -wheel and -venv, or what brings the same;
-# empty where there is none
+# python_that_builds: the path of a python3 with Debian's python3-dev, -pip, -setuptools, -wheel and -venv, or the equivalent; empty if
+# there is none
 python_that_builds() {
     local python
     for python in python3 /usr/bin/python3; do

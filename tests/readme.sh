@@ -1,5 +1,5 @@
 #!/usr/bin/env bash
-# README.md, docs/EXAMPLES.md and docs/CATALOGUES.md are true: their programs are parts of what the gate builds, and their commands print what they say.
+# README.md, docs/EXAMPLES.md and docs/CATALOGUES.md are true: the gate builds their programs, and their commands print what they say.
 source "$(dirname "${BASH_SOURCE[0]}")/checks.bash"
 source tests/python.bash
 
@@ -34,7 +34,7 @@ perl -e '
         }
     }' "$work" "${pages[@]}"
 
-# runs_with_compiler LINE WANTED: make says much; SQLite gets what stands after its prompt
+# runs_with_compiler LINE WANTED: the long output of make is not compared; SQLite gets the text after its prompt
 runs_with_compiler() {
     case $1 in
     make* | *"pip install"*)

@@ -1,5 +1,5 @@
 #!/usr/bin/env bash
-# The command `uca table`, and the table that Debian's perl ships: read, counted by another way, and written canonically.
+# The command `uca table`, and the table that Debian's perl ships: read, counted independently, and written in its canonical form.
 source "$(dirname "${BASH_SOURCE[0]}")/checks.bash"
 
 is_built
@@ -20,7 +20,7 @@ is "a folder" "|uca: table line 1: Read|3" "$(cat "$work/out")|$(cat "$work/err"
 runs table --table "$work/none"
 is "a file that is not there" "|uca: cannot open $work/none|3" "$(cat "$work/out")|$(cat "$work/err")|$status"
 
-# The table of the environment: where no other is named, and for every command; an empty value is none.
+# The table of the environment: used if no other is named, by every command; an empty value is the same as none.
 UCA_TABLE=$work/small runs table
 is "a table of the environment" "0062 ; [.1001.0020.0002]|0" "$(tail -n 1 "$work/out")|$status"
 for command in elements key compare order check lint table; do
@@ -64,7 +64,7 @@ if [ -n "$published" ]; then
     is "as many ranges" "$(awk '/^@implicitweights/' "$published" | wc -l)" "$(grep -c '^@implicitweights' "$work/canonical")"
     longest() { awk -F';' '/^[0-9A-Fa-f]/ { n = split($1, words, " "); if (n > most) most = n } END { print most }' "$1"; }
     is "as long a key" "$(longest "$published")" "$(longest "$work/canonical")"
-    # By perl: each entry in its own form, sorted by code points of six digits; a tab has a shorter key come first.
+    # By perl: each entry in its form, sorted by code points of six digits; because of the tab, a shorter key comes first.
     perl -ne 's/#.*//; next unless /^([0-9A-F ]+?)\s*;\s*(\S+)/; print join(" ", map { sprintf "%06X", hex } split " ", $1), "\t; $2\n"' "$published" |
         LC_ALL=C sort | perl -pe 's/\t/ /; s/\b00([0-9A-F]{4})\b/$1/g; s/\b0([0-9A-F]{5})\b/$1/g' >"$work/perl"
     is "the same entries in their order" "" "$(grep -v '^@' "$work/canonical" | diff - "$work/perl" | head -n 5)"

@@ -1,11 +1,11 @@
 #!/usr/bin/env bash
-# Rules from end to end: small ones over the built-in table, what is refused, and as many as may be over the table that Debian's
-# perl ships.
+# Rules from end to end: small ones over the built-in table, rules that are refused, and as many as allowed over the table that
+# Debian's perl ships.
 source "$(dirname "${BASH_SOURCE[0]}")/checks.bash"
 
 is_built
 
-# with_rules RULES COMMAND..: the program with these rules over the built-in table; printf %b writes its escapes
+# with_rules RULES COMMAND..: the program with these rules over the built-in table; printf %b expands their escapes
 with_rules() {
     printf '%b' "$1" >"$work/rules"
     shift
@@ -33,7 +33,7 @@ is "the tailored table" "@implicitweights 17000..18AFF; FB00
 0301 ; [.0000.0022.0002]
 0308 ; [.0000.0023.0002]
 0323 ; [.0000.0024.0002]|0" "$(cat "$work/out")|$status"
-# A chain comes out as it is written; where a premise of that law does not hold, it need not.
+# A chain comes out in the order in which it is written; if a premise of that law does not hold, it need not.
 with_rules "&'-'<x" compare < <(printf -- '-\nx\n')
 is "an item after a hyphen" "less|0" "$(cat "$work/out")|$status"
 with_rules "&'-'<x" compare --variable blanked < <(printf -- '-\nx\n')
@@ -85,7 +85,7 @@ printf '&aa=b' >"$work/rules"
 runs table --table "$work/long" --rules "$work/rules"
 is "too many elements" "|uca: rules relation 1: TooManyElements|3" "$(cat "$work/out")|$(cat "$work/err")|$status"
 
-# What can't be opened or read, and which fault comes first.
+# Files that can't be opened or read, and which fault comes first.
 runs key --rules "$work/none" </dev/null
 is "a rule file that is not there" "|uca: cannot open $work/none|3" "$(cat "$work/out")|$(cat "$work/err")|$status"
 runs key --rules "$work" </dev/null
@@ -101,7 +101,7 @@ is "the rules are read before the input" "|uca: rules byte 3: Syntax|3" "$(cat "
 runs key --rules </dev/null
 is "the option without a file" "0|2" "$(wc -c <"$work/out")|$status"
 
-# At the limits: 1,048,576 bytes and 20,000 relations are taken, one more is refused.
+# At the limits: 1,048,576 bytes and 20,000 relations are accepted; one more is refused.
 { printf '&a<b#'; head -c $((1048576 - 5)) /dev/zero | tr '\0' x; } >"$work/rules"
 runs elements --rules "$work/rules" < <(printf 'b\n')
 is "rules of 1,048,576 bytes" "[.1001.0020.0002]|0" "$(cat "$work/out")|$status"
@@ -118,7 +118,7 @@ is "one relation more" "|uca: rules byte 60002: TooManyRelations|3" "$(cat "$wor
 published=$(published_table)
 [ -n "$published" ] || { echo "tests/tailor.sh: no allkeys.txt in perl's folders, so no large table was tried"; sum_up; exit; }
 
-# As many relations as may be, each of which moves weights of a large table.
+# As many relations as allowed, each of which moves weights of a large table.
 { printf '&a'; printf '<<b%.0s' $(seq 20000); } >"$work/rules"
 from=$(date +%s)
 runs table --table "$published" --rules "$work/rules" </dev/null

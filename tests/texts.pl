@@ -1,11 +1,11 @@
 #!/usr/bin/env perl
-# Writes texts for comparisons with other collators, one a line, from a fixed seed: texts.pl COUNT
+# Writes texts for comparisons with other collators, one per line, with a fixed seed: texts.pl COUNT
 use strict;
 use warnings;
 binmode STDOUT, ':utf8';
 my ($count) = @ARGV;
 
-# A generator of its own, so that every perl writes the same.
+# Its own generator, so that every perl writes the same.
 my $state = 20_200_310;
 sub below { my ($n) = @_; $state = ($state * 1_103_515_245 + 12_345) & 0x7FFFFFFF; return int(($state >> 8) % $n) }
 sub among { return $_[below(scalar @_)] }

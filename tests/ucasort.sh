@@ -1,6 +1,6 @@
 #!/usr/bin/env bash
-# ucasort: each option as GNU sort has it, the same lines over generated cases and a million lines; languages, names that end in NUL,
-# lines that are no text, articles, faults of rules, and where the table comes from.
+# ucasort: each option as in GNU sort, with the same lines over generated cases and a million lines; languages, names that end in NUL,
+# invalid lines, articles, faults of rules, and where the table comes from.
 source "$(dirname "${BASH_SOURCE[0]}")/checks.bash"
 
 is_built
@@ -20,7 +20,7 @@ sorts() {
 }
 in_one() { paste -sd'|' "$1"; }
 
-# as_sort WORDS..: the same output, status and messages as sort, over what is in the file `input`
+# as_sort WORDS..: checks for the same output, status and messages as sort, with the file `input` as standard input
 as_sort() {
     local wanted
     rm -f "$work/file"
@@ -31,7 +31,7 @@ as_sort() {
     sed -i "s/^sort: /ucasort: /;s/Try 'sort/Try 'ucasort/" "$work/wanted.err"
     is "as sort: $*" "$wanted|same|$(tr '\0' '|' <"$work/wanted.err")" \
         "$status|$(cmp -s "$work/wanted" "$work/out" && echo same)|$(tr '\0' '|' <"$work/err")"
-    # Where a file cannot be read, sort has made the one that it would write.
+    # If a file cannot be read, sort has already created its output file.
     if [ -e "$work/wanted.file" ] && [ "$wanted" -eq 0 ]; then
         is "as sort, the file of $*" same "$(cmp -s "$work/wanted.file" "$work/file" && echo same)"
     fi
@@ -86,7 +86,7 @@ while read -r -a words; do
 done <"$work/cases"
 is "generated cases" 200 "$case_number"
 
-# What it refuses, with sort's words and status.
+# Words that it refuses, with sort's messages and status.
 printf 'b\na\n' | tee input a >b
 for words in '-x' '--foo' '-k 0' '-k' '-k 1,0' '-k 1x' '-t ab' '-S 1q' '--parallel 0' '--parallel x' '-c a b' '-cC' '-c -o file' '-o file -o other' '-t , -t ;' 'none' '/' '-o none/file' '--batch-size=1' '--re' '--check=quiet' '-c a' '-- -r'; do
     # shellcheck disable=SC2086
@@ -120,7 +120,7 @@ sorts -T "$work/none" b
 is "no folder for temporaries" "2|ucasort: cannot create temporary file in $work/none: No such file or directory" "$status|$(cat err)"
 cd "$home" || exit 2
 
-# A million lines: those of sort with each option, and a reader that has enough of them.
+# A million lines: the same as from sort with each option; and a reader that stops early.
 seq 1000000 | awk '{ n = ($1 * 7919) % 600011; print n % 97 " " n " " ($1 * 31) % 1009 }' >"$work/many"
 for words in '' -r -u -s '-k 2,2' '-k 3,3 -k 2'; do
     # shellcheck disable=SC2086
@@ -142,7 +142,7 @@ kill "$!"
 wait "$!" 2>/dev/null
 is "a run that is ended" "143|0|" "$?|$(wc -c <"$work/out")|$(cat "$work/err")"
 
-# Languages: the words of each in their order, whatever order they come in.
+# Languages: the words of each come out in their order, whatever the order of the input.
 for words in tests/rules/*.words; do
     tag=${words##*/}
     tag=${tag%.words}
@@ -183,11 +183,11 @@ mkdir "$work/names.d"
 touch "$work/names.d/b" "$work/names.d/"$'A\nfile' "$work/names.d/"$'\xff' "$work/names.d/a"
 is "names that find prints" $'a|A\nfile|b|\xff|' "$(cd "$work/names.d" && find . -type f -printf '%P\0' | "$ucasort" -z | tr '\0' '|')"
 
-# CR before LF is a part of the line, but not of its text.
+# CR before LF is part of the line, but not of its text.
 sorts < <(printf 'b\r\na\r\na\nb')
 is "CR before LF" "a a\r b b\r 0" "$(sed 's/\r/\\r/' "$work/out" | paste -sd' ') $status"
 
-# Lines that are no text. The marks are 60 and 61; U+1EBF decomposes into a letter and two.
+# Invalid lines. There are 60 and 61 marks; U+1EBF decomposes into a letter and two marks.
 marks() { for _ in $(seq "$1"); do printf '\xcc\x81'; done; }
 {
     printf 'b\n\xff\na\nB\xff\n\nz'; marks 60; printf '\nc'; marks 61; printf '\n\xe1\xba\xbf'; marks 58; printf '\n\xe1\xba\xbf'; marks 59; printf '\n'
@@ -228,7 +228,7 @@ perl -e 'print "x\xcc\x81" . "\xcc\x80" x (58 + $_ % 4), "\n" for 1 .. 3000' >"$
 sorts "$work/runs"
 is "three thousand lines that may have too many marks" "0|3000|1500" "$status|$(wc -l <"$work/out")|$(tail -n 1500 "$work/out" | awk 'length($0) > 121' | wc -l)"
 
-# Levels, articles, fields and a separator past ASCII.
+# Levels, articles, fields and a separator outside ASCII.
 printf 'b-a\nb a\nba\nB-a\n' >"$work/words"
 sorts -u --variable shifted "$work/words"
 is "shifted punctuation at three levels" "b-a|B-a|0" "$(in_one "$work/out")|$status"
@@ -251,8 +251,8 @@ is "faulty rules from a pipe" "2|ucasort: rules byte 3: EmptyString" "$status|$(
 sorts -t ¦ -k1n,1r "$work/fields"
 is "a number" "10¦c|2¦The b|1¦a|0" "$(in_one "$work/out")|$status"
 
-# Rules that are at fault: where, and what of them.
-# says RULES WORDS..: what --check-rules says of rules and of lists of words, without the folder, and its status
+# Rules that are at fault: where, and why.
+# says RULES WORDS..: what --check-rules reports about rules and lists of words, without the folder, and its status
 says() {
     # shellcheck disable=SC2059
     printf "$1" >"$work/mine.rules"
@@ -291,7 +291,7 @@ is "a list in its order" "0" "$(says '&c<ch\n&z<å' <(printf 'cz\nch\nz\nå\n'))
 is "a list that is no text" "ucasort: list:2: byte 1: NotUtf8|2" "$(printf 'a\nb\xff\n' >"$work/list" && says '&c<ch' "$work/list" | sed "s,$work/,,")"
 sorts --check-rules "$work/none"
 is "rules that are not there" "2|ucasort: cannot read: $work/none: No such file or directory" "$status|$(cat "$work/err")"
-# The digraph dž and Burmese finals are items in these four, without what comes before their mark.
+# In these four, the digraph dž or Burmese finals are items, but what comes before their mark is not.
 for rules in rules/*.rules; do
     sorts --check-rules "$rules" "tests/rules/$(basename "$rules" .rules).words"
     [ "$status" -eq 0 ] || echo "$rules"
@@ -299,7 +299,7 @@ for rules in rules/*.rules; do
 done >"$work/faulty"
 is "the rules of the languages in which something is found" "rules/bs.rules|rules/hr.rules|rules/my.rules|rules/sr-Latn.rules" "$(in_one "$work/faulty")"
 
-# The table: --table, UCA_TABLE, one that is installed, Debian's.
+# The table: --table, UCA_TABLE, an installed one, Debian's.
 printf '0062 ; [.1000.0020.0002]\n0061 ; [.1001.0020.0002]\n' >"$work/b_first"
 printf '0062 ; [.1000.0020.0002\n' >"$work/broken"
 printf 'a\nb\n' >"$work/words"

@@ -1,4 +1,4 @@
-"""A browser that a program steers, by the WebDriver protocol of the W3C: as much of it as tests/explorer.py needs."""
+"""Controls a browser by the W3C's WebDriver protocol, as far as tests/explorer.py needs it."""
 
 import base64
 import json
@@ -46,11 +46,11 @@ class Browser:
         self._send("POST", "/url", {"url": address})
 
     def run(self, script, *words):
-        """What a function's body in JavaScript returns. `arguments` has the words."""
+        """Runs the body of a JavaScript function, whose `arguments` are the words. Returns what it returns."""
         return self._send("POST", "/execute/sync", {"script": script, "args": list(words)})
 
     def wait(self, script, *words, seconds=10.0):
-        """The first answer of a script that JavaScript counts as true."""
+        """Repeats a script until its answer is truthy in JavaScript. Returns that answer."""
         end = time.monotonic() + seconds
         while True:
             answer = self.run(script, *words)
@@ -70,11 +70,11 @@ class Browser:
         self._send("POST", self._element(selector) + "/clear", {})
 
     def type(self, selector, text):
-        """Types characters, as a keyboard does."""
+        """Types characters, as on a keyboard."""
         self._send("POST", self._element(selector) + "/value", {"text": text})
 
     def name(self, selector):
-        """The name that an assistive technology is told."""
+        """The name that assistive technology gets."""
         return self._send("GET", self._element(selector) + "/computedlabel")
 
     def role(self, selector):
@@ -85,7 +85,7 @@ class Browser:
             file.write(base64.b64decode(self._send("GET", "/screenshot")))
 
     def develop(self, command, **words):
-        """A command of Chromium's own protocol."""
+        """Sends a command of Chromium's own protocol."""
         return self._send("POST", "/goog/cdp/execute", {"cmd": command, "params": words})
 
     def close(self):

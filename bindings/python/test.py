@@ -24,7 +24,7 @@ folder = os.path.dirname(uca.__file__)
 
 
 def refused(call, type_of=uca.Error, **wanted):
-    """The exception of a call, which has these attributes."""
+    """The exception that a call raises, which must have these attributes."""
     try:
         call()
     except type_of as error:
@@ -200,7 +200,7 @@ def files(work):
 
 
 def hundreds_of_faults(collator):
-    """A collator is what it was after faults of it and of others."""
+    """A collator is unchanged after faults in its calls and those of others."""
     before = collator.key("Llano"), collator.fingerprint()
     for number in range(300):
         sign = "!\"#$%&()*+,-./;"[number % 15] + "<" * (number % 7) + "'\\"[number % 2]
@@ -213,7 +213,7 @@ def hundreds_of_faults(collator):
 
 
 def threads(collator):
-    """Several threads use one collator, and clones."""
+    """Several threads use one collator, and its clones."""
     few = lines[:3000]
     wanted, same = [collator.key(line) for line in few], []
     started = [
@@ -228,7 +228,7 @@ def threads(collator):
 
 
 def interrupted(collator):
-    """A signal ends a call that makes many keys."""
+    """A signal interrupts a call that makes many keys."""
 
     def ends(*_):
         raise KeyboardInterrupt
@@ -239,7 +239,7 @@ def interrupted(collator):
 
 
 def database(collator):
-    """Python's own SQLite takes the calls as they are."""
+    """Python's own sqlite3 accepts the methods as they are."""
     try:
         import sqlite3
     except ImportError:
@@ -262,7 +262,7 @@ def resident():
 
 
 def memory():
-    """Calls and objects by the hundred thousand leave nothing."""
+    """A hundred thousand calls and objects leak nothing."""
     collator = uca.Collator(small)
     item, texts = "aé" * 30, ["a%d" % number for number in range(1000)]
     works = (
@@ -295,7 +295,7 @@ def memory():
 
 
 def types():
-    """The stub names what there is, and has the words of each call."""
+    """The stub names everything that exists, with the parameters of each call."""
     assert os.path.exists(os.path.join(folder, "py.typed"))
     with open(os.path.join(folder, "_uca.pyi")) as file:
         stub = ast.parse(file.read())

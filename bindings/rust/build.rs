@@ -1,16 +1,16 @@
-//! Finds libuca: in the folder that `UCA_LIB_DIR` names, else by pkg-config, else where the linker looks by itself.
+//! Finds libuca: in the folder that `UCA_LIB_DIR` names, else by pkg-config, else where the linker looks by default.
 use std::path::Path;
 use std::process::{exit, Command};
 
 const FILES: [&str; 2] = ["libuca.so", "libuca.a"];
 
-/// What a program prints, if it can be run and succeeds.
+/// What a program prints, if it runs and succeeds.
 fn answer_of(program: &str, words: &[&str]) -> Option<String> {
     let output = Command::new(program).args(words).output().ok().filter(|output| output.status.success())?;
     String::from_utf8(output.stdout).ok()
 }
 
-/// Where the linker finds the library by itself: the compiler prints a path then, and else the bare name.
+/// Whether the linker finds the library by default: if so, the compiler prints a path, and otherwise the bare name.
 fn linker_finds_it() -> bool {
     let compiler = std::env::var("CC").unwrap_or_else(|_| "cc".into());
     FILES.iter().any(|file| answer_of(&compiler, &[&format!("-print-file-name={file}")]).is_some_and(|path| path.contains('/')))

@@ -1,6 +1,6 @@
-/* The ends of the keys of all texts whose primary weights begin with those of a line, for each line of standard input, as digits:
- * bounds TABLE RULES. A line of the output has both ends, of which the upper one is - where there is none, or the name of a status. With the number of a
- * strength as a third word it has the packed sort key of the line at that strength instead. */
+/* Writes the two ends of uca_prefix_bounds for each line of standard input, as digits: bounds TABLE RULES. A line of the output has
+ * both ends, with - for an upper end that does not exist, or the name of a status. With the number of a strength as a third word, it has
+ * the packed sort key of the line at that strength instead. */
 #include "checks.h"
 
 enum { ROOM = 1 << 16 };

@@ -28,7 +28,7 @@ static const char small_table[] =
 
 static const char ch_rules[] = "&c<ch<<<Ch";
 
-/* A text literal as pointer and size. */
+/* A text literal, as a pointer and a size. */
 #define TEXT(literal) (const uint8_t *)(literal), sizeof(literal) - 1
 
 static inline void open_small(uca_collator *collator) {

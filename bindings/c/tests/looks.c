@@ -1,5 +1,5 @@
-/* The calls that show why texts are in their order: uca_compare_levels and uca_matches. Allocations of uca_matches are refused one at
- * a time, and uca_compare_levels has to take none: link with --wrap=malloc,realloc. */
+/* The calls that show why texts are in their order: uca_compare_levels and uca_matches. The allocations of uca_matches are refused one
+ * at a time, and uca_compare_levels must not allocate: link with --wrap=malloc,realloc. */
 #include "checks.h"
 
 static long calls, refused;
@@ -8,7 +8,7 @@ void *__real_realloc(void *block, size_t size);
 void *__wrap_malloc(size_t size) { return ++calls == refused ? NULL : __real_malloc(size); }
 void *__wrap_realloc(void *block, size_t size) { return ++calls == refused ? NULL : __real_realloc(block, size); }
 
-/* A key that takes a mark behind another one. */
+/* A table with a key that can take a mark after another one. */
 static const char table[] =
     "@version 17.0.0\n"
     "0020 ; [*0201.0020.0002]\n"
@@ -54,7 +54,7 @@ static void levels(void) {
     CHECK(uca_compare_levels(&collator, &settings, NULL, 0, NULL, 0, &order, &level, &fault) == UCA_OK && order == 0 && level == 3);
 }
 
-/* What the matches of a text are in one line, as `0061+0301:[.1000.0020.0002][.0000.0024.0002]`, `?` before implicit elements. */
+/* The matches of a text in one line, such as `0061+0301:[.1000.0020.0002][.0000.0024.0002]`, with `?` before implicit elements. */
 static const char *said(const uca_match *matches, const uint32_t *points, const uca_element *elements, size_t count) {
     static char line[1024];
     int size = 0;
@@ -92,7 +92,7 @@ static void matches(void) {
         if (strcmp(line, cases[i].said)) fprintf(stderr, "%s\n%s\n", cases[i].said, line);
         CHECK(strcmp(line, cases[i].said) == 0);
     }
-    /* What does not fit is not written, and nothing after what is. */
+    /* What does not fit is not written, nor is anything after what does. */
     memset(found, 0xEE, sizeof found), memset(points, 0xEE, sizeof points), memset(elements, 0xEE, sizeof elements);
     CHECK(uca_matches(&collator, TEXT("aba"), found, 1, points, 2, elements, 1, &needed, &fault) == UCA_OK);
     CHECK(needed.matches == 3 && needed.points == 3 && needed.elements == 3);

@@ -1,6 +1,6 @@
-/* Allocations of a call are refused one at a time. Link with --wrap=malloc,realloc,free. Each call has to return its answer or
- * UCA_NO_MEMORY, to leave its collators as they were, and to free what it took. Some calls may not allocate at all, such as comparing
- * and uca_write_key. */
+/* The allocations of a call are refused one at a time. Link with --wrap=malloc,realloc,free. Each call must return its answer or
+ * UCA_NO_MEMORY, leave its collators unchanged, and free what it allocated. Some calls, such as comparing and uca_write_key, must not
+ * allocate at all. */
 #include "checks.h"
 
 static long calls, refused, live;
@@ -25,10 +25,10 @@ void __wrap_free(void *block) {
     __real_free(block);
 }
 
-/* Whether the allocation that was to be refused was not asked for any more. */
+/* Whether the call ended before the allocation that was to be refused. */
 static int ends(long count) { return calls < count; }
 
-/* Each of the first 200 allocations is refused, and from there on ever fewer. */
+/* Each of the first 200 allocations is refused, and after that fewer and fewer. */
 static long next(long count) { return count < 200 ? count + 1 : count + count / 16; }
 
 static long refuses_opening(void) {

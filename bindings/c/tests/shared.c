@@ -1,5 +1,5 @@
-/* Eight threads use one collator at once, by each call that only reads it. It is in a page that can't be written meanwhile.
- * shared ROUNDS: each thread makes 383 calls a round. */
+/* Eight threads use one collator at once, with each call that only reads it. Meanwhile its page is write-protected.
+ * shared ROUNDS: each thread makes 383 calls per round. */
 #define _DEFAULT_SOURCE
 #include "checks.h"
 #include <pthread.h>
@@ -25,7 +25,7 @@ static void add(uint64_t *sum, const uint8_t *bytes, size_t size) {
     for (size_t i = 0; i < size; i++) *sum = *sum * 131 + bytes[i];
 }
 
-/* Adds what the calls about one text answer. */
+/* Adds the answers of the calls about one text. */
 static void add_text(const uca_collator *collator, const char *word, uint64_t *sum) {
     const uint8_t *text = (const uint8_t *)word;
     size_t size = strlen(word), needed, upper_needed;

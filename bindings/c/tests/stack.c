@@ -1,5 +1,5 @@
-/* The stack that each call takes: it is made in a thread whose stack was painted before, and the paint that is left is counted.
- * stack TABLE RULES prints a line for each call, in bytes, the thread's own frames among them. */
+/* Measures the stack that each call uses: it is made in a thread whose stack was painted before, and the paint that is left is counted.
+ * stack TABLE RULES prints a line for each call, in bytes, including the thread's own frames. */
 #define _GNU_SOURCE
 #include "checks.h"
 #include <pthread.h>
@@ -174,7 +174,7 @@ int main(int count, char **words) {
     if (count < 3) return 2;
     table = contents(words[1]);
     rules = contents(words[2]);
-    /* Letters with marks, a ligature of 18 letters, and what is decomposed to four code points. */
+    /* Letters with marks, a ligature of 18 letters, and a character that decomposes to four code points. */
     long_text = repeated("a\xCC\xA3\xCC\x81 \xEF\xB7\xBA\xE1\xBE\x82-", 1000);
     other_text = repeated("a\xCC\xA3\xCC\x81 \xEF\xB7\xBA\xE1\xBE\x82-", 1000);
     other_text.bytes[other_text.size - 1] = '+';

@@ -1,4 +1,4 @@
-/* Every function of the C library, every status and every kind; sizes and offsets of what crosses. */
+/* Every function of the C library, every status and every kind; sizes and offsets of the types that cross the boundary. */
 #include "checks.h"
 
 #define SAME_FAULT(kind_, text_, at_) CHECK(fault.kind == (kind_) && fault.text == (text_) && fault.at == (at_))
@@ -13,7 +13,7 @@ static void layout(void) {
     CHECK(sizeof(uca_text) == 16 && offsetof(uca_text, private_bytes) == 0 && offsetof(uca_text, private_size) == 8);
 }
 
-/* Each number has a name of its own, and other numbers have one that says so. */
+/* Each number has its own name, and unknown numbers have a name that says so. */
 static void names(void) {
     static const uint32_t last_kinds[] = {UCA_TABLE_TOO_LARGE, UCA_RULES_NOT_UTF8, UCA_TAILOR_TOO_MANY_ELEMENTS};
     CHECK(strcmp(uca_status_name(UCA_OK), "ok") == 0 && strcmp(uca_status_name(UCA_INCOMPLETE), "incomplete text") == 0);
@@ -29,7 +29,7 @@ static void names(void) {
     CHECK(strcmp(uca_status_name(UINT32_MAX), "unknown status") == 0 && strcmp(uca_kind_name(UINT32_MAX), "unknown kind") == 0);
 }
 
-/* Lines and columns of bytes, among them those of characters of two to four bytes, of what is not UTF-8, and past the end. */
+/* Lines and columns of bytes, including those in characters of two to four bytes, in invalid UTF-8, and past the end. */
 static void locating(void) {
     static const char text[] = "a\xC3\xA1" "b\n\n\xF0\x9F\x98\x80\r\nx\xFF\x80y";
     static const uint64_t places[][2] = {{1, 1}, {1, 2}, {1, 3}, {1, 3}, {1, 4}, {2, 1}, {3, 1}, {3, 2}, {3, 2}, {3, 2}, {3, 2}, {3, 3},
@@ -149,7 +149,7 @@ typedef uint32_t key_call(const uca_collator *, const uca_settings *, const uint
 static const uint8_t sort_key[] = {0x10, 0, 0x10, 1, 0, 0, 0, 0x20, 0, 0x24, 0, 0x20, 0, 0, 0, 2, 0, 2, 0, 2};
 static const uint8_t packed_key[] = {0x10, 0, 0x10, 1, 0, 0, 0xFE, 0x24, 3, 7};
 
-/* These are the key of a text of two letters with a mark, and the length of the key of one letter. */
+/* The key of a text of two letters with a mark, and the length of the key of one letter. */
 static void keys(key_call *makes_key, const uint8_t *key, size_t key_size, size_t size_of_a) {
     uca_settings settings = UCA_TERTIARY_SETTINGS;
     uca_collator collator = UCA_CLOSED;
@@ -236,7 +236,7 @@ static void bounds(void) {
         {"A b", "\x10\0\x10\1", "\x10\0\x10\2", 4, 4, 2, 0}, {" ", "", "", 0, 0, 1, 0},
         {"a", "\x10\xFF", "\x11", 2, 1, 0, 1}, {"ab", "\x10\xFF\xFF\xFF", "\x11", 4, 1, 0, 1}, {"bb", "\xFF\xFF\xFF\xFF", "", 4, 0, 0, 1},
     };
-    /* Texts that begin with `ac`: `ch` is a letter of its own, so what has it is outside. */
+    /* Texts that begin with `ac`: `ch` is a letter of its own, so texts with it are outside. */
     static const struct { const char *text; int is_inside; } followers[] = {
         {"ac", 1}, {"aca", 1}, {"ac\xCC\x81", 1}, {"acc", 1}, {"ach", 0}, {"acho", 0}, {"ac\xCC\x81h", 1}};
     uca_collator small = UCA_CLOSED, full = UCA_CLOSED;
@@ -291,7 +291,7 @@ static void bounds(void) {
     CHECK(lower[0] == 0xEE && upper[0] == 0xEE && lower_size == 4 && upper_size == 4);
 }
 
-/* Where a text is complete: `c` is not, since `ch` is a letter. */
+/* Whether a text is complete: `c` is not, since `ch` is a letter. */
 static void completeness(void) {
     static const struct { const char *text; uint32_t complete; } cases[] = {
         {"", 1}, {"a", 1}, {"ab", 1}, {"c", 0}, {"ac", 0}, {"ch", 1}, {"acc", 0}, {"ca", 1}};
@@ -366,7 +366,7 @@ static void texts(void) {
     uca_close(&collator);
 }
 
-/* Each pointer to bytes or items may be null where there are none. */
+/* Each pointer to bytes or items may be null if there are none. */
 static void nulls(void) {
     uca_settings settings = UCA_TERTIARY_SETTINGS;
     uca_collator collator = UCA_CLOSED;
@@ -385,7 +385,7 @@ static void nulls(void) {
     uca_close(&collator);
 }
 
-/* The digests are those of the canonical text of the table and of the settings, computed outside by sha256sum. */
+/* The digests are those of the canonical text of the table and of the settings, computed independently with sha256sum. */
 static void fingerprints(const char *expected) {
     uca_settings settings = UCA_TERTIARY_SETTINGS, shifted = UCA_SETTINGS(UCA_TERTIARY, UCA_SHIFTED);
     uca_collator collator = UCA_CLOSED, other = UCA_CLOSED;
@@ -438,7 +438,7 @@ static void opening(void) {
             CHECK(status == cases[i].status);
             SAME_FAULT(cases[i].kind, 0, cases[i].at);
         }
-        /* A refused table leaves the collator as it was. */
+        /* A refused table leaves the collator unchanged. */
         CHECK(uca_compare(&collator, &settings, TEXT("cz"), TEXT("ch"), &order, &fault) == (had ? UCA_OK : UCA_NOT_OPEN));
         if (!had) open_small(&collator);
     }

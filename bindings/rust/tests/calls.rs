@@ -1,4 +1,4 @@
-//! One collator in many threads, its clones, keys as bytes, and texts that are checked once.
+//! One collator in many threads, its clones, keys as bytes, and texts that were checked once.
 use std::cmp::Ordering;
 use std::thread;
 use uca::{locate, Collator, Key, Settings, Strength, Text, Variable};
