@@ -1,7 +1,6 @@
 #!/usr/bin/env perl
-# The keys of a part whose records `uca key` cannot take as they are. Its words: the part; uca; z where records end in NUL; whether what
-# is no text is refused; the separator; the articles; the rules; the strength; the keys; and after -- the options of `uca key` but the
-# rules.
+# Makes the keys of a part whose records `uca key` cannot take as they are. Its words: the part; uca; z if records end in NUL; the value
+# of --bad; the separator; the articles; the rules; the strength; the keys; and, after --, the options of `uca key` except the rules.
 use strict;
 use warnings;
 no warnings "utf8";
@@ -22,7 +21,7 @@ sub fails { open my $file, ">", "$part.error" or exit 2; print $file @_, "\n"; c
 sub opened { my ($mode, $name) = @_; open my $file, $mode, $name or fails("$name: $!"); binmode $file; return $file }
 sub close_written { close $_[0] or fails("$part: $!") }
 
-# A text of `uca key` has no LF. In its place goes a noncharacter that is not in the part, to which a rule gives LF's elements.
+# A text of `uca key` has no LF. A noncharacter that is not in the part replaces it, and a rule gives that the elements of LF.
 my $stand_in;
 sub find_stand_in {
     my $records = opened("<", $part);
@@ -43,7 +42,7 @@ sub find_stand_in {
 }
 my $stand_in_digits = find_stand_in();
 
-# An article, with what may come before it, where something follows it.
+# Matches an article that something follows, with what may come before it.
 my $article;
 if ($articles ne "") {
     my (@apart, @joined);
@@ -56,7 +55,7 @@ if ($articles ne "") {
     $article = qr/\A([\p{Ps}\p{Pi}"']*)(?:$words)(?=\S)/i if $words ne "";
 }
 
-# The bytes of a key's fields in a record, and whether they reach its end. Fields are those of sort.
+# The bytes of a key's fields in a record, and whether they reach its end. Fields are as in sort.
 sub fields {
     my ($record, $key) = @_;
     my ($start, $stop) = @$key{qw(start stop)};
@@ -76,7 +75,7 @@ sub fields {
     return ($from < $to ? substr($record, $from, $to - $from) : "", $to == length $record);
 }
 
-# The text of a key, and what it is.
+# The text of a key, and its kind.
 sub text_of {
     my ($record, $key) = @_;
     my ($text, $reaches_end) = fields($record, $key);
@@ -92,8 +91,8 @@ sub text_of {
     return ($text, $kind);
 }
 
-# Whether the bytes are a text. Whether a character that perl does not know is a mark, and what decomposes into marks, uca decides. A
-# run of 61 marks has fifteen characters or more that are marks to perl or unknown to it.
+# Whether the bytes are a valid text, as far as perl can tell. If perl does not know a character, or it decomposes into marks, uca decides:
+# a run of 61 marks has at least fifteen characters that are marks to perl or unknown to it.
 sub kind_of {
     my ($bytes) = @_;
     return $GOOD unless $bytes =~ tr/\x80-\xFF//;
@@ -103,7 +102,7 @@ sub kind_of {
     return $text =~ /[^\p{ccc=0}]{61}/ ? $BAD : $DOUBTFUL;
 }
 
-# A text as a line of `uca key`, which takes one CR away from the end.
+# A text as a line for `uca key`, which removes one CR from the end.
 sub line_of {
     my ($text) = @_;
     $text =~ s/\n/$stand_in/g if defined $stand_in;
@@ -111,7 +110,7 @@ sub line_of {
     return "$text\n";
 }
 
-# The first of the texts that uca refuses, and why; nothing where it takes all. Its small table will do.
+# The first of the texts that uca refuses, and why, or nothing if it accepts all. Its built-in table is enough for this.
 sub first_refused {
     my $file = opened(">", "$part.doubtful");
     print $file map { line_of($_) } @_;
@@ -124,7 +123,7 @@ sub first_refused {
     fails($said);
 }
 
-# Writes the texts for `uca key`, and for each whether its column is there already: "=" and the column.
+# Writes the texts for `uca key`, and notes which already have a column, as "=" and the column.
 my $given = opened(">", "$part.given");
 my ($inputs, $input, $size, $records) = (0, undef, 0, 0);
 sub write_texts {

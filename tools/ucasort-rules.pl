@@ -1,5 +1,5 @@
 #!/usr/bin/env perl
-# What is wrong with rules. Its words: the file; what uca says of it; uca; the table.
+# Reports what is wrong with rules. Its words: the file; what uca says about it; uca; the table.
 use strict;
 use warnings;
 no warnings "utf8";
@@ -22,7 +22,7 @@ sub reports {
     my $ends = index($bytes, "\n", $at);
     my $front = substr($bytes, $begins, $at - $begins);
     my $line = substr($bytes, $begins, ($ends < 0 ? length $bytes : $ends) - $begins);
-    # What is no text is shown byte by byte.
+    # Invalid text is shown byte by byte.
     for ($front, $line) { utf8::decode($_); s/\r\z//; s/([\0-\x08\x0B-\x1F\x7F])/sprintf "\\x%02X", ord $1/ge }
     my $column = 1 + length $front;
     (my $indent = $front) =~ s/[\p{M}\p{Cf}]//g;
@@ -30,7 +30,7 @@ sub reports {
     print "$shown_name:$line_number:$column: $words\n    $line\n    $indent^\n";
 }
 
-# The byte of a character's place.
+# The byte at which a character begins.
 my $text = $bytes;
 my $is_text = utf8::decode($text);
 sub byte_of { my $front = substr($text, 0, $_[0]); utf8::encode($front); return length $front }
@@ -41,18 +41,18 @@ my @left_out = (
     ['\[before', "[before ..] is left out; reset on what comes before, or give the other letter a place after"],
     ['\[(?:first|last|top|variable)', "a place that has a name is left out; reset on a character"],
     ['\[reorder', "the order of scripts is left out; texts of one script are in their order"],
-    ['\[caseFirst', "capitals first is left out; it only counts where nothing else differs"],
+    ['\[caseFirst', "capitals first is left out; it matters only if nothing else differs"],
     ['\[backwards', "accents from the end are left out"],
-    ['\[alternate', "this is no rule here; --variable says how punctuation counts"],
-    ['\[strength', "this is no rule here; --strength says which levels are compared"],
+    ['\[alternate', "this is not a rule here; --variable says how punctuation is weighted"],
+    ['\[strength', "this is not a rule here; --strength says which levels are compared"],
     ['\[import', "[import ..] is left out; copy the rules of the other language"],
     ['\[suppressContractions', "[suppressContractions ..] is left out; = gives a contraction the elements of its parts"],
     ['\[numericOrdering', "numbers by their value are left out"],
     ['\[', "settings in brackets are left out; as a character of a string, [ needs quotes or a backslash"],
     ['\|', "a letter that depends on the letter before it (a prefix) is left out"],
-    [';', "; is an older sign for << and left out; as a character of a string it needs quotes or a backslash"],
-    [',', ", is an older sign for <<< and left out; as a character of a string it needs quotes or a backslash"],
-    ['@', "@ is an older sign for accents from the end and left out; as a character it needs quotes or a backslash"],
+    [';', "; is an older sign for << and is left out; as a character of a string it needs quotes or a backslash"],
+    [',', ", is an older sign for <<< and is left out; as a character of a string it needs quotes or a backslash"],
+    ['@', "@ is an older sign for accents from the end and is left out; as a character it needs quotes or a backslash"],
 );
 my %sentences = (
     TooManyRelations => "there are more than 20,000 relations",
@@ -64,9 +64,9 @@ my %sentences = (
     Read => "the rules could not be read",
     SmallWeight => "what comes before this item has no weight at the level of its operator, so nothing can come after it there",
     HighReset => "what comes before this item has an implicit weight, as ideographs have; nothing can come after it at the first level",
-    "Full 1" => "there is no room for another weight at the first level",
-    "Full 2" => "there is no room for another weight at the second level",
-    "Full 3" => "there is no room for another weight at the third level",
+    "Full 1" => "there is no gap for another weight at the first level",
+    "Full 2" => "there is no gap for another weight at the second level",
+    "Full 3" => "there is no gap for another weight at the third level",
     TooManyElements => "this item would get more than 64 collation elements",
 );
 
@@ -81,14 +81,14 @@ sub sentence_of {
         $before =~ s/#[^\n]*//g;
         return "this comes before the first reset; rules begin with & and a string" if $before !~ /&/;
         return "this quote is not ended" if $rest =~ /\A'/;
-        return "this escape is none; those are \\uhhhh, \\Uhhhhhhhh, and a backslash before any other character" if $rest =~ /\A\\/;
-        return "this / follows no item" if $rest =~ m{\A/};
+        return "this is not an escape; an escape is \\uhhhh, \\Uhhhhhhhh, or a backslash before any other character" if $rest =~ /\A\\/;
+        return "there is no item before this /" if $rest =~ m{\A/};
         return "$1 is no character of a string; it needs quotes or a backslash" if $rest =~ /\A([!-~])/;
     }
     return $sentences{$cause} // $cause;
 }
 
-# The relations of rules that were read without a fault: where the operator is, and the item.
+# The relations of rules without a fault: for each, the place of its operator, and its item.
 sub relations {
     my (@all, $string);
     pos($text) = 0;
@@ -127,7 +127,7 @@ if ($said =~ /^uca: rules byte ([0-9]+): (.*)$/m) {
     }
 }
 
-# An item that is tailored twice.
+# Items that are tailored twice.
 my %place;
 for my $relation (@all) {
     my ($at, $item) = @$relation{qw(at item)};
@@ -139,7 +139,7 @@ for my $relation (@all) {
     $place{$item} = $at;
 }
 
-# The items that condition WF5 names: that of what comes before the last mark is no key.
+# The items that break condition WF5: what comes before the last mark is not a key.
 my %fronts;
 for my $item ($cause eq "" ? keys %place : ()) {
     push @{ $fronts{ join " ", map { sprintf "%04X", ord } split //, substr($item, 0, -1) } }, $item
