@@ -30,7 +30,7 @@ gather_programs() {
 gather_before() {
     local program all=()
     [ -n "$before" ] || return
-    [ -x "$before" ] || refuses "$before is no program"
+    [ -x "$before" ] || refuses "$before is not a program"
     for program in "${programs[@]}"; do
         [ "$program" = uca ] && all+=(before)
         all+=("$program")

@@ -4,7 +4,7 @@
 # measured. Prints processor seconds; it is not a test.
 uca=${1:+$(readlink -f "$1")}
 source "$(dirname "${BASH_SOURCE[0]}")/shared.bash"
-[ -x "$uca" ] || { echo "$script: $1 is no program"; exit 1; }
+[ -x "$uca" ] || { echo "$script: $1 is not a program"; exit 1; }
 
 # A million entries with keys of two code points, all different.
 perl -e '

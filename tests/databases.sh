@@ -19,10 +19,10 @@ keys <"$work/words" >"$work/keys"
 keys --strength primary <"$work/words" >"$work/primary"
 is "keys at primary are the beginning of those at tertiary" "0" "$(paste "$work/primary" "$work/keys" | awk '$1 "0000" != substr($2, 1, length($1) + 4) { n++ } END { print n + 0 }')"
 
-# The two ends of the keys of all texts whose primary weights begin with those of each line, by the C library
+# The two ends of uca_prefix_bounds for each line, by the C library
 bounds() { "$work/bounds_of" "$published" "${1:-/dev/null}"; }
 
-# Each beginning of each word, cut before a letter that is no mark: its range has the word, and nothing but words whose primary weights begin so.
+# Each prefix of each word, cut before a letter that is not a mark: its range has the word, and only words whose primary weights begin so.
 perl -CSD -Mutf8 -MUnicode::Normalize=NFD -ne 'chomp; my $word = $_; for my $i (1 .. length($word) - 1) { my $rest = NFD(substr $word, $i); next if $rest =~ /^\p{M}/; print substr($word, 0, $i), "\t$word\n" }' "$work/words" >"$work/cuts"
 cut -f1 "$work/cuts" | bounds >"$work/ends"
 is "each beginning has two ends" "$(wc -l <"$work/cuts")" "$(grep -cE '^[0-9A-F]+ [0-9A-F]+$' "$work/ends")"

@@ -153,9 +153,9 @@ static bool is_same(struct bytes a, const char *at, size_t size) { return a.size
 
 /* The answers that a copy may give. */
 struct wanted {
-    const char *message; /* what it said, and its status; none: nothing but the right answer is one */
+    const char *message; /* the message that it may report, with its status; if null, only the right answer counts */
     int status;
-    long least, most;    /* how many of the right bytes stand then */
+    long least, most;    /* how many of the right bytes are written then */
     bool may_be_right;
 };
 
@@ -278,7 +278,7 @@ ssize_t read(int file, void *room, size_t size) {
     return got;
 }
 
-/* A copy's output from the byte at which its writer stops: with an error, each of three in turn, or by writing no byte. */
+/* A copy's output from the byte at which its writer stops: with one of three errors, which take turns, or by writing no byte. */
 static ssize_t stopped(void) {
     static const int causes[] = {ENOSPC, EPIPE, EIO};
     if (kind == EMPTY_WRITES) return 0;

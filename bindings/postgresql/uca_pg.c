@@ -676,7 +676,7 @@ static void preload_all(void) {
     List *entries;
     ListCell *cell;
     if (!SplitGUCList(pstrdup(preload_list), ',', &entries)) {
-        ereport(WARNING, (errcode(ERRCODE_INVALID_PARAMETER_VALUE), errmsg("uca.preload is no list: %s", preload_list)));
+        ereport(WARNING, (errcode(ERRCODE_INVALID_PARAMETER_VALUE), errmsg("uca.preload is not a list: %s", preload_list)));
         entries = NIL;
     }
     preloads = MemoryContextAllocZero(TopMemoryContext, (list_length(entries) + 1) * sizeof *preloads);

@@ -75,7 +75,7 @@ _load()
 def _number(name: str, value: int, first: int, last: int) -> int:
     number = operator.index(value)
     if not first <= number <= last:
-        raise ValueError("%s has to be %d to %d, and is %d" % (name, first, last, number))
+        raise ValueError("%s must be %d to %d, not %d" % (name, first, last, number))
     return number
 
 
