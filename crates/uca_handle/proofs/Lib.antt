@@ -1,7 +1,6 @@
 mod UpperEndLemmas
 mod HandleValues
 mod OpeningLemmas
-mod PlacingLemmas
 mod Values
 mod LevelSteps
 mod MatchLists

@@ -1,5 +1,5 @@
 -- What the calls of a collator answer, by its table.
-use Rattle.std.specs.Prelude.{◌≡◌, ◌≢◌, ℕ, ◌-◌, ◌^◌, min, true, false, List, [], length, Option, Some, None, Result, Ok, Err, chars}
+use Rattle.std.specs.Prelude.{◌≡◌, ◌≢◌, ℕ, ◌-◌, ◌^◌, min, List, [], length, Option, Some, None, Result, Ok, Err, chars}
 use Rattle.std.specs.Option.{option_map, option_map_or}
 use Rattle.std.specs.declared.cmp.Ordering.{Ordering}
 use Rattle.sha2.specs.Sha256.{sha256}
@@ -12,7 +12,7 @@ use Rattle.uca_weights.specs.declared.settings.Variable.{Variable}
 use Rattle.uca_key.specs.PackedKey.{packed_key}
 use Rattle.uca_handle.specs.Fingerprint.{fingerprinted}
 use Rattle.uca_handle.specs.Opening.{SaysTable, RefusesTable}
-use Rattle.uca_handle.specs.Placing.{with_front}
+use Rattle.uca_key.specs.Placing.{with_front}
 use Rattle.uca_handle.specs.Texts.{IsFault}
 use Rattle.uca_handle.specs.declared.bounds.BoundsSize.{BoundsSize}
 use Rattle.uca_handle.specs.declared.faults.BoundsFault.{BoundsFault}

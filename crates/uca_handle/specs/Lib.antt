@@ -8,7 +8,6 @@ pub mod Listed
 pub mod Matches
 pub mod Opening
 pub mod Places
-pub mod Placing
 pub mod Texts
 pub mod FingerprintLaws
 pub mod Lending

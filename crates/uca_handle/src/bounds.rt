@@ -2,10 +2,9 @@ ghost use Rattle.std.specs.Prelude.{◌≡◌};
 ghost use Rattle.uca_handle.specs.Calls.{PutsBoundsBy};
 
 use crate::faults::BoundsFault;
-use crate::keys::copy_front;
 use crate::texts::passage_of;
 use std::alloc::Global;
-use uca_key::prefix_bounds;
+use uca_key::{copy_front, prefix_bounds};
 use uca_table::Table;
 use uca_weights::Variable;
 

@@ -1,27 +1,19 @@
 ghost use Rattle.std.specs.Prelude.{◌≡◌, chars, length};
 ghost use Rattle.uca_model.specs.SortKey.{sort_key};
 ghost use Rattle.uca_key.specs.PackedKey.{packed_key};
-ghost use Rattle.uca_handle.specs.Calls.{MakesKeyBy};
+ghost use Rattle.uca_key.specs.Placing.{with_front};
+ghost use Rattle.uca_handle.specs.Calls.{MakesKeyBy, WritesKeyBy};
 ghost use Rattle.uca_window.specs.Passage.{bytes_of, text_of};
-ghost use Rattle.uca_handle.specs.Placing.{with_front};
 
 use crate::faults::KeyFault;
 use crate::texts::passage_of;
 use std::alloc::Global;
-use uca_key::{key_of, packed_key_of};
+use uca_key::{SHORT, copy_front, key_of, packed_key_of};
 use uca_table::Table;
 use uca_weights::Settings;
 use uca_window::Passage;
 
-/// Copies bytes into the front of a buffer, or as many of them as fit.
-pub(crate) fn copy_front(bytes: &[u8], out: &mut [u8])
-    ensures { out.new ≡ with_front bytes.now out.old }
-{
-    let n = bytes.len().min(out.len());
-    out[..n].copy_from_slice(&bytes[..n]);
-}
-
-/// The same of a whole key. Returns how many bytes it has.
+/// Copies a whole key into the front of a buffer, or as many of its bytes as fit. Returns how many it has.
 fn put_front(key: &[u8], out: &mut [u8]) -> usize
     ensures size { result ≡ length key.now }
     ensures front { out.new ≡ with_front key.now out.old }
@@ -40,13 +32,9 @@ pub(crate) fn put_key(
 ) -> Result<usize, KeyFault>
     ensures { MakesKeyBy (sort_key t.now s (chars text.now)) text.now out.old out.new result }
 {
-    let passage = match passage_of(text) {
-        Ok(passage) => passage,
-        Err(fault) => return Err(KeyFault::Text(fault)),
-    };
-    match key_of(alloc, t, s, &passage) {
-        Ok(key) => Ok(put_front(key.as_slice(), out)),
-        Err(_) => Err(KeyFault::OutOfMemory),
+    match passage_of(text) {
+        Ok(passage) => put_text_key(alloc, t, s, &passage, out),
+        Err(fault) => Err(KeyFault::Text(fault)),
     }
 }
 
@@ -60,17 +48,14 @@ pub(crate) fn put_packed_key(
 ) -> Result<usize, KeyFault>
     ensures { MakesKeyBy (packed_key t.now s (chars text.now)) text.now out.old out.new result }
 {
-    let passage = match passage_of(text) {
-        Ok(passage) => passage,
-        Err(fault) => return Err(KeyFault::Text(fault)),
-    };
-    match packed_key_of(alloc, t, s, &passage) {
-        Ok(key) => Ok(put_front(key.as_slice(), out)),
-        Err(_) => Err(KeyFault::OutOfMemory),
+    match passage_of(text) {
+        Ok(passage) => put_packed_text_key(alloc, t, s, &passage, out),
+        Err(fault) => Err(KeyFault::Text(fault)),
     }
 }
 
-/// Puts the sort key of a text that was checked into the front of a buffer, or as many of its bytes as fit.
+/// Puts the sort key of a text that was checked into the front of a buffer, or as many of its bytes as fit. That of a short text
+/// needs no allocation.
 pub(crate) fn put_text_key(
     alloc: Global,
     t: &Table,
@@ -80,8 +65,9 @@ pub(crate) fn put_text_key(
 ) -> Result<usize, KeyFault>
     ensures { MakesKeyBy (sort_key t.now s (text_of p.now)) (bytes_of p.now) out.old out.new result }
 {
-    // Shows that the bytes are a safe text.
-    let _text = p.as_str();
+    if p.as_str().len() <= SHORT {
+        return Ok(uca_key::put_key(t, s, p, out));
+    }
     match key_of(alloc, t, s, p) {
         Ok(key) => Ok(put_front(key.as_slice(), out)),
         Err(_) => Err(KeyFault::OutOfMemory),
@@ -98,10 +84,26 @@ pub(crate) fn put_packed_text_key(
 ) -> Result<usize, KeyFault>
     ensures { MakesKeyBy (packed_key t.now s (text_of p.now)) (bytes_of p.now) out.old out.new result }
 {
-    // Shows that the bytes are a safe text.
-    let _text = p.as_str();
+    if p.as_str().len() <= SHORT {
+        return Ok(uca_key::put_packed_key(t, s, p, out));
+    }
     match packed_key_of(alloc, t, s, p) {
         Ok(key) => Ok(put_front(key.as_slice(), out)),
         Err(_) => Err(KeyFault::OutOfMemory),
+    }
+}
+
+/// Writes the sort key of a text into the front of a buffer, or as many of its bytes as fit. It does not allocate.
+pub(crate) fn write_key_of(
+    t: &Table,
+    s: Settings,
+    text: &[u8],
+    out: &mut [u8],
+) -> Result<usize, KeyFault>
+    ensures { WritesKeyBy t.now s text.now out.old out.new result }
+{
+    match passage_of(text) {
+        Ok(passage) => Ok(uca_key::put_key(t, s, &passage, out)),
+        Err(fault) => Err(KeyFault::Text(fault)),
     }
 }

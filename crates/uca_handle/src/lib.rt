@@ -24,7 +24,6 @@ mod loose;
 pub mod matches;
 mod opening;
 pub mod places;
-mod placing;
 pub mod texts;
 
 pub use bounds::BoundsSize;

@@ -2,6 +2,8 @@ pub mod KeyBytes
 pub mod KeySize
 pub mod BoundLemmas
 pub mod KeyPieces
+pub mod PieceLemmas
+pub mod PlacingLemmas
 pub mod UnchangedLevels
 pub mod PackedBytes
 pub mod PackedOrder

@@ -1,29 +1,38 @@
 -- The levels of a packed key.
-use Rattle.std.proofs.Common.{◌≡◌, ℕ, List, [], ◌∷◌, ◌++◌, flat_map, take, sym, ap₂, ◌∙◌, append-nil}
-use Rattle.std.proofs.lemmas.List.Folds.{concat-append}
+use Rattle.std.proofs.Common.{◌≡◌, ℕ, zero, suc, ◌+◌, ◌-◌, List, [], ◌∷◌, ◌++◌, take, refl}
 use Rattle.std.specs.List.{concat}
 use Rattle.unicode_normalization.specs.Forms.{nfd}
-use Rattle.uca_weights.specs.declared.element.Element.{Element}
 use Rattle.uca_weights.specs.declared.settings.Settings.{Settings}
+use Rattle.uca_weights.specs.declared.settings.Strength.{Strength}
+use Rattle.uca_weights.specs.declared.settings.Strength.TheVariants.{Primary, Secondary, Tertiary, Quaternary, Identical}
+use Rattle.uca_weights.specs.declared.settings.Variable.{Variable}
 use Rattle.uca_weights.specs.Settings.{levels}
 use Rattle.uca_weights.specs.VariableWeighting.{weighted}
 use Rattle.uca_model.specs.Table.{ElementTable}
 use Rattle.uca_model.specs.CollationElements.{elements}
-use Rattle.uca_model.specs.SortKey.{code_point_bytes}
-use Rattle.uca_key.specs.PackedKey.{packed_levels, packed_key}
+use Rattle.uca_model.specs.SortKey.{level_bytes}
+use Rattle.uca_key.specs.PackedKey.{later_bytes, packed_levels, packed_key}
 
--- up to four levels are the packed key
-pub packed-few : (t : ElementTable) (s : Settings) (text key : List ℕ) (es : List Element) (n : ℕ) → n ≡ levels s.strength → es ≡ elements t (nfd text) → key ≡ concat (take n (packed_levels (weighted s.weighting es) (nfd text))) → key ≡ packed_key t s text
-unfolding packed_key
-packed-few t s text key es n few is same = same ∙ ap₂ (λ k xs. concat (take k (packed_levels (weighted s.weighting xs) (nfd text)))) few is
+-- the later levels from this one on
+abbrev pub later_levels : ℕ → ℕ → ElementTable → Variable → List ℕ → List ℕ
+later_levels zero level t v text = []
+later_levels (suc n) level t v text = later_bytes t v text level ++ later_levels n (level + 1) t v text
 
--- the fifth level has the code points
-pub packed-identical : (t : ElementTable) (s : Settings) (text key next : List ℕ) (es : List Element) → levels s.strength ≡ 5 → es ≡ elements t (nfd text) → key ≡ concat (take 4 (packed_levels (weighted s.weighting es) (nfd text)))
-    → next ≡ key ++ flat_map code_point_bytes (nfd text) → next ≡ packed_key t s text
+-- all of them after the first, with the separator before them
+abbrev pub after_first : ℕ → ElementTable → Variable → List ℕ → List ℕ
+after_first zero t v text = []
+after_first (suc n) t v text = 0 ∷ 0 ∷ later_levels (suc n) 2 t v text
+
+-- a packed key level by level
+pub packed-levels : (t : ElementTable) (s : Settings) (text : List ℕ) → packed_key t s text ≡ level_bytes (weighted s.weighting (elements t (nfd text))) 1 ++ after_first (levels s.strength - 1) t s.weighting text
 unfolding packed_key
-packed-identical t s text key next es five is same pushed =
-    let all = packed_levels (weighted s.weighting es) (nfd text) in
-    let points : List ℕ = flat_map code_point_bytes (nfd text) in
-    pushed ∙ ap₂ (λ k l. k ++ l) same (sym (append-nil points))
-    ∙ sym (concat-append (take 4 all) (points ∷ []))
-    ∙ ap₂ (λ n xs. concat (take n (packed_levels (weighted s.weighting xs) (nfd text)))) (sym five) is
+packed-levels t s text = of_strength s.strength
+  where
+    ws : List (List ℕ)
+    ws = weighted s.weighting (elements t (nfd text))
+    of_strength : (strength : Strength) → concat (take (levels strength) (packed_levels ws (nfd text))) ≡ level_bytes ws 1 ++ after_first (levels strength - 1) t s.weighting text
+    of_strength Primary = refl
+    of_strength Secondary = refl
+    of_strength Tertiary = refl
+    of_strength Quaternary = refl
+    of_strength Identical = refl

@@ -7,9 +7,11 @@ use Rattle.std.proofs.lemmas.List.Elements.{filter-append}
 use Rattle.uca_weights.specs.declared.element.Element.{Element}
 use Rattle.uca_weights.specs.declared.settings.Variable.TheVariants.{NonIgnorable}
 use Rattle.uca_weights.specs.Element.{weight}
-use Rattle.uca_weights.specs.VariableWeighting.{unchanged, weighted, weighted_after}
+use Rattle.uca_weights.specs.VariableWeighting.{unchanged, weighted, weighted_after, weights}
+use Rattle.uca_weights.specs.Weigher.{WeigherState, after_element, weighted_from}
 use Rattle.uca_model.specs.LevelWeights.{level_weights}
 use Rattle.uca_model.specs.SortKey.{level_bytes, weight_bytes}
+use Rattle.uca_levels.specs.Streams.{weights_from}
 
 -- elements keep their weights, whatever comes before them
 weighted-unchanged : (before es : List Element) → weighted_after NonIgnorable before es ≡ map (λ e. unchanged e 0) es
@@ -77,3 +79,23 @@ pub level_bytes-four : (level : ℕ) (es : List Element) (d : Element) (w x y z 
     → (w ≡ 0 → ⊥) → (x ≡ 0 → ⊥) → (y ≡ 0 → ⊥) → (z ≡ 0 → ⊥) → flat_map weight_bytes (w ∷ x ∷ y ∷ z ∷ []) ≡ level_bytes (weighted NonIgnorable es) level
 level_bytes-four level es d w x y z first last some few is_w is_x is_y is_z w_some x_some y_some z_some =
     ap (flat_map weight_bytes) (sym (level_weights-four level es d w x y z first last some few is_w is_x is_y is_z w_some x_some y_some z_some))
+
+-- ---- elements that a weigher sees later
+
+weighted_from-unchanged : (w : WeigherState) (es : List Element) → w.weighting ≡ NonIgnorable → weighted_from w es ≡ map (λ e. unchanged e 0) es
+weighted_from-unchanged w [] same = refl
+weighted_from-unchanged w (e ∷ es) same =
+    ap₂ (λ ws rest. ws ∷ rest) (ap (λ v. weights v w.after e) same) (weighted_from-unchanged (record w { after = after_element w.after e }) es same)
+
+-- whatever it has seen
+pub weights_from-both : (w : WeigherState) (level : ℕ) (xs ys : List Element) → w.weighting ≡ NonIgnorable → weights_from w level (xs ++ ys) ≡ level_weights level (weighted NonIgnorable xs) ++ weights_from w level ys
+weights_from-both w level xs ys same =
+    let f : Element → List ℕ = λ e. unchanged e 0 in
+    ap (level_weights level) (weighted_from-unchanged w (xs ++ ys) same ∙ map-append f xs ys)
+    ∙ level_weights-append level (map f xs) (map f ys)
+    ∙ sym (ap₂ (λ a b. level_weights level a ++ level_weights level b) (weighted-unchanged [] xs) (weighted_from-unchanged w ys same))
+
+pub bytes_from-both : (w : WeigherState) (level : ℕ) (xs ys : List Element) → w.weighting ≡ NonIgnorable
+    → level_bytes (weighted NonIgnorable xs) level ++ flat_map weight_bytes (weights_from w level ys) ≡ flat_map weight_bytes (weights_from w level (xs ++ ys))
+bytes_from-both w level xs ys same =
+    sym (ap (flat_map weight_bytes) (weights_from-both w level xs ys same) ∙ flat_map-append weight_bytes (level_weights level (weighted NonIgnorable xs)) (weights_from w level ys))

@@ -3,6 +3,7 @@ use Rattle.std.specs.Prelude.{ℕ, ◌+◌, ◌*◌, ◌-◌, ◌==◌, nat_lt, 
 use Rattle.std.specs.List.{concat}
 use Rattle.unicode_normalization.specs.Forms.{nfd}
 use Rattle.uca_weights.specs.declared.settings.Settings.{Settings}
+use Rattle.uca_weights.specs.declared.settings.Variable.{Variable}
 use Rattle.uca_weights.specs.Settings.{levels}
 use Rattle.uca_weights.specs.VariableWeighting.{weighted}
 use Rattle.uca_model.specs.Table.{ElementTable}
@@ -37,3 +38,7 @@ packed_levels ws decomposed = level_bytes ws 1 ∷ (0 ∷ 0 ∷ packed_level ws 
 -- the packed sort key of a text
 unfoldable pub packed_key : ElementTable → Settings → List ℕ → List ℕ
 packed_key t s text = concat (take (levels s.strength) (packed_levels (weighted s.weighting (elements t (nfd text))) (nfd text)))
+
+-- the bytes of a later level, from 2 to 5, of a text
+abbrev pub later_bytes : ElementTable → Variable → List ℕ → ℕ → List ℕ
+later_bytes t v text level = if level == 5 then flat_map code_point_bytes (nfd text) else packed_level (weighted v (elements t (nfd text))) level

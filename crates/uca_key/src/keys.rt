@@ -2,12 +2,14 @@ ghost use Rattle.std.specs.Prelude.{◌≡◌, [], IfOk, IsOk};
 ghost use Rattle.uca_weights.specs.Settings.{levels};
 ghost use Rattle.uca_model.specs.SortKey.{sort_key};
 ghost use Rattle.uca_window.specs.Passage.{bytes_of, text_of};
+ghost use Rattle.uca_key.specs.Form.{key_in};
 ghost use Rattle.uca_key.specs.PackedKey.{packed_key};
 
-use crate::key_maker::KeyMaker;
+use crate::form::{Form, push};
+use crate::placing::{ROOM, SHORT};
 use std::alloc::{AllocError, Global};
 use uca_table::Table;
-use uca_weights::Settings;
+use uca_weights::{Element, Settings};
 use uca_window::Passage;
 
 /// The sort key of a text: the weights of each level that are not zero, each as two bytes, high byte first, with the
@@ -21,8 +23,29 @@ pub fn key_of(alloc: Global, t: &Table, s: Settings, p: &Passage) -> Result<Vec<
     if s.levels() == 1 && p.as_str().is_empty() {
         return Ok(Vec::new(alloc));
     }
+    key_in(alloc, Form::Plain, t, s, p)
+}
+
+// The key of a text in either form. The elements of a short text are held without an allocation.
+fn key_in(
+    alloc: Global,
+    form: Form,
+    t: &Table,
+    s: Settings,
+    p: &Passage,
+) -> Result<Vec<u8>, AllocError>
+    ensures { IfOk result (λ v. v.items ≡ key_in form t.now s (text_of p.now)) }
+{
     let mut key = Vec::new(alloc);
-    KeyMaker::new(alloc).push_key(alloc, t, s, p, &mut key)?;
+    let bytes = p.as_str().len();
+    if bytes <= SHORT {
+        let mut room = [Element::default(); ROOM];
+        push(form, t, s, p, &mut room, &mut key)?;
+        return Ok(key);
+    }
+    let mut elements = Vec::new(alloc);
+    elements.resize(bytes.saturating_add(1), Element::default())?;
+    push(form, t, s, p, elements.as_mut_slice(), &mut key)?;
     Ok(key)
 }
 
@@ -37,7 +60,5 @@ pub fn packed_key_of(
 ) -> Result<Vec<u8>, AllocError>
     ensures { IfOk result (λ v. v.items ≡ packed_key t.now s (text_of p.now)) }
 {
-    let mut key = Vec::new(alloc);
-    KeyMaker::new(alloc).push_packed_key(alloc, t, s, p, &mut key)?;
-    Ok(key)
+    key_in(alloc, Form::Packed, t, s, p)
 }

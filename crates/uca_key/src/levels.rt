@@ -1,9 +1,10 @@
-ghost use Rattle.std.specs.Prelude.{◌≡◌, ◌==◌, ◌+◌, ◌*◌, ◌≤◌, ◌++◌, ◌∷◌, [], ℕ, List, not, length, filter, flat_map, take, OnOk};
+ghost use Rattle.std.specs.Prelude.{◌≡◌, ◌==◌, ◌+◌, ◌*◌, ◌≤◌, ◌++◌, ◌∷◌, [], ℕ, List, not, length, filter, flat_map, take};
+ghost use Rattle.uca_weights.specs.declared.element.Element.{Element};
 ghost use Rattle.uca_weights.specs.declared.settings.Variable.TheVariants.{NonIgnorable};
 ghost use Rattle.uca_weights.specs.VariableWeighting.{unchanged, weighted};
-ghost use Rattle.uca_model.specs.SortKey.{weight_bytes, level_bytes, joined, all_levels, code_point_bytes};
+ghost use Rattle.uca_model.specs.SortKey.{weight_bytes, level_bytes};
+ghost use Rattle.uca_levels.specs.Streams.{weights_from};
 
-use std::alloc::AllocError;
 use uca_weights::{Element, Variable, Weigher};
 
 // Puts a weight to a place of a key, and returns where the next one goes: to the same place after a zero, which is left out.
@@ -30,18 +31,6 @@ fn put_four(key: &mut [u8], at: usize, a: u16, b: u16, c: u16, d: u16)
     let [c_high, c_low] = c.to_be_bytes();
     let [d_high, d_low] = d.to_be_bytes();
     key[at..at + 8].copy_from_slice(&[a_high, a_low, b_high, b_low, c_high, c_low, d_high, d_low]);
-}
-
-// Puts the weight of one level, from 1 to 4, unless it is zero.
-#[inline(always)]
-fn put_weight_of(key: &mut [u8], at: usize, weights: &[u16; 4], level: u8) -> usize
-    requires first { 1 ≤ level }
-    requires last { level ≤ 4 }
-    requires room { at + 2 ≤ length key.old }
-    ensures front { take result key.new ≡ take at key.old ++ level_bytes (weights.now ∷ []) level }
-    ensures within { result ≤ at + 2 }
-{
-    put_weight(key, at, weights[level as usize - 1])
 }
 
 // Puts the weight of an element as the table has it, at a level from 1 to 3, unless it is zero.
@@ -115,95 +104,47 @@ fn put_unchanged_level(key: &mut [u8], from: usize, elements: &[Element], level:
 // Puts the bytes of one level, from 1 to 4, of elements by their variable weighting.
 fn put_weighted_level(
     key: &mut [u8],
-    from: usize,
-    v: Variable,
+    weigher: &mut Weigher,
     elements: &[Element],
     level: u8,
 ) -> usize
     requires first { 1 ≤ level }
     requires last { level ≤ 4 }
-    requires room { from + 2 * length elements.now ≤ length key.old }
-    ensures front { take result key.new ≡ take from key.old ++ level_bytes (weighted v elements.now) level }
-    ensures within { result ≤ from + 2 * length elements.now }
+    requires room { 2 * length elements.now ≤ length key.old }
+    ensures front { (es : List Element) → take result key.new ++ flat_map weight_bytes (weights_from weigher.new level es) ≡ flat_map weight_bytes (weights_from weigher.old level (elements.now ++ es)) }
+    ensures within { result ≤ 2 * length elements.now }
+    ensures weighting { weigher.new.weighting ≡ weigher.old.weighting }
 {
-    let mut at = from;
-    let mut weigher = Weigher::new(v);
+    let mut at = 0;
     for element in elements {
         let weights = weigher.weigh(*element);
-        at = put_weight_of(key, at, &weights, level);
+        at = put_weight(key, at, weights[level as usize - 1]);
     }
     at
 }
 
-// Puts the bytes of one level, from 1 to 4, to a place of a key, and returns where they end. Each level of elements that keep
-// their weights has a loop of its own, which asks for no level.
-fn put_level(key: &mut [u8], at: usize, v: Variable, elements: &[Element], level: u8) -> usize
-    requires first { 1 ≤ level }
-    requires last { level ≤ 4 }
-    requires room { at + 2 * length elements.now ≤ length key.old }
-    ensures front { take result key.new ≡ take at key.old ++ level_bytes (weighted v elements.now) level }
-    ensures within { result ≤ at + 2 * length elements.now }
-{
-    match (v, level) {
-        (Variable::NonIgnorable, 1) => put_unchanged_level(key, at, elements, 1),
-        (Variable::NonIgnorable, 2) => put_unchanged_level(key, at, elements, 2),
-        (Variable::NonIgnorable, 3) => put_unchanged_level(key, at, elements, 3),
-        _ => put_weighted_level(key, at, v, elements, level),
-    }
-}
-
-/// Appends the bytes of one level, from 1 to 4 (UTS #10, section 7.3, step S3).
-pub(crate) fn push_level(
-    key: &mut Vec<u8>,
+/// Puts the bytes of one level, from 1 to 4, of some elements into the front of a piece, and returns how many they are (UTS #10,
+/// section 7.3, step S3). The weigher has seen the elements before them. Each level of elements that keep their weights has a
+/// loop of its own, which asks for no level.
+pub(crate) fn put_level(
+    key: &mut [u8],
     v: Variable,
+    weigher: &mut Weigher,
     elements: &[Element],
     level: u8,
-) -> Result<(), AllocError>
+) -> usize
     requires first { 1 ≤ level }
     requires last { level ≤ 4 }
-    ensures { OnOk result (key.new.items ≡ key.old.items ++ level_bytes (weighted v elements.now) level) }
+    requires option { weigher.old.weighting ≡ v }
+    requires room { 2 * length elements.now ≤ length key.old }
+    ensures front { (es : List Element) → take result key.new ++ flat_map weight_bytes (weights_from weigher.new level es) ≡ flat_map weight_bytes (weights_from weigher.old level (elements.now ++ es)) }
+    ensures within { result ≤ 2 * length elements.now }
+    ensures option { weigher.new.weighting ≡ v }
 {
-    let start = key.len();
-    key.resize(start + 2 * elements.len(), 0)?;
-    let end = put_level(key.as_mut_slice(), start, v, elements, level);
-    key.truncate(end);
-    Ok(())
-}
-
-/// Appends the separator of levels (UTS #10, section 7.3, step S3.2).
-pub(crate) fn push_separator(key: &mut Vec<u8>) -> Result<(), AllocError>
-    ensures { OnOk result (key.new.items ≡ key.old.items ++ 0 ∷ 0 ∷ []) }
-{
-    key.extend_from_slice(&[0, 0])
-}
-
-/// Appends code points, each as three bytes (UTS #10, section 7.3, step S3.10).
-pub(crate) fn push_code_points(key: &mut Vec<u8>, points: &[char]) -> Result<(), AllocError>
-    ensures { OnOk result (key.new.items ≡ key.old.items ++ flat_map code_point_bytes points.now) }
-{
-    for c in points {
-        key.extend_from_slice(&(*c as u32).to_be_bytes()[1..])?;
+    match (v, level) {
+        (Variable::NonIgnorable, 1) => put_unchanged_level(key, 0, elements, 1),
+        (Variable::NonIgnorable, 2) => put_unchanged_level(key, 0, elements, 2),
+        (Variable::NonIgnorable, 3) => put_unchanged_level(key, 0, elements, 3),
+        _ => put_weighted_level(key, weigher, elements, level),
     }
-    Ok(())
-}
-
-/// Appends the first levels, of four, with separators between them. Room for all of them is taken at once.
-pub(crate) fn push_levels(
-    key: &mut Vec<u8>,
-    v: Variable,
-    elements: &[Element],
-    levels: u8,
-) -> Result<(), AllocError>
-    requires first { 1 ≤ levels }
-    requires last { levels ≤ 4 }
-    ensures { OnOk result ((points : List ℕ) → key.new.items ≡ key.old.items ++ joined (take levels (all_levels (weighted v elements.now) points))) }
-{
-    let count = levels as usize;
-    key.reserve(2 * elements.len() * count + 2 * (count - 1))?;
-    push_level(key, v, elements, 1)?;
-    for level in 1..levels {
-        push_separator(key)?;
-        push_level(key, v, elements, level + 1)?;
-    }
-    Ok(())
 }

@@ -7,14 +7,19 @@
 #![tactic(auto)]
 
 pub mod bounds;
+mod form;
 pub mod key_maker;
 pub mod keys;
 pub mod laws;
 mod levels;
-mod packed;
+pub mod packed;
+mod pieces;
+pub mod placing;
 pub mod streaming;
 
 pub use bounds::{PrefixBounds, prefix_bounds};
 pub use key_maker::KeyMaker;
 pub use keys::{key_of, packed_key_of};
+pub use packed::put_packed_key;
+pub use placing::{SHORT, copy_front, put_key};
 pub use streaming::{KeyFault, write_key};

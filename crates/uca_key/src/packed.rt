@@ -1,19 +1,37 @@
-// The levels of packed sort keys.
-ghost use Rattle.std.specs.Prelude.{◌≡◌, ◌≢◌, ◌==◌, ◌<◌, ◌≤◌, ◌++◌, ◌∷◌, [], ℕ, List, not, filter, take, IfOk, OnOk};
-ghost use Rattle.std.specs.List.{concat};
+// Packed sort keys that are put into a buffer piece by piece, level after level.
+ghost use Rattle.std.specs.Prelude.{◌≡◌, ◌≢◌, ◌==◌, ◌+◌, ◌*◌, ◌-◌, ◌^◌, ◌<◌, ◌≤◌, ◌++◌, ◌∷◌, [], ℕ, List, None, not, chars, filter, length, min, take};
+ghost use Rattle.uca_weights.specs.declared.element.Element.{Element};
 ghost use Rattle.uca_weights.specs.declared.settings.Variable.TheVariants.{NonIgnorable};
 ghost use Rattle.uca_weights.specs.VariableWeighting.{weighted};
 ghost use Rattle.uca_model.specs.LevelWeights.{level_weights};
-ghost use Rattle.uca_key.specs.PackedKey.{common_weight, other_bytes, packed_after, packed_level, packed_levels};
+ghost use Rattle.uca_model.specs.SafeText.{IsSafe};
+ghost use Rattle.uca_model.specs.SortKey.{level_bytes};
+ghost use Rattle.uca_levels.specs.Streams.{weights_from};
+ghost use Rattle.uca_window.specs.Passage.{bytes_of, text_of};
+ghost use Rattle.uca_key.specs.PackedKey.{common_weight, later_bytes, other_bytes, packed_after, packed_key, packed_level};
+ghost use Rattle.uca_key.specs.Pieces.{HoldsElements, elements_of, pieces_left};
+ghost use Rattle.uca_key.specs.Placing.{PutsAt, with_front};
 
-use crate::levels::{push_level, push_separator};
-use std::alloc::AllocError;
-use uca_weights::{Element, Variable, Weigher};
+use crate::pieces::{ElementPieces, PIECE, TextReading};
+use crate::placing::{ROOM, put_bytes, put_text, put_weights};
+use uca_table::Table;
+use uca_weights::{Element, Settings, Variable, Weigher};
+use uca_window::Passage;
 
 // How many common weights one byte counts, and that byte.
 const FULL_RUN: u8 = 84;
 
 const FULL_RUN_BYTE: u8 = 0xA9;
+
+/// The most bytes that one weight takes.
+const OTHER: usize = 4;
+
+// How far a level is packed: the place after its bytes, and how many common weights were counted since.
+#[derive(Clone, Copy)]
+struct Packed {
+    at: usize,
+    run: u8,
+}
 
 // The weight that most characters have at a level from 2 to 4.
 #[inline(always)]
@@ -27,189 +45,319 @@ fn common_weight(level: u8) -> u16
     }
 }
 
-// Appends a weight that is not the common one of its level.
-fn push_other(key: &mut Vec<u8>, weight: u16) -> Result<(), AllocError>
-    ensures { OnOk result (key.new.items ≡ key.old.items ++ other_bytes weight) }
+// Puts a weight that is not the common one of its level.
+fn put_other(key: &mut [u8], at: usize, weight: u16) -> usize
+    requires { at + 3 ≤ length key.old }
+    ensures bytes { take result key.new ≡ take at key.old ++ other_bytes weight }
+    ensures within { result ≤ at + 3 }
+    ensures size { length key.new ≡ length key.old }
 {
     if weight < 0xFE {
-        key.push(weight as u8)?;
-        return Ok(());
+        key[at] = weight as u8;
+        return at + 1;
     }
     let [high, low] = weight.to_be_bytes();
-    key.extend_from_slice(&[0xFE, high, low])
+    key[at] = 0xFE;
+    key[at + 1] = high;
+    key[at + 2] = low;
+    at + 3
 }
 
-// Appends a weight that ends a run of common ones, after the byte that says how long the run was.
-fn push_after_run(key: &mut Vec<u8>, common: u16, run: u8, weight: u16) -> Result<(), AllocError>
-    requires few { run < 84 }
+// Puts a weight that ends a run of common ones, after the byte that says how long the run was.
+fn put_after_run(key: &mut [u8], before: Packed, common: u16, weight: u16) -> Packed
+    requires few { before.run < 84 }
     requires other { weight ≢ common }
-    ensures { OnOk result ((ws : List ℕ) → key.new.items ++ packed_after common 0 ws ≡ key.old.items ++ packed_after common run (weight ∷ ws)) }
+    requires room { before.at + 4 ≤ length key.old }
+    ensures bytes { (ws : List ℕ) → take result.at key.new ++ packed_after common result.run ws ≡ take before.at key.old ++ packed_after common before.run (weight ∷ ws) }
+    ensures few { result.run < 84 }
+    ensures within { result.at ≤ before.at + 4 }
+    ensures size { length key.new ≡ length key.old }
 {
     let first = if weight < common {
-        2 * run + 2
+        2 * before.run + 2
     } else {
-        0xFF - run
+        0xFF - before.run
     };
-    key.push(first)?;
-    push_other(key, weight)
+    key[before.at] = first;
+    Packed {
+        at: put_other(key, before.at + 1, weight),
+        run: 0,
+    }
 }
 
-// Appends the end of a level after a run of common weights.
-fn push_end(key: &mut Vec<u8>, run: u8) -> Result<(), AllocError>
-    requires { run < 84 }
-    ensures { OnOk result (key.new.items ≡ key.old.items ++ packed_after 0 run []) }
-{
-    key.push(2 * run + 1)?;
-    Ok(())
-}
-
-// Counts a weight where it is the common one, and appends it where it is another one; a zero is left out. Returns how many
-// common weights are counted now.
+// Counts a weight where it is the common one, and puts it where it is another one; a zero is left out.
 #[inline(always)]
-fn pack_weight(key: &mut Vec<u8>, common: u16, run: u8, weight: u16) -> Result<u8, AllocError>
-    requires few { run < 84 }
+fn pack_weight(key: &mut [u8], before: Packed, common: u16, weight: u16) -> Packed
+    requires few { before.run < 84 }
     requires some { 0 < common }
-    ensures few { IfOk result (λ n. n < 84) }
-    ensures packed { IfOk result (λ n. (ws : List ℕ) → key.new.items ++ packed_after common n ws ≡ key.old.items ++ packed_after common run (filter (λ w. not (w == 0)) (weight ∷ []) ++ ws)) }
+    requires room { before.at + 4 ≤ length key.old }
+    ensures bytes { (ws : List ℕ) → take result.at key.new ++ packed_after common result.run ws ≡ take before.at key.old ++ packed_after common before.run (filter (λ w. not (w == 0)) (weight ∷ []) ++ ws) }
+    ensures few { result.run < 84 }
+    ensures within { result.at ≤ before.at + 4 }
+    ensures size { length key.new ≡ length key.old }
 {
     if weight == common {
-        if run + 1 < FULL_RUN {
-            return Ok(run + 1);
+        if before.run + 1 < FULL_RUN {
+            return Packed {
+                at: before.at,
+                run: before.run + 1,
+            };
         }
-        key.push(FULL_RUN_BYTE)?;
-        return Ok(0);
+        key[before.at] = FULL_RUN_BYTE;
+        return Packed {
+            at: before.at + 1,
+            run: 0,
+        };
     }
     if weight == 0 {
-        return Ok(run);
+        return before;
     }
-    push_after_run(key, common, run, weight)?;
-    Ok(0)
+    put_after_run(key, before, common, weight)
 }
 
 // Packs the weights of elements that keep them, at a level 2 or 3, one after the other.
 #[inline(always)]
-fn pack_each(key: &mut Vec<u8>, run: u8, elements: &[Element], level: u8) -> Result<u8, AllocError>
-    requires few { run < 84 }
+fn pack_each(key: &mut [u8], before: Packed, elements: &[Element], level: u8) -> Packed
+    requires few { before.run < 84 }
     requires first { 2 ≤ level }
     requires last { level ≤ 3 }
-    ensures few { IfOk result (λ n. n < 84) }
-    ensures packed { IfOk result (λ n. (ws : List ℕ) → key.new.items ++ packed_after (common_weight level) n ws ≡ key.old.items ++ packed_after (common_weight level) run (level_weights level (weighted NonIgnorable elements.now) ++ ws)) }
+    requires room { before.at + 4 * length elements.now ≤ length key.old }
+    ensures bytes { (ws : List ℕ) → take result.at key.new ++ packed_after (common_weight level) result.run ws ≡ take before.at key.old ++ packed_after (common_weight level) before.run (level_weights level (weighted NonIgnorable elements.now) ++ ws) }
+    ensures few { result.run < 84 }
+    ensures within { result.at ≤ before.at + 4 * length elements.now }
+    ensures size { length key.new ≡ length key.old }
 {
     let common = common_weight(level);
-    let mut counted = run;
+    let mut packed = before;
     for element in elements {
-        counted = pack_weight(key, common, counted, element.weight(level))?;
+        packed = pack_weight(key, packed, common, element.weight(level));
     }
-    Ok(counted)
+    packed
 }
 
 // The same of four elements at most. Four common weights, as most are, are counted together.
 #[inline(always)]
-fn pack_few(key: &mut Vec<u8>, run: u8, elements: &[Element], level: u8) -> Result<u8, AllocError>
-    requires few { run < 84 }
+fn pack_few(key: &mut [u8], before: Packed, elements: &[Element], level: u8) -> Packed
+    requires few { before.run < 84 }
     requires first { 2 ≤ level }
     requires last { level ≤ 3 }
-    ensures few { IfOk result (λ n. n < 84) }
-    ensures packed { IfOk result (λ n. (ws : List ℕ) → key.new.items ++ packed_after (common_weight level) n ws ≡ key.old.items ++ packed_after (common_weight level) run (level_weights level (weighted NonIgnorable elements.now) ++ ws)) }
+    requires room { before.at + 4 * length elements.now ≤ length key.old }
+    ensures bytes { (ws : List ℕ) → take result.at key.new ++ packed_after (common_weight level) result.run ws ≡ take before.at key.old ++ packed_after (common_weight level) before.run (level_weights level (weighted NonIgnorable elements.now) ++ ws) }
+    ensures few { result.run < 84 }
+    ensures within { result.at ≤ before.at + 4 * length elements.now }
+    ensures size { length key.new ≡ length key.old }
 {
     let common = common_weight(level);
     if let [a, b, c, d] = elements {
         let (first, second) = (a.weight(level), b.weight(level));
         let (third, fourth) = (c.weight(level), d.weight(level));
         let are_common = first == common && second == common && third == common && fourth == common;
-        if are_common && run < FULL_RUN - 4 {
-            return Ok(run + 4);
+        if are_common && before.run < FULL_RUN - 4 {
+            return Packed {
+                at: before.at,
+                run: before.run + 4,
+            };
         }
     }
-    pack_each(key, run, elements, level)
+    pack_each(key, before, elements, level)
 }
 
-// Appends the bytes of one level, 2 or 3, of elements that keep their weights. It is a loop of its own, since most texts come
-// this way.
+// Packs the weights of elements that keep them, at a level 2 or 3. It is a loop of its own, since most texts come this way.
 #[inline(always)]
-fn push_packed_unchanged(
-    key: &mut Vec<u8>,
-    elements: &[Element],
-    level: u8,
-) -> Result<(), AllocError>
+fn pack_unchanged(key: &mut [u8], before: Packed, elements: &[Element], level: u8) -> Packed
+    requires few { before.run < 84 }
     requires first { 2 ≤ level }
     requires last { level ≤ 3 }
-    ensures { OnOk result (key.new.items ≡ key.old.items ++ packed_level (weighted NonIgnorable elements.now) level) }
+    requires room { before.at + 4 * length elements.now ≤ length key.old }
+    ensures bytes { (ws : List ℕ) → take result.at key.new ++ packed_after (common_weight level) result.run ws ≡ take before.at key.old ++ packed_after (common_weight level) before.run (level_weights level (weighted NonIgnorable elements.now) ++ ws) }
+    ensures few { result.run < 84 }
+    ensures within { result.at ≤ before.at + 4 * length elements.now }
+    ensures size { length key.new ≡ length key.old }
 {
-    let mut run = 0;
+    let mut packed = before;
     let mut left = elements;
     while left.len() >= 4 {
         let (four, rest) = left.split_at(4);
-        run = pack_few(key, run, four, level)?;
+        packed = pack_few(key, packed, four, level);
         left = rest;
     }
-    let end = pack_each(key, run, left, level)?;
-    push_end(key, end)
+    pack_each(key, packed, left, level)
 }
 
-// Appends the bytes of one level, from 2 to 4, of elements by their variable weighting.
-fn push_packed_weighted(
-    key: &mut Vec<u8>,
-    v: Variable,
+// Packs the weights of some elements, at a level from 2 to 4, by their variable weighting. The weigher has seen those before them.
+fn pack_weighted(
+    key: &mut [u8],
+    before: Packed,
+    weigher: &mut Weigher,
     elements: &[Element],
     level: u8,
-) -> Result<(), AllocError>
+) -> Packed
+    requires few { before.run < 84 }
     requires first { 2 ≤ level }
     requires last { level ≤ 4 }
-    ensures { OnOk result (key.new.items ≡ key.old.items ++ packed_level (weighted v elements.now) level) }
+    requires room { before.at + 4 * length elements.now ≤ length key.old }
+    ensures bytes { (es : List Element) → take result.at key.new ++ packed_after (common_weight level) result.run (weights_from weigher.new level es) ≡ take before.at key.old ++ packed_after (common_weight level) before.run (weights_from weigher.old level (elements.now ++ es)) }
+    ensures few { result.run < 84 }
+    ensures within { result.at ≤ before.at + 4 * length elements.now }
+    ensures option { weigher.new.weighting ≡ weigher.old.weighting }
 {
     let common = common_weight(level);
-    let mut run = 0;
-    let mut weigher = Weigher::new(v);
+    let mut packed = before;
     for element in elements {
         let weights = weigher.weigh(*element);
-        run = pack_weight(key, common, run, weights[level as usize - 1])?;
+        packed = pack_weight(key, packed, common, weights[level as usize - 1]);
     }
-    push_end(key, run)
+    packed
 }
 
-// Appends the bytes of one level, from 2 to 4.
-fn push_packed_level(
-    key: &mut Vec<u8>,
+// Packs the weights of some elements into the front of a piece, at a level from 2 to 4, after a run of common weights.
+fn pack(
+    key: &mut [u8],
+    run: u8,
     v: Variable,
+    weigher: &mut Weigher,
     elements: &[Element],
     level: u8,
-) -> Result<(), AllocError>
+) -> Packed
+    requires few { run < 84 }
     requires first { 2 ≤ level }
     requires last { level ≤ 4 }
-    ensures { OnOk result (key.new.items ≡ key.old.items ++ packed_level (weighted v elements.now) level) }
+    requires option { weigher.old.weighting ≡ v }
+    requires room { 4 * length elements.now ≤ length key.old }
+    ensures bytes { (es : List Element) → take result.at key.new ++ packed_after (common_weight level) result.run (weights_from weigher.new level es) ≡ packed_after (common_weight level) run (weights_from weigher.old level (elements.now ++ es)) }
+    ensures few { result.run < 84 }
+    ensures within { result.at ≤ 4 * length elements.now }
+    ensures option { weigher.new.weighting ≡ v }
 {
+    let before = Packed { at: 0, run };
     match (v, level) {
-        (Variable::NonIgnorable, 2) => push_packed_unchanged(key, elements, 2),
-        (Variable::NonIgnorable, 3) => push_packed_unchanged(key, elements, 3),
-        _ => push_packed_weighted(key, v, elements, level),
+        (Variable::NonIgnorable, 2) => pack_unchanged(key, before, elements, 2),
+        (Variable::NonIgnorable, 3) => pack_unchanged(key, before, elements, 3),
+        _ => pack_weighted(key, before, weigher, elements, level),
     }
 }
 
-/// Appends the first levels, of four. Room for most of them is taken at once.
-pub(crate) fn push_packed_levels(
-    key: &mut Vec<u8>,
+// Puts a packed level, from 2 to 4, of elements that are left.
+fn put_packed(
     v: Variable,
-    elements: &[Element],
-    levels: u8,
-) -> Result<(), AllocError>
-    requires first { 1 ≤ levels }
-    requires last { levels ≤ 4 }
-    ensures { OnOk result ((points : List ℕ) → key.new.items ≡ key.old.items ++ concat (take levels (packed_levels (weighted v elements.now) points))) }
+    level: u8,
+    pieces: &mut ElementPieces,
+    room: &mut [Element],
+    at: usize,
+    out: &mut [u8],
+) -> usize
+    requires first { 2 ≤ level }
+    requires last { level ≤ 4 }
+    requires some { 0 < length room.old }
+    requires within { pieces.old.read ≤ length room.old }
+    requires place { at < 2 ^ 64 }
+    requires size { length out.old < 2 ^ 64 }
+    ensures bytes { PutsAt at (packed_level (weighted v (pieces_left pieces.old room.old)) level) out.old out.new result }
+    ensures kept { pieces.old.left ≡ None → room.new ≡ room.old }
+    ensures room { length room.new ≡ length room.old }
 {
-    key.reserve(2 * elements.len() + 16)?;
-    push_level(key, v, elements, 1)?;
-    if levels == 1 {
-        return Ok(());
+    let mut weigher = Weigher::new(v);
+    let mut bytes = [0; OTHER * PIECE];
+    let mut run = 0;
+    let mut next = at;
+    'each: loop {
+        let (from, to) = pieces.next(room);
+        if from == to {
+            return put_bytes(&[2 * run + 1], next, out);
+        }
+        let packed = pack(&mut bytes, run, v, &mut weigher, &room[from..to], level);
+        next = put_bytes(&bytes[..packed.at], next, out);
+        run = packed.run;
     }
-    push_separator(key)?;
-    push_packed_level(key, v, elements, 2)?;
-    if levels == 2 {
-        return Ok(());
+}
+
+// Puts the first level of a text that was read into room, which is that of its sort key.
+fn put_first(
+    reading: &TextReading,
+    v: Variable,
+    room: &mut [Element],
+    at: usize,
+    out: &mut [u8],
+) -> usize
+    requires place { at < 2 ^ 64 }
+    requires some { 0 < length room.old }
+    requires holds { HoldsElements reading.now room.old }
+    requires size { length out.old < 2 ^ 64 }
+    ensures bytes { PutsAt at (level_bytes (weighted v (elements_of reading.now)) 1) out.old out.new result }
+    ensures holds { HoldsElements reading.now room.new }
+    ensures room { length room.new ≡ length room.old }
+{
+    let mut pieces = reading.pieces(room);
+    put_weights(v, 1, &mut pieces, room, at, out)
+}
+
+// Puts a later level of a text that was read into room, from 2 to 5.
+fn put_later(
+    reading: &TextReading,
+    v: Variable,
+    level: u8,
+    room: &mut [Element],
+    at: usize,
+    out: &mut [u8],
+) -> usize
+    requires first { 2 ≤ level }
+    requires last { level ≤ 5 }
+    requires some { 0 < length room.old }
+    requires holds { HoldsElements reading.now room.old }
+    requires place { at < 2 ^ 64 }
+    requires size { length out.old < 2 ^ 64 }
+    ensures bytes { PutsAt at (later_bytes reading.now.table.now v (chars reading.now.text.now) level) out.old out.new result }
+    ensures holds { HoldsElements reading.now room.new }
+    ensures room { length room.new ≡ length room.old }
+{
+    if level == 5 {
+        return put_text(reading.table, v, reading.text, at, out);
     }
-    push_packed_level(key, v, elements, 3)?;
-    if levels == 3 {
-        return Ok(());
+    let mut pieces = reading.pieces(room);
+    put_packed(v, level, &mut pieces, room, at, out)
+}
+
+/// Puts the packed sort key of a text at a place of a buffer, level after level. Its elements are read into room.
+pub(crate) fn put_packed_levels(
+    t: &Table,
+    s: Settings,
+    text: &str,
+    room: &mut [Element],
+    at: usize,
+    out: &mut [u8],
+) -> usize
+    requires safe { IsSafe (chars text.now) }
+    requires some { 0 < length room.old }
+    requires place { at < 2 ^ 64 }
+    requires size { length out.old < 2 ^ 64 }
+    ensures bytes { PutsAt at (packed_key t.now s (chars text.now)) out.old out.new result }
+    ensures room { length room.new ≡ length room.old }
+{
+    let last = s.levels();
+    let reading = TextReading::new(t, text, room);
+    let mut next = put_first(&reading, s.weighting, room, at, out);
+    if last == 1 {
+        return next;
     }
-    push_packed_level(key, v, elements, 4)
+    next = put_bytes(&[0, 0], next, out);
+    let mut level = 1;
+    'each: while level < last {
+        level += 1;
+        next = put_later(&reading, s.weighting, level, room, next, out);
+    }
+    next
+}
+
+/// Puts the packed sort key of a text into the front of a buffer, or as many of its bytes as fit, and returns how many it has, or
+/// `usize::MAX` where it has more than that. It does not allocate.
+pub fn put_packed_key(t: &Table, s: Settings, p: &Passage, out: &mut [u8]) -> usize
+    ensures size { result ≡ min (length (packed_key t.now s (text_of p.now))) (2 ^ 64 - 1) }
+    ensures exact { length (bytes_of p.now) ≤ 65536 → result ≡ length (packed_key t.now s (text_of p.now)) }
+    ensures front { out.new ≡ with_front (packed_key t.now s (text_of p.now)) out.old }
+{
+    let _room = out.len();
+    // Shows that the table is one.
+    let _longest = t.longest();
+    let mut room = [Element::default(); ROOM];
+    put_packed_levels(t, s, p.as_str(), &mut room, 0, out)
 }

@@ -1,18 +1,25 @@
-ghost use Rattle.std.specs.Prelude.{◌≡◌, ◌+◌, ◌<◌, ◌≤◌, ◌^◌, [], ◌∷◌, chars, length, MatchResult};
+ghost use Rattle.std.specs.Prelude.{◌≡◌, ◌+◌, ◌<◌, ◌≤◌, ◌^◌, [], ◌∷◌, None, chars, flat_map, length, MatchResult};
+ghost use Rattle.uca_weights.specs.VariableWeighting.{weighted};
 ghost use Rattle.uca_io.specs.OutputBuffer.{accepted, Accepts, FailsPartway};
 ghost use Rattle.uca_io.specs.Writer.{WritesAll, WritesFront};
-ghost use Rattle.uca_model.specs.LevelWeights.{level_list};
+ghost use Rattle.uca_model.specs.LevelWeights.{level_list, level_weights};
 ghost use Rattle.uca_model.specs.DecidingLevel.{bytes_at};
 ghost use Rattle.uca_model.specs.SafeText.{IsSafe};
 ghost use Rattle.uca_model.specs.SortKey.{weight_bytes, code_point_bytes, sort_key};
 ghost use Rattle.uca_model.specs.Source.{unread};
 ghost use Rattle.uca_window.specs.Passage.{text_of};
 ghost use Rattle.uca_key.specs.Faults.{write_fault};
+ghost use Rattle.uca_key.specs.Pieces.{HoldsElements, pieces_left};
 
+use crate::levels::put_level;
+use crate::pieces::{ElementPieces, PIECE, TextReading};
+use crate::placing::ROOM;
 use uca_io::OutputBuffer;
-use uca_levels::{Points, TextWeights};
+use uca_levels::Points;
 use uca_table::Table;
-use uca_weights::{Settings, Variable, WriteCause, WriteFault, Writer};
+use uca_weights::{
+    Element, Settings, Variable, Weigher, WriteCause, WriteFault, Writer,
+};
 use uca_window::{Passage, PassageSource, Source};
 
 /// How far the bytes of a key came, and why they stopped.
@@ -44,16 +51,6 @@ fn stopped(fault: WriteFault) -> KeyFault
     }
 }
 
-// Has a weight go out.
-fn send_weight<W: Writer>(w: &mut W, out: &mut OutputBuffer, weight: u16) -> Result<(), WriteFault>
-    requires { accepted out.old + 2 < 2 ^ 128 }
-    ensures { MatchResult result
-        (λ _. Accepts (W.state w.old) out.old (W.state w.new) out.new (weight_bytes weight))
-        (λ f. FailsPartway (W.state w.old) out.old (W.state w.new) (weight_bytes weight) f) }
-{
-    out.write(w, &weight.to_be_bytes())
-}
-
 // Has a code point go out.
 fn send_point<W: Writer>(w: &mut W, out: &mut OutputBuffer, point: char) -> Result<(), WriteFault>
     requires { accepted out.old + 3 < 2 ^ 128 }
@@ -74,31 +71,39 @@ fn send_separator<W: Writer>(w: &mut W, out: &mut OutputBuffer) -> Result<(), Wr
     out.write(w, &[0, 0])
 }
 
-// Has the weights of a level of a text go out.
+// Has the weights of a level go out, of elements that are left.
 fn send_weights<W: Writer>(
     w: &mut W,
     out: &mut OutputBuffer,
-    t: &Table,
     v: Variable,
     level: u8,
-    text: &str,
+    pieces: &mut ElementPieces,
+    room: &mut [Element],
 ) -> Result<(), WriteFault>
     requires first { 1 ≤ level }
     requires last { level ≤ 4 }
-    requires safe { IsSafe (chars text.now) }
-    requires room { accepted out.old + length (bytes_at level (level_list t.now v (chars text.now) level)) < 2 ^ 128 }
-    ensures { MatchResult result
-        (λ _. Accepts (W.state w.old) out.old (W.state w.new) out.new (bytes_at level (level_list t.now v (chars text.now) level)))
-        (λ f. FailsPartway (W.state w.old) out.old (W.state w.new) (bytes_at level (level_list t.now v (chars text.now) level)) f) }
+    requires some { 0 < length room.old }
+    requires within { pieces.old.read ≤ length room.old }
+    requires count { accepted out.old + length (flat_map weight_bytes (level_weights level (weighted v (pieces_left pieces.old room.old)))) < 2 ^ 128 }
+    ensures bytes { MatchResult result
+        (λ _. Accepts (W.state w.old) out.old (W.state w.new) out.new (flat_map weight_bytes (level_weights level (weighted v (pieces_left pieces.old room.old)))))
+        (λ f. FailsPartway (W.state w.old) out.old (W.state w.new) (flat_map weight_bytes (level_weights level (weighted v (pieces_left pieces.old room.old)))) f) }
+    ensures kept { pieces.old.left ≡ None → room.new ≡ room.old }
+    ensures room { length room.new ≡ length room.old }
 {
-    let mut weights = TextWeights::new(t, v, level, text);
-    'each: while let Some(weight) = weights.next() {
-        match send_weight(w, out, weight) {
+    let mut weigher = Weigher::new(v);
+    let mut bytes = [0; 2 * PIECE];
+    'each: loop {
+        let (from, to) = pieces.next(room);
+        if from == to {
+            return Ok(());
+        }
+        let size = put_level(&mut bytes, v, &mut weigher, &room[from..to], level);
+        match out.write(w, &bytes[..size]) {
             Ok(()) => {}
             Err(fault) => return Err(fault),
         }
     }
-    Ok(())
 }
 
 // Has the code points in NFD go out, of what a source has not given yet.
@@ -126,28 +131,32 @@ fn send_points<W: Writer, S: Source>(
     Ok(())
 }
 
-// Has one level of a text go out.
+// Has one level of a text go out that was read into room.
 fn send_level<W: Writer>(
     w: &mut W,
     out: &mut OutputBuffer,
-    t: &Table,
+    reading: &TextReading,
     v: Variable,
     level: u8,
-    text: &str,
+    room: &mut [Element],
 ) -> Result<(), WriteFault>
     requires first { 1 ≤ level }
     requires last { level ≤ 5 }
-    requires safe { IsSafe (chars text.now) }
-    requires room { accepted out.old + length (bytes_at level (level_list t.now v (chars text.now) level)) < 2 ^ 128 }
-    ensures { MatchResult result
-        (λ _. Accepts (W.state w.old) out.old (W.state w.new) out.new (bytes_at level (level_list t.now v (chars text.now) level)))
-        (λ f. FailsPartway (W.state w.old) out.old (W.state w.new) (bytes_at level (level_list t.now v (chars text.now) level)) f) }
+    requires some { 0 < length room.old }
+    requires holds { HoldsElements reading.now room.old }
+    requires count { accepted out.old + length (bytes_at level (level_list reading.now.table.now v (chars reading.now.text.now) level)) < 2 ^ 128 }
+    ensures bytes { MatchResult result
+        (λ _. Accepts (W.state w.old) out.old (W.state w.new) out.new (bytes_at level (level_list reading.now.table.now v (chars reading.now.text.now) level)))
+        (λ f. FailsPartway (W.state w.old) out.old (W.state w.new) (bytes_at level (level_list reading.now.table.now v (chars reading.now.text.now) level)) f) }
+    ensures holds { HoldsElements reading.now room.new }
+    ensures room { length room.new ≡ length room.old }
 {
     if level == 5 {
-        let mut source = PassageSource::new(&Passage::of_safe(text));
-        return send_points(w, out, t, v, &mut source);
+        let mut source = PassageSource::new(&Passage::of_safe(reading.text));
+        return send_points(w, out, reading.table, v, &mut source);
     }
-    send_weights(w, out, t, v, level, text)
+    let mut pieces = reading.pieces(room);
+    send_weights(w, out, v, level, &mut pieces, room)
 }
 
 // Has the sort key of a text go out, level after level.
@@ -165,9 +174,11 @@ fn send_key<W: Writer>(
         (λ f. FailsPartway (W.state w.old) out.old (W.state w.new) (sort_key t.now s (chars text.now)) f) }
 {
     let last = s.levels();
+    let mut room = [Element::default(); ROOM];
+    let reading = TextReading::new(t, text, &mut room);
     let mut level = 1;
     'each: loop {
-        match send_level(w, out, t, s.weighting, level, text) {
+        match send_level(w, out, &reading, s.weighting, level, &mut room) {
             Ok(()) => {}
             Err(fault) => return Err(fault),
         }
@@ -201,8 +212,8 @@ fn show_room(t: &Table, s: Settings, p: &Passage)
 /// Writes the sort key of a text, and returns its length in bytes (UTS #10, section 7.3). On a fault exactly the first
 /// `written` bytes of the key went out. It does not allocate, and does not flush the writer.
 ///
-/// The text is read level after level, through [`TextWeights`] or through [`Points`]. So at most `MAX_LOOKAHEAD` of its code
-/// points more than the longest key has are held at a time.
+/// The elements of a short text are read once and held; those of a longer one are read once a level, in pieces. Of its code points
+/// at most `MAX_LOOKAHEAD` more than the longest key has are held at a time.
 pub fn write_key<W: Writer>(
     w: &mut W,
     t: &Table,

@@ -12,18 +12,12 @@ use Rattle.uca_model.specs.SafeText.{IsSafe}
 use Rattle.uca_model.proofs.StandAloneLemmas.{apart-before, apart-end}
 use Rattle.uca_model.proofs.PrefixLemmas.{first_level-is, first_level-append}
 use Rattle.uca_model.proofs.LevelLemmas.{OrdersLevel-front}
-use Rattle.uca_levels.specs.WithoutFront.{AreApart, JoinsNothing}
-use Rattle.uca_levels.proofs.TextLemmas.{IsSafe-rest}
+use Rattle.uca_match.specs.JoinsNothing.{JoinsNothing}
+use Rattle.uca_match.proofs.TextLemmas.{IsSafe-rest, elements-apart}
+use Rattle.uca_levels.specs.WithoutFront.{AreApart}
 
 primaries-append : (v : Variable) (es fs : List Element) → level_weights 1 (weighted v (es ++ fs)) ≡ level_weights 1 (weighted v es) ++ level_weights 1 (weighted v fs)
 primaries-append v es fs = first_level-is v (es ++ fs) ∙ first_level-append v es fs ∙ sym (ap₂ (λ a b. a ++ b) (first_level-is v es) (first_level-is v fs))
-
-pub elements-apart : (t : ElementTable) (front left : List ℕ) → JoinsNothing t left → elements t (nfd (front ++ left)) ≡ elements t (nfd front) ++ elements t (nfd left)
-elements-apart t front left joins =
-    elim joins [
-      | inl none ↦ ap (λ l. elements t (nfd (front ++ l))) none ∙ apart-end t front ∙ ap (λ l. elements t (nfd front) ++ elements t (nfd l)) (sym none)
-      | inr some ↦ ap (λ l. elements t (nfd (front ++ l))) some.same ∙ apart-before t front some.later some.c (omega (arith, some.apart)) ∙ ap (λ l. elements t (nfd front) ++ elements t (nfd l)) (sym some.same)
-    ]
 
 -- what joins nothing adds its weights to those of what comes before it
 lists-apart : (t : ElementTable) (v : Variable) (front left : List ℕ) → JoinsNothing t left → level_list t v (front ++ left) 1 ≡ level_list t v front 1 ++ level_list t v left 1

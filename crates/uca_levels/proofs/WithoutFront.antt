@@ -28,6 +28,7 @@ use Rattle.uca_model.proofs.EquivalenceLemmas.{level-orders, order-itself}
 use Rattle.uca_model.proofs.SafeLemmas.{nfd-is, safe_none}
 use Rattle.uca_model.proofs.StandAloneLemmas.{elements_none}
 use Rattle.uca_model.proofs.SafeCutLemmas.{IsCut-from, level_list-cut, IsSafe-back}
+use Rattle.uca_match.proofs.TextLemmas.{parts-at}
 use Rattle.uca_levels.specs.WithoutFront.{MayFollow, AreLeft, AreWithoutFront}
 
 -- ---- level lists
@@ -134,11 +135,6 @@ left-none t s a b x y h none_x none_y =
     ap (λ u. key_order (sort_key t s a) (sort_key t s u)) (h.second ∙ ap (λ l. h.front ++ l) (none_y ∙ sym none_x) ∙ sym h.first) ∙ order-itself (sort_key t s a)
 
 -- ---- their bytes
-
--- the characters before a place and those after it
-pub parts-at : (text left : List ℕ) (at : ℕ) → IsUtf8 text → IsCharBoundary text at → left ≡ drop at text → chars text ≡ chars (take at text) ++ chars left
-parts-at text left at utf8 inside e =
-    ap chars (sym (take-append-drop at text)) ∙ chars-append (take at text) (drop at text) (IsUtf8-take text at utf8 inside) ∙ ap (λ l. chars (take at text) ++ chars l) (sym e)
 
 -- what is left from a place on, up to which the bytes are the same
 pub left-at : (Follows : List ℕ → Type 0) (a b x y : List ℕ) (at : ℕ) → IsUtf8 a → IsUtf8 b → IsCharBoundary a at → IsCharBoundary b at → take at a ≡ take at b → x ≡ drop at a → y ≡ drop at b

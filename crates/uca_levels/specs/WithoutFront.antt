@@ -2,7 +2,7 @@
 use Rattle.std.specs.Prelude.{◌≡◌, ◌⊎◌, ℕ, true, List, [], ◌∷◌, ◌++◌}
 use Rattle.uca_model.specs.Table.{ElementTable}
 use Rattle.uca_model.specs.SafeCut.{is_cut}
-use Rattle.uca_model.specs.StandAlone.{joining}
+use Rattle.uca_match.specs.JoinsNothing.{JoinsNothing}
 
 -- a text begins with a character before which it may be cut
 pub record BeginsWithCut (t : ElementTable) (text : List ℕ) : Type 0 where
@@ -14,17 +14,6 @@ pub record BeginsWithCut (t : ElementTable) (text : List ℕ) : Type 0 where
 -- a text may follow any other, and keeps its elements: it is empty, or begins with such a character
 abbrev pub MayFollow : ElementTable → List ℕ → Type 0
 MayFollow t text = (text ≡ []) ⊎ BeginsWithCut t text
-
--- a text begins with a character that joins nothing
-pub record BeginsApart (t : ElementTable) (text : List ℕ) : Type 0 where
-  pub c : ℕ
-  pub later : List ℕ
-  pub same : text ≡ c ∷ later
-  pub apart : joining t c ≡ 0
-
--- a text joins nothing that comes before it: it is empty, or begins with such a character
-abbrev pub JoinsNothing : ElementTable → List ℕ → Type 0
-JoinsNothing t text = (text ≡ []) ⊎ BeginsApart t text
 
 -- these are left of two texts after a front that they have in common, and both are of such a kind if there is one
 pub record AreLeft (Follows : List ℕ → Type 0) (a b left_a left_b : List ℕ) : Type 0 where

@@ -2,9 +2,10 @@ ghost use Rattle.std.specs.Prelude.{◌≡◌, IsTrue, chars, length, take, ◌+
 ghost use Rattle.std.specs.Str.{IsCharBoundary};
 ghost use Rattle.std.specs.Simd.Lanes.{chunk};
 ghost use Rattle.uca_model.specs.SafeCut.{is_cut};
-ghost use Rattle.uca_levels.specs.WithoutFront.{AreApart, AreWithoutFront, JoinsNothing, MayFollow};
+ghost use Rattle.uca_levels.specs.WithoutFront.{AreApart, AreWithoutFront, MayFollow};
 
 use std::simd::prelude::*;
+use uca_match::joins_nothing;
 use uca_table::Table;
 
 /// How many bytes are looked at together.
@@ -101,16 +102,6 @@ pub(crate) fn without_front<'t>(
         at -= 1;
     }
     (a, b)
-}
-
-/// Whether a text joins nothing before it.
-pub(crate) fn joins_nothing(t: &Table, text: &str) -> bool
-    ensures { IsTrue result → JoinsNothing t.now (chars text.now) }
-{
-    match text.chars().next() {
-        Some(c) => t.joins_nothing(c),
-        None => true,
-    }
 }
 
 /// What is left of two texts from the last place on at which neither joins what is before it, of those in the bytes that they

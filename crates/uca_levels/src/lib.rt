@@ -16,7 +16,6 @@ mod first_weight;
 mod level_order;
 pub mod points;
 mod stream;
-mod stretch;
 pub mod text_order;
 pub mod text_weights;
 pub mod weights;

@@ -11,7 +11,7 @@ ghost use Rattle.uca_levels.specs.Streams.{given_before};
 
 use crate::cell_weights::CellWeights;
 use crate::stream::{NotAlone, WeightStream};
-use crate::stretch::{Stretch, split_stretch};
+use uca_match::{Stretch, split_stretch};
 use uca_table::Table;
 use uca_weights::{Element, Variable};
 
@@ -33,7 +33,8 @@ pub struct TextWeights<'t> {
 }
 
 impl<'t> TextWeights<'t> {
-    ghost use Rattle.uca_levels.specs.TextWeights.{held_back, points_held, stretch_left, weights_left};
+    ghost use Rattle.uca_match.specs.Stretches.{stretch_left};
+    ghost use Rattle.uca_levels.specs.TextWeights.{held_back, points_held, weights_left};
 
     /// The weights of a text at a level from 1 to 4, of which none was given yet.
     pub fn new(t: &'t Table, v: Variable, level: u8, text: &'t str) -> TextWeights<'t>

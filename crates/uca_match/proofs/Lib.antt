@@ -4,3 +4,4 @@ pub mod KeyLemmas
 pub mod MatchesLemmas
 pub mod FoundLemmas
 pub mod CompletenessLemmas
+pub mod TextLemmas

@@ -4,3 +4,5 @@ pub mod RemainingElements
 pub mod Keys
 pub mod Matches
 pub mod Found
+pub mod JoinsNothing
+pub mod Stretches

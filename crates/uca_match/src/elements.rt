@@ -12,11 +12,11 @@ ghost use Rattle.uca_match.specs.Found.{IsFound, points_of};
 ghost use Rattle.uca_match.specs.Yields.{Yields};
 ghost use Rattle.uca_match.specs.RemainingElements.{new_elements, remaining_elements, window_of, waiting_of, is_asking, YieldsHeld};
 
+use crate::text_elements::TextElements;
 use crate::window_match::{WindowMatch, next_match};
 use std::alloc::{AllocError, Global};
 use std::marker::Model;
 use uca_table::Table;
-use uca_table::cells::push_few;
 use uca_weights::Element;
 use uca_window::{Passage, Source, Window};
 
@@ -29,57 +29,9 @@ pub fn elements_of(alloc: Global, t: &Table, p: &Passage) -> Result<Vec<Element>
     if p.as_str().is_empty() {
         return Ok(Vec::new(alloc));
     }
-    let mut text = Vec::new(alloc);
-    let mut elements = Vec::new(alloc);
-    read_elements(alloc, t, p, &mut text, &mut elements)?;
-    Ok(elements)
-}
-
-/// Sets `out` to the collation elements of a text, whatever it held before. `text` is a buffer for characters. Where both have capacity
-/// from an earlier text, most texts need no allocation.
-pub fn read_elements(
-    alloc: Global,
-    t: &Table,
-    p: &Passage,
-    text: &mut Vec<char>,
-    out: &mut Vec<Element>,
-) -> Result<(), AllocError>
-    ensures { OnOk result (out.new.items ≡ elements t.now (nfd (text_of p.now))) }
-{
-    out.clear();
-    let rest = push_alone(out, t, p.as_str())?;
-    if rest.is_empty() {
-        return Ok(());
-    }
-    text.clear();
-    push_chars(text, rest)?;
-    out.reserve(text.len())?;
-    t.push_elements(alloc, out, text)
-}
-
-// Appends the elements of the first characters of a text, as far as each stands alone, and returns the text after them. Most
-// texts are read to their end here, without a copy of their characters.
-fn push_alone<'s>(out: &mut Vec<Element>, t: &Table, text: &'s str) -> Result<&'s str, AllocError>
-    ensures { IfOk result (λ rest. out.new.items ++ elements t.now (nfd (chars rest.now)) ≡ out.old.items ++ elements t.now (nfd (chars text.now))) }
-{
-    let mut left = text.chars();
-    'characters: loop {
-        let rest = left.as_str();
-        let Some(c) = left.next() else {
-            return Ok(rest);
-        };
-        let Some(alone) = t.alone_before(c, left.as_str()) else {
-            return Ok(rest);
-        };
-        push_few(out, alone)?;
-    }
-}
-
-// Appends the characters of a text.
-fn push_chars(out: &mut Vec<char>, text: &str) -> Result<(), AllocError>
-    ensures { OnOk result (out.new.items ≡ out.old.items ++ chars text.now) }
-{
-    out.extend(text.chars())
+    let mut out = Vec::new(alloc);
+    TextElements::new(t, p.as_str()).push_all(&mut out)?;
+    Ok(out)
 }
 
 // The elements of a match: the first, and the others. Those of a key are borrowed from the table; an implicit pair is made.

@@ -9,9 +9,13 @@ pub mod completeness;
 pub mod elements;
 pub mod keys;
 pub mod matches;
+pub mod stretch;
+pub mod text_elements;
 mod window_match;
 
 pub use completeness::is_complete;
-pub use elements::{Elements, elements_of, read_elements};
+pub use elements::{Elements, elements_of};
 pub use keys::Keys;
 pub use matches::{Match, matches_of, matches_of_points};
+pub use stretch::{Stretch, joins_nothing, split_stretch};
+pub use text_elements::TextElements;

@@ -1,13 +1,13 @@
-use Rattle.std.proofs.Common.{◌≡◌, ◌+◌, ◌*◌, ◌≤◌, ◌++◌, take, drop}
-use Rattle.uca_weights.specs.VariableWeighting.{weighted, weighted_after}
-use Rattle.uca_weights.specs.Weigher.{HasSeen}
-use Rattle.uca_model.specs.SortKey.{level_bytes}
+use Rattle.std.proofs.Common.{◌≡◌, ◌*◌, ◌≤◌, ◌++◌, List, take, drop, flat_map}
+use Rattle.uca_weights.specs.declared.element.Element.{Element}
+use Rattle.uca_model.specs.SortKey.{weight_bytes}
+use Rattle.uca_levels.specs.Streams.{weights_from}
 use Rattle.uca_key.proofs.levels.put_weighted_level.Given as goal
 
 -- what is put and the bytes of what is left are the bytes of all
 abbrev pub invariant-loop-element : goal.invariant-loop-element
 invariant-loop-element l = record {
-  seen : HasSeen l.fn.v l.weigher (take l.element-index l.elements);
-  within : l.at ≤ l.from + 2 * l.element-index;
-  same : take l.at l.key ++ level_bytes (weighted_after l.fn.v (take l.element-index l.elements) (drop l.element-index l.elements)) l.level ≡ take l.from l.fn.key ++ level_bytes (weighted l.fn.v l.elements) l.level;
+  within : l.at ≤ 2 * l.element-index;
+  option : l.weigher.weighting ≡ l.fn.weigher.weighting;
+  same : (es : List Element) → take l.at l.key ++ flat_map weight_bytes (weights_from l.weigher l.level (drop l.element-index l.elements ++ es)) ≡ flat_map weight_bytes (weights_from l.fn.weigher l.level (l.elements ++ es));
 }

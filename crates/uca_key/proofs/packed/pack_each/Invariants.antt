@@ -1,4 +1,4 @@
-use Rattle.std.proofs.Common.{◌≡◌, ◌<◌, ◌++◌, ℕ, List, take, drop}
+use Rattle.std.proofs.Common.{◌≡◌, ◌+◌, ◌*◌, ◌<◌, ◌≤◌, ◌++◌, ℕ, List, length, take, drop}
 use Rattle.uca_weights.specs.declared.settings.Variable.TheVariants.{NonIgnorable}
 use Rattle.uca_weights.specs.VariableWeighting.{weighted, weighted_after}
 use Rattle.uca_model.specs.LevelWeights.{level_weights}
@@ -8,6 +8,8 @@ use Rattle.uca_key.proofs.packed.pack_each.Given as goal
 -- what is packed, what is left and what follows are packed as all is
 abbrev pub invariant-loop-element : goal.invariant-loop-element
 invariant-loop-element l = record {
-  few : l.counted < 84;
-  same : (ws : List ℕ) → l.key.items ++ packed_after l.common l.counted (level_weights l.level (weighted_after NonIgnorable (take l.element-index l.elements) (drop l.element-index l.elements)) ++ ws) ≡ l.fn.key.items ++ packed_after l.common l.run (level_weights l.level (weighted NonIgnorable l.elements) ++ ws);
+  few : l.packed.run < 84;
+  within : l.packed.at ≤ l.fn.before.at + 4 * l.element-index;
+  size : length l.key ≡ length l.fn.key;
+  same : (ws : List ℕ) → take l.packed.at l.key ++ packed_after l.common l.packed.run (level_weights l.level (weighted_after NonIgnorable (take l.element-index l.elements) (drop l.element-index l.elements)) ++ ws) ≡ take l.fn.before.at l.fn.key ++ packed_after l.common l.fn.before.run (level_weights l.level (weighted NonIgnorable l.elements) ++ ws);
 }

@@ -1,34 +1,43 @@
-use Rattle.std.proofs.Common.{flat_map, sym, ap, ◌∙◌, arith}
+use Rattle.std.proofs.Common.{◌≡◌, ℕ, List, [], ◌++◌, ◌^◌, flat_map, take, refl, sym, ap, ◌∙◌, arith}
+use Rattle.uca_weights.specs.declared.element.Element.{Element}
+use Rattle.uca_model.specs.LevelWeights.{level_weights}
 use Rattle.uca_model.specs.SortKey.{weight_bytes}
-use Rattle.uca_model.proofs.LevelLemmas.{at_weights}
-use Rattle.uca_levels.proofs.ReadsLemmas.{given_some, given_none}
-use Rattle.uca_key.proofs.KeyPieces.{IsSending-start, IsSending-room, IsSending-more, IsSending-stops, IsSending-ends, none_from}
+use Rattle.uca_levels.specs.Streams.{weights_from}
+use Rattle.uca_key.specs.Pieces.{pieces_left}
+use Rattle.uca_key.proofs.KeyPieces.{IsSending-start, IsSending-room, IsSending-more, IsSending-stops, IsSending-ends}
 use Rattle.uca_key.proofs.streaming.send_weights.Goals as goal
 
 pub each-init : goal.each-init
-each-init g c =
-    record {
-      sending = IsSending-start _ _ _ _ (ap (flat_map weight_bytes) c.new-weights.ensures.left ∙ sym (at_weights c.args.level _ (omega (arith, c.requires.last))));
-    }
+each-init g c = record {
+  option = ap (λ w. w.weighting) c.new-weigher.ensures.value;
+  within = c.requires.within;
+  size = refl;
+  same = λ _. refl;
+  none = λ none. none;
+  sending = IsSending-start _ _ _ _ (ap (λ ws. flat_map weight_bytes (level_weights c.args.level ws)) (c.new-weigher.ensures.list (pieces_left c.args.pieces.now c.args.room.now)));
+}
 
-pub send_weight-requires : goal.send_weight-requires
-send_weight-requires g c =
-    let first = given_some _ _ c.next.result c.in-Some.weight c.next.ensures.yields c.in-Some.is in
-    IsSending-room _ _ _ _ _ _ c.each.invariant.sending (weight_bytes c.in-Some.weight) _ _ (ap (flat_map weight_bytes) first) c.requires.room
+pub write-requires-clause-room : goal.write-requires-clause-room
+write-requires-clause-room g c =
+    let later : List Element = pieces_left c.next-from.new.self c.next-from.new.room in
+    let split = ap (λ es. flat_map weight_bytes (weights_from c.each.weigher c.args.level es)) c.next-from.ensures.parts ∙ sym (c.put_level-size.ensures.front later) in
+    IsSending-room _ _ _ _ _ _ c.each.invariant.sending _ _ (2 ^ 128) split c.requires.count
 
 pub each-preserved : goal.each-preserved
 each-preserved g c =
-    let first = given_some _ _ c.next.result c.in-Some.weight c.next.ensures.yields c.in-Some.is in
+    let later : List Element = pieces_left c.next-from.new.self c.next-from.new.room in
+    let split = ap (λ es. flat_map weight_bytes (weights_from c.each.weigher c.args.level es)) c.next-from.ensures.parts ∙ sym (c.put_level-size.ensures.front later) in
     record {
-      sending = IsSending-more _ _ _ _ _ _ c.each.invariant.sending _ _ (weight_bytes c.in-Some.weight) _ (ap (flat_map weight_bytes) first) c.in-Ok.ensures;
+      option = c.put_level-size.ensures.option;
+      within = c.next-from.ensures.within;
+      size = c.next-from.ensures.size ∙ c.each.invariant.size;
+      same = λ none. c.next-from.ensures.same (c.each.invariant.none none) ∙ c.each.invariant.same none;
+      none = λ none. c.next-from.ensures.none (c.each.invariant.none none);
+      sending = IsSending-more _ _ _ _ _ _ c.each.invariant.sending _ _ _ _ split c.in-Ok.ensures.all;
     }
 
-pub returns-in-Err : goal.returns-in-Err
-returns-in-Err g c =
-    let first = given_some _ _ c.next.result c.in-Some.weight c.next.ensures.yields c.in-Some.is in
-    IsSending-stops _ _ _ _ _ _ c.each.invariant.sending _ (weight_bytes c.in-Some.weight) _ _ (ap (flat_map weight_bytes) first) c.in-Err.ensures
-
-pub returns : goal.returns
-returns g c =
-    let last = given_none _ _ c.next.result c.next.ensures.yields (none_from c.next.result c.in_default.not-Some) in
-    IsSending-ends _ _ _ _ _ _ c.each.invariant.sending (ap (flat_map weight_bytes) last.0)
+pub returns-in-Err-clause-bytes : goal.returns-in-Err-clause-bytes
+returns-in-Err-clause-bytes g c =
+    let later : List Element = pieces_left c.next-from.new.self c.next-from.new.room in
+    let split = ap (λ es. flat_map weight_bytes (weights_from c.each.weigher c.args.level es)) c.next-from.ensures.parts ∙ sym (c.put_level-size.ensures.front later) in
+    IsSending-stops _ _ _ _ _ _ c.each.invariant.sending _ _ _ _ split c.in-Err.ensures.all

@@ -1,5 +1,5 @@
 use Rattle.std.proofs.Common.{refl}
-use Rattle.uca_levels.specs.WithoutFront.{JoinsNothing}
+use Rattle.uca_match.specs.JoinsNothing.{JoinsNothing}
 use Rattle.uca_levels.proofs.WithoutFront.{left-at, same-before}
 use Rattle.uca_levels.proofs.cut.apart_after.Goals as goal
 

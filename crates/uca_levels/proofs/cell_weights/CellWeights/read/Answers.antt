@@ -6,7 +6,7 @@ use Rattle.uca_model.specs.CollationElements.{elements}
 use Rattle.uca_model.specs.SafeText.{IsSafe}
 use Rattle.uca_model.proofs.StandAloneLemmas.{elements_none}
 use Rattle.uca_levels.specs.Streams.{weights_from}
-use Rattle.uca_levels.proofs.TextLemmas.{IsSafe-rest}
+use Rattle.uca_match.proofs.TextLemmas.{IsSafe-rest}
 use Rattle.uca_levels.proofs.cell_weights.CellWeights.read.Goals as goal
 
 pub returns-in_default-clause-end : goal.returns-in_default-clause-end

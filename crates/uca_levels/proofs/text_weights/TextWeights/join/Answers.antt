@@ -1,7 +1,7 @@
 use Rattle.std.proofs.Common.{chars, subst}
 use Rattle.uca_model.specs.SafeText.{IsSafe}
 use Rattle.uca_model.proofs.SafeLemmas.{IsSafe-front}
-use Rattle.uca_levels.proofs.TextLemmas.{IsSafe-rest}
+use Rattle.uca_match.proofs.TextLemmas.{IsSafe-rest}
 use Rattle.uca_levels.proofs.text_weights.TextWeights.join.Goals as goal
 
 pub new-requires : goal.new-requires

@@ -1,5 +1,6 @@
 use Rattle.std.proofs.Common.{◌≡◌, length}
-use Rattle.uca_levels.specs.TextWeights.{held_back, stretch_left}
+use Rattle.uca_match.specs.Stretches.{stretch_left}
+use Rattle.uca_levels.specs.TextWeights.{held_back}
 use Rattle.uca_levels.proofs.text_weights.TextWeights.joined_weight.Given as goal
 
 abbrev pub invariant-loop-element : goal.invariant-loop-element

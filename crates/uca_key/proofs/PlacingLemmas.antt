@@ -1,0 +1,106 @@
+-- Bytes that are put into a buffer one piece after the other.
+use Rattle.std.proofs.Common.{◌≡◌, ℕ, zero, suc, ◌+◌, ◌-◌, ◌^◌, ◌≤◌, ◌<◌, List, [], ◌∷◌, ◌++◌, length, take, drop, refl, sym, ap, ap₂, subst, ◌∙◌, arith, inl, inr, append_assoc, append-nil, take-append-drop, length-append}
+use Rattle.std.proofs.lemmas.Bool.{cases_lt}
+use Rattle.uca_key.specs.Placing.{with_bytes_at, PutsAt}
+
+take-nil : (n : ℕ) → take {A = ℕ} n [] ≡ []
+take-nil zero = refl
+take-nil (suc n) = refl
+
+drop-nil : (n : ℕ) → drop {A = ℕ} n [] ≡ []
+drop-nil zero = refl
+drop-nil (suc n) = refl
+
+-- no bytes change nothing
+with_bytes_at-none : (n : ℕ) (buffer : List ℕ) → with_bytes_at n [] buffer ≡ buffer
+with_bytes_at-none n buffer = ap (λ front. take n buffer ++ (front ++ drop n buffer)) (take-nil (length (drop n buffer))) ∙ take-append-drop n buffer
+
+-- nothing is put past the end of a buffer
+with_bytes_at-past : (n : ℕ) (bytes buffer : List ℕ) → length buffer ≤ n → with_bytes_at n bytes buffer ≡ buffer
+with_bytes_at-past zero bytes [] h = drop-nil (length bytes)
+with_bytes_at-past zero bytes (x ∷ xs) h = absurd (omega arith)
+with_bytes_at-past (suc n) bytes [] h = drop-nil (length bytes)
+with_bytes_at-past (suc n) bytes (x ∷ xs) h = ap (λ l. x ∷ l) (with_bytes_at-past n bytes xs (omega arith))
+
+pub length-with_bytes_at : (n : ℕ) (bytes buffer : List ℕ) → length (with_bytes_at n bytes buffer) ≡ length buffer
+length-with_bytes_at n bytes [] = ap length (with_bytes_at-past n bytes [] (omega arith))
+length-with_bytes_at zero [] (x ∷ xs) = refl
+length-with_bytes_at zero (y ∷ ys) (x ∷ xs) = ap suc (length-with_bytes_at zero ys xs)
+length-with_bytes_at (suc n) bytes (x ∷ xs) = ap suc (length-with_bytes_at n bytes xs)
+
+-- two pieces, one right after the other
+with_bytes_at-more : (n : ℕ) (a b buffer : List ℕ) → with_bytes_at (n + length a) b (with_bytes_at n a buffer) ≡ with_bytes_at n (a ++ b) buffer
+with_bytes_at-more n a b [] =
+    ap (with_bytes_at (n + length a) b) (with_bytes_at-past n a [] (omega arith))
+    ∙ with_bytes_at-past (n + length a) b [] (omega arith)
+    ∙ sym (with_bytes_at-past n (a ++ b) [] (omega arith))
+with_bytes_at-more zero [] b (x ∷ xs) = refl
+with_bytes_at-more zero (y ∷ ys) b (x ∷ xs) =
+    let next : zero + length (y ∷ ys) ≡ suc (zero + length ys) = omega arith in
+    ap (λ n. with_bytes_at n b (y ∷ with_bytes_at zero ys xs)) next ∙ ap (λ l. y ∷ l) (with_bytes_at-more zero ys b xs)
+with_bytes_at-more (suc n) a b (x ∷ xs) =
+    let next : suc n + length a ≡ suc (n + length a) = omega arith in
+    ap (λ m. with_bytes_at m b (x ∷ with_bytes_at n a xs)) next ∙ ap (λ l. x ∷ l) (with_bytes_at-more n a b xs)
+
+-- what is put is there, where it fits
+pub take-with_bytes_at : (n : ℕ) (bytes buffer : List ℕ) → n + length bytes ≤ length buffer → take (n + length bytes) (with_bytes_at n bytes buffer) ≡ take n buffer ++ bytes
+take-with_bytes_at zero [] buffer fits = refl
+take-with_bytes_at zero (y ∷ ys) [] fits = absurd (omega arith)
+take-with_bytes_at zero (y ∷ ys) (x ∷ xs) fits =
+    let next : zero + length (y ∷ ys) ≡ suc (zero + length ys) = omega arith in
+    ap (λ n. take n (y ∷ with_bytes_at zero ys xs)) next ∙ ap (λ l. y ∷ l) (take-with_bytes_at zero ys xs (omega arith))
+take-with_bytes_at (suc n) bytes [] fits = absurd (omega arith)
+take-with_bytes_at (suc n) bytes (x ∷ xs) fits =
+    let next : suc n + length bytes ≡ suc (n + length bytes) = omega arith in
+    ap (λ m. take m (x ∷ with_bytes_at n bytes xs)) next ∙ ap (λ l. x ∷ l) (take-with_bytes_at n bytes xs (omega arith))
+
+-- and what is before it stays
+pub front-with_bytes_at : (n : ℕ) (bytes buffer : List ℕ) → take n (with_bytes_at n bytes buffer) ≡ take n buffer
+front-with_bytes_at zero bytes buffer = refl
+front-with_bytes_at (suc n) bytes [] = ap (take (suc n)) (with_bytes_at-past (suc n) bytes [] (omega arith))
+front-with_bytes_at (suc n) bytes (x ∷ xs) = ap (λ l. x ∷ l) (front-with_bytes_at n bytes xs)
+
+PutsAt-none : (at : ℕ) (buffer : List ℕ) → at < 2 ^ 64 → PutsAt at [] buffer buffer at
+PutsAt-none at buffer h = record { written = sym (with_bytes_at-none at buffer); counted = omega arith }
+
+PutsAt-more : (at mid next : ℕ) (a b before then after : List ℕ) → length before < 2 ^ 64 → PutsAt at a before then mid → PutsAt mid b then after next → PutsAt at (a ++ b) before after next
+PutsAt-more at mid next a b before then after room h k =
+    let whole : length (a ++ b) ≡ length a + length b = omega (arith, length-append {A = ℕ}) in
+    record {
+      written = k.written ∙ elim (cases_lt (at + length a) (2 ^ 64)) [
+        | inl below ↦
+            let here : mid ≡ at + length a = omega (arith, h.counted) in
+            ap₂ (λ n l. with_bytes_at n b l) here h.written ∙ with_bytes_at-more at a b before
+        | inr past ↦
+            let last : mid ≡ 2 ^ 64 - 1 = omega (arith, h.counted) in
+            let size : length then ≡ length before = ap length h.written ∙ length-with_bytes_at at a before in
+            with_bytes_at-past mid b then (omega arith)
+            ∙ sym (with_bytes_at-past (at + length a) b then (omega arith))
+            ∙ ap (with_bytes_at (at + length a) b) h.written
+            ∙ with_bytes_at-more at a b before
+      ];
+      counted = omega (arith, h.counted, k.counted, whole);
+    }
+
+-- a front of the whole was put, and the other bytes are left
+pub record IsPutting (at : ℕ) (before : List ℕ) (next : ℕ) (now whole left : List ℕ) : Type 0 where
+  pub put : List ℕ
+  pub puts : PutsAt at put before now next
+  pub parts : put ++ left ≡ whole
+
+pub IsPutting-start : (at : ℕ) (buffer whole left : List ℕ) → at < 2 ^ 64 → left ≡ whole → IsPutting at buffer at buffer whole left
+IsPutting-start at buffer whole left small same = record { put = []; puts = PutsAt-none at buffer small; parts = same }
+
+module _ (at next : ℕ) (before now whole left : List ℕ) (h : IsPutting at before next now whole left) where
+  pub IsPutting-size : length now ≡ length before
+  IsPutting-size = ap length h.puts.written ∙ length-with_bytes_at at h.put before
+
+  pub IsPutting-more : (later : ℕ) (after piece rest : List ℕ) → length before < 2 ^ 64 → left ≡ piece ++ rest → PutsAt next piece now after later → IsPutting at before later after whole rest
+  IsPutting-more later after piece rest room split puts = record {
+    put = h.put ++ piece;
+    puts = PutsAt-more at next later h.put piece before now after room h.puts puts;
+    parts = append_assoc h.put piece rest ∙ ap (λ l. h.put ++ l) (sym split) ∙ h.parts;
+  }
+
+  pub IsPutting-ends : left ≡ [] → PutsAt at whole before now next
+  IsPutting-ends none = subst (λ (l : List ℕ). PutsAt at l before now next) (sym (append-nil h.put) ∙ ap (λ l. h.put ++ l) (sym none) ∙ h.parts) h.puts

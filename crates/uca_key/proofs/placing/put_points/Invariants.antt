@@ -1,0 +1,19 @@
+use Rattle.std.proofs.Common.{◌≡◌, length, flat_map}
+use Rattle.uca_model.specs.LevelWeights.{level_list}
+use Rattle.uca_model.specs.DecidingLevel.{bytes_at}
+use Rattle.uca_model.specs.SortKey.{code_point_bytes}
+use Rattle.uca_model.specs.Source.{unread}
+use Rattle.uca_model.specs.Window.{Fits, rest_of}
+use Rattle.uca_key.proofs.PlacingLemmas.{IsPutting}
+use Rattle.uca_key.proofs.placing.put_points.Given as goal
+
+abbrev pub invariant-each : goal.invariant-each
+invariant-each g l = record {
+  text : (g.S.Source.state l.source).text ≡ (g.S.Source.state l.fn.source).text;
+  fits : Fits l.points (unread (g.S.Source.state l.source));
+  putting : IsPutting l.fn.at l.fn.out l.next l.out (bytes_at 5 (level_list l.fn.t l.fn.v (unread (g.S.Source.state l.fn.source)) 5))
+      (flat_map code_point_bytes (rest_of l.points (unread (g.S.Source.state l.source))));
+}
+
+abbrev pub decreases-each : goal.decreases-each
+decreases-each g l = length (rest_of l.points (unread (g.S.Source.state l.source)))

@@ -1,0 +1,103 @@
+// Keys in either form, appended to others.
+ghost use Rattle.std.specs.Prelude.{◌≡◌, ◌<◌, ◌≤◌, ◌+◌, ◌-◌, ◌^◌, ◌++◌, chars, length, min, take, IfOk, OnOk};
+ghost use Rattle.uca_model.specs.SafeText.{IsSafe};
+ghost use Rattle.uca_window.specs.Passage.{text_of};
+ghost use Rattle.uca_key.specs.Form.{key_in};
+ghost use Rattle.uca_key.specs.Placing.{PutsAt};
+
+use crate::packed::put_packed_levels;
+use crate::placing::put_levels;
+use std::alloc::AllocError;
+use uca_table::Table;
+use uca_weights::{Element, Settings};
+use uca_window::Passage;
+
+/// The two forms of a key.
+#[derive(Clone, Copy)]
+pub(crate) enum Form {
+    /// As the standard has it.
+    Plain,
+    /// With runs of common weights packed.
+    Packed,
+}
+
+// How many bytes a key has at most, where its text has no more elements than bytes. Others have more.
+fn expected_bytes(s: Settings, bytes: usize) -> usize {
+    bytes
+        .saturating_mul(2 * s.levels() as usize + 1)
+        .saturating_add(8)
+}
+
+// Puts a key at a place of a buffer. Its elements are read into room.
+fn put(
+    form: Form,
+    t: &Table,
+    s: Settings,
+    text: &str,
+    room: &mut [Element],
+    at: usize,
+    out: &mut [u8],
+) -> usize
+    requires safe { IsSafe (chars text.now) }
+    requires some { 0 < length room.old }
+    requires place { at < 2 ^ 64 }
+    requires size { length out.old < 2 ^ 64 }
+    ensures bytes { PutsAt at (key_in form t.now s (chars text.now)) out.old out.new result }
+    ensures room { length room.new ≡ length room.old }
+{
+    match form {
+        Form::Plain => put_levels(t, s, text, room, at, out),
+        Form::Packed => put_packed_levels(t, s, text, room, at, out),
+    }
+}
+
+// Puts a key at a place of a list that gets this size, and returns where it ends, or would end.
+fn put_into(
+    form: Form,
+    t: &Table,
+    s: Settings,
+    text: &str,
+    room: &mut [Element],
+    at: usize,
+    size: usize,
+    keys: &mut Vec<u8>,
+) -> Result<usize, AllocError>
+    requires safe { IsSafe (chars text.now) }
+    requires some { 0 < length room.old }
+    requires place { at ≤ length keys.old.items }
+    requires size { at ≤ size }
+    ensures end { IfOk result (λ end. end ≡ min (at + length (key_in form t.now s (chars text.now))) (2 ^ 64 - 1)) }
+    ensures key { IfOk result (λ end. end ≤ length keys.new.items → take end keys.new.items ≡ take at keys.old.items ++ key_in form t.now s (chars text.now)) }
+    ensures front { OnOk result (take at keys.new.items ≡ take at keys.old.items) }
+    ensures size { OnOk result (length keys.new.items ≡ size) }
+    ensures room { length room.new ≡ length room.old }
+{
+    keys.resize(size, 0)?;
+    Ok(put(form, t, s, text, room, at, keys.as_mut_slice()))
+}
+
+/// Appends the key of a text to others. Its elements are read into room.
+pub(crate) fn push(
+    form: Form,
+    t: &Table,
+    s: Settings,
+    p: &Passage,
+    room: &mut [Element],
+    keys: &mut Vec<u8>,
+) -> Result<(), AllocError>
+    requires { 0 < length room.old }
+    ensures { OnOk result (keys.new.items ≡ keys.old.items ++ key_in form t.now s (text_of p.now)) }
+{
+    let text = p.as_str();
+    let start = keys.len();
+    let expected = expected_bytes(s, text.len());
+    let size = start.saturating_add(expected);
+    let end = put_into(form, t, s, text, room, start, size, keys)?;
+    if end > size {
+        let _same = put_into(form, t, s, text, room, start, end, keys)?;
+        keys.truncate(end);
+        return Ok(());
+    }
+    keys.truncate(end);
+    Ok(())
+}
