@@ -22,7 +22,7 @@ is "lines of equal keys" "lines 3|skipped 0|first failure none|0" "$(paste -sd'|
 checks '0061\n;x\n'
 is "a line without a code point" "|uca: input line 2: BadLine|3" "$(cat "$work/out")|$(cat "$work/err")|$status"
 checks '00G1\n'
-is "a word that is no code point" "|uca: input line 1: BadLine|3" "$(cat "$work/out")|$(cat "$work/err")|$status"
+is "a word that is not a code point" "|uca: input line 1: BadLine|3" "$(cat "$work/out")|$(cat "$work/err")|$status"
 checks "0061\n$(printf '#%.0s' $(seq 4097))"
 is "a line of 4,097 bytes" "|uca: input line 2: LineTooLong|3" "$(cat "$work/out")|$(cat "$work/err")|$status"
 yes '' | ./uca check >"$work/out" 2>"$work/err"

@@ -107,7 +107,7 @@ for where in elsewhere at_terminal; do
     new_copy "$ended"
     $where "$work/new" "printf 'b\n' | ./uca key --rules <(cat rules/sv.rules)"
     is "$where: with a pipe as a file it says so and builds" "b|$steps" "$(tail -n 1 "$work/out")|$(asked)"
-    is "$where: what it says then" "$no_answer /dev/fd/N is no regular file|$building" "$(said | sed 's,/fd/[0-9]*,/fd/N,')"
+    is "$where: what it says then" "$no_answer /dev/fd/N is not a regular file|$building" "$(said | sed 's,/fd/[0-9]*,/fd/N,')"
     rm "$ASKED"
     $where "$work/new" "printf 'b\n' | ./uca order"
     is "$where: the program that was built is run" "built: order"$'\n'"b||0|" "$(cat "$work/out")|$(said)|$status|$(cat "$ASKED" 2>/dev/null)"

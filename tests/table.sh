@@ -41,7 +41,7 @@ for words in --help 'key --help' sort 'key --strength third'; do
     cp "$work/err" "$work/wanted"
     # shellcheck disable=SC2086
     UCA_TABLE=$'\xff' runs $words </dev/null
-    is "words that are no job look at no table: $words" "same|2" "$(cmp -s "$work/wanted" "$work/err" && echo same)|$status"
+    is "words that are not a job open no table: $words" "same|2" "$(cmp -s "$work/wanted" "$work/err" && echo same)|$status"
 done
 
 ./uca table >/dev/full 2>"$work/err" </dev/null

@@ -183,7 +183,7 @@ def error_of(status: int, kind: int, text: int, at: int, source: str | bytes | N
     """The exception for a status and a fault. The extension calls it."""
     cause = _KINDS.get(kind) or _STATUSES.get(status, "status %d, kind %d" % (status, kind))
     if isinstance(source, str) and (status == NOT_UTF8 or kind == 27):
-        cause = "a lone surrogate is no character"
+        cause = "a lone surrogate is not a character"
     type_of = _TYPES.get(status, Error)
     what = "the table: " if type_of is TableError else "the rules: " if type_of is RulesError else "text %d: " % text if text else ""
     line, column, character = None, None, ""
