@@ -40,7 +40,7 @@ fetched() {
     files=$(dirname "$(find "$work/source" -name CollationTest_NON_IGNORABLE_SHORT.txt | head -n 1)")
     [ -f "$files/CollationTest_SHIFTED_SHORT.txt" ]
 }
-fetched || { echo "$script: Debian's source package haskell-unicode-collation could not be had, so no published test file was tried"; sum_up; exit; }
+fetched || { echo "$script: Debian's source package haskell-unicode-collation is not available, so no published test file was tried"; sum_up; exit; }
 is "the package's table is that of perl" "same" "$(cmp -s "$(find "$work/source" -name allkeys.txt | head -n 1)" "$published" && echo same)"
 
 # all_failing FILE WORDS..: each line that is below the one before it, without those that failed before; $report has the first report

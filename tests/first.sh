@@ -39,7 +39,7 @@ is "a first answer elsewhere, with files" "$(printf 'ö\nz\nå\nä\n' | ./uca $w
 is "it is said not to be proved there, too" "$before"$'\n'"$after" "$(cat "$work/said")"
 is "a first answer leaves no program" "" "$(find "$work/copy" -name out)"
 
-# With a stand-in for the kit that only prints what it was asked to do. `rt all` prints that many crates are done, and would go on for
+# With a fake kit that only prints what it was asked to do. `rt all` prints that many crates are done, and would go on for
 # a long time; the last step makes the program.
 mkdir -p "$work/kit" "$work/new"
 cat >"$work/kit/rt" <<'RT'
