@@ -129,7 +129,7 @@ elsewhere "$work/new" "printf 'b\n' | ./uca key --table=linked/es.rules --rules 
 is "two files are handed on" \
     "uca: rt try --data handed-on-0=$PWD/rules/es.rules --data handed-on-1=$PWD/rules/sv.rules -- key --table=handed-on-0 --rules handed-on-1" "$(cat "$ASKED")"
 elsewhere "$work/new" "./uca lint --table missing </dev/null"
-is "a file that is not there is left to the program" "uca: rt try -- lint --table missing" "$(tail -n 1 "$ASKED")"
+is "the program reports a file that is not there" "uca: rt try -- lint --table missing" "$(tail -n 1 "$ASKED")"
 elsewhere "$work/new" "timeout 10 ./uca lint < <(sleep 20)"
 is "a command without input waits for none" "0" "$status"
 elsewhere "$work/new" "yes | ./uca check | wc -c"
