@@ -1,6 +1,6 @@
 # Installs the programs uca and ucasort with their manuals, the rules and bash's completions, and the library for C:
-# make install PREFIX=.. (DESTDIR is kept to). `make install-program` and `make install-library` install one of them.
-# `make install-table TABLE=FILE` checks a table and installs it as the one that ucasort takes.
+# make install PREFIX=.. (DESTDIR is respected). `make install-program` and `make install-library` install one of them.
+# `make install-table TABLE=FILE` checks a table and installs it as the one that ucasort uses.
 PREFIX ?= /usr/local
 INSTALL ?= install
 

@@ -10,7 +10,7 @@ source bench/lists.bash
 bytes=${1:-4000000}
 before=${2:-}
 [ -z "$before" ] || before=$(cd "$from" && readlink -f "$before")
-gcc -O2 -DWITH_ICU -o "$work/peer" bench/peer.c -licui18n -licuuc || refuses "ICU could not be had: it wants libicu-dev"
+gcc -O2 -DWITH_ICU -o "$work/peer" bench/peer.c -licui18n -licuuc || refuses "ICU is not available: it needs libicu-dev"
 fetched || exit 1
 
 # named NAME: the lists of a corpus
@@ -65,7 +65,7 @@ echo
 echo '| Corpus | Lines | Characters a line | Key: ICU, ns | Ratio | Compare: ICU, ns | Ratio | Order: ICU, ns | Ratio | Key, shifted: ICU, ns | Ratio | Compare, shifted: ICU, ns | Ratio |'
 echo '|---|---|---|---|---|---|---|---|---|---|---|---|---|'
 for name in Latin Vietnamese Greek Cyrillic Arabic Hebrew Thai Devanagari Indic Hangul Han Kana Mixed Mixed-NFD Mixed-long; do
-    corpus "$name" || { echo "| $name | could not be had |"; continue; }
+    corpus "$name" || { echo "| $name | not available |"; continue; }
     "$uca" order --table "$published" <"$work/lines" >"$work/sorted" || refuses "uca order could not be run"
     printf '| %s | %d | %.1f |' "$name" "$(wc -l <"$work/lines")" "$(perl -CSD -ne '$n += length; END { print $n / $. - 1 }' "$work/lines")"
     beside "$work/lines" key

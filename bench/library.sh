@@ -8,7 +8,7 @@ source "$(dirname "${BASH_SOURCE[0]}")/shared.bash"
 source tests/debian.bash
 source bench/lists.bash
 make -s -C bindings/c OUT="$work/c" >"$work/log" 2>&1 || { cat "$work/log"; refuses "the C library could not be built"; }
-cc -std=gnu11 -Wall -Wextra -O2 -Iinclude -o "$work/library" bench/library.c "$work/c/libuca.a" -licui18n -licuuc || refuses "ICU could not be had: it wants libicu-dev"
+cc -std=gnu11 -Wall -Wextra -O2 -Iinclude -o "$work/library" bench/library.c "$work/c/libuca.a" -licui18n -licuuc || refuses "ICU is not available: it needs libicu-dev"
 fetched || exit 1
 
 # corpus NAME BYTES LINES: the first lines of a corpus, as $work/NAME

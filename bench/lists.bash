@@ -32,9 +32,9 @@ Chinese 3 elpa-pyim-basedict usr/share/emacs/site-lisp/elpa-src/pyim-basedict-0.
 fetched() {
     local package
     mkdir "$work/debs" "$work/lists"
-    debian update || { echo "$script: Debian's packages could not be had"; return 1; }
+    debian update || { echo "$script: Debian's packages are not available"; return 1; }
     for package in $(awk '{ print $3 }' <<<"$lists"); do
         (cd "$work/debs" && debian download "$package") && dpkg-deb -x "$work/debs/$package"_*.deb "$work/lists" ||
-            echo "$script: package $package could not be had"
+            echo "$script: package $package is not available"
     done
 }

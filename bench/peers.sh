@@ -16,13 +16,13 @@ steps=(1000000 4000000 16000000)
 gather_programs() {
     programs=(ICU uca glibc sort perl)
     if ! gcc -O2 -DWITH_ICU -o "$work/peer" bench/peer.c -licui18n -licuuc 2>/dev/null; then
-        echo "$script: ICU could not be had: it wants libicu-dev"
+        echo "$script: ICU is not available: it needs libicu-dev"
         gcc -O2 -o "$work/peer" bench/peer.c || exit 1
         programs=(uca glibc sort perl)
     fi
     mkdir "$work/locales"
     if localedef -i en_US -f UTF-8 "$work/locales/en_US.UTF-8" 2>/dev/null; then export LOCPATH=$work/locales; return; fi
-    echo "$script: glibc and sort could not be had: localedef has not made en_US.UTF-8"
+    echo "$script: glibc and sort are not measured: localedef has not made en_US.UTF-8"
     unset "programs[-2]" "programs[-3]"
 }
 

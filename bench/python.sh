@@ -11,7 +11,7 @@ mkdir "$work/tree" && cp -r --parents bindings/python include "$work/tree" || ex
 PKG_CONFIG_PATH=$work/usr/lib/pkgconfig /usr/bin/python3 -m pip install -q --no-index --no-build-isolation --target "$work/site" "$work/tree/bindings/python" ||
     refuses "the package could not be installed"
 fetched || exit 1
-(cd "$work/debs" && debian download python3-icu) && dpkg-deb -x "$work"/debs/python3-icu_*.deb "$work/icu" || echo "$script: package python3-icu could not be had"
+(cd "$work/debs" && debian download python3-icu) && dpkg-deb -x "$work"/debs/python3-icu_*.deb "$work/icu" || echo "$script: package python3-icu is not available"
 
 # corpus NAME BYTES: 200,000 lines of a corpus, as $work/NAME
 corpus() {

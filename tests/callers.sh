@@ -202,7 +202,7 @@ in_sqlite() {
     is "SQLite: by collation" "" "$(cmp "$folder/by_collation" "$work/ordered" 2>&1)"
     is "SQLite: by key" "" "$(cmp "$folder/by_key" "$work/ordered" 2>&1)"
     is "SQLite: by sort key" "" "$(cmp "$folder/by_sort_key" "$work/ordered" 2>&1)"
-    is "SQLite: indexes are used, and are well" \
+    is "SQLite: indexes are used, and are intact" \
         "50000|SCAN w USING COVERING INDEX by_collation|SCAN w USING INDEX by_key|SEARCH w USING COVERING INDEX by_collation (t>? AND t<?)|SEARCH w USING INDEX by_key (<expr>>? AND <expr><?)|1|lomo luna llano mano|SEARCH w USING INDEX by_key (<expr>>? AND <expr><?)|lo Lómo||4096|1|2000|1|SCAN w USING INDEX by_sort_key|SEARCH w USING INDEX by_sort_key (<expr>>? AND <expr><?)|1|1|2026|1FA21FBC00000505|1FA21FBC000000200020000000020002|$digest|ok" \
         "$(grep -v '^QUERY PLAN' "$folder/answers" | sed 's/^`--//' | sed -n '1,16p' | paste -sd'|')"
     is "SQLite: a null, and a long key" "|6004" "$(tail -1 "$folder/answers")"

@@ -2,7 +2,7 @@
 set -u
 cd "$(dirname "${BASH_SOURCE[0]}")/.." || exit 2
 script=tests/$(basename "$0")
-unset UCA_TABLE UCA # a check that wants them sets them
+unset UCA_TABLE UCA # a check that needs them sets them
 export UCA_PROVED=1 # no check takes an answer without a proof
 work=$(mktemp -d) || exit 2
 trap 'rm -rf "$work"' EXIT

@@ -53,31 +53,31 @@ compares() {
 }
 
 is_built
-cldr_is_here || { echo "$script: unicode-cldr-core could not be had, so nothing was tried"; exit 0; }
-xml_is_here || { echo "$script: libxml-libxml-perl could not be had, so nothing was tried"; exit 0; }
-icu_is_built || { echo "$script: ICU could not be had: it wants gcc and libicu-dev, so nothing was tried"; exit 0; }
+cldr_is_here || { echo "$script: unicode-cldr-core is not available, so nothing was tried"; exit 0; }
+xml_is_here || { echo "$script: libxml-libxml-perl is not available, so nothing was tried"; exit 0; }
+icu_is_built || { echo "$script: ICU is not available (it needs gcc and libicu-dev), so nothing was tried"; exit 0; }
 export rules=$work/rules table=$cldr/uca/allkeys_CLDR.txt icu=$work/icu_keys
 export -f compares
 mkdir "$rules"
 
 # A collation that rules can't express at all is refused; everything else is accepted.
-unsaid='zh zh-u-co-big5han zh-u-co-stroke zh-u-co-zhuyin'
+refused='zh zh-u-co-big5han zh-u-co-stroke zh-u-co-zhuyin'
 tools/cldr-rules --cldr "$cldr" zh-u-co-big5han >"$work/out" 2>"$work/err"
 status=$?
-is "more letters than there is room for" "0|cldr-rules: zh-u-co-big5han: cannot be said: there is no room for so many letters|1" "$(wc -c <"$work/out")|$(tail -n 1 "$work/err")|$status"
-mapfile -t tags < <(tools/cldr-rules --cldr "$cldr" --list | grep -vxF "$(tr ' ' '\n' <<<"$unsaid")")
+is "more letters than there are primary weights" "0|cldr-rules: zh-u-co-big5han: cannot be expressed: it has more letters than there are primary weights|1" "$(wc -c <"$work/out")|$(tail -n 1 "$work/err")|$status"
+mapfile -t tags < <(tools/cldr-rules --cldr "$cldr" --list | grep -vxF "$(tr ' ' '\n' <<<"$refused")")
 tools/cldr-rules --cldr "$cldr" --into "$rules" "${tags[@]}" 2>"$work/left"
 is "collations that are written" "0" "$?"
 tools/cldr-rules --cldr "$cldr" --text --into "$rules" "${tags[@]}"
 is "rules name CLDR's version" "# Source: CLDR 41, common/collation/da.xml, standard, by tools/cldr-rules." "$(head -n 1 "$rules/da.rules")"
 mkdir -p "$work/broken/collation" && printf '<ldml>\n<collations>\n' >"$work/broken/collation/da.xml"
-is "XML that is none" "cldr-rules: $work/broken/collation/da.xml:3: parser error : Premature end of data in tag collations line 2
+is "XML that is not well-formed" "cldr-rules: $work/broken/collation/da.xml:3: parser error : Premature end of data in tag collations line 2
 1" "$(tools/cldr-rules --cldr "$work/broken" --text da 2>&1 | paste -sd'|'; echo "${PIPESTATUS[0]}")"
 perl tests/cldr_lines.pl "$cldr" "$rules"
 printf '%s\n' "${tags[@]}" | xargs -P "$(nproc)" -I{} bash -c 'compares {}' | LC_ALL=C sort >"$work/rows"
 
 if [ "${1:-}" = table ]; then
-    echo '| Collation | Relations | ICU by its | Neighbours | Other without the rules | Other with them | Other than ICU by the same rules |'
+    echo '| Collation | Relations | ICU by its | Neighbours | Differ without the rules | Differ with them | Differ from ICU by the same rules |'
     echo '|---|---|---|---|---|---|---|'
     cat "$work/rows"
     tail -n +1 "$rules"/*.found | awk '/^==>/ { name = $2 } / [1-9][0-9]*;/ { print name ": " $0 }' >&2
@@ -96,13 +96,13 @@ while IFS='|' read -r _ tag relations collator _ without differ _ _; do
         is "$tag: a row of $page" "one" "none:$relations"
         continue
     fi
-    is "$tag: other neighbours than ICU's by its ${collator// /}, at most as the page says; first: $(cut -d';' -f2- "$rules/$tag.found")" "yes" \
+    is "$tag: neighbours that differ from ICU by its ${collator// /}: at most as many as the page says; first: $(cut -d';' -f2- "$rules/$tag.found")" "yes" \
         "$([ "${differ:-1}" -le "$wanted" ] && echo yes || echo "$differ, not $wanted")"
     [ "$relations" -gt 0 ] || continue
     taken=$((taken + 1))
     [ "$differ" -eq 0 ] || continue
     agreed=$((agreed + 1))
-    is "$tag: the rules are seen: without them some neighbours stand in another relation" "yes" "$([ "$without" -gt 0 ] && echo yes)"
+    is "$tag: the rules have an effect: without them some neighbours differ" "yes" "$([ "$without" -gt 0 ] && echo yes)"
 done <"$work/rows"
 # The words of rules/ under CLDR's root table, and by ICU's collator of the language.
 for words in tests/rules/*.words; do

@@ -22,7 +22,7 @@ is "lines of equal keys" "lines 3|skipped 0|first failure none|0" "$(paste -sd'|
 checks '0061\n;x\n'
 is "a line without a code point" "|uca: input line 2: BadLine|3" "$(cat "$work/out")|$(cat "$work/err")|$status"
 checks '00G1\n'
-is "a word that is no code point" "|uca: input line 1: BadLine|3" "$(cat "$work/out")|$(cat "$work/err")|$status"
+is "a word that is not a code point" "|uca: input line 1: BadLine|3" "$(cat "$work/out")|$(cat "$work/err")|$status"
 checks "0061\n$(printf '#%.0s' $(seq 4097))"
 is "a line of 4,097 bytes" "|uca: input line 2: LineTooLong|3" "$(cat "$work/out")|$(cat "$work/err")|$status"
 yes '' | ./uca check >"$work/out" 2>"$work/err"
@@ -40,7 +40,7 @@ fetched() {
     files=$(dirname "$(find "$work/source" -name CollationTest_NON_IGNORABLE_SHORT.txt | head -n 1)")
     [ -f "$files/CollationTest_SHIFTED_SHORT.txt" ]
 }
-fetched || { echo "$script: Debian's source package haskell-unicode-collation could not be had, so no published test file was tried"; sum_up; exit; }
+fetched || { echo "$script: Debian's source package haskell-unicode-collation is not available, so no published test file was tried"; sum_up; exit; }
 is "the package's table is that of perl" "same" "$(cmp -s "$(find "$work/source" -name allkeys.txt | head -n 1)" "$published" && echo same)"
 
 # all_failing FILE WORDS..: each line that is below the one before it, without those that failed before; $report has the first report

@@ -322,7 +322,7 @@ def marks_faults(steered):
         return m.top > r.top && m.bottom < r.bottom""")
     assert browser.run("return document.querySelector('#rules').selectionStart") == len(("# a long comment, so that the fault is out of sight\n" * 30 + "&\U0001f600a<\U0001f600").encode("utf-16-le")) // 2
     steered.write("#rules", "&a<<")
-    browser.wait("return document.querySelector('#rules-fault').textContent.includes('a string is wanted')")
+    browser.wait("return document.querySelector('#rules-fault').textContent.includes('a string is expected')")
     steered.write("#rules", "")
     browser.wait("return document.querySelector('#rules-fault').textContent === ''")
     steered.settle()

@@ -247,7 +247,7 @@ for set in plain rules; do
     is "wrong answers with a range of ideographs, $set" "" "$(said_of "$work/rows/$set-ideographs/growths.report")"
     is "failures that are reported for a range of ideographs, $set" "few" "$(few "$(reported_of $set-ideographs)" "$(reported_of $set)")"
 done
-is "growths for a range of ideographs before rules" "few" "$(few "$(growths_of rules-ideographs)" "$(growths_of rules)")"
+is "allocations for a range of ideographs before rules" "few" "$(few "$(growths_of rules-ideographs)" "$(growths_of rules)")"
 forget_rows
 
 # The text of the built-in table, with a version, comments and more blanks, cut after each byte: the last line is still valid, or is refused.

@@ -39,7 +39,7 @@ is "a first answer elsewhere, with files" "$(printf 'ö\nz\nå\nä\n' | ./uca $w
 is "it is said not to be proved there, too" "$before"$'\n'"$after" "$(cat "$work/said")"
 is "a first answer leaves no program" "" "$(find "$work/copy" -name out)"
 
-# With a stand-in for the kit that only prints what it was asked to do. `rt all` prints that many crates are done, and would go on for
+# With a fake kit that only prints what it was asked to do. `rt all` prints that many crates are done, and would go on for
 # a long time; the last step makes the program.
 mkdir -p "$work/kit" "$work/new"
 cat >"$work/kit/rt" <<'RT'
@@ -107,7 +107,7 @@ for where in elsewhere at_terminal; do
     new_copy "$ended"
     $where "$work/new" "printf 'b\n' | ./uca key --rules <(cat rules/sv.rules)"
     is "$where: with a pipe as a file it says so and builds" "b|$steps" "$(tail -n 1 "$work/out")|$(asked)"
-    is "$where: what it says then" "$no_answer /dev/fd/N is no regular file|$building" "$(said | sed 's,/fd/[0-9]*,/fd/N,')"
+    is "$where: what it says then" "$no_answer /dev/fd/N is not a regular file|$building" "$(said | sed 's,/fd/[0-9]*,/fd/N,')"
     rm "$ASKED"
     $where "$work/new" "printf 'b\n' | ./uca order"
     is "$where: the program that was built is run" "built: order"$'\n'"b||0|" "$(cat "$work/out")|$(said)|$status|$(cat "$ASKED" 2>/dev/null)"
@@ -129,7 +129,7 @@ elsewhere "$work/new" "printf 'b\n' | ./uca key --table=linked/es.rules --rules 
 is "two files are handed on" \
     "uca: rt try --data handed-on-0=$PWD/rules/es.rules --data handed-on-1=$PWD/rules/sv.rules -- key --table=handed-on-0 --rules handed-on-1" "$(cat "$ASKED")"
 elsewhere "$work/new" "./uca lint --table missing </dev/null"
-is "a file that is not there is left to the program" "uca: rt try -- lint --table missing" "$(tail -n 1 "$ASKED")"
+is "the program reports a file that is not there" "uca: rt try -- lint --table missing" "$(tail -n 1 "$ASKED")"
 elsewhere "$work/new" "timeout 10 ./uca lint < <(sleep 20)"
 is "a command without input waits for none" "0" "$status"
 elsewhere "$work/new" "yes | ./uca check | wc -c"

@@ -14,7 +14,7 @@ is "keys of two lines" "10 00 00 00 00 20 00 00 00 02|10 00 10 01 00 00 00 20 00
 runs key < <(printf '\xc3\xa0\n\n\xe4\xb8\x80')
 is "a decomposed letter, an empty line, an ideograph" "10 00 00 00 00 20 00 21 00 00 00 02 00 02|00 00 00 00|FB 40 CE 00 00 00 00 20 00 00 00 02|0" "$(paste -sd'|' "$work/out")|$status"
 runs key < <(printf 'a\r\na\r')
-is "one CR before LF or the end is no part of the line" "10 00 00 00 00 20 00 00 00 02|10 00 00 00 00 20 00 00 00 02|0" "$(paste -sd'|' "$work/out")|$status"
+is "one CR before LF or the end is not part of the line" "10 00 00 00 00 20 00 00 00 02|10 00 00 00 00 20 00 00 00 02|0" "$(paste -sd'|' "$work/out")|$status"
 runs key </dev/null
 is "no line" "|0" "$(cat "$work/out")|$status"
 
@@ -34,7 +34,7 @@ is "four levels, shifted" "10 00 10 01 00 00 00 20 00 20 00 00 00 02 00 02 00 00
 runs key --ideographs 323B0..33479 < <(printf '\xf0\xb2\x8e\xb0\n')
 is "an added ideograph" "FB 86 A3 B0 00 00 00 20 00 00 00 02|0" "$(cat "$work/out")|$status"
 runs key < <(printf '\xf0\xb2\x8e\xb0\n')
-is "a code point that is no ideograph" "FB C6 A3 B0 00 00 00 20 00 00 00 02|0" "$(cat "$work/out")|$status"
+is "a code point that is not an ideograph" "FB C6 A3 B0 00 00 00 20 00 00 00 02|0" "$(cat "$work/out")|$status"
 printf '&a<b' >"$work/b.rules"
 runs key --rules "$work/b.rules" --ideographs=323B0..323B0 < <(printf '\xf0\xb2\x8e\xb0\n')
 is "an added ideograph, tailored" "FB 86 A3 B0 00 00 00 20 00 00 00 02|0" "$(cat "$work/out")|$status"
@@ -69,10 +69,10 @@ is "the bytes of a key, and a full disk" "uca: output byte 0: Failed|3" "$(cat "
 for words in "" "sort" "key --strength third" "key extra" "table --raw" "key --raw --raw" "--help"; do
     # shellcheck disable=SC2086
     runs $words </dev/null
-    is "words that are no job: $words" "0|text|2" "$(wc -c <"$work/out")|$([ -s "$work/err" ] && echo text)|$status"
+    is "words that are not a job: $words" "0|text|2" "$(wc -c <"$work/out")|$([ -s "$work/err" ] && echo text)|$status"
 done
 runs sort </dev/null
-is "clap's text for words that are no job" "error: unrecognized subcommand 'sort'||Usage: uca <COMMAND>||For more information, try '--help'." "$(paste -sd'|' "$work/err")"
+is "clap's text for words that are not a job" "error: unrecognized subcommand 'sort'||Usage: uca <COMMAND>||For more information, try '--help'." "$(paste -sd'|' "$work/err")"
 runs key '' </dev/null
 is "an empty word" "0|error: unexpected argument '' found|2" "$(wc -c <"$work/out")|$(head -n 1 "$work/err")|$status"
 runs 'key ' </dev/null

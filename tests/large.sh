@@ -25,7 +25,7 @@ for way in '' '-k 1'; do
     is "lines in several parts, $way" "a|A|b|cz|ch|0" "$(paste -sd'|' "$work/out")|$status"
     # shellcheck disable=SC2086
     sorts 4 -s --strength primary $way <<<$'b\nA\na\nch\ncz'
-    is "lines of equal keys stay as they are, $way" "A|a|b|cz|ch|0" "$(paste -sd'|' "$work/out")|$status"
+    is "lines of equal keys keep their order, $way" "A|a|b|cz|ch|0" "$(paste -sd'|' "$work/out")|$status"
     # shellcheck disable=SC2086
     sorts 4 -u --strength primary $way <<<$'b\nA\na\nch\ncz\nb'
     is "the first of lines of equal keys, $way" "A|b|cz|ch|0" "$(paste -sd'|' "$work/out")|$status"

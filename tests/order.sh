@@ -15,7 +15,7 @@ orders() {
 orders 'b\nA\na\nch\ncz\n'
 is "lines by three levels" "a|A|b|cz|ch|0" "$(paste -sd'|' "$work/out")|$status"
 orders 'b\nA\na\nch\ncz\n' --strength primary
-is "lines of equal keys stay as they stand" "A|a|b|cz|ch|0" "$(paste -sd'|' "$work/out")|$status"
+is "lines of equal keys keep their order" "A|a|b|cz|ch|0" "$(paste -sd'|' "$work/out")|$status"
 orders 'b\r\na\r\r\n\na'
 is "CR and LF, an empty line, no LF at the end" "0a 61 0a 61 0d 0a 62 0a|0" "$(od -An -v -tx1 "$work/out" | tr -s ' \n' ' ' | sed 's/^ //;s/ $//')|$status"
 orders ''

@@ -329,26 +329,26 @@ table stroke <<'end'
 0041 0327 0301 ; [.0102.0020.0008.0041]
 0041 0300 ; [.0103.0020.0008.0041]
 end
-row 'extension_of' 'compare --table kje --strength primary' '\u043A\n\u043A\u0301\n\u045C\n\u043A\u0334\u0301\n\u045C\n\u043A\u0301\u0334\n' \
+row 'discontiguous_match' 'compare --table kje --strength primary' '\u043A\n\u043A\u0301\n\u045C\n\u043A\u0334\u0301\n\u045C\n\u043A\u0301\u0334\n' \
     'less equal equal equal equal' 'perl Unicode::Collate 1.31 cmp, t/contract.t'
-row 'extension_of' 'compare --table ring --strength primary' 'Z\nA\u030A\u0304\nA\nA\u0304\u030A\nA\u0304\n\u00E5\nA\u030A\u0304\n' \
+row 'discontiguous_match' 'compare --table ring --strength primary' 'Z\nA\u030A\u0304\nA\nA\u0304\u030A\nA\u0304\n\u00E5\nA\u030A\u0304\n' \
     'less greater equal equal less equal' 'perl Unicode::Collate 1.31 cmp, t/contract.t'
-row 'extension_of' 'compare --table ring --strength primary' 'A\u0327\u030A\nA\u030A\u0327\nA\u031A\u030A\nA\u030A\u031A\nA\n' \
+row 'discontiguous_match' 'compare --table ring --strength primary' 'A\u0327\u030A\nA\u030A\u0327\nA\u031A\u030A\nA\u030A\u031A\nA\n' \
     'equal equal equal greater' 'perl Unicode::Collate 1.31 cmp, t/contract.t'
 # a key of three code points whose first two are not a key
-row 'extension_of' 'compare --table tibetan' '\u0FB2\u0334\u0F81\n\u0F77\x00\u0334\n\u0FB2\u0334\u0F81\n\u0FB2\u0F80\x00\u0334\u0F71\n' \
+row 'discontiguous_match' 'compare --table tibetan' '\u0FB2\u0334\u0F81\n\u0F77\x00\u0334\n\u0FB2\u0334\u0F81\n\u0FB2\u0F80\x00\u0334\u0F71\n' \
     'less greater equal' 'perl Unicode::Collate 1.31 cmp, t/contract.t'
-row 'extension_of' 'key --table tibetan --strength primary' '\u0FB2\u0F71\u0F80\n\u0FB2\u0F81\n\u0F76\u0F71\n\u0FB3\u0F80\u0F71\n\u0FB2\u0334\u0F71\u0F80\n' \
+row 'discontiguous_match' 'key --table tibetan --strength primary' '\u0FB2\u0F71\u0F80\n\u0FB2\u0F81\n\u0F76\u0F71\n\u0FB3\u0F80\u0F71\n\u0FB2\u0334\u0F71\u0F80\n' \
     '2075|2075|2075|2077|2074 FBC0 8334 206D' 'perl Unicode::Collate 1.31 getSortKey'
-row 'extension_of' 'key --table stroke --strength secondary' 'A\u0334\u0327\u0301\nA\u0327\u0301\x00\u0334\nA\u0327\u0300\nA\u0300\x00\u0327\nA\u0300\u0301\n' \
+row 'discontiguous_match' 'key --table stroke --strength secondary' 'A\u0334\u0327\u0301\nA\u0327\u0301\x00\u0334\nA\u0327\u0300\nA\u0300\x00\u0327\nA\u0300\u0301\n' \
 '0101 0000 0020 008B 0055 0032
 0102 0000 0020 008B
 0103 0000 0020 0055
 0103 0000 0020 0055
 0103 0000 0020 0032' 'perl Unicode::Collate 1.31 getSortKey'
-row 'start_of' 'key --table published --strength primary' '\u0DD9\u0DCF\u0DCA\n\u0DDC\u0DCA\n\u0DD9\u0DCF\n\u0DD9\u0323\u0DCF\n\u0DDA\u0DCF\n' \
+row 'longest_match' 'key --table published --strength primary' '\u0DD9\u0DCF\u0DCA\n\u0DDC\u0DCA\n\u0DD9\u0DCF\n\u0DD9\u0323\u0DCF\n\u0DDA\u0DCF\n' \
     '2C9A|2C9A|2C99|2C96 2C8B|2C97 2C8B' 'perl Unicode::Collate 1.31 getSortKey'
-row 'start_of' 'key --table published --strength primary' '\u0E40\u0E01\u0E40\n\u0E40\u0E40\u0E01\n\u0E40\n\u0E40-\u0E01\n' \
+row 'longest_match' 'key --table published --strength primary' '\u0E40\u0E01\u0E40\n\u0E40\u0E40\u0E01\n\u0E40\n\u0E40-\u0E01\n' \
     '3217 3251 3251|3251 3217 3251|3251|3251 020D 3217' 'perl Unicode::Collate 1.31 getSortKey'
 row 'matches' 'key --table published --strength secondary' '\u0438\u0306\n\u0439\n\u0438\u0323\u0306\n\u0438\u0308\u0306\n\u0418\u0306\u0306\n' \
     '23F2 0000 0020|23F2 0000 0020|23F2 0000 0020 0042|23E5 0000 0020 002B 0026|23F2 0000 0020 0026' 'perl Unicode::Collate 1.31 getSortKey'
@@ -373,23 +373,23 @@ rules notes '&a=\u24D0
 &\u0338<<\U0001D165=\u00B9<<\U0001D16D=\u00B2<<\U0001D165\U0001D16D=\u00B3
 &\u0301=\u2776 &\u030A=\u2777 &\u0308=\u2778 <<\u0308\u0301=\u2779 &\u0327=\u277A &\u0323=\u277B &\u0331=\u277C
 <<\u0331\u0358=\u277D &\u0334=\u277E &\u0358=\u277F &\u0F71=\u2460 &\u0F72=\u2461 &\u0F73=\u2462'
-row 'start_of' 'compare --table published --rules notes' 'a\n\u24D0\naa\n\u24D0\u24D0\nab\n\u24D0b\naz\n\u24D0z\n' \
+row 'longest_match' 'compare --table published --rules notes' 'a\n\u24D0\naa\n\u24D0\u24D0\nab\n\u24D0b\naz\n\u24D0z\n' \
     'equal less equal less equal less equal' 'ICU 72 RuleBasedCollator, collationtest.txt, simple contractions'
-row 'extension_of' 'compare --table published --rules notes' 'a\u0308\u030A\n\u24D0\u2778\u2777\na\u0327\n\u24D0\u277A\n\u0308\u030A\u0301\n\u2778\u2777\u2776\n' \
+row 'discontiguous_match' 'compare --table published --rules notes' 'a\u0308\u030A\n\u24D0\u2778\u2777\na\u0327\n\u24D0\u277A\n\u0308\u030A\u0301\n\u2778\u2777\u2776\n' \
     'equal less equal greater equal' 'ICU 72 RuleBasedCollator, collationtest.txt, simple contractions: blocked'
-row 'start_of' 'compare --table published --rules notes' 'dz\u0323\u0301\ndz\u277B\u2776\nabz\n\u24D0\u24D1\nabzz\n\u24D0\u24D1z\n' \
+row 'longest_match' 'compare --table published --rules notes' 'dz\u0323\u0301\ndz\u277B\u2776\nabz\n\u24D0\u24D1\nabzz\n\u24D0\u24D1z\n' \
     'equal greater equal less equal' 'ICU 72 RuleBasedCollator, collationtest.txt, simple contractions: no prefix'
-row 'start_of' 'compare --table published --rules notes' 'z\na\u0301\n\u24B6\na\u0301\u0301\n\u24B7\na\u0301\u0301\u0358\n\u24B8\na\u030A\n\u24B9\na\u0323\u0358\n\u24BB\na\u0327\u0323\u030A\n\u24BC\na\u0327\u0323bz\n\u24BD\n' \
+row 'longest_match' 'compare --table published --rules notes' 'z\na\u0301\n\u24B6\na\u0301\u0301\n\u24B7\na\u0301\u0301\u0358\n\u24B8\na\u030A\n\u24B9\na\u0323\u0358\n\u24BB\na\u0327\u0323\u030A\n\u24BC\na\u0327\u0323bz\n\u24BD\n' \
     'less equal less equal less equal less equal less equal less equal less equal' 'ICU 72 RuleBasedCollator, collationtest.txt, simple contractions: longest'
 row 'matches' 'compare --table published --rules notes' '\u0308\u0308\u0301\n\u2778\u2779\n\U0001D158\U0001D165\n\u00BC\n\U0001D165\U0001D16D\n\u00B3\n' \
     'equal less equal greater equal' 'ICU 72 RuleBasedCollator, collationtest.txt, simple contractions'
-row 'extension_of' 'compare --table published --rules notes' 'a\u0327\u030A\n\u24B9\u277A\na\u0327\u0327\u030A\n\u24B9\u277A\u277A\na\u0327\u0327\u0327\u030A\n\u24B9\u277A\u277A\u277A\na\u0334\u0327\u0327\u030A\n\u24B9\u277E\u277A\u277A\na\u0327\u0323\n\u24BA\u277A\na\u0323\u0301\u0358\n\u24BB\u2776\na\u0334\u0323\u0358\n\u24BB\u277E\n' \
+row 'discontiguous_match' 'compare --table published --rules notes' 'a\u0327\u030A\n\u24B9\u277A\na\u0327\u0327\u030A\n\u24B9\u277A\u277A\na\u0327\u0327\u0327\u030A\n\u24B9\u277A\u277A\u277A\na\u0334\u0327\u0327\u030A\n\u24B9\u277E\u277A\u277A\na\u0327\u0323\n\u24BA\u277A\na\u0323\u0301\u0358\n\u24BB\u2776\na\u0334\u0323\u0358\n\u24BB\u277E\n' \
     'equal less equal less equal less equal less equal less equal less equal' 'ICU 72 RuleBasedCollator, collationtest.txt, discontiguous contractions'
-row 'extension_of' 'compare --table published --rules notes' '\u0331\u0331\u0358\n\u277D\u277C\na\u0327\u0331\u0323\u030A\n\u24B9\u277A\u277C\u277B\na\u0327\u0323\U0001D16D\u030A\n\u24BA\u277A\u00B2\u2777\na\u0327\u0327\u0323\u030A\n\u24BA\u277A\u277A\u2777\na\u0327\u0323\u0323\u030A\n\u24BA\u277A\u277B\u2777\na\u0334\u0327\u0323\u030A\n\u24BA\u277E\u277A\u2777\n' \
+row 'discontiguous_match' 'compare --table published --rules notes' '\u0331\u0331\u0358\n\u277D\u277C\na\u0327\u0331\u0323\u030A\n\u24B9\u277A\u277C\u277B\na\u0327\u0323\U0001D16D\u030A\n\u24BA\u277A\u00B2\u2777\na\u0327\u0327\u0323\u030A\n\u24BA\u277A\u277A\u2777\na\u0327\u0323\u0323\u030A\n\u24BA\u277A\u277B\u2777\na\u0334\u0327\u0323\u030A\n\u24BA\u277E\u277A\u2777\n' \
     'equal less equal less equal less equal less equal less equal' 'ICU 72 RuleBasedCollator, collationtest.txt, discontiguous contractions: blocked by one of its class'
-row 'extension_of' 'compare --table published --rules notes' '\U0001D158\u0327\U0001D165\n\u00BC\u277A\na\U0001D165\u0323\n\u24BA\u00B9\na\u0327\u0323b\n\u24BA\u277Ab\na\u0327\u0323ba\n\u24BA\u277Ab\u24D0\na\u0327\u0301\u0301\u0358\n\u24B8\u277A\n' \
+row 'discontiguous_match' 'compare --table published --rules notes' '\U0001D158\u0327\U0001D165\n\u00BC\u277A\na\U0001D165\u0323\n\u24BA\u00B9\na\u0327\u0323b\n\u24BA\u277Ab\na\u0327\u0323ba\n\u24BA\u277Ab\u24D0\na\u0327\u0301\u0301\u0358\n\u24B8\u277A\n' \
     'equal less equal less equal less equal greater equal' 'ICU 72 RuleBasedCollator, collationtest.txt, discontiguous contractions'
-row 'extension_of' 'compare --table published --rules notes' 'a\u0F73\u0301\n\u24B6\u2462\n\u0F71\u0F73\n\u2462\u2460\n' \
+row 'discontiguous_match' 'compare --table published --rules notes' 'a\u0F73\u0301\n\u24B6\u2462\n\u0F71\u0F73\n\u2462\u2460\n' \
     'equal less equal' 'ICU 72 RuleBasedCollator, collationtest.txt, discontiguous contractions: FCD but not NFD'
 row 'matches' 'compare --table published --rules notes' 'a\u0323\u0308\u0301\u0358\n\u24BB\u2779\na\u0323\u0308\u0301\u0308\u0301\u0358\n\u24BB\u2779\u2779\na\u0327\u0331\u030A\u0358\n\u24B9\u277A\u277D\na\u0331\u030A\u0358\n\u24B9\u277D\n' \
     'equal less equal greater equal less equal' 'ICU 72 RuleBasedCollator, collationtest.txt, nested and interleaved contractions'
@@ -679,7 +679,7 @@ rules tail-6 '&\u03B4=\u03B1\u1F7C\u0315'
 row 'matches' 'compare --table published --rules tail-6' '\u03B1\u03C9\u0313\u0300\u0315\n\u03B1\u1F60\u0300\u0315\n\u03B1\u1F62\u0315\n\u03B4\n\u03B1\u1F7C\u0315\n\u03B1\u03C9\u0300\u0315\n\u03B1\u03C9\u0300\u0315\u0345\n\u03B1\u1F7C\u0315\u0345\n\u03B1\u1FF2\u0315\n' \
     'equal equal less equal equal less equal equal' 'ICU 72 RuleBasedCollator, collationtest.txt, canonical tail closure'
 rules danish '&z<aa'
-row 'start_of' 'compare --table published --rules danish' 'z\naa\naa\u0308\na\u00E4\n' \
+row 'longest_match' 'compare --table published --rules danish' 'z\naa\naa\u0308\na\u00E4\n' \
     'less less equal' 'ICU 72 RuleBasedCollator, collationtest.txt, danish a+a vs. a-umlaut'
 row 'IsUntouched' 'compare --table published --rules danish' 'a\nba\na-a\nza\n\u00E5\n\u00C5\nzz\n' 'less greater less greater less less' 'ICU 72 RuleBasedCollator'
 rules long '&e<abcdefghijklmnopqrstuvwxyz01234'

@@ -11,7 +11,7 @@ runs table --table "$work/small"
 is "a small table" "@implicitweights 17000..18AFF; FB00|0061 0301 ; [.100A.0020.0002][*0000.0000.0000]|0062 ; [.1001.0020.0002]||0" "$(paste -sd'|' "$work/out")|$(cat "$work/err")|$status"
 cp "$work/small" "$work/ a ñ "
 runs table --table "$work/ a ñ "
-is "a path with blanks and a letter past ASCII" "3|0" "$(wc -l <"$work/out")|$status"
+is "a path with blanks and a letter outside ASCII" "3|0" "$(wc -l <"$work/out")|$status"
 printf '0061 ; [.1000.0020.0002]\n0062 ; [.10' >"$work/cut"
 runs table --table "$work/cut"
 is "a table that is cut" "|uca: table line 2: BadElement|3" "$(cat "$work/out")|$(cat "$work/err")|$status"
@@ -41,14 +41,14 @@ for words in --help 'key --help' sort 'key --strength third'; do
     cp "$work/err" "$work/wanted"
     # shellcheck disable=SC2086
     UCA_TABLE=$'\xff' runs $words </dev/null
-    is "words that are no job look at no table: $words" "same|2" "$(cmp -s "$work/wanted" "$work/err" && echo same)|$status"
+    is "words that are not a job open no table: $words" "same|2" "$(cmp -s "$work/wanted" "$work/err" && echo same)|$status"
 done
 
 ./uca table >/dev/full 2>"$work/err" </dev/null
 status=$?
 is "a full disk" "uca: output byte 0: Failed|3" "$(cat "$work/err")|$status"
 runs table extra
-is "a word too many" "0|2" "$(wc -c <"$work/out")|$status"
+is "one argument too many" "0|2" "$(wc -c <"$work/out")|$status"
 yes '# 4567' | head -c 67108865 >"$work/large"
 runs table --table "$work/large"
 is "one byte more than 64 MiB" "|uca: table line 9586981: TooLarge|3" "$(cat "$work/out")|$(cat "$work/err")|$status"

@@ -79,7 +79,7 @@ refused "rules that are not UTF-8, after another fault" "uca: rules byte 3: NotU
 printf '0061 ; [.1000.0020.0002]\n0062 ; [.7FFF.0020.0002]\n' >"$work/full"
 printf '&a<c' >"$work/rules"
 runs table --table "$work/full" --rules "$work/rules"
-is "no room for a weight" "|uca: rules relation 1: Full 1|3" "$(cat "$work/out")|$(cat "$work/err")|$status"
+is "no gap for a weight" "|uca: rules relation 1: Full 1|3" "$(cat "$work/out")|$(cat "$work/err")|$status"
 { printf '0061 ; '; printf '[.1000.0020.0002]%.0s' $(seq 33); printf '\n'; } >"$work/long"
 printf '&aa=b' >"$work/rules"
 runs table --table "$work/long" --rules "$work/rules"

@@ -99,7 +99,7 @@ is "standard input that is closed" "2||ucasort: stat failed: -: Bad file descrip
 is "a file, where standard input is closed" "0|a|b|" "$?|$(in_one out)|$(cat err)"
 for option in -f -d -i -n -g -h -M -R -V; do
     sorts $option a
-    is "an option that sort has and ucasort has not: $option" "2|0|1" "$status|$(wc -c <out)|$(grep -c "^ucasort: $option " err)"
+    is "an option of sort that ucasort does not have: $option" "2|0|1" "$status|$(wc -c <out)|$(grep -c "^ucasort: $option " err)"
 done
 for words in '-k 1.2' '--strength fifth' '--variable none' '--bad never' '--language sv --rules sv.rules'; do
     # shellcheck disable=SC2086
@@ -195,20 +195,20 @@ marks() { for _ in $(seq "$1"); do printf '\xcc\x81'; done; }
 # shown: each line by its first characters
 shown() { perl -ne 'chomp; s/(\xcc\x81)+/"+" . length($&) \/ 2/e; s/\xff/?/; s/\xe1\xba\xbf/E/; print "$_|"' "$work/out"; }
 sorts "$work/lines"
-is "lines that are no text" "|a|b|E+58|z+60|B?|c+61|E+59|?|0" "$(shown)$status"
+is "lines that are not text" "|a|b|E+58|z+60|B?|c+61|E+59|?|0" "$(shown)$status"
 sorts -r "$work/lines"
-is "lines that are no text, reversed" "z+60|E+58|b|a||?|E+59|c+61|B?|0" "$(shown)$status"
+is "lines that are not text, reversed" "z+60|E+58|b|a||?|E+59|c+61|B?|0" "$(shown)$status"
 sorts --bad first --strength primary "$work/lines"
-is "lines that are no text, first" "B?|c+61|E+59|?||a|b|E+58|z+60|0" "$(shown)$status"
+is "lines that are not text, first" "B?|c+61|E+59|?||a|b|E+58|z+60|0" "$(shown)$status"
 sorts -u "$work/lines" "$work/lines"
-is "lines that are no text, each once" "|a|b|E+58|z+60|B?|c+61|E+59|?|0" "$(shown)$status"
+is "lines that are not text, each once" "|a|b|E+58|z+60|B?|c+61|E+59|?|0" "$(shown)$status"
 sorts -s -k 1,1 "$work/lines"
-is "fields that are no text" "|a|b|E+58|z+60|B?|c+61|E+59|?|0" "$(shown)$status"
+is "fields that are not text" "|a|b|E+58|z+60|B?|c+61|E+59|?|0" "$(shown)$status"
 printf 'x,b\n\xff,a\nx,\xff\n' >"$work/fields"
 sorts -t, -k2,2 "$work/fields"
 is "a field that is text beside one that is not" "?,a|x,b|x,?|0" "$(shown)$status"
 sorts -k 1,1r "$work/lines"
-is "a reversed key that is no text" "z+60|E+58|b|a||?|E+59|c+61|B?|0" "$(shown)$status"
+is "a reversed key that is not text" "z+60|E+58|b|a||?|E+59|c+61|B?|0" "$(shown)$status"
 sorts --bad refuse "$work/lines"
 is "a line that is refused" "2|0|ucasort: $work/lines:2: byte 0: NotUtf8" "$status|$(wc -c <"$work/out")|$(cat "$work/err")"
 printf 'a\n' >"$work/good"
@@ -241,7 +241,7 @@ sorts --skip-articles 'the a an' --variable shifted "$work/titles"
 is "articles with blanks between" "A|\"The Cat\"|L’ami|l'an|Le chat|an owl|The|The Zoo|0" "$(in_one "$work/out")|$status"
 printf '2¦The b\n1¦a\n10¦c\n' >"$work/fields"
 sorts -t ¦ -k2 --skip-articles the "$work/fields"
-is "a separator past ASCII" "1¦a|2¦The b|10¦c|0" "$(in_one "$work/out")|$status"
+is "a separator outside ASCII" "1¦a|2¦The b|10¦c|0" "$(in_one "$work/out")|$status"
 sorts -l sr_RS@latin "$work/fields"
 is "a script as locales name it" "0" "$status"
 sorts --rules <(printf '&z<a\n') --table <(cat "$published") -k1 "$work/fields" -o -
@@ -279,16 +279,16 @@ done <<'END'
 END
 is "a quote without an end" "mine.rules:1:4: this quote is not ended (Syntax)|    &a<'b|       ^|1" "$(says "&a<'b")"
 is "before the first reset" "mine.rules:2:1: this comes before the first reset; rules begin with & and a string (Syntax)|    b<c|    ^|1" "$(says '# b & c\nb<c')"
-is "a sign without quotes" "mine.rules:1:5: \$ is no character of a string; it needs quotes or a backslash (Syntax)|    &a<b\$|        ^|1" "$(says '&a<b$')"
+is "a sign without quotes" "mine.rules:1:5: \$ is not a character of a string; it needs quotes or a backslash (Syntax)|    &a<b\$|        ^|1" "$(says '&a<b$')"
 is "rules that are not UTF-8" "mine.rules:1:4: these bytes are not UTF-8 (NotUtf8)|1" "$(says '&a<\xff' | sed 's/|.*|/|/')"
 is "a relation that finds no place" "mine.rules:3:3: what comes before this item has an implicit weight, as ideographs have; nothing can come after it at the first level (HighReset)|    &一<q|       ^|1" "$(says "# &a<b\n&a='<'<c\n&一<q")"
-is "an item that is tailored twice" "mine.rules:2:3: å is tailored twice; its place at 1:3 is given up for this one|    &z<å|      ^|1" "$(says '&a<å\n&z<a\xcc\x8a')"
-is "an item without its front" "mine.rules:1:3: xyé ends in a combining mark, and what comes before that mark is no item and no key of the table (WF5); with another mark between them it is not found|    &a<xyé|      ^|1" "$(says '&a<xye\xcc\x81')"
-is "an item with its front" "0" "$(says '&a<xye<xye\xcc\x81')"
+is "an item that is tailored twice" "mine.rules:2:3: å is tailored twice; this place replaces the one at 1:3|    &z<å|      ^|1" "$(says '&a<å\n&z<a\xcc\x8a')"
+is "an item whose beginning is not a key" "mine.rules:1:3: xyé ends in a combining mark, and what comes before that mark is neither an item nor a key of the table (WF5); with another mark between them it is not found|    &a<xyé|      ^|1" "$(says '&a<xye\xcc\x81')"
+is "an item whose beginning is a key" "0" "$(says '&a<xye<xye\xcc\x81')"
 printf 'ch\ncz\nd\n\nz\nå\n' >"$work/list"
 is "a list of words in another order than written" "list:2: cz comes before ch, which is above it|list:4:  comes before d, which is above it|1" "$(says '&c<ch\n&z<å' "$work/list" | sed "s,$work/,,")"
 is "a list in its order" "0" "$(says '&c<ch\n&z<å' <(printf 'cz\nch\nz\nå\n'))"
-is "a list that is no text" "ucasort: list:2: byte 1: NotUtf8|2" "$(printf 'a\nb\xff\n' >"$work/list" && says '&c<ch' "$work/list" | sed "s,$work/,,")"
+is "a list that is not text" "ucasort: list:2: byte 1: NotUtf8|2" "$(printf 'a\nb\xff\n' >"$work/list" && says '&c<ch' "$work/list" | sed "s,$work/,,")"
 sorts --check-rules "$work/none"
 is "rules that are not there" "2|ucasort: cannot read: $work/none: No such file or directory" "$status|$(cat "$work/err")"
 # In these four, the digraph dž or Burmese finals are items, but what comes before their mark is not.

@@ -1,5 +1,5 @@
 #!/usr/bin/env perl
-# Makes the keys of a part whose records `uca key` cannot take as they are. Its words: the part; uca; z if records end in NUL; the value
+# Makes the keys of a part whose records `uca key` cannot take as they are. Its arguments: the part; uca; z if records end in NUL; the value
 # of --bad; the separator; the articles; the rules; the strength; the keys; and, after --, the options of `uca key` except the rules.
 use strict;
 use warnings;

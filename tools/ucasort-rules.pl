@@ -1,5 +1,5 @@
 #!/usr/bin/env perl
-# Reports what is wrong with rules. Its words: the file; what uca says about it; uca; the table.
+# Reports what is wrong with rules. Its arguments: the file; what uca says about it; uca; the table.
 use strict;
 use warnings;
 no warnings "utf8";
@@ -83,7 +83,7 @@ sub sentence_of {
         return "this quote is not ended" if $rest =~ /\A'/;
         return "this is not an escape; an escape is \\uhhhh, \\Uhhhhhhhh, or a backslash before any other character" if $rest =~ /\A\\/;
         return "there is no item before this /" if $rest =~ m{\A/};
-        return "$1 is no character of a string; it needs quotes or a backslash" if $rest =~ /\A([!-~])/;
+        return "$1 is not a character of a string; it needs quotes or a backslash" if $rest =~ /\A([!-~])/;
     }
     return $sentences{$cause} // $cause;
 }
@@ -134,7 +134,7 @@ for my $relation (@all) {
     if (defined $place{$item}) {
         my $before = substr($text, 0, $place{$item});
         my ($line, $column) = (1 + $before =~ tr/\n//, length($before) - rindex($before, "\n"));
-        reports(byte_of($at), "$item is tailored twice; its place at $line:$column is given up for this one");
+        reports(byte_of($at), "$item is tailored twice; this place replaces the one at $line:$column");
     }
     $place{$item} = $at;
 }
@@ -150,7 +150,7 @@ if (%fronts) {
     while (<$entries>) { /^([0-9A-F ]+) ;/ and delete $fronts{$1} }
     close $entries;
     for my $item (sort { $place{$a} <=> $place{$b} } map { @$_ } values %fronts) {
-        reports(byte_of($place{$item}), "$item ends in a combining mark, and what comes before that mark is no item and no key of the table (WF5); "
+        reports(byte_of($place{$item}), "$item ends in a combining mark, and what comes before that mark is neither an item nor a key of the table (WF5); "
             . "with another mark between them it is not found");
     }
 }

@@ -93,7 +93,7 @@ static void dictionaries_changed(Datum arg, int cache, uint32 hash) {
 static int number_of(const struct config_enum_entry *words, const char *option, const char *word) {
     const struct config_enum_entry *entry = words;
     while (entry->name && strcmp(entry->name, word) != 0) entry++;
-    if (!entry->name) ereport(ERROR, (errcode(ERRCODE_INVALID_PARAMETER_VALUE), errmsg("uca: \"%s\" is no value of %s", word, option)));
+    if (!entry->name) ereport(ERROR, (errcode(ERRCODE_INVALID_PARAMETER_VALUE), errmsg("uca: \"%s\" is not a value of %s", word, option)));
     return entry->val;
 }
 
@@ -186,7 +186,7 @@ static char *options_of(Oid oid, Oid schema, char **name) {
         && ((Form_pg_ts_template)GETSTRUCT(template))->tmplnamespace == schema;
     if (HeapTupleIsValid(template)) ReleaseSysCache(template);
     if (!is_ours)
-        ereport(ERROR, (errcode(ERRCODE_WRONG_OBJECT_TYPE), errmsg("uca: the text search dictionary \"%s\" is no collation of uca", *name)));
+        ereport(ERROR, (errcode(ERRCODE_WRONG_OBJECT_TYPE), errmsg("uca: the text search dictionary \"%s\" is not a collation of uca", *name)));
     options = SysCacheGetAttr(TSDICTOID, tuple, Anum_pg_ts_dict_dictinitoption, &is_null);
     copy = is_null ? pstrdup("") : TextDatumGetCString(options);
     ReleaseSysCache(tuple);

@@ -90,10 +90,10 @@ def texts_at_fault(collator):
     run = "x" + "\u0301" * 61
     place = {"status": uca.LONG_RUN, "kind": 0, "line": 2, "column": 62, "character": "\u0301"}
     error = refused(lambda: collator.compare("a", "é\n" + run), uca.TextError, text=2, at=3 + 1 + 120, **place)
-    assert str(error) == "text 2: line 2, column 62, U+0301: this is the 61st nonstarter (combining mark) in a row, and a text may have 60"
+    assert str(error) == "text 2: line 2, column 62, U+0301: this is the 61st nonstarter (combining mark) in a row, and a text may have at most 60"
     for call in (collator.key, collator.packed_key, collator.sort_key, collator.prefix_bounds, collator.matches, uca.check):
         refused(lambda: call(b"a\xc3\xa9\xff"), uca.TextError, status=uca.NOT_UTF8, text=1, at=3, line=1, column=3, character="\\xff")
-        refused(lambda: call("é\udc80"), uca.TextError, at=2, column=2, character="\udc80", cause="a lone surrogate is no character")
+        refused(lambda: call("é\udc80"), uca.TextError, at=2, column=2, character="\udc80", cause="a lone surrogate is not a character")
         refused(lambda: call(None), TypeError)
         refused(lambda: call(7), TypeError)
         refused(call, TypeError)

@@ -9,30 +9,30 @@ INCOMPLETE = 9  # No longer returned.
 
 _STATUSES = {
     NOT_UTF8: "this is not UTF-8",
-    LONG_RUN: "this is the 61st nonstarter (combining mark) in a row, and a text may have 60",
+    LONG_RUN: "this is the 61st nonstarter (combining mark) in a row, and a text may have at most 60",
     NOT_OPEN: "the collator is closed",
     BAD_SETTINGS: "the strength or the option for variable elements has no meaning",
 }
 
 # By the numbers of uca_kind.
 _KINDS = {
-    1: "a line may have 4096 bytes",
-    2: "this directive is unknown or not in its form, or it is a second version",
-    3: "a code point is wanted: four to six hexadecimal digits, at most 10FFFF and no surrogate",
-    4: "this is the 33rd code point of a key, and a key may have 32",
-    5: "a semicolon is wanted after the key",
-    6: "a collation element is wanted, such as [.1C47.0020.0002]",
+    1: "a line may have at most 4096 bytes",
+    2: "this directive is unknown or malformed, or gives a second version",
+    3: "a code point is expected: four to six hexadecimal digits, at most 10FFFF and not a surrogate",
+    4: "this is the 33rd code point of a key, and a key may have at most 32",
+    5: "a semicolon is expected after the key",
+    6: "a collation element is expected, such as [.1C47.0020.0002]",
     7: "the entry has no collation element",
-    8: "this is the 65th collation element, and an entry may have 64",
+    8: "this is the 65th collation element, and an entry may have at most 64",
     9: "an earlier line has this key",
     10: "this range ends before it begins, has a base below 8000, or does not fit beside an earlier range",
-    11: "a table may have 67108864 bytes",
+    11: "a table may have at most 67108864 bytes",
     21: "this has no meaning here: rules begin with &, and a sign that is a character of a string needs quotes or a backslash",
     22: "this part of the syntax of UTS #35 is left out; as a character of a string it needs quotes or a backslash",
-    23: "a string is wanted here",
+    23: "a string is expected here",
     24: "this string has more than 60 nonstarters (combining marks) in a row",
     25: "this string has more than 32 code points in NFD",
-    26: "rules may have 20000 relations",
+    26: "rules may have at most 20000 relations",
     27: "this is not UTF-8",
     41: "what the item comes after has no weight at this level that can be raised",
     42: "what the item comes after has an implicit weight, as ideographs have: nothing can come after it at the first level",
@@ -183,7 +183,7 @@ def error_of(status: int, kind: int, text: int, at: int, source: str | bytes | N
     """The exception for a status and a fault. The extension calls it."""
     cause = _KINDS.get(kind) or _STATUSES.get(status, "status %d, kind %d" % (status, kind))
     if isinstance(source, str) and (status == NOT_UTF8 or kind == 27):
-        cause = "a lone surrogate is no character"
+        cause = "a lone surrogate is not a character"
     type_of = _TYPES.get(status, Error)
     what = "the table: " if type_of is TableError else "the rules: " if type_of is RulesError else "text %d: " % text if text else ""
     line, column, character = None, None, ""

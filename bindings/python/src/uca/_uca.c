@@ -306,7 +306,7 @@ static PyObject *collator_packed_key(Collator *self, PyObject *text) { return ke
 /* The keys of texts: a new list of the texts, in which each text is replaced by its key. */
 static PyObject *keys_of(Collator *self, MakeKey make, PyObject *texts) {
     if (PyUnicode_Check(texts) || PyBytes_Check(texts)) {
-        PyErr_SetString(PyExc_TypeError, "a list of texts is wanted, and not one text");
+        PyErr_SetString(PyExc_TypeError, "expected a list of texts, not one text");
         return NULL;
     }
     PyObject *list = PySequence_List(texts);
