@@ -7,9 +7,7 @@ use crate::completeness::completeness_of;
 use crate::digest::digest_of;
 use crate::faults::{BoundsFault, CompareFault, FingerprintFault, KeyFault, OpenFault, ShareFault};
 use crate::handle::Handle;
-use crate::keys::{
-    put_key, put_packed_key, put_packed_text_key, put_text_key, write_key_of,
-};
+use crate::keys::{put_key, put_packed_key, put_packed_text_key, put_text_key, write_key_of};
 use crate::levels::{Decision, decision_of};
 use crate::loose::Loose;
 use crate::matches::{ElementForm, MatchForm, MatchesSize, put_matches};

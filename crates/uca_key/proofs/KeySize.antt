@@ -163,6 +163,14 @@ pub length-short_packed_key : (t : ElementTable) (s : Settings) (bytes : List �
 length-short_packed_key t s bytes table utf8 few =
     let text : List ℕ = chars bytes in let es : List Element = elements t (nfd text) in
     let ws : List (List ℕ) = weighted s.weighting es in
-    omega (arith, ap length (packed-levels t s text), length-append (level_bytes ws 1) (after_first (levels s.strength - 1) t s.weighting text),
-    bytes_few weight_bytes weight_few (level_weights 1 ws), weights_few 1 ws, length-weighted_after s.weighting [] es, elements_few (length (nfd text)) t (nfd text) (omega arith) table, short_text bytes utf8 few,
-    after_first_few (levels s.strength - 1) t s.weighting text (omega (arith, (levels-within s.strength).1)) table (short_text bytes utf8 few))
+    omega (
+      arith,
+      ap length (packed-levels t s text),
+      length-append (level_bytes ws 1) (after_first (levels s.strength - 1) t s.weighting text),
+      bytes_few weight_bytes weight_few (level_weights 1 ws),
+      weights_few 1 ws,
+      length-weighted_after s.weighting [] es,
+      elements_few (length (nfd text)) t (nfd text) (omega arith) table,
+      short_text bytes utf8 few,
+      after_first_few (levels s.strength - 1) t s.weighting text (omega (arith, (levels-within s.strength).1)) table (short_text bytes utf8 few),
+    )

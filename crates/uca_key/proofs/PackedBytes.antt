@@ -30,6 +30,7 @@ packed-levels t s text = of_strength s.strength
   where
     ws : List (List ℕ)
     ws = weighted s.weighting (elements t (nfd text))
+
     of_strength : (strength : Strength) → concat (take (levels strength) (packed_levels ws (nfd text))) ≡ level_bytes ws 1 ++ after_first (levels strength - 1) t s.weighting text
     of_strength Primary = refl
     of_strength Secondary = refl

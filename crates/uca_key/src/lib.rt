@@ -11,7 +11,7 @@ mod form;
 pub mod key_maker;
 pub mod keys;
 pub mod laws;
-mod levels;
+mod level_bytes;
 pub mod packed;
 mod pieces;
 pub mod placing;

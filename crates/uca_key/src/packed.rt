@@ -9,10 +9,10 @@ ghost use Rattle.uca_model.specs.SortKey.{level_bytes};
 ghost use Rattle.uca_levels.specs.Streams.{weights_from};
 ghost use Rattle.uca_window.specs.Passage.{bytes_of, text_of};
 ghost use Rattle.uca_key.specs.PackedKey.{common_weight, later_bytes, other_bytes, packed_after, packed_key, packed_level};
-ghost use Rattle.uca_key.specs.Pieces.{HoldsElements, elements_of, pieces_left};
+ghost use Rattle.uca_key.specs.Pieces.{HoldsElements, SameText, elements_of, pieces_left};
 ghost use Rattle.uca_key.specs.Placing.{PutsAt, with_front};
 
-use crate::pieces::{ElementPieces, PIECE, TextReading};
+use crate::pieces::{PIECE, TextReading};
 use crate::placing::{ROOM, put_bytes, put_text, put_weights};
 use uca_table::Table;
 use uca_weights::{Element, Settings, Variable, Weigher};
@@ -241,7 +241,7 @@ fn pack(
 fn put_packed(
     v: Variable,
     level: u8,
-    pieces: &mut ElementPieces,
+    reading: &mut TextReading,
     room: &mut [Element],
     at: usize,
     out: &mut [u8],
@@ -249,11 +249,12 @@ fn put_packed(
     requires first { 2 ≤ level }
     requires last { level ≤ 4 }
     requires some { 0 < length room.old }
-    requires within { pieces.old.read ≤ length room.old }
+    requires holds { HoldsElements reading.old room.old }
     requires place { at < 2 ^ 64 }
     requires size { length out.old < 2 ^ 64 }
-    ensures bytes { PutsAt at (packed_level (weighted v (pieces_left pieces.old room.old)) level) out.old out.new result }
-    ensures kept { pieces.old.left ≡ None → room.new ≡ room.old }
+    ensures bytes { PutsAt at (packed_level (weighted v (pieces_left reading.old room.old)) level) out.old out.new result }
+    ensures holds { HoldsElements reading.new room.new }
+    ensures same { SameText reading.old reading.new }
     ensures room { length room.new ≡ length room.old }
 {
     let mut weigher = Weigher::new(v);
@@ -261,7 +262,7 @@ fn put_packed(
     let mut run = 0;
     let mut next = at;
     'each: loop {
-        let (from, to) = pieces.next(room);
+        let (from, to) = reading.next(room);
         if from == to {
             return put_bytes(&[2 * run + 1], next, out);
         }
@@ -273,7 +274,7 @@ fn put_packed(
 
 // Puts the first level of a text that was read into room, which is that of its sort key.
 fn put_first(
-    reading: &TextReading,
+    reading: &mut TextReading,
     v: Variable,
     room: &mut [Element],
     at: usize,
@@ -281,19 +282,20 @@ fn put_first(
 ) -> usize
     requires place { at < 2 ^ 64 }
     requires some { 0 < length room.old }
-    requires holds { HoldsElements reading.now room.old }
+    requires holds { HoldsElements reading.old room.old }
     requires size { length out.old < 2 ^ 64 }
-    ensures bytes { PutsAt at (level_bytes (weighted v (elements_of reading.now)) 1) out.old out.new result }
-    ensures holds { HoldsElements reading.now room.new }
+    ensures bytes { PutsAt at (level_bytes (weighted v (elements_of reading.old)) 1) out.old out.new result }
+    ensures holds { HoldsElements reading.new room.new }
+    ensures same { SameText reading.old reading.new }
     ensures room { length room.new ≡ length room.old }
 {
-    let mut pieces = reading.pieces(room);
-    put_weights(v, 1, &mut pieces, room, at, out)
+    reading.restart(room);
+    put_weights(v, 1, reading, room, at, out)
 }
 
 // Puts a later level of a text that was read into room, from 2 to 5.
 fn put_later(
-    reading: &TextReading,
+    reading: &mut TextReading,
     v: Variable,
     level: u8,
     room: &mut [Element],
@@ -303,18 +305,19 @@ fn put_later(
     requires first { 2 ≤ level }
     requires last { level ≤ 5 }
     requires some { 0 < length room.old }
-    requires holds { HoldsElements reading.now room.old }
+    requires holds { HoldsElements reading.old room.old }
     requires place { at < 2 ^ 64 }
     requires size { length out.old < 2 ^ 64 }
-    ensures bytes { PutsAt at (later_bytes reading.now.table.now v (chars reading.now.text.now) level) out.old out.new result }
-    ensures holds { HoldsElements reading.now room.new }
+    ensures bytes { PutsAt at (later_bytes reading.old.table.now v (chars reading.old.text.now) level) out.old out.new result }
+    ensures holds { HoldsElements reading.new room.new }
+    ensures same { SameText reading.old reading.new }
     ensures room { length room.new ≡ length room.old }
 {
     if level == 5 {
         return put_text(reading.table, v, reading.text, at, out);
     }
-    let mut pieces = reading.pieces(room);
-    put_packed(v, level, &mut pieces, room, at, out)
+    reading.restart(room);
+    put_packed(v, level, reading, room, at, out)
 }
 
 /// Puts the packed sort key of a text at a place of a buffer, level after level. Its elements are read into room.
@@ -334,8 +337,8 @@ pub(crate) fn put_packed_levels(
     ensures room { length room.new ≡ length room.old }
 {
     let last = s.levels();
-    let reading = TextReading::new(t, text, room);
-    let mut next = put_first(&reading, s.weighting, room, at, out);
+    let mut reading = TextReading::new(t, text, room);
+    let mut next = put_first(&mut reading, s.weighting, room, at, out);
     if last == 1 {
         return next;
     }
@@ -343,7 +346,7 @@ pub(crate) fn put_packed_levels(
     let mut level = 1;
     'each: while level < last {
         level += 1;
-        next = put_later(&reading, s.weighting, level, room, next, out);
+        next = put_later(&mut reading, s.weighting, level, room, next, out);
     }
     next
 }

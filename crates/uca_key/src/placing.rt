@@ -7,11 +7,11 @@ ghost use Rattle.uca_model.specs.SafeText.{IsSafe};
 ghost use Rattle.uca_model.specs.SortKey.{code_point_bytes, sort_key, weight_bytes};
 ghost use Rattle.uca_model.specs.Source.{unread};
 ghost use Rattle.uca_window.specs.Passage.{bytes_of, text_of};
-ghost use Rattle.uca_key.specs.Pieces.{HoldsElements, pieces_left};
+ghost use Rattle.uca_key.specs.Pieces.{HoldsElements, SameText, pieces_left};
 ghost use Rattle.uca_key.specs.Placing.{PutsAt, with_front};
 
-use crate::levels::put_level;
-use crate::pieces::{ElementPieces, PIECE, TextReading};
+use crate::level_bytes::put_level;
+use crate::pieces::{PIECE, TextReading};
 use uca_levels::Points;
 use uca_table::Table;
 use uca_weights::{Element, Settings, Variable, Weigher};
@@ -53,7 +53,7 @@ fn put_point(point: char, at: usize, out: &mut [u8]) -> usize
 pub(crate) fn put_weights(
     v: Variable,
     level: u8,
-    pieces: &mut ElementPieces,
+    reading: &mut TextReading,
     room: &mut [Element],
     at: usize,
     out: &mut [u8],
@@ -61,18 +61,19 @@ pub(crate) fn put_weights(
     requires first { 1 ≤ level }
     requires last { level ≤ 4 }
     requires some { 0 < length room.old }
-    requires within { pieces.old.read ≤ length room.old }
+    requires holds { HoldsElements reading.old room.old }
     requires place { at < 2 ^ 64 }
     requires size { length out.old < 2 ^ 64 }
-    ensures bytes { PutsAt at (flat_map weight_bytes (level_weights level (weighted v (pieces_left pieces.old room.old)))) out.old out.new result }
-    ensures kept { pieces.old.left ≡ None → room.new ≡ room.old }
+    ensures bytes { PutsAt at (flat_map weight_bytes (level_weights level (weighted v (pieces_left reading.old room.old)))) out.old out.new result }
+    ensures holds { HoldsElements reading.new room.new }
+    ensures same { SameText reading.old reading.new }
     ensures room { length room.new ≡ length room.old }
 {
     let mut weigher = Weigher::new(v);
     let mut bytes = [0; 2 * PIECE];
     let mut next = at;
     'each: loop {
-        let (from, to) = pieces.next(room);
+        let (from, to) = reading.next(room);
         if from == to {
             return next;
         }
@@ -108,7 +109,7 @@ pub(crate) fn put_text(t: &Table, v: Variable, text: &str, at: usize, out: &mut 
 
 // Puts one level of a text that was read into room.
 fn put_level_of(
-    reading: &TextReading,
+    reading: &mut TextReading,
     v: Variable,
     level: u8,
     room: &mut [Element],
@@ -118,17 +119,18 @@ fn put_level_of(
     requires first { 1 ≤ level }
     requires last { level ≤ 5 }
     requires some { 0 < length room.old }
-    requires holds { HoldsElements reading.now room.old }
+    requires holds { HoldsElements reading.old room.old }
     requires size { length out.old < 2 ^ 64 }
-    ensures bytes { PutsAt at (bytes_at level (level_list reading.now.table.now v (chars reading.now.text.now) level)) out.old out.new result }
-    ensures holds { HoldsElements reading.now room.new }
+    ensures bytes { PutsAt at (bytes_at level (level_list reading.old.table.now v (chars reading.old.text.now) level)) out.old out.new result }
+    ensures holds { HoldsElements reading.new room.new }
+    ensures same { SameText reading.old reading.new }
     ensures room { length room.new ≡ length room.old }
 {
     if level == 5 {
         return put_text(reading.table, v, reading.text, at, out);
     }
-    let mut pieces = reading.pieces(room);
-    put_weights(v, level, &mut pieces, room, at, out)
+    reading.restart(room);
+    put_weights(v, level, reading, room, at, out)
 }
 
 /// Puts the sort key of a text at a place of a buffer, level after level. Its elements are read into room.
@@ -148,11 +150,11 @@ pub(crate) fn put_levels(
     ensures room { length room.new ≡ length room.old }
 {
     let last = s.levels();
-    let reading = TextReading::new(t, text, room);
+    let mut reading = TextReading::new(t, text, room);
     let mut level = 1;
     let mut next = at;
     'each: loop {
-        next = put_level_of(&reading, s.weighting, level, room, next, out);
+        next = put_level_of(&mut reading, s.weighting, level, room, next, out);
         if level == last {
             return next;
         }

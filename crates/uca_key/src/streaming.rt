@@ -9,17 +9,15 @@ ghost use Rattle.uca_model.specs.SortKey.{weight_bytes, code_point_bytes, sort_k
 ghost use Rattle.uca_model.specs.Source.{unread};
 ghost use Rattle.uca_window.specs.Passage.{text_of};
 ghost use Rattle.uca_key.specs.Faults.{write_fault};
-ghost use Rattle.uca_key.specs.Pieces.{HoldsElements, pieces_left};
+ghost use Rattle.uca_key.specs.Pieces.{HoldsElements, SameText, pieces_left};
 
-use crate::levels::put_level;
-use crate::pieces::{ElementPieces, PIECE, TextReading};
+use crate::level_bytes::put_level;
+use crate::pieces::{PIECE, TextReading};
 use crate::placing::ROOM;
 use uca_io::OutputBuffer;
 use uca_levels::Points;
 use uca_table::Table;
-use uca_weights::{
-    Element, Settings, Variable, Weigher, WriteCause, WriteFault, Writer,
-};
+use uca_weights::{Element, Settings, Variable, Weigher, WriteCause, WriteFault, Writer};
 use uca_window::{Passage, PassageSource, Source};
 
 /// How far the bytes of a key came, and why they stopped.
@@ -77,24 +75,25 @@ fn send_weights<W: Writer>(
     out: &mut OutputBuffer,
     v: Variable,
     level: u8,
-    pieces: &mut ElementPieces,
+    reading: &mut TextReading,
     room: &mut [Element],
 ) -> Result<(), WriteFault>
     requires first { 1 ≤ level }
     requires last { level ≤ 4 }
     requires some { 0 < length room.old }
-    requires within { pieces.old.read ≤ length room.old }
-    requires count { accepted out.old + length (flat_map weight_bytes (level_weights level (weighted v (pieces_left pieces.old room.old)))) < 2 ^ 128 }
+    requires holds { HoldsElements reading.old room.old }
+    requires count { accepted out.old + length (flat_map weight_bytes (level_weights level (weighted v (pieces_left reading.old room.old)))) < 2 ^ 128 }
     ensures bytes { MatchResult result
-        (λ _. Accepts (W.state w.old) out.old (W.state w.new) out.new (flat_map weight_bytes (level_weights level (weighted v (pieces_left pieces.old room.old)))))
-        (λ f. FailsPartway (W.state w.old) out.old (W.state w.new) (flat_map weight_bytes (level_weights level (weighted v (pieces_left pieces.old room.old)))) f) }
-    ensures kept { pieces.old.left ≡ None → room.new ≡ room.old }
+        (λ _. Accepts (W.state w.old) out.old (W.state w.new) out.new (flat_map weight_bytes (level_weights level (weighted v (pieces_left reading.old room.old)))))
+        (λ f. FailsPartway (W.state w.old) out.old (W.state w.new) (flat_map weight_bytes (level_weights level (weighted v (pieces_left reading.old room.old)))) f) }
+    ensures holds { HoldsElements reading.new room.new }
+    ensures same { SameText reading.old reading.new }
     ensures room { length room.new ≡ length room.old }
 {
     let mut weigher = Weigher::new(v);
     let mut bytes = [0; 2 * PIECE];
     'each: loop {
-        let (from, to) = pieces.next(room);
+        let (from, to) = reading.next(room);
         if from == to {
             return Ok(());
         }
@@ -135,7 +134,7 @@ fn send_points<W: Writer, S: Source>(
 fn send_level<W: Writer>(
     w: &mut W,
     out: &mut OutputBuffer,
-    reading: &TextReading,
+    reading: &mut TextReading,
     v: Variable,
     level: u8,
     room: &mut [Element],
@@ -143,20 +142,21 @@ fn send_level<W: Writer>(
     requires first { 1 ≤ level }
     requires last { level ≤ 5 }
     requires some { 0 < length room.old }
-    requires holds { HoldsElements reading.now room.old }
-    requires count { accepted out.old + length (bytes_at level (level_list reading.now.table.now v (chars reading.now.text.now) level)) < 2 ^ 128 }
+    requires holds { HoldsElements reading.old room.old }
+    requires count { accepted out.old + length (bytes_at level (level_list reading.old.table.now v (chars reading.old.text.now) level)) < 2 ^ 128 }
     ensures bytes { MatchResult result
-        (λ _. Accepts (W.state w.old) out.old (W.state w.new) out.new (bytes_at level (level_list reading.now.table.now v (chars reading.now.text.now) level)))
-        (λ f. FailsPartway (W.state w.old) out.old (W.state w.new) (bytes_at level (level_list reading.now.table.now v (chars reading.now.text.now) level)) f) }
-    ensures holds { HoldsElements reading.now room.new }
+        (λ _. Accepts (W.state w.old) out.old (W.state w.new) out.new (bytes_at level (level_list reading.old.table.now v (chars reading.old.text.now) level)))
+        (λ f. FailsPartway (W.state w.old) out.old (W.state w.new) (bytes_at level (level_list reading.old.table.now v (chars reading.old.text.now) level)) f) }
+    ensures holds { HoldsElements reading.new room.new }
+    ensures same { SameText reading.old reading.new }
     ensures room { length room.new ≡ length room.old }
 {
     if level == 5 {
         let mut source = PassageSource::new(&Passage::of_safe(reading.text));
         return send_points(w, out, reading.table, v, &mut source);
     }
-    let mut pieces = reading.pieces(room);
-    send_weights(w, out, v, level, &mut pieces, room)
+    reading.restart(room);
+    send_weights(w, out, v, level, reading, room)
 }
 
 // Has the sort key of a text go out, level after level.
@@ -175,10 +175,10 @@ fn send_key<W: Writer>(
 {
     let last = s.levels();
     let mut room = [Element::default(); ROOM];
-    let reading = TextReading::new(t, text, &mut room);
+    let mut reading = TextReading::new(t, text, &mut room);
     let mut level = 1;
     'each: loop {
-        match send_level(w, out, &reading, s.weighting, level, &mut room) {
+        match send_level(w, out, &mut reading, s.weighting, level, &mut room) {
             Ok(()) => {}
             Err(fault) => return Err(fault),
         }

@@ -131,6 +131,38 @@ impl<'t> TextElements<'t> {
         }
     }
 
+    // Puts the elements of the next characters into room from a place on, as far as each stands alone and has one. Returns the place
+    // after them. Most texts are read to their end here.
+    #[inline(always)]
+    fn read_alone(&mut self, room: &mut [Element], from: usize) -> usize
+        requires within { from ≤ length room.old }
+        requires waiting { self.old.waiting.now ≡ [] }
+        requires joined { self.old.joined ≡ false }
+        ensures left { take from room.old ++ elements_left self.old ≡ take result room.new ++ elements_left self.new }
+        ensures within { result ≤ length room.old }
+        ensures later { from ≤ result }
+        ensures size { length room.new ≡ length room.old }
+    {
+        let table = self.table;
+        let mut at = from;
+        let mut rest = self.rest;
+        'characters: while at < room.len() {
+            let mut left = rest.chars();
+            let Some(c) = left.next() else {
+                break;
+            };
+            let after = left.as_str();
+            let Some([element]) = table.alone_before(c, after) else {
+                break;
+            };
+            room[at] = *element;
+            at += 1;
+            rest = after;
+        }
+        self.rest = rest;
+        at
+    }
+
     /// Puts the next elements into room, from its front on, and returns how many. It is full unless they were the last.
     pub fn read(&mut self, room: &mut [Element]) -> usize
         ensures left { elements_left self.old ≡ take result room.new ++ elements_left self.new }
@@ -140,6 +172,12 @@ impl<'t> TextElements<'t> {
     {
         let mut at = 0;
         while at < room.len() {
+            if self.waiting.is_empty() && !self.joined {
+                at = self.read_alone(room, at);
+                if at == room.len() {
+                    return at;
+                }
+            }
             let Some(element) = self.next() else {
                 return at;
             };

@@ -11,16 +11,15 @@ pub each-init : goal.each-init
 each-init c = record {
   option = ap (λ w. w.weighting) c.new-weigher.ensures.value;
   few = omega arith;
-  within = c.requires.within;
   size = refl;
-  same = λ _. refl;
-  none = λ none. none;
-  putting = IsPutting-start _ _ _ _ c.requires.place (ap (λ ws. packed_after (common_weight c.args.level) 0 (level_weights c.args.level ws)) (c.new-weigher.ensures.list (pieces_left c.args.pieces.now c.args.room.now)));
+  holds = c.requires.holds;
+  same = (refl, refl);
+  putting = IsPutting-start _ _ _ _ c.requires.place (ap (λ ws. packed_after (common_weight c.args.level) 0 (level_weights c.args.level ws)) (c.new-weigher.ensures.list (pieces_left c.args.reading.now c.args.room.now)));
 }
 
 pub returns-then-from-to-clause-bytes : goal.returns-then-from-to-clause-bytes
 returns-then-from-to-clause-bytes c =
-    let none : weights_from c.each.weigher c.args.level (pieces_left c.each.pieces c.each.room) ≡ [] = ap (weights_from c.each.weigher c.args.level) (c.next-from.ensures.end c.if-from-to.true) in
+    let none : weights_from c.each.weigher c.args.level (pieces_left c.each.reading c.each.room) ≡ [] = ap (weights_from c.each.weigher c.args.level) (c.next-from.ensures.end c.if-from-to.true) in
     IsPutting-ends _ _ _ _ _ _ (IsPutting-more _ _ _ _ _ _ c.each.invariant.putting _ _ ((2 * c.each.run + 1) ∷ []) [] c.requires.size (ap (packed_after (common_weight c.args.level) c.each.run) none) c.put_bytes.ensures) refl
 
 pub each-preserved : goal.each-preserved
@@ -30,9 +29,8 @@ each-preserved c =
     record {
       option = c.pack-packed.ensures.option;
       few = c.pack-packed.ensures.few;
-      within = c.next-from.ensures.within;
       size = c.next-from.ensures.size ∙ c.each.invariant.size;
-      same = λ none. c.next-from.ensures.same (c.each.invariant.none none) ∙ c.each.invariant.same none;
-      none = λ none. c.next-from.ensures.none (c.each.invariant.none none);
+      holds = c.next-from.ensures.holds;
+      same = (c.next-from.ensures.same.0 ∙ c.each.invariant.same.0, c.next-from.ensures.same.1 ∙ c.each.invariant.same.1);
       putting = IsPutting-more _ _ _ _ _ _ c.each.invariant.putting _ _ _ _ c.requires.size split c.put_bytes-next.ensures;
     }

@@ -31,8 +31,8 @@ each-init c =
     record {
       first = omega arith;
       last = (levels-within c.args.s.strength).0;
-      table = c.new-reading.ensures.table;
-      text = c.new-reading.ensures.text;
+      table = c.put_first-next.ensures.same.0 ∙ c.new-reading.ensures.table;
+      text = c.put_first-next.ensures.same.1 ∙ c.new-reading.ensures.text;
       holds = c.put_first-next.ensures.holds;
       size = c.put_first-next.ensures.room ∙ c.new-reading.ensures.size;
       putting = IsPutting-more _ _ _ _ _ _ one _ _ (0 ∷ 0 ∷ []) _ c.requires.size later c.put_bytes-next.ensures;
@@ -48,8 +48,8 @@ each-preserved c =
     record {
       first = omega arith;
       last = omega (arith, c.each.invariant.last, c.levels-last.ensures, c.each-test.true);
-      table = c.each.invariant.table;
-      text = c.each.invariant.text;
+      table = c.put_later-next.ensures.same.0 ∙ c.each.invariant.table;
+      text = c.put_later-next.ensures.same.1 ∙ c.each.invariant.text;
       holds = c.put_later-next.ensures.holds;
       size = c.put_later-next.ensures.room ∙ c.each.invariant.size;
       putting = IsPutting-more _ _ _ _ _ _ c.each.invariant.putting _ _ (later_bytes t v text (at + 1)) _ c.requires.size split puts;

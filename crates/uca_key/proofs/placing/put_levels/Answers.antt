@@ -44,8 +44,8 @@ each-preserved c =
     record {
       first = omega arith;
       last = omega (arith, c.each.invariant.last, c.levels-last.ensures, c.if-level-last.false);
-      table = c.each.invariant.table;
-      text = c.each.invariant.text;
+      table = c.put_level_of-next.ensures.same.0 ∙ c.each.invariant.table;
+      text = c.put_level_of-next.ensures.same.1 ∙ c.each.invariant.text;
       holds = c.put_level_of-next.ensures.holds;
       size = c.put_level_of-next.ensures.room ∙ c.each.invariant.size;
       putting = IsPutting-more _ _ _ _ _ _ one _ _ (0 ∷ 0 ∷ []) (key_from (top - (at + 1)) (at + 1) lists) c.requires.size later c.put_bytes-next.ensures;

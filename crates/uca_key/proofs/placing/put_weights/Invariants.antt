@@ -3,19 +3,18 @@ use Rattle.uca_weights.specs.VariableWeighting.{weighted}
 use Rattle.uca_model.specs.LevelWeights.{level_weights}
 use Rattle.uca_model.specs.SortKey.{weight_bytes}
 use Rattle.uca_levels.specs.Streams.{weights_from}
-use Rattle.uca_key.specs.Pieces.{pieces_left}
+use Rattle.uca_key.specs.Pieces.{HoldsElements, SameText, pieces_left}
 use Rattle.uca_key.proofs.PlacingLemmas.{IsPutting}
 use Rattle.uca_key.proofs.placing.put_weights.Given as goal
 
 abbrev pub invariant-each : goal.invariant-each
 invariant-each l = record {
   option : l.weigher.weighting ≡ l.v;
-  within : l.pieces.read ≤ length l.room;
   size : length l.room ≡ length l.fn.room;
-  same : l.fn.pieces.left ≡ None → l.room ≡ l.fn.room;
-  none : l.fn.pieces.left ≡ None → l.pieces.left ≡ None;
-  putting : IsPutting l.fn.at l.fn.out l.next l.out (flat_map weight_bytes (level_weights l.level (weighted l.v (pieces_left l.fn.pieces l.fn.room)))) (flat_map weight_bytes (weights_from l.weigher l.level (pieces_left l.pieces l.room)));
+  holds : HoldsElements l.reading l.room;
+  same : SameText l.fn.reading l.reading;
+  putting : IsPutting l.fn.at l.fn.out l.next l.out (flat_map weight_bytes (level_weights l.level (weighted l.v (pieces_left l.fn.reading l.fn.room)))) (flat_map weight_bytes (weights_from l.weigher l.level (pieces_left l.reading l.room)));
 }
 
 abbrev pub decreases-each : goal.decreases-each
-decreases-each l = length (pieces_left l.pieces l.room)
+decreases-each l = length (pieces_left l.reading l.room)

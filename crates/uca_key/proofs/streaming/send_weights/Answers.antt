@@ -10,11 +10,10 @@ use Rattle.uca_key.proofs.streaming.send_weights.Goals as goal
 pub each-init : goal.each-init
 each-init g c = record {
   option = ap (λ w. w.weighting) c.new-weigher.ensures.value;
-  within = c.requires.within;
   size = refl;
-  same = λ _. refl;
-  none = λ none. none;
-  sending = IsSending-start _ _ _ _ (ap (λ ws. flat_map weight_bytes (level_weights c.args.level ws)) (c.new-weigher.ensures.list (pieces_left c.args.pieces.now c.args.room.now)));
+  holds = c.requires.holds;
+  same = (refl, refl);
+  sending = IsSending-start _ _ _ _ (ap (λ ws. flat_map weight_bytes (level_weights c.args.level ws)) (c.new-weigher.ensures.list (pieces_left c.args.reading.now c.args.room.now)));
 }
 
 pub write-requires-clause-room : goal.write-requires-clause-room
@@ -29,10 +28,9 @@ each-preserved g c =
     let split = ap (λ es. flat_map weight_bytes (weights_from c.each.weigher c.args.level es)) c.next-from.ensures.parts ∙ sym (c.put_level-size.ensures.front later) in
     record {
       option = c.put_level-size.ensures.option;
-      within = c.next-from.ensures.within;
       size = c.next-from.ensures.size ∙ c.each.invariant.size;
-      same = λ none. c.next-from.ensures.same (c.each.invariant.none none) ∙ c.each.invariant.same none;
-      none = λ none. c.next-from.ensures.none (c.each.invariant.none none);
+      holds = c.next-from.ensures.holds;
+      same = (c.next-from.ensures.same.0 ∙ c.each.invariant.same.0, c.next-from.ensures.same.1 ∙ c.each.invariant.same.1);
       sending = IsSending-more _ _ _ _ _ _ c.each.invariant.sending _ _ _ _ split c.in-Ok.ensures.all;
     }
 

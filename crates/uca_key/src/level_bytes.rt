@@ -20,17 +20,25 @@ fn put_weight(key: &mut [u8], at: usize, weight: u16) -> usize
     if weight == 0 { at } else { at + 2 }
 }
 
+// The bytes of four weights, which are those of one number.
+#[inline(always)]
+#[tactic(auto, using(crate::proofs::FourWeights::four_bytes))]
+fn bytes_of_four(a: u16, b: u16, c: u16, d: u16) -> [u8; 8]
+    ensures { result ≡ flat_map weight_bytes (a ∷ b ∷ c ∷ d ∷ []) }
+{
+    let front = u32::from(a) * 0x1_0000 + u32::from(b);
+    let back = u32::from(c) * 0x1_0000 + u32::from(d);
+    (u64::from(front) * 0x1_0000_0000 + u64::from(back)).to_be_bytes()
+}
+
 // Puts four weights to a place of a key.
 #[inline(always)]
 fn put_four(key: &mut [u8], at: usize, a: u16, b: u16, c: u16, d: u16)
     requires { at + 8 ≤ length key.old }
     ensures { take (at + 8) key.new ≡ take at key.old ++ flat_map weight_bytes (a ∷ b ∷ c ∷ d ∷ []) }
 {
-    let [a_high, a_low] = a.to_be_bytes();
-    let [b_high, b_low] = b.to_be_bytes();
-    let [c_high, c_low] = c.to_be_bytes();
-    let [d_high, d_low] = d.to_be_bytes();
-    key[at..at + 8].copy_from_slice(&[a_high, a_low, b_high, b_low, c_high, c_low, d_high, d_low]);
+    let bytes = bytes_of_four(a, b, c, d);
+    key[at..at + 8].copy_from_slice(&bytes);
 }
 
 // Puts the weight of an element as the table has it, at a level from 1 to 3, unless it is zero.

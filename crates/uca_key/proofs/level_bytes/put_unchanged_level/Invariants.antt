@@ -2,7 +2,7 @@ use Rattle.std.proofs.Common.{◌≡◌, ◌+◌, ◌*◌, ◌≤◌, ◌++◌, 
 use Rattle.uca_weights.specs.declared.settings.Variable.TheVariants.{NonIgnorable}
 use Rattle.uca_weights.specs.VariableWeighting.{weighted}
 use Rattle.uca_model.specs.SortKey.{level_bytes}
-use Rattle.uca_key.proofs.levels.put_unchanged_level.Given as goal
+use Rattle.uca_key.proofs.level_bytes.put_unchanged_level.Given as goal
 
 -- what is put and the bytes of what is left are the bytes of all
 abbrev pub invariant-loop-left : goal.invariant-loop-left

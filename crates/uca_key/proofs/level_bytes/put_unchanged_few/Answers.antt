@@ -1,6 +1,6 @@
 use Rattle.std.proofs.Common.{◌++◌, take, ap, ◌∙◌}
 use Rattle.uca_key.proofs.UnchangedLevels.{level_bytes-four}
-use Rattle.uca_key.proofs.levels.put_unchanged_few.Goals as goal
+use Rattle.uca_key.proofs.level_bytes.put_unchanged_few.Goals as goal
 
 pub returns-then-fourth-ne0-clause-front : goal.returns-then-fourth-ne0-clause-front
 returns-then-fourth-ne0-clause-front c =

@@ -4,7 +4,7 @@ use Rattle.uca_weights.specs.declared.settings.Variable.TheVariants.{NonIgnorabl
 use Rattle.uca_weights.specs.VariableWeighting.{weighted}
 use Rattle.uca_model.specs.SortKey.{level_bytes}
 use Rattle.uca_key.proofs.UnchangedLevels.{level_bytes-both}
-use Rattle.uca_key.proofs.levels.put_unchanged_level.Goals as goal
+use Rattle.uca_key.proofs.level_bytes.put_unchanged_level.Goals as goal
 
 pub loop-left-preserved : goal.loop-left-preserved
 loop-left-preserved c =

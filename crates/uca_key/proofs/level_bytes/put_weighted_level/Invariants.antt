@@ -2,7 +2,7 @@ use Rattle.std.proofs.Common.{◌≡◌, ◌*◌, ◌≤◌, ◌++◌, List, tak
 use Rattle.uca_weights.specs.declared.element.Element.{Element}
 use Rattle.uca_model.specs.SortKey.{weight_bytes}
 use Rattle.uca_levels.specs.Streams.{weights_from}
-use Rattle.uca_key.proofs.levels.put_weighted_level.Given as goal
+use Rattle.uca_key.proofs.level_bytes.put_weighted_level.Given as goal
 
 -- what is put and the bytes of what is left are the bytes of all
 abbrev pub invariant-loop-element : goal.invariant-loop-element

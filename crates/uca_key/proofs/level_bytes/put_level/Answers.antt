@@ -4,7 +4,7 @@ use Rattle.uca_weights.specs.VariableWeighting.{weighted}
 use Rattle.uca_model.specs.SortKey.{level_bytes, weight_bytes}
 use Rattle.uca_levels.specs.Streams.{weights_from}
 use Rattle.uca_key.proofs.UnchangedLevels.{bytes_from-both}
-use Rattle.uca_key.proofs.levels.put_level.Goals as goal
+use Rattle.uca_key.proofs.level_bytes.put_level.Goals as goal
 
 pub returns-in-NonIgnorable-eq1-clause-front : goal.returns-in-NonIgnorable-eq1-clause-front
 returns-in-NonIgnorable-eq1-clause-front c es =
