@@ -1,6 +1,6 @@
 -- The words of a test line, from its front on.
-use Rattle.std.specs.Prelude.{◌≡◌, ℕ, ◌+◌, ◌≤◌, Bool, true, false, ◌||◌, ◌⊎◌, List, [], ◌∷◌, ◌++◌, length, Some, None}
-use Rattle.std.specs.Char.{is_digit}
+use Rattle.std.specs.Prelude.{◌≡◌, ℕ, ◌+◌, ◌≤◌, ◌<◌, Bool, true, false, ◌||◌, ◌⊎◌, List, [], ◌∷◌, ◌++◌, length, drop, Some, None}
+use Rattle.std.specs.Char.{digit_value, is_digit}
 use Rattle.std.specs.List.{before_first}
 use Rattle.uca_model.specs.TableText.{is_blank, number, words}
 use Rattle.uca_model.specs.TestFile.{ends_points, test_point}
@@ -23,6 +23,20 @@ pub record AreDigits (word : List ℕ) (value len : ℕ) : Type 0 where
   pub said : number word ≡ Some value
   pub size : length word ≡ len
   pub few : len ≤ 6
+
+-- the digit of a place has this value, and is not the seventh
+pub record IsDigitAt (bytes : List ℕ) (at digit : ℕ) : Type 0 where
+  pub byte : ℕ
+  pub more : List ℕ
+  pub step : drop at bytes ≡ byte ∷ more
+  pub is_one : is_digit byte 16 ≡ true
+  pub value : digit ≡ digit_value byte
+  pub small : digit < 16
+  pub room : at ≡ 6 → ⊥
+
+-- no digit is at a place, or the seventh
+abbrev pub NoDigitAt : List ℕ → ℕ → Type 0
+NoDigitAt bytes at = (b : ℕ) (more : List ℕ) → drop at bytes ≡ b ∷ more → (is_digit b 16 ≡ false) ⊎ (at ≡ 6)
 
 -- bytes begin with digits, and go on with no other, or with the seventh
 pub record BeginsWithDigits (bytes : List ℕ) (value len : ℕ) (rest : List ℕ) : Type 0 where

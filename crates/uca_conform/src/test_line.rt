@@ -1,9 +1,9 @@
-ghost use Rattle.std.specs.Prelude.{◌≡◌, ◌≤◌, ℕ, List, [], length, Err, IfErr, IfOk, IfSome, MatchOption, true, false, ◌<◌};
+ghost use Rattle.std.specs.Prelude.{◌≡◌, ◌≤◌, ℕ, List, [], length, Err, IfErr, IfNone, IfOk, IfSome, MatchOption, true, false, ◌<◌};
 ghost use Rattle.std.specs.Char.{digit_value, is_digit};
 ghost use Rattle.uca_weights.specs.declared.limits.TheConstants.{MAX_LINE};
 ghost use Rattle.uca_model.specs.TableText.{skip_blanks};
 ghost use Rattle.uca_model.specs.TestFile.{is_test, points_of, test_point};
-ghost use Rattle.uca_conform.specs.TestWords.{ends_at, ends_word, said_words, AreDigits, BeginsWithDigits, HasBadWord, IsNextPoint};
+ghost use Rattle.uca_conform.specs.TestWords.{ends_at, ends_word, said_words, AreDigits, BeginsWithDigits, HasBadWord, IsDigitAt, IsNextPoint, NoDigitAt};
 ghost use Rattle.uca_conform.specs.TestReading.{test_cause, text_in, IsBadLine, IsOfFile, SaysPoints};
 
 use crate::conforming::ConformCause;
@@ -27,11 +27,29 @@ struct Digits<'l> {
 fn digit_of(byte: u8) -> Option<u32>
     ensures { MatchOption result (is_digit byte 16 ≡ false) (λ digit. (is_digit byte 16 ≡ true) × ((digit ≡ digit_value byte) × (digit < 16))) }
 {
+    let decimal = byte.wrapping_sub(b'0');
+    if decimal < 10 {
+        return Some(decimal as u32);
+    }
     match byte {
-        b'0'..=b'9' => Some((byte - b'0') as u32),
         b'A'..=b'F' => Some((byte - b'A') as u32 + 10),
         b'a'..=b'f' => Some((byte - b'a') as u32 + 10),
         _ => None,
+    }
+}
+
+/// The value of the digit at a place, of which six count at most.
+#[inline(always)]
+fn digit_at(bytes: &[u8], at: usize) -> Option<u32>
+    ensures some { IfSome result (IsDigitAt bytes.now at) }
+    ensures none { IfNone result (NoDigitAt bytes.now at) }
+{
+    if at == MAX_DIGITS {
+        return None;
+    }
+    match bytes.get(at) {
+        Some(byte) => digit_of(*byte),
+        None => None,
     }
 }
 
@@ -42,19 +60,15 @@ fn read_digits(bytes: &[u8]) -> Digits<'_>
 {
     let mut value = 0;
     let mut len = 0;
-    let mut rest = bytes;
-    while let Some((first, others)) = rest.split_first() {
-        let Some(digit) = digit_of(*first) else {
-            return Digits { value, len, rest };
-        };
-        if len == MAX_DIGITS {
-            return Digits { value, len, rest };
-        }
+    while let Some(digit) = digit_at(bytes, len) {
         value = value * 16 + digit;
         len += 1;
-        rest = others;
     }
-    Digits { value, len, rest }
+    Digits {
+        value,
+        len,
+        rest: &bytes[len..],
+    }
 }
 
 /// The code point, also a surrogate, that digits spell where there are at least four of them.

@@ -6,7 +6,6 @@ ghost use Rattle.uca_match.specs.Yields.{YieldsFirst};
 ghost use Rattle.uca_levels.specs.Decides.{IsOfLevel};
 
 use crate::stream::{NotAlone, WeightStream};
-use crate::weights::at_level;
 use uca_table::Table;
 use uca_weights::{Element, Variable, Weigher};
 
@@ -26,7 +25,7 @@ pub(crate) struct CellWeights<'t> {
 }
 
 impl<'t> CellWeights<'t> {
-    ghost use Rattle.uca_levels.specs.CellWeights.{cell_weights_left, SameKind};
+    ghost use Rattle.uca_levels.specs.CellWeights.{cell_elements_left, cell_weights_left, SameKind};
     ghost use Rattle.uca_levels.specs.Streams.{weight_before, weights_from};
 
     /// The weights of a text, of which none was given yet.
@@ -55,33 +54,14 @@ impl<'t> CellWeights<'t> {
         ensures waiting { self.new.waiting.now ≡ self.old.waiting.now }
         ensures rest { self.new.rest.now ≡ self.old.rest.now }
     {
-        let weights = self.weigher.weigh(e);
-        at_level(&weights, self.level)
-    }
-
-    // The next weight of the elements that wait. `None`: no element waits any more.
-    #[inline(always)]
-    fn waiting_weight(&mut self) -> Option<u16>
-        ensures some { IfSome result (λ weight. cell_weights_left self.old ≡ weight ∷ cell_weights_left self.new) }
-        ensures none { IfNone result ((self.new.waiting.now ≡ []) × (cell_weights_left self.new ≡ cell_weights_left self.old)) }
-        ensures weight { IfSome result (IsOfLevel self.old.level) }
-        ensures kind { SameKind self.old self.new }
-        ensures rest { self.new.rest.now ≡ self.old.rest.now }
-    {
-        while let Some((first, others)) = self.waiting.split_first() {
-            self.waiting = others;
-            let weight = self.weigh(*first);
-            if weight != 0 {
-                return Some(weight);
-            }
-        }
-        None
+        self.weigher.weigh_at(e, self.level)
     }
 
     // Reads the elements of the next character. Returns whether there is one.
     #[inline(always)]
     fn read(&mut self) -> Result<bool, NotAlone>
         requires none { self.old.waiting.now ≡ [] }
+        ensures elements { cell_elements_left self.new ≡ cell_elements_left self.old }
         ensures left { cell_weights_left self.new ≡ cell_weights_left self.old }
         ensures end { IfOk result (λ some. some ≡ false → cell_weights_left self.new ≡ []) }
         ensures fewer { IfOk result (λ some. some ≡ true → length self.new.rest.now < length self.old.rest.now) }
@@ -114,10 +94,13 @@ impl<'t> CellWeights<'t> {
         ensures kind { SameKind self.old self.new }
     {
         loop {
-            if let Some(weight) = self.waiting_weight() {
-                return Ok(Some(weight));
-            }
-            if !self.read()? {
+            if let Some((first, others)) = self.waiting.split_first() {
+                self.waiting = others;
+                let weight = self.weigh(*first);
+                if weight != 0 {
+                    return Ok(Some(weight));
+                }
+            } else if !self.read()? {
                 return Ok(None);
             }
         }

@@ -2,7 +2,6 @@ ghost use Rattle.std.specs.Prelude.{IfSome};
 ghost use Rattle.uca_model.specs.Table.{IsTable};
 ghost use Rattle.uca_levels.specs.FirstWeight.{BringsWeight, OrderTexts};
 
-use crate::weights::at_level;
 use std::cmp::Ordering;
 use uca_table::Table;
 use uca_weights::{Variable, Weigher};
@@ -28,8 +27,7 @@ fn first_weight(t: &Table, v: Variable, c: char) -> Option<u16>
         return None;
     };
     let mut weigher = Weigher::new(v);
-    let weights = weigher.weigh(*first);
-    let weight = at_level(&weights, 1);
+    let weight = weigher.weigh_at(*first, 1);
     if weight == 0 {
         return None;
     }

@@ -1,4 +1,4 @@
-ghost use Rattle.std.specs.Prelude.{◌≡◌, ℕ, List, true, false, ◌+◌, ◌-◌, ◌<◌, ◌≤◌, ◌^◌, length, slice_index, IfSome};
+ghost use Rattle.std.specs.Prelude.{◌≡◌, ℕ, List, true, false, ◌+◌, ◌<◌, ◌≤◌, ◌^◌, length, IfSome};
 ghost use Rattle.uca_weights.specs.declared.limits.TheConstants.{MAX_LOOKAHEAD};
 ghost use Rattle.uca_model.specs.LevelWeights.{level_list};
 ghost use Rattle.uca_model.specs.SafeText.{IsSafe};
@@ -36,16 +36,6 @@ impl<'t> Model for Weights<'t> {
     ghost view = { λ w. record { elements = w.elements; weigher = w.weigher; level = w.level } };
 
     ghost invariant = { λ w. (1 ≤ w.level) × (w.level ≤ 4) };
-}
-
-// The weight at a level.
-pub(crate) fn at_level(weights: &[u16; 4], level: u8) -> u16
-    requires first { 1 ≤ level }
-    requires last { level ≤ 4 }
-    ensures value { result ≡ slice_index weights.now (level - 1) }
-    ensures small { result < 2 ^ 16 }
-{
-    weights[level as usize - 1]
 }
 
 impl<'t> Weights<'t> {
@@ -97,8 +87,7 @@ impl<'t> Weights<'t> {
         ensures bound { length self.new.elements.window.points ≤ longest self.new.elements.table + MAX_LOOKAHEAD }
     {
         let element = self.elements.next(source)?;
-        let weights = self.weigher.weigh(element);
-        Some(at_level(&weights, self.level))
+        Some(self.weigher.weigh_at(element, self.level))
     }
 
     /// The next weight, which is not zero. `None` at the end, and from then on.

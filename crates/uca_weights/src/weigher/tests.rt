@@ -45,6 +45,23 @@ fn weighs(v: Variable, elements: &[Element], want: &[[u16; 4]]) -> bool {
             .iter()
             .zip(want)
             .all(|(e, weights)| weigher.weigh(*e) == *weights)
+        && weighs_by_levels(v, elements, want)
+}
+
+/// The same with a weigher for each level.
+fn weighs_by_levels(v: Variable, elements: &[Element], want: &[[u16; 4]]) -> bool {
+    let mut first = Weigher::new(v);
+    let mut second = Weigher::new(v);
+    let mut third = Weigher::new(v);
+    let mut fourth = Weigher::new(v);
+    elements.iter().zip(want).all(|(e, weights)| {
+        [
+            first.weigh_at(*e, 1),
+            second.weigh_at(*e, 2),
+            third.weigh_at(*e, 3),
+            fourth.weigh_at(*e, 4),
+        ] == *weights
+    })
 }
 
 #[test]

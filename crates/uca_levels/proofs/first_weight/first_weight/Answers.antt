@@ -12,11 +12,11 @@ returns c =
     let points : List ℕ = c.decomposition-points.result.now in
     let es : List Element = c.in_ok-elements.elements.now in
     let e : Element = c.in-Some.first.now in
-    first-brings c.args.t.now c.args.v c.args.c c.index-points-0.result points (drop 1 points) e es c.in-Some._others.now c.at_level-weight.result
+    first-brings c.args.t.now c.args.v c.args.c c.index-points-0.result points (drop 1 points) e es c.in-Some._others.now c.weigh_at-weight.result
     c.requires c.decomposition-points.ensures.value
     (some_first points c.index-points-0.result _ (eqb-false _ _ (sym c.is_empty.ensures ∙ c.if-is_empty.false)) c.index-points-0.is)
     (sym c.safe_starter.ensures ∙ c.if-not-safe_starter.false)
     c.in_ok-elements.ensures
     c.in-Some.ensures.cases.0
-    (c.at_level-weight.ensures.value ∙ ap (λ ws. slice_index ws 0) (c.weigh-weights.ensures.weights ∙ ap (λ (w : WeigherState). weights w.weighting w.after e) c.new-weigher.ensures.value))
-    (λ none. absurd (omega (arith, c.if-weight-eq0.false, none))) c.at_level-weight.ensures.small
+    (c.weigh_at-weight.ensures.weight ∙ ap (λ (w : WeigherState). slice_index (weights w.weighting w.after e) 0) c.new-weigher.ensures.value)
+    (λ none. absurd (omega (arith, c.if-weight-eq0.false, none))) c.weigh_at-weight.type_inv

@@ -23,9 +23,12 @@ invariant_of-self c =
       safe = IsSafe-rest (c.in-Some.c ∷ []) (chars c.as_str-rest.result.now) (subst IsSafe (chars_past_char c.args.self.now.rest.now c.as_str-rest.result.now c.in-Some.c (search rules) step) c.args.self.now.safe);
     }
 
-pub returns-clause-left : goal.returns-clause-left
-returns-clause-left c =
+pub returns-clause-elements : goal.returns-clause-elements
+returns-clause-elements c =
     let w = c.args.self.now in
     let step : w.rest.now ≡ encode_utf8 c.in-Some.c ++ c.as_str-rest.result.now = sym c.chars-left.ensures.rest ∙ c.in-Some.ensures.steps.0 ∙ ap (λ u. encode_utf8 c.in-Some.c ++ u) (sym c.as_str-rest.ensures) in
-    ap (weights_from w.weigher w.level) (c.in-Some-alone_before.ensures ∙ ap (λ cs. elements w.table.now (nfd cs)) (sym (chars_past_char w.rest.now c.as_str-rest.result.now c.in-Some.c (search rules) step))
-    ∙ ap (λ es. es ++ elements w.table.now (nfd (chars w.rest.now))) (sym c.requires.none))
+    c.in-Some-alone_before.ensures ∙ ap (λ cs. elements w.table.now (nfd cs)) (sym (chars_past_char w.rest.now c.as_str-rest.result.now c.in-Some.c (search rules) step))
+    ∙ ap (λ es. es ++ elements w.table.now (nfd (chars w.rest.now))) (sym c.requires.none)
+
+pub returns-clause-left : goal.returns-clause-left
+returns-clause-left c = ap (weights_from c.args.self.now.weigher c.args.self.now.level) (returns-clause-elements c)
