@@ -5,6 +5,7 @@ ghost use Rattle.uca_keys.specs.Fronts.{begins_entry};
 ghost use Rattle.uca_keys.specs.Links.{AreLinked, AreStacked, EndsAt, depth_below, kids_from, kids_of, span_len};
 ghost use Rattle.uca_keys.specs.Paths.{entries_of, path_at};
 
+use crate::cursor::Cursor;
 use crate::entries::Entries;
 use crate::node::Node;
 use crate::nodes::numbered;
@@ -153,6 +154,13 @@ impl Trie {
     {
         let _count = self.nodes.len();
         Entries::new(self.nodes.as_slice(), self.elements.as_slice())
+    }
+
+    /// A walk along the entries, before the first one.
+    pub fn cursor(&self) -> Cursor<'_>
+        ensures { result.coming ≡ entries_of self.now }
+    {
+        Cursor::new(self.nodes.as_slice(), self.elements.as_slice())
     }
 
     /// The children of a node.

@@ -1,13 +1,13 @@
-ghost use Rattle.std.specs.Prelude.{◌≡◌, true, ◌+◌, ◌*◌, ◌/◌, ◌∷◌, ◌++◌, [], ◌<◌, ◌≤◌, ℕ, List, false, not, length, take, drop, get_or, chars, slice_index, IfOk, IfSome, IfNone, OnOk, IsTrue, IsFalse};
+ghost use Rattle.std.specs.Prelude.{◌≡◌, true, ◌+◌, ◌*◌, ◌/◌, ◌∷◌, ◌++◌, [], ◌<◌, ◌≤◌, ℕ, List, false, not, length, take, drop, get_or, chars, slice_index, if◌then◌else◌, IfOk, IfSome, IfNone, OnOk, IsTrue, IsFalse};
 ghost use Rattle.std.specs.List.{list_all};
 ghost use Rattle.unicode_normalization.specs.Decompose.{decompose_canonical};
 ghost use Rattle.unicode_normalization.specs.Forms.{nfd};
 ghost use Rattle.unicode_normalization.specs.Order.{is_starter};
 ghost use Rattle.uca_model.specs.CollationElements.{elements};
 ghost use Rattle.uca_model.specs.SafeCut.{begins_apart, is_cut};
-ghost use Rattle.uca_model.specs.StandAlone.{begins, leads, continues, joining_of, bearing_of, joining, bearing, ends_in_starter};
+ghost use Rattle.uca_model.specs.StandAlone.{begins, leads, joining_of, bearing_of, joining, bearing, ends_in_starter};
 ghost use Rattle.uca_table.specs.Cells.{IsCell, HoldsCells, Grows, unknown};
-ghost use Rattle.uca_table.specs.Marks.{HoldsMarks, keep_apart, marks, place};
+ghost use Rattle.uca_table.specs.Marks.{AreKnown, HoldsMarks, marks, place};
 
 use crate::collation::{push_elements, push_found, push_matches};
 use crate::marks::{BLOCK, BLOCKS, MarkTable, Marks};
@@ -57,6 +57,16 @@ const UNKNOWN: Cell = Cell {
     cut: false,
 };
 
+// The marks of a code point of which nothing is known.
+const NOT_KNOWN: Marks = Marks {
+    begins: true,
+    leads: true,
+    continues: true,
+    apart: false,
+    ends: false,
+    keeps: false,
+};
+
 /// What a table says about single characters, by blocks: what its keys say about each, and its cell. Blocks in which no key has
 /// a code point share one block.
 #[derive(Drop)]
@@ -74,44 +84,28 @@ fn unknown(alloc: Global, n: usize) -> Result<Vec<Cell>, AllocError>
     vec![in alloc; UNKNOWN; n]
 }
 
+// What the keys of a table say about a code point, as far as that is known.
+fn known_marks(marks: &MarkTable, p: char) -> Marks
+    ensures { (t : _) → HoldsMarks t marks.now → AreKnown t p result }
+{
+    match marks.find(p) {
+        Some(marks) => marks,
+        None => NOT_KNOWN,
+    }
+}
+
 // Whether a key begins with a code point.
 fn begins(marks: &MarkTable, p: char) -> bool
     ensures { (t : _) → HoldsMarks t marks.now → IsFalse result → begins t p ≡ false }
 {
-    match marks.find(p) {
-        Some(marks) => marks.begins,
-        None => true,
-    }
+    known_marks(marks, p).begins
 }
 
 // Whether a key of two code points or more begins with a code point.
 fn leads(marks: &MarkTable, p: char) -> bool
     ensures { (t : _) → HoldsMarks t marks.now → IsFalse result → leads t p ≡ false }
 {
-    match marks.find(p) {
-        Some(marks) => marks.leads,
-        None => true,
-    }
-}
-
-// Whether a code point is in a key after the first place.
-fn continues(marks: &MarkTable, p: char) -> bool
-    ensures { (t : _) → HoldsMarks t marks.now → IsFalse result → continues t p ≡ false }
-{
-    match marks.find(p) {
-        Some(marks) => marks.continues,
-        None => true,
-    }
-}
-
-// Whether every key keeps a code point apart.
-fn keep_apart(marks: &MarkTable, p: char) -> bool
-    ensures { (t : _) → HoldsMarks t marks.now → IsTrue result → keep_apart t p ≡ true }
-{
-    match marks.find(p) {
-        Some(marks) => marks.apart,
-        None => false,
-    }
+    known_marks(marks, p).leads
 }
 
 fn is_starter(c: char) -> bool
@@ -133,17 +127,6 @@ fn is_own_nfd(c: char) -> bool
         return false;
     }
     is_starter(c)
-}
-
-// How code points may join the text before them, at most.
-fn joining_of(t: &Stored, marks: &MarkTable, points: &[char]) -> u8
-    requires { HoldsMarks t.now marks.now }
-    ensures value { joining_of t.now points.now ≤ result }
-{
-    if points.is_empty() || !is_starter(points[0]) {
-        return 2;
-    }
-    if continues(marks, points[0]) { 1 } else { 0 }
 }
 
 // Whether no code point begins a key of two or more.
@@ -168,6 +151,28 @@ fn ends_in_starter(points: &[char]) -> bool
     is_starter(points[points.len() - 1])
 }
 
+// How a character joins other text. `points` are its decomposition.
+#[derive(Clone, Copy)]
+struct Joins {
+    joining: u8,
+    bearing: u8,
+    cut: bool,
+}
+
+// Which joining a code point bears after it, at least, where it is a decomposition by itself.
+fn bearing_of_one(p: char, starter: bool, known: Marks) -> u8
+    requires { starter ≡ is_starter p }
+    ensures { (t : _) → AreKnown t p known → result ≤ bearing_of t (p ∷ []) }
+{
+    if known.leads {
+        0
+    } else if starter {
+        2
+    } else {
+        1
+    }
+}
+
 // Which joining code points bear after them, at least.
 fn bearing_of(t: &Stored, marks: &MarkTable, points: &[char]) -> u8
     requires { HoldsMarks t.now marks.now }
@@ -179,16 +184,45 @@ fn bearing_of(t: &Stored, marks: &MarkTable, points: &[char]) -> u8
     if ends_in_starter(points) { 2 } else { 1 }
 }
 
-// Whether a text may be cut before the character whose decomposition this is.
-fn begins_apart(t: &Stored, marks: &MarkTable, points: &[char]) -> bool
+// How the character joins other text whose decomposition this is. Its first code point is looked up once.
+fn joins_of(t: &Stored, marks: &MarkTable, points: &[char]) -> Joins
     requires { HoldsMarks t.now marks.now }
-    ensures { IsTrue result → begins_apart t.now points.now ≡ true }
+    ensures joining { joining_of t.now points.now ≤ result.joining }
+    ensures bearing { result.bearing ≤ bearing_of t.now points.now }
+    ensures cut { IsTrue result.cut → begins_apart t.now points.now ≡ true }
 {
     if points.is_empty() {
-        return false;
+        return Joins {
+            joining: 2,
+            bearing: 0,
+            cut: false,
+        };
     }
     let first = points[0];
-    is_starter(first) && keep_apart(marks, first)
+    let starter = is_starter(first);
+    let known = known_marks(marks, first);
+    Joins {
+        joining: joining_of_first(starter, known),
+        bearing: if points.len() == 1 {
+            bearing_of_one(first, starter, known)
+        } else {
+            bearing_of(t, marks, points)
+        },
+        cut: starter && known.apart,
+    }
+}
+
+// How code points may join the text before them, at most, by what is known of the first.
+fn joining_of_first(starter: bool, known: Marks) -> u8
+    ensures { result ≡ (if starter then (if known.continues then 1 else 0) else 2) }
+{
+    if !starter {
+        2
+    } else if known.continues {
+        1
+    } else {
+        0
+    }
 }
 
 // Where elements lie from `start` on, as numbers that fit in a cell; no elements where they do not fit.
@@ -258,18 +292,16 @@ impl Cells {
     {
         let mut room = ['\0'; 3];
         let points = decomposition(c, Form::Nfd, &mut room);
-        let joining = joining_of(t, &self.marks, points);
-        let bearing = bearing_of(t, &self.marks, points);
-        let cut = begins_apart(t, &self.marks, points);
+        let joins = joins_of(t, &self.marks, points);
         let before = self.elements.len();
         self.push_elements(alloc, t, c, points)?;
         let (start, count) = extent(before, self.elements.len());
         Ok(Cell {
             start,
             count,
-            joining,
-            bearing,
-            cut,
+            joining: joins.joining,
+            bearing: joins.bearing,
+            cut: joins.cut,
         })
     }
 

@@ -2,6 +2,7 @@ ghost use Rattle.std.specs.Prelude.{◌≡◌, ◌<◌, ◌++◌, length, option
 ghost use Rattle.uca_model.specs.Table.{elements_at};
 ghost use Rattle.uca_model.specs.CollationElements.{elements, elements_or_implicit};
 
+use crate::cells::push_few;
 use crate::matching::match_front;
 use crate::stored::Stored;
 use std::alloc::AllocError;
@@ -35,7 +36,7 @@ pub(crate) fn push_found(
     ensures some { OnOk result (length out.old.items < length out.new.items) }
 {
     match found {
-        Some(elements) => out.extend_from_slice(elements),
+        Some(elements) => push_few(out, elements),
         None => out.extend_from_slice(&t.implicit(matched[0])),
     }
 }

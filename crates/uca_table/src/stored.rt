@@ -6,7 +6,7 @@ use crate::walk::Walk;
 use crate::{ideographs, implicit_weights};
 use std::alloc::{AllocError, Global};
 use std::marker::Model;
-use uca_keys::{Entries, Nodes, Trie};
+use uca_keys::{Cursor, Entries, Nodes, Trie};
 use uca_weights::{Element, Ideographs, Range};
 
 /// A collation element table: a finite map from keys to their elements, with ranges of implicit weights and of
@@ -90,6 +90,13 @@ impl Stored {
         ensures few { length (entries self.now.entries) < 2 ^ 64 }
     {
         self.keys.entries()
+    }
+
+    /// A walk along the entries by key order, before the first one.
+    pub(crate) fn cursor(&self) -> Cursor<'_>
+        ensures { result.coming ≡ entries self.now.entries }
+    {
+        self.keys.cursor()
     }
 
     /// A table with the same ranges and other entries.
