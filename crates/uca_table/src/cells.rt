@@ -9,7 +9,7 @@ ghost use Rattle.uca_model.specs.StandAlone.{begins, leads, joining_of, bearing_
 ghost use Rattle.uca_table.specs.Cells.{IsCell, HoldsCells, Grows, unknown};
 ghost use Rattle.uca_table.specs.Marks.{AreKnown, HoldsMarks, marks, place};
 
-use crate::collation::{push_elements, push_found, push_matches};
+use crate::collation::{push_found, push_matches};
 use crate::marks::{BLOCK, BLOCKS, MarkTable, Marks};
 use crate::stored::Stored;
 use std::alloc::{AllocError, Global};
@@ -237,12 +237,22 @@ fn extent(start: usize, end: usize) -> (u32, u8)
     }
 }
 
-// Appends the elements of a single code point.
+// What is used again for each cell that is made.
+#[derive(Drop)]
+struct Buffers {
+    // See `Stored::get_near`.
+    near: usize,
+    // The elements of one character.
+    elements: Vec<Element>,
+}
+
+// Appends the elements of a single code point. For `near` see `Stored::get_near`.
 fn push_single(
     out: &mut Vec<Element>,
     t: &Stored,
     marks: &MarkTable,
     p: char,
+    near: &mut usize,
 ) -> Result<(), AllocError>
     requires { HoldsMarks t.now marks.now }
     ensures { OnOk result (out.new.items ≡ out.old.items ++ elements t.now (p ∷ [])) }
@@ -250,11 +260,7 @@ fn push_single(
     if !begins(marks, p) {
         return out.extend_from_slice(&t.implicit(p));
     }
-    let mut walk = t.walk();
-    if walk.step(p) {
-        return push_found(out, t, &[p], walk.elements());
-    }
-    push_elements(out, t, &[p])
+    push_found(out, t, &[p], t.get_near(p, near))
 }
 
 impl Cells {
@@ -265,6 +271,7 @@ impl Cells {
         t: &Stored,
         c: char,
         points: &[char],
+        buffers: &mut Buffers,
     ) -> Result<(), AllocError>
         requires cells { HoldsCells t.now self.old }
         requires points { points.now ≡ decompose_canonical c }
@@ -274,15 +281,27 @@ impl Cells {
         ensures marks { OnOk result (self.new.marks.marks.items ≡ self.old.marks.marks.items) }
     {
         if points.len() == 1 {
-            return push_single(&mut self.elements, t, &self.marks, points[0]);
+            return push_single(
+                &mut self.elements,
+                t,
+                &self.marks,
+                points[0],
+                &mut buffers.near,
+            );
         }
-        let mut fresh = Vec::new(alloc);
-        push_text(alloc, &mut fresh, t, self, points)?;
-        self.elements.extend_from_slice(&fresh)
+        buffers.elements.clear();
+        push_text(alloc, &mut buffers.elements, t, self, points)?;
+        self.elements.extend_from_slice(&buffers.elements)
     }
 
     // The cell of a character, whose elements are appended to the others.
-    fn cell_of(&mut self, alloc: Global, t: &Stored, c: char) -> Result<Cell, AllocError>
+    fn cell_of(
+        &mut self,
+        alloc: Global,
+        t: &Stored,
+        c: char,
+        buffers: &mut Buffers,
+    ) -> Result<Cell, AllocError>
         requires { HoldsCells t.now self.old }
         ensures cell { IfOk result (λ cell. IsCell t.now self.new.elements.items c cell) }
         ensures cells { OnOk result (self.new.cells.items ≡ self.old.cells.items) }
@@ -294,7 +313,7 @@ impl Cells {
         let points = decomposition(c, Form::Nfd, &mut room);
         let joins = joins_of(t, &self.marks, points);
         let before = self.elements.len();
-        self.push_elements(alloc, t, c, points)?;
+        self.push_elements(alloc, t, c, points, buffers)?;
         let (start, count) = extent(before, self.elements.len());
         Ok(Cell {
             start,
@@ -306,13 +325,19 @@ impl Cells {
     }
 
     // Makes the cell of a character whose block has its own.
-    fn fill(&mut self, alloc: Global, t: &Stored, c: char) -> Result<(), AllocError>
+    fn fill(
+        &mut self,
+        alloc: Global,
+        t: &Stored,
+        c: char,
+        buffers: &mut Buffers,
+    ) -> Result<(), AllocError>
         requires cells { HoldsCells t.now self.old }
         requires own { c / 128 < length self.old.marks.blocks.items → 0 < get_or self.old.marks.blocks.items (c / 128) 0 }
         ensures cells { OnOk result (HoldsCells t.now self.new) }
         ensures blocks { OnOk result (self.new.marks.blocks.items ≡ self.old.marks.blocks.items) }
     {
-        let cell = self.cell_of(alloc, t, c)?;
+        let cell = self.cell_of(alloc, t, c, buffers)?;
         let Some(at) = self.marks.place(c) else {
             return Ok(());
         };
@@ -323,7 +348,13 @@ impl Cells {
     }
 
     // Makes the cells of a block of characters that has its own.
-    fn fill_block(&mut self, alloc: Global, t: &Stored, block: u32) -> Result<(), AllocError>
+    fn fill_block(
+        &mut self,
+        alloc: Global,
+        t: &Stored,
+        block: u32,
+        buffers: &mut Buffers,
+    ) -> Result<(), AllocError>
         requires cells { HoldsCells t.now self.old }
         requires within { block < 8704 }
         requires own { 0 < get_or self.old.marks.blocks.items block 0 }
@@ -332,7 +363,7 @@ impl Cells {
         let first = block * BLOCK as u32;
         for point in first..first + BLOCK as u32 {
             if let Some(c) = char::from_u32(point) {
-                self.fill(alloc, t, c)?;
+                self.fill(alloc, t, c, buffers)?;
             }
         }
         Ok(())
@@ -343,10 +374,14 @@ impl Cells {
         requires { HoldsCells t.now self.old }
         ensures { OnOk result (HoldsCells t.now self.new) }
     {
+        let mut buffers = Buffers {
+            near: 0,
+            elements: Vec::new(alloc),
+        };
         let mut left = LIMIT / BLOCK + FEW_BLOCKS + t.keys.len() / NODES_OF_A_BLOCK;
         for block in 0..BLOCKS {
             if left > 0 && self.marks.has_own(block as usize) {
-                self.fill_block(alloc, t, block)?;
+                self.fill_block(alloc, t, block, &mut buffers)?;
                 left -= 1;
             }
         }

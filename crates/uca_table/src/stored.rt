@@ -59,6 +59,15 @@ impl Stored {
         self.keys.get(key)
     }
 
+    /// The elements of a key of one code point. `None`: it is no key. Where the code points of several calls ascend, with the same
+    /// `near`, there is no search.
+    pub(crate) fn get_near(&self, point: char, near: &mut usize) -> Option<&[Element]>
+        ensures value { option_copied result ≡ elements_at self.now (point ∷ []) }
+        ensures some { IfSome result (λ es. 0 < length es.now) }
+    {
+        self.keys.get_near(point, near)
+    }
+
     /// A walk along the keys that has not been stepped yet.
     pub(crate) fn walk(&self) -> Walk<'_>
         ensures table { table_of_walk result ≡ self.now }
