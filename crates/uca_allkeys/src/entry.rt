@@ -1,5 +1,5 @@
 ghost use Rattle.std.specs.Prelude.{◌≡◌, ◌∷◌, [], ◌<◌, length, MatchOption, OnOk};
-ghost use Rattle.std.specs.List.{slice_split, after_first};
+ghost use Rattle.std.specs.List.{slice_split, after_first, position_or_len};
 ghost use Rattle.uca_model.specs.TableText.{words, key_after, entry_key, is_semicolon, is_right_bracket, mark, weight_first, next_weight, element_ends, element, elements_after, is_old_weight, entry_of_text};
 ghost use Rattle.uca_allkeys.specs.Statements.{Parses, with_rest, entry_in, IsSomeEntry, AddsPart};
 
@@ -30,13 +30,13 @@ fn read_points(key: &mut ArrayVec<char, MAX_KEY>, text: &[u8]) -> Result<(), Lin
     Ok(())
 }
 
-/// Sets `key` to the key of an entry, before the `;` that has to follow it.
+/// Sets `key` to the key of an entry, before the `;` that has to follow it, and whose place is given.
 #[tactic(auto, unfolding(uca_model::specs::TableText::entry_key))]
-fn read_key(key: &mut ArrayVec<char, MAX_KEY>, text: &[u8]) -> Result<(), LineFault>
+fn read_key(key: &mut ArrayVec<char, MAX_KEY>, text: &[u8], end: usize) -> Result<(), LineFault>
+    requires { end ≡ position_or_len is_semicolon text.now }
     ensures value { Parses (λ _. key.new.items) (entry_key text.now) result }
     ensures some { OnOk result (0 < length key.new.items) }
 {
-    let end = place_of(b';', text);
     read_points(key, &text[..end])?;
     if end == text.len() {
         return Err(LineFault::NoSemicolon);
@@ -184,11 +184,11 @@ fn read_elements(
     Ok(())
 }
 
-/// What follows the first `;`.
-fn after_key(text: &[u8]) -> &[u8]
+/// What follows the first `;`, whose place is given.
+fn after_key(text: &[u8], end: usize) -> &[u8]
+    requires { end ≡ position_or_len is_semicolon text.now }
     ensures { result.now ≡ after_first is_semicolon text.now }
 {
-    let end = place_of(b';', text);
     if end < text.len() {
         from_place(text, end + 1)
     } else {
@@ -202,6 +202,7 @@ pub(crate) fn read_entry(entry: &mut Entry, text: &[u8]) -> Result<(), LineFault
     ensures value { Parses (λ _. entry_in entry.new) (entry_of_text text.now) result }
     ensures some { OnOk result (IsSomeEntry entry.new) }
 {
-    read_key(&mut entry.key, text)?;
-    read_elements(&mut entry.elements, after_key(text))
+    let end = place_of(b';', text);
+    read_key(&mut entry.key, text, end)?;
+    read_elements(&mut entry.elements, after_key(text, end))
 }

@@ -1,8 +1,8 @@
 -- Lists that are sorted by keys, part by part.
-use Rattle.std.proofs.Common.{◌≡◌, inl, inr, ℕ, ◌+◌, ◌-◌, ◌<◌, ◌≤◌, ◌==◌, Bool, true, false, cond, List, [], ◌∷◌, ◌++◌, length, get_or, map, filter, All, IsPermutation, is_lt, nat_le, refl, sym, ap, ap₂, ◌∙◌, arith, eqb-true}
+use Rattle.std.proofs.Common.{◌≡◌, ◌⊎◌, inl, inr, ℕ, ◌+◌, ◌-◌, ◌<◌, ◌≤◌, ◌==◌, Bool, true, false, cond, List, [], ◌∷◌, ◌++◌, length, get_or, map, filter, All, IsPermutation, is_lt, nat_le, refl, sym, ap, ap₂, ◌∙◌, arith, eqb-true}
 use Rattle.std.proofs.lemmas.Bool.{cases_Bool, eqb-false, leb-true, leb-false}
 use Rattle.std.proofs.lemmas.List.{get_or_append_left, get_or-append_right, length-append}
-use Rattle.std.proofs.lemmas.List.Elements.{All-head, All-tail, All-get_or, All-weaker, filter-append}
+use Rattle.std.proofs.lemmas.List.Elements.{All-cons, All-head, All-nil, All-tail, All-get_or, All-weaker, filter-append}
 use Rattle.std.proofs.lemmas.List.Sorted.{All-permutation, IsPermutation-append, IsPermutation-refl, IsPermutation-trans}
 use Rattle.std.specs.List.Sorted.{IsSortedBy, IsStableByKey, ties}
 use Rattle.uca_model.specs.SortKey.{key_order}
@@ -89,3 +89,22 @@ filter-refined {X} p q (x ∷ xs) each =
     go true c passes is rest both = ap (λ b. filter p (cond b (x ∷ filter q xs) (filter q xs))) passes ∙ ap (λ l. cond (p x) (x ∷ l) l) rest
     go false false fails not_p rest both = ap (λ b. filter p (cond b (x ∷ filter q xs) (filter q xs))) fails ∙ rest ∙ sym (ap (λ b. cond b (x ∷ filter p xs) (filter p xs)) not_p)
     go false true fails is rest both = let holds : q x ≡ true = both is in absurd (cc)
+
+pub filter-alike : {X : Type 0} (p q : X → Bool) → ((x : X) → p x ≡ q x) → (xs : List X) → filter p xs ≡ filter q xs
+filter-alike p q alike [] = refl
+filter-alike p q alike (x ∷ xs) = ap₂ (λ b rest. cond b (x ∷ rest) rest) (alike x) (filter-alike p q alike xs)
+
+pub filter-none : {X : Type 0} (p : X → Bool) (xs : List X) → All (λ x. p x ≡ false) xs → filter p xs ≡ []
+filter-none p [] none = refl
+filter-none p (x ∷ xs) none = ap (λ b. cond b (x ∷ filter p xs) (filter p xs)) (All-head (λ y. p y ≡ false) x xs none) ∙ filter-none p xs (All-tail (λ y. p y ≡ false) x xs none)
+
+-- an element that passes, or that there is none
+pub some_or_none : {X : Type 0} (p : X → Bool) (xs : List X) → ((x : X) × (p x ≡ true)) ⊎ All (λ x. p x ≡ false) xs
+some_or_none p [] = inr (All-nil (λ x. p x ≡ false))
+some_or_none {X} p (x ∷ xs) = elim (cases_Bool (p x)) [
+  | inl passes ↦ inl (x, passes)
+  | inr fails ↦ elim (some_or_none p xs) [
+      | inl some ↦ inl some
+      | inr none ↦ inr (All-cons (λ y. p y ≡ false) x xs fails none)
+    ]
+]

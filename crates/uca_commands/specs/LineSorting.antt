@@ -4,8 +4,9 @@ use Rattle.std.specs.List.Sorted.{IsPermutation, IsSortedByKey, IsStableByKey}
 use Rattle.std.specs.Ordering.{nat_cmp}
 use Rattle.uca_model.specs.SortKey.{key_order}
 use Rattle.uca_commands.specs.KeyFronts.{IsFront}
-use Rattle.uca_commands.specs.KeyedLines.{bare, key_of}
+use Rattle.uca_commands.specs.KeyedLines.{key_of, keyed}
 use Rattle.uca_commands.specs.declared.keyed_line.KeyedLine.{KeyedLine}
+use Rattle.uca_commands.specs.declared.keyed_line.KeyedLines.{KeyedLines}
 
 -- ys has the elements of xs in the order of their keys, and those of equal keys in the order that they had
 pub record SortsByKey {X : Type 0} (key : X → List ℕ) (xs ys : List X) : Type 0 where
@@ -13,8 +14,8 @@ pub record SortsByKey {X : Type 0} (key : X → List ℕ) (xs ys : List X) : Typ
   pub sorted : IsSortedByKey key key_order ys
   pub stable : IsStableByKey key key_order xs ys
 
-abbrev pub SortsLines : List KeyedLine → List KeyedLine → Type 0
-SortsLines xs ys = SortsByKey key_of (map bare xs) (map bare ys)
+abbrev pub SortsLines : KeyedLines → List KeyedLine → List KeyedLine → Type 0
+SortsLines of xs ys = SortsByKey (λ p. p.0) (map (keyed of) xs) (map (keyed of) ys)
 
 -- ys has the lines of xs in the order of the bytes beside them, and those of equal bytes in the order that they had
 pub record SortsByFront (xs ys : List KeyedLine) : Type 0 where
@@ -23,13 +24,13 @@ pub record SortsByFront (xs ys : List KeyedLine) : Type 0 where
   pub stable : IsStableByKey (λ l. l.front) nat_cmp xs ys
 
 -- the bytes beside each line are the eight of its key after the first `depth`
-abbrev pub ShowsFronts : ℕ → List KeyedLine → Type 0
-ShowsFronts depth lines = All (λ l. IsFront 8 (drop depth (key_of l)) l.front) lines
+abbrev pub ShowsFronts : KeyedLines → ℕ → List KeyedLine → Type 0
+ShowsFronts of depth lines = All (λ l. IsFront 8 (drop depth (key_of of l)) l.front) lines
 
 -- the keys have the same first bytes, so many
-pub record SharesFront (depth : ℕ) (lines : List KeyedLine) : Type 0 where
+pub record SharesFront (of : KeyedLines) (depth : ℕ) (lines : List KeyedLine) : Type 0 where
   pub number : ℕ
-  pub each : All (λ l. IsFront depth (key_of l) number) lines
+  pub each : All (λ l. IsFront depth (key_of of l) number) lines
 
 -- the lines from one place to another have the same bytes beside them, and the next line has others
 pub record IsRun (lines : List KeyedLine) (from to : ℕ) : Type 0 where

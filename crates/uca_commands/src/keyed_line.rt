@@ -1,8 +1,7 @@
-ghost use Rattle.std.specs.Prelude.{◌≡◌, ◌<◌, ◌∷◌, [], length, drop, get_or};
-ghost use Rattle.uca_model.specs.Lines.{lines_of};
+ghost use Rattle.std.specs.Prelude.{◌≡◌, ◌∷◌, drop, get_or};
 ghost use Rattle.uca_model.specs.SortKey.{key_order};
 ghost use Rattle.uca_commands.specs.KeyFronts.{IsFront};
-ghost use Rattle.uca_commands.specs.KeyPieces.{key_at, piece};
+ghost use Rattle.uca_commands.specs.KeyPieces.{piece};
 
 use std::cmp::Ordering;
 use uca_lines::first_line;
@@ -18,15 +17,14 @@ pub(crate) struct KeyedLines<'a> {
     pub(crate) ends: &'a [usize],
 }
 
-/// A line and its sort key.
+/// A line and its sort key, by their places. Sixteen bytes, since there are as many as lines.
 #[derive(Clone, Copy)]
-pub(crate) struct KeyedLine<'a> {
+pub(crate) struct KeyedLine {
     // Eight bytes of the key as a number, those by which lines are sorted next.
     pub(crate) front: u64,
-    of: &'a KeyedLines<'a>,
-    // The line's number, from 0, and where it begins. Numbers take half the memory of what they name.
-    number: u32,
-    start: u32,
+    // The line's number, from 0, and where it begins.
+    pub(crate) number: u32,
+    pub(crate) start: u32,
 }
 
 // The byte at a place of a key, zero after its end.
@@ -86,39 +84,13 @@ fn bytes_between(bytes: &[u8], from: usize, to: usize) -> &[u8]
 }
 
 impl<'a> KeyedLines<'a> {
-    /// The sort key of a line.
-    fn key(&self, number: usize) -> &'a [u8]
-        ensures { result.now ≡ key_at self.now.ends.now self.now.keys.now number }
-    {
-        bytes_between(
-            self.keys,
-            start_of(self.ends, number),
-            end_of(self.ends, number),
-        )
-    }
-}
-
-impl<'a> KeyedLine<'a> {
-    ghost use Rattle.uca_commands.specs.KeyedLines.{bare, key_of, line_of};
-
-    /// The line of this number, which starts at this place.
-    pub(crate) fn new(of: &'a KeyedLines<'a>, number: u32, start: u32) -> KeyedLine<'a>
-        ensures key { key_of result ≡ key_at of.now.ends.now of.now.keys.now number }
-        ensures line { line_of result ≡ get_or (lines_of (drop start of.now.input.now)) 0 [] }
-    {
-        KeyedLine {
-            front: 0,
-            of,
-            number,
-            start,
-        }
-    }
+    ghost use Rattle.uca_commands.specs.KeyedLines.{key_of, keyed, line_of};
 
     /// The line.
-    pub(crate) fn line(&self) -> &'a [u8]
-        ensures { result.now ≡ line_of self.now }
+    pub(crate) fn line(&self, line: KeyedLine) -> &'a [u8]
+        ensures { result.now ≡ line_of self.now line }
     {
-        let rest = bytes_after(self.of.input, self.start as usize);
+        let rest = bytes_after(self.input, line.start as usize);
         if rest.is_empty() {
             return rest;
         }
@@ -127,30 +99,34 @@ impl<'a> KeyedLine<'a> {
     }
 
     /// The sort key.
-    fn key(&self) -> &'a [u8]
-        ensures { result.now ≡ key_of self.now }
+    fn key(&self, line: KeyedLine) -> &'a [u8]
+        ensures { result.now ≡ key_of self.now line }
     {
-        self.of.key(self.number as usize)
+        let number = line.number as usize;
+        bytes_between(
+            self.keys,
+            start_of(self.ends, number),
+            end_of(self.ends, number),
+        )
     }
 
     /// The line, with the eight bytes of its key after so many.
-    pub(crate) fn with_front(&self, depth: usize) -> KeyedLine<'a>
-        ensures same { bare result ≡ bare self.now }
-        ensures front { IsFront 8 (drop depth (key_of self.now)) result.front }
+    pub(crate) fn with_front(&self, line: KeyedLine, depth: usize) -> KeyedLine
+        ensures same { keyed self.now result ≡ keyed self.now line }
+        ensures front { IsFront 8 (drop depth (key_of self.now line)) result.front }
     {
-        let front = front_of(bytes_after(self.key(), depth));
+        let front = front_of(bytes_after(self.key(line), depth));
         KeyedLine {
             front,
-            of: self.of,
-            number: self.number,
-            start: self.start,
+            number: line.number,
+            start: line.start,
         }
     }
 
     /// The order of the sort keys of two lines.
-    pub(crate) fn compare_keys(&self, other: &KeyedLine<'_>) -> Ordering
-        ensures { result ≡ key_order (key_of self.now) (key_of other.now) }
+    pub(crate) fn compare_keys(&self, a: &KeyedLine, b: &KeyedLine) -> Ordering
+        ensures { result ≡ key_order (key_of self.now a.now) (key_of self.now b.now) }
     {
-        self.key().cmp(other.key())
+        self.key(*a).cmp(self.key(*b))
     }
 }

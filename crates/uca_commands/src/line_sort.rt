@@ -1,9 +1,9 @@
 //! A stable sort of lines by their sort keys: by eight bytes of the keys at a time, which each line has beside it.
 ghost use Rattle.std.specs.Prelude.{◌≡◌, ◌*◌, ◌<◌, ◌≤◌, length, map, OnOk};
-ghost use Rattle.uca_commands.specs.KeyedLines.{bare};
+ghost use Rattle.uca_commands.specs.KeyedLines.{keyed};
 ghost use Rattle.uca_commands.specs.LineSorting.{IsRun, SharesFront, ShowsFronts, SortsByFront, SortsLines};
 
-use crate::keyed_line::{FRONT, KeyedLine};
+use crate::keyed_line::{FRONT, KeyedLine, KeyedLines};
 use std::alloc::{AllocError, Global};
 use std::cmp::Ordering;
 
@@ -11,15 +11,15 @@ use std::cmp::Ordering;
 const ROUNDS: usize = 16;
 
 // Sorts lines by comparing whole keys.
-fn sort_whole(alloc: Global, lines: &mut [KeyedLine<'_>]) -> Result<(), AllocError>
+fn sort_whole(alloc: Global, of: &KeyedLines<'_>, lines: &mut [KeyedLine]) -> Result<(), AllocError>
     ensures len { length lines.new ≡ length lines.old }
-    ensures sorts { OnOk result (SortsLines lines.old lines.new) }
+    ensures sorts { OnOk result (SortsLines of.now lines.old lines.new) }
 {
-    lines.sort_by(alloc, |a, b| a.compare_keys(b))
+    lines.sort_by(alloc, |a, b| of.compare_keys(a, b))
 }
 
 // Sorts lines by the bytes beside them.
-fn sort_by_front(alloc: Global, lines: &mut [KeyedLine<'_>]) -> Result<(), AllocError>
+fn sort_by_front(alloc: Global, lines: &mut [KeyedLine]) -> Result<(), AllocError>
     ensures len { length lines.new ≡ length lines.old }
     ensures sorts { OnOk result (SortsByFront lines.old lines.new) }
 {
@@ -27,17 +27,17 @@ fn sort_by_front(alloc: Global, lines: &mut [KeyedLine<'_>]) -> Result<(), Alloc
 }
 
 // Takes the eight bytes of each key after so many.
-fn take_fronts(lines: &mut [KeyedLine<'_>], depth: usize)
-    ensures same { map bare lines.new ≡ map bare lines.old }
-    ensures fronts { ShowsFronts depth lines.new }
+fn take_fronts(of: &KeyedLines<'_>, lines: &mut [KeyedLine], depth: usize)
+    ensures same { map (keyed of.now) lines.new ≡ map (keyed of.now) lines.old }
+    ensures fronts { ShowsFronts of.now depth lines.new }
 {
     for at in 0..lines.len() {
-        lines[at] = lines[at].with_front(depth);
+        lines[at] = of.with_front(lines[at], depth);
     }
 }
 
 // Where the lines end that have the same bytes beside them as the one at a place.
-fn run_end(lines: &[KeyedLine<'_>], from: usize) -> usize
+fn run_end(lines: &[KeyedLine], from: usize) -> usize
     requires { from < length lines.now }
     ensures { IsRun lines.now from result }
 {
@@ -50,41 +50,50 @@ fn run_end(lines: &[KeyedLine<'_>], from: usize) -> usize
 }
 
 // Sorts lines whose keys have the same bytes up to a round.
-fn sort_round(alloc: Global, lines: &mut [KeyedLine<'_>], round: usize) -> Result<(), AllocError>
-    requires { SharesFront (8 * round) lines.old }
+fn sort_round(
+    alloc: Global,
+    of: &KeyedLines<'_>,
+    lines: &mut [KeyedLine],
+    round: usize,
+) -> Result<(), AllocError>
+    requires { SharesFront of.now (8 * round) lines.old }
     ensures len { length lines.new ≡ length lines.old }
-    ensures sorts { OnOk result (SortsLines lines.old lines.new) }
+    ensures sorts { OnOk result (SortsLines of.now lines.old lines.new) }
 {
     if lines.len() < 2 {
         return Ok(());
     }
     if round >= ROUNDS {
-        return sort_whole(alloc, lines);
+        return sort_whole(alloc, of, lines);
     }
-    take_fronts(lines, FRONT * round);
+    take_fronts(of, lines, FRONT * round);
     sort_by_front(alloc, lines)?;
     let mut from = 0;
     while from < lines.len() {
         let to = run_end(lines, from);
-        sort_round(alloc, &mut lines[from..to], round + 1)?;
+        sort_round(alloc, of, &mut lines[from..to], round + 1)?;
         from = to;
     }
     Ok(())
 }
 
 // Whether each line comes after the one before it, or each before it.
-fn is_one_run(lines: &[KeyedLine<'_>]) -> bool {
-    lines.is_sorted_by(|a, b| a.compare_keys(b) != Ordering::Greater)
-        || lines.is_sorted_by(|a, b| a.compare_keys(b) == Ordering::Greater)
+fn is_one_run(of: &KeyedLines<'_>, lines: &[KeyedLine]) -> bool {
+    lines.is_sorted_by(|a, b| of.compare_keys(a, b) != Ordering::Greater)
+        || lines.is_sorted_by(|a, b| of.compare_keys(a, b) == Ordering::Greater)
 }
 
 /// Sorts lines by their keys. Lines of equal keys stay in the order that they had.
-pub(crate) fn sort_lines(alloc: Global, lines: &mut [KeyedLine<'_>]) -> Result<(), AllocError>
+pub(crate) fn sort_lines(
+    alloc: Global,
+    of: &KeyedLines<'_>,
+    lines: &mut [KeyedLine],
+) -> Result<(), AllocError>
     ensures len { length lines.new ≡ length lines.old }
-    ensures sorts { OnOk result (SortsLines lines.old lines.new) }
+    ensures sorts { OnOk result (SortsLines of.now lines.old lines.new) }
 {
-    if is_one_run(lines) {
-        return sort_whole(alloc, lines);
+    if is_one_run(of, lines) {
+        return sort_whole(alloc, of, lines);
     }
-    sort_round(alloc, lines, 0)
+    sort_round(alloc, of, lines, 0)
 }

@@ -3,3 +3,4 @@ pub mod Coded
 pub mod Fronts
 pub mod Paths
 pub mod Links
+pub mod Cursor

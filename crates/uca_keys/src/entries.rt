@@ -1,6 +1,7 @@
 ghost use Rattle.std.specs.Prelude.{◌≡◌, ◌≤◌, [], length};
 ghost use Rattle.uca_weights.specs.declared.limits.TheConstants.{MAX_KEY};
 
+use crate::cursor::Cursor;
 use crate::node::Node;
 use arrayvec::ArrayVec;
 use std::fmt;
@@ -10,27 +11,19 @@ use uca_weights::{Element, MAX_KEY};
 /// The entries of keys in their order: each key with its elements.
 #[derive(Drop)]
 pub struct Entries<'t> {
-    pub(crate) nodes: &'t [Node],
-    pub(crate) elements: &'t [Element],
-    // The path of the node before these is the first `len` of these code points.
-    path: [char; MAX_KEY],
-    len: usize,
+    cursor: Cursor<'t>,
 }
 
 impl<'t> Model for Entries<'t> {
-    ghost use Rattle.std.specs.Prelude.{ℕ, ◌≤◌, List, take};
-    ghost use Rattle.uca_weights.specs.declared.limits.TheConstants.{MAX_KEY};
+    ghost use Rattle.std.specs.Prelude.{ℕ, List};
     ghost use Rattle.uca_weights.specs.declared.element.Element.{Element};
-    ghost use Rattle.uca_keys.specs.Nodes.{AreNext, entries_after};
     ghost use Rattle.uca_keys.specs.Coded.{coded_entries};
 
     ghost Value = { List (List ℕ × List Element) };
 
     ghost coded = { coded_entries };
 
-    ghost view = { λ e. entries_after e.elements.now (take e.len e.path) e.nodes.now };
-
-    ghost invariant = { λ e. (e.len ≤ MAX_KEY) × AreNext e.elements.now (take e.len e.path) e.nodes.now };
+    ghost view = { λ e. e.cursor.coming };
 }
 
 impl<'t> Entries<'t> {
@@ -42,10 +35,7 @@ impl<'t> Entries<'t> {
         ensures { result ≡ entries_after elements.now [] nodes.now }
     {
         Entries {
-            nodes,
-            elements,
-            path: ['\0'; MAX_KEY],
-            len: 0,
+            cursor: Cursor::new(nodes, elements),
         }
     }
 }
@@ -61,17 +51,8 @@ impl<'t> Iterator for Entries<'t> {
     ghost remaining = { item_count (λ s. s) };
 
     fn next(&mut self) -> Option<(ArrayVec<char, MAX_KEY>, &'t [Element])> {
-        while let Some((node, others)) = self.nodes.split_first() {
-            self.path[node.depth as usize] = node.point;
-            self.len = node.depth as usize + 1;
-            self.nodes = others;
-            if node.count != 0 {
-                let start = node.start as usize;
-                let elements = &self.elements[start..start + node.count as usize];
-                return Some((copied(&self.path[..self.len]), elements));
-            }
-        }
-        None
+        let elements = self.cursor.advance()?;
+        Some((copied(self.cursor.key()), elements))
     }
 }
 

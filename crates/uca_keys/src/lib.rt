@@ -5,11 +5,13 @@
 //! No look-up allocates.
 #![tactic(auto)]
 
+pub mod cursor;
 pub mod entries;
 pub mod node;
 pub mod nodes;
 pub mod trie;
 
+pub use cursor::Cursor;
 pub use entries::Entries;
 pub use nodes::Nodes;
 pub use trie::{NodeNumber, Trie};

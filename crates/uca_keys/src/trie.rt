@@ -5,6 +5,7 @@ ghost use Rattle.uca_keys.specs.Fronts.{begins_entry};
 ghost use Rattle.uca_keys.specs.Links.{AreLinked, AreStacked, EndsAt, depth_below, kids_from, kids_of, span_len};
 ghost use Rattle.uca_keys.specs.Paths.{entries_of, path_at};
 
+use crate::cursor::Cursor;
 use crate::entries::Entries;
 use crate::node::Node;
 use crate::nodes::numbered;
@@ -135,6 +136,18 @@ pub(crate) fn links(alloc: Global, nodes: &[Node]) -> Result<(Vec<Child>, Vec<u3
     Ok((children, starts))
 }
 
+/// The place from `near` on of the first child whose code point is not below another, or some place past the last child.
+fn first_from(children: &[Child], point: char, near: usize) -> usize {
+    let mut at = near;
+    'children: while at < children.len() {
+        if children[at].point >= point {
+            return at;
+        }
+        at += 1;
+    }
+    at
+}
+
 /// The node that no code point leads to.
 pub const ROOT: NodeNumber = NodeNumber { number: 0 };
 
@@ -153,6 +166,13 @@ impl Trie {
     {
         let _count = self.nodes.len();
         Entries::new(self.nodes.as_slice(), self.elements.as_slice())
+    }
+
+    /// A walk along the entries, before the first one.
+    pub fn cursor(&self) -> Cursor<'_>
+        ensures { result.coming ≡ entries_of self.now }
+    {
+        Cursor::new(self.nodes.as_slice(), self.elements.as_slice())
     }
 
     /// The children of a node.
@@ -181,6 +201,28 @@ impl Trie {
         }
     }
 
+    /// The same as [`Trie::child`]. Where it is called for one node and code points that ascend, with the same `near`, it goes
+    /// along the children of the node and needs no search.
+    pub fn child_near(&self, node: NodeNumber, point: char, near: &mut usize) -> Option<NodeNumber>
+        requires { node.number ≤ length self.now.nodes }
+        ensures within { IfSome result (λ child. child.number ≤ length self.now.nodes) }
+        ensures path { IfSome result (λ child. path_at self.now child.number ≡ path_at self.now node.number ++ point ∷ []) }
+        ensures some { IfSome result (λ child. begins_entry (entries_of self.now) (path_at self.now node.number ++ point ∷ []) ≡ true) }
+        ensures none { IfNone result (begins_entry (entries_of self.now) (path_at self.now node.number ++ point ∷ []) ≡ false) }
+    {
+        let _known = &self.nodes;
+        let children = self.children_of(node);
+        let at = first_from(children, point, *near);
+        *near = at;
+        if at >= children.len() {
+            return self.child(node, point);
+        }
+        if children[at].point != point {
+            return self.child(node, point);
+        }
+        Some(children[at].node)
+    }
+
     /// The elements of the key that leads to a node. `None`: it is no key.
     pub fn elements(&self, node: NodeNumber) -> Option<&[Element]>
         requires { node.number ≤ length self.now.nodes }
@@ -206,6 +248,14 @@ impl Trie {
         for c in key {
             node = self.child(node, *c)?;
         }
+        self.elements(node)
+    }
+
+    /// The elements of a key of one code point. `None`: it is no key. `near` is as for [`Trie::child_near`].
+    pub fn get_near(&self, point: char, near: &mut usize) -> Option<&[Element]>
+        ensures { option_copied result ≡ find key_cmp (point ∷ []) (entries_of self.now) }
+    {
+        let node = self.child_near(ROOT, point, near)?;
         self.elements(node)
     }
 }

@@ -16,11 +16,11 @@ use Rattle.uca_model.specs.CollationElements.{elements_or_implicit}
 use Rattle.uca_model.specs.ImplicitWeights.{implicit}
 use Rattle.uca_model.specs.Prefix.{have_primaries_of, is_before_last, is_primary_of, keeps_primary}
 use Rattle.uca_model.specs.SafeCut.{begins_with_primary, is_safe_starter, begins_apart, is_cut, keeps_apart}
-use Rattle.uca_model.specs.StandAlone.{is_first, is_longer_from, is_inside, begins, leads, continues}
+use Rattle.uca_model.specs.StandAlone.{is_first, is_longer_from, is_inside, begins, leads, continues, joining_of}
 use Rattle.uca_model.proofs.SafeCutLemmas.{is_cut-parts}
 use Rattle.uca_table.specs.declared.marks.MarkTable.{MarkTable}
 use Rattle.uca_table.specs.declared.marks.Marks.{Marks}
-use Rattle.uca_table.specs.Marks.{HoldsMarks, IsIndex, Untouched, keep_apart, marks, marks_with, marks_after, keeps_longer, place, first_marks, inside_marks, between_marks}
+use Rattle.uca_table.specs.Marks.{AreKnown, HoldsMarks, IsIndex, Untouched, keep_apart, marks, marks_with, marks_after, keeps_longer, place, first_marks, inside_marks, between_marks}
 use Rattle.uca_table.proofs.SearchLemmas.{found_at}
 
 -- ---- the test of a character
@@ -35,6 +35,16 @@ cut-first t c x ds tested parts some is test = test ∙ first_apart t ds x some 
 -- the same by the parts of the test, where it holds
 pub apart-first : (t : ElementTable) (x : ℕ) (ds : List ℕ) → (length ds ≡ 0 → ⊥) → x ≡ get_or ds 0 x → is_starter x ≡ true → keep_apart t x ≡ true → begins_apart t ds ≡ true
 apart-first t x ds some is starter apart = sym (first_apart t ds x some is) ∙ ap₂ (λ a b. a && b) starter apart
+
+-- how code points may join the text before them, by what is known of the first
+pub joining-known : (t : ElementTable) (x : ℕ) (ds : List ℕ) (m : Marks) → (length ds ≡ 0 → ⊥) → x ≡ get_or ds 0 x → AreKnown t x m → joining_of t ds ≤ (if is_starter x then (if m.continues then 1 else 0) else 2)
+joining-known t x [] m some is known = absurd (some refl)
+joining-known t x (d ∷ ds) m some is known = subst (λ p. joining_of t (p ∷ ds) ≤ (if is_starter x then (if m.continues then 1 else 0) else 2)) is (go (is_starter x) (continues t x) m.continues known.inside)
+  where
+    go : (starter inside said : Bool) → (said ≡ false → inside ≡ false) → (if starter then (if inside then 1 else 0) else 2) ≤ (if starter then (if said then 1 else 0) else 2)
+    go false inside said right = omega arith
+    go true inside true right = elim inside as (λ b. (if b then 1 else 0) ≤ 1) [ true ↦ omega arith | false ↦ omega arith ]
+    go true inside false right = subst (λ b. (if b then 1 else 0) ≤ 0) (sym (right refl)) (omega arith)
 
 -- ---- what one more key says
 

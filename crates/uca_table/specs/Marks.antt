@@ -19,6 +19,13 @@ keep_apart t p = list_all (keeps_apart p) (entries t.entries)
 abbrev pub marks : ElementTable → ℕ → Marks
 marks t p = record { begins = begins t p; leads = leads t p; continues = continues t p; apart = keep_apart t p; ends = ends_matches t p; keeps = keeps_primaries t p }
 
+-- what is known of them: each answer that rules something out is right
+pub record AreKnown (t : ElementTable) (p : ℕ) (m : Marks) : Type 0 where
+  pub first : m.begins ≡ false → begins t p ≡ false
+  pub longer : m.leads ≡ false → leads t p ≡ false
+  pub inside : m.continues ≡ false → continues t p ≡ false
+  pub kept : m.apart ≡ true → keep_apart t p ≡ true
+
 -- what none says
 abbrev pub Untouched : Marks
 Untouched = record { begins = false; leads = false; continues = false; apart = true; ends = true; keeps = true }

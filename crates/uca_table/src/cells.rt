@@ -1,15 +1,15 @@
-ghost use Rattle.std.specs.Prelude.{◌≡◌, true, ◌+◌, ◌*◌, ◌/◌, ◌∷◌, ◌++◌, [], ◌<◌, ◌≤◌, ℕ, List, false, not, length, take, drop, get_or, chars, slice_index, IfOk, IfSome, IfNone, OnOk, IsTrue, IsFalse};
+ghost use Rattle.std.specs.Prelude.{◌≡◌, true, ◌+◌, ◌*◌, ◌/◌, ◌∷◌, ◌++◌, [], ◌<◌, ◌≤◌, ℕ, List, false, not, length, take, drop, get_or, chars, slice_index, if◌then◌else◌, IfOk, IfSome, IfNone, OnOk, IsTrue, IsFalse};
 ghost use Rattle.std.specs.List.{list_all};
 ghost use Rattle.unicode_normalization.specs.Decompose.{decompose_canonical};
 ghost use Rattle.unicode_normalization.specs.Forms.{nfd};
 ghost use Rattle.unicode_normalization.specs.Order.{is_starter};
 ghost use Rattle.uca_model.specs.CollationElements.{elements};
 ghost use Rattle.uca_model.specs.SafeCut.{begins_apart, is_cut};
-ghost use Rattle.uca_model.specs.StandAlone.{begins, leads, continues, joining_of, bearing_of, joining, bearing, ends_in_starter};
+ghost use Rattle.uca_model.specs.StandAlone.{begins, leads, joining_of, bearing_of, joining, bearing, ends_in_starter};
 ghost use Rattle.uca_table.specs.Cells.{IsCell, HoldsCells, Grows, unknown};
-ghost use Rattle.uca_table.specs.Marks.{HoldsMarks, keep_apart, marks, place};
+ghost use Rattle.uca_table.specs.Marks.{AreKnown, HoldsMarks, marks, place};
 
-use crate::collation::{push_elements, push_found, push_matches};
+use crate::collation::{push_found, push_matches};
 use crate::marks::{BLOCK, BLOCKS, MarkTable, Marks};
 use crate::stored::Stored;
 use std::alloc::{AllocError, Global};
@@ -57,6 +57,16 @@ const UNKNOWN: Cell = Cell {
     cut: false,
 };
 
+// The marks of a code point of which nothing is known.
+const NOT_KNOWN: Marks = Marks {
+    begins: true,
+    leads: true,
+    continues: true,
+    apart: false,
+    ends: false,
+    keeps: false,
+};
+
 /// What a table says about single characters, by blocks: what its keys say about each, and its cell. Blocks in which no key has
 /// a code point share one block.
 #[derive(Drop)]
@@ -74,44 +84,28 @@ fn unknown(alloc: Global, n: usize) -> Result<Vec<Cell>, AllocError>
     vec![in alloc; UNKNOWN; n]
 }
 
+// What the keys of a table say about a code point, as far as that is known.
+fn known_marks(marks: &MarkTable, p: char) -> Marks
+    ensures { (t : _) → HoldsMarks t marks.now → AreKnown t p result }
+{
+    match marks.find(p) {
+        Some(marks) => marks,
+        None => NOT_KNOWN,
+    }
+}
+
 // Whether a key begins with a code point.
 fn begins(marks: &MarkTable, p: char) -> bool
     ensures { (t : _) → HoldsMarks t marks.now → IsFalse result → begins t p ≡ false }
 {
-    match marks.find(p) {
-        Some(marks) => marks.begins,
-        None => true,
-    }
+    known_marks(marks, p).begins
 }
 
 // Whether a key of two code points or more begins with a code point.
 fn leads(marks: &MarkTable, p: char) -> bool
     ensures { (t : _) → HoldsMarks t marks.now → IsFalse result → leads t p ≡ false }
 {
-    match marks.find(p) {
-        Some(marks) => marks.leads,
-        None => true,
-    }
-}
-
-// Whether a code point is in a key after the first place.
-fn continues(marks: &MarkTable, p: char) -> bool
-    ensures { (t : _) → HoldsMarks t marks.now → IsFalse result → continues t p ≡ false }
-{
-    match marks.find(p) {
-        Some(marks) => marks.continues,
-        None => true,
-    }
-}
-
-// Whether every key keeps a code point apart.
-fn keep_apart(marks: &MarkTable, p: char) -> bool
-    ensures { (t : _) → HoldsMarks t marks.now → IsTrue result → keep_apart t p ≡ true }
-{
-    match marks.find(p) {
-        Some(marks) => marks.apart,
-        None => false,
-    }
+    known_marks(marks, p).leads
 }
 
 fn is_starter(c: char) -> bool
@@ -133,17 +127,6 @@ fn is_own_nfd(c: char) -> bool
         return false;
     }
     is_starter(c)
-}
-
-// How code points may join the text before them, at most.
-fn joining_of(t: &Stored, marks: &MarkTable, points: &[char]) -> u8
-    requires { HoldsMarks t.now marks.now }
-    ensures value { joining_of t.now points.now ≤ result }
-{
-    if points.is_empty() || !is_starter(points[0]) {
-        return 2;
-    }
-    if continues(marks, points[0]) { 1 } else { 0 }
 }
 
 // Whether no code point begins a key of two or more.
@@ -168,6 +151,28 @@ fn ends_in_starter(points: &[char]) -> bool
     is_starter(points[points.len() - 1])
 }
 
+// How a character joins other text. `points` are its decomposition.
+#[derive(Clone, Copy)]
+struct Joins {
+    joining: u8,
+    bearing: u8,
+    cut: bool,
+}
+
+// Which joining a code point bears after it, at least, where it is a decomposition by itself.
+fn bearing_of_one(p: char, starter: bool, known: Marks) -> u8
+    requires { starter ≡ is_starter p }
+    ensures { (t : _) → AreKnown t p known → result ≤ bearing_of t (p ∷ []) }
+{
+    if known.leads {
+        0
+    } else if starter {
+        2
+    } else {
+        1
+    }
+}
+
 // Which joining code points bear after them, at least.
 fn bearing_of(t: &Stored, marks: &MarkTable, points: &[char]) -> u8
     requires { HoldsMarks t.now marks.now }
@@ -179,16 +184,45 @@ fn bearing_of(t: &Stored, marks: &MarkTable, points: &[char]) -> u8
     if ends_in_starter(points) { 2 } else { 1 }
 }
 
-// Whether a text may be cut before the character whose decomposition this is.
-fn begins_apart(t: &Stored, marks: &MarkTable, points: &[char]) -> bool
+// How the character joins other text whose decomposition this is. Its first code point is looked up once.
+fn joins_of(t: &Stored, marks: &MarkTable, points: &[char]) -> Joins
     requires { HoldsMarks t.now marks.now }
-    ensures { IsTrue result → begins_apart t.now points.now ≡ true }
+    ensures joining { joining_of t.now points.now ≤ result.joining }
+    ensures bearing { result.bearing ≤ bearing_of t.now points.now }
+    ensures cut { IsTrue result.cut → begins_apart t.now points.now ≡ true }
 {
     if points.is_empty() {
-        return false;
+        return Joins {
+            joining: 2,
+            bearing: 0,
+            cut: false,
+        };
     }
     let first = points[0];
-    is_starter(first) && keep_apart(marks, first)
+    let starter = is_starter(first);
+    let known = known_marks(marks, first);
+    Joins {
+        joining: joining_of_first(starter, known),
+        bearing: if points.len() == 1 {
+            bearing_of_one(first, starter, known)
+        } else {
+            bearing_of(t, marks, points)
+        },
+        cut: starter && known.apart,
+    }
+}
+
+// How code points may join the text before them, at most, by what is known of the first.
+fn joining_of_first(starter: bool, known: Marks) -> u8
+    ensures { result ≡ (if starter then (if known.continues then 1 else 0) else 2) }
+{
+    if !starter {
+        2
+    } else if known.continues {
+        1
+    } else {
+        0
+    }
 }
 
 // Where elements lie from `start` on, as numbers that fit in a cell; no elements where they do not fit.
@@ -203,12 +237,22 @@ fn extent(start: usize, end: usize) -> (u32, u8)
     }
 }
 
-// Appends the elements of a single code point.
+// What is used again for each cell that is made.
+#[derive(Drop)]
+struct Buffers {
+    // See `Stored::get_near`.
+    near: usize,
+    // The elements of one character.
+    elements: Vec<Element>,
+}
+
+// Appends the elements of a single code point. For `near` see `Stored::get_near`.
 fn push_single(
     out: &mut Vec<Element>,
     t: &Stored,
     marks: &MarkTable,
     p: char,
+    near: &mut usize,
 ) -> Result<(), AllocError>
     requires { HoldsMarks t.now marks.now }
     ensures { OnOk result (out.new.items ≡ out.old.items ++ elements t.now (p ∷ [])) }
@@ -216,11 +260,7 @@ fn push_single(
     if !begins(marks, p) {
         return out.extend_from_slice(&t.implicit(p));
     }
-    let mut walk = t.walk();
-    if walk.step(p) {
-        return push_found(out, t, &[p], walk.elements());
-    }
-    push_elements(out, t, &[p])
+    push_found(out, t, &[p], t.get_near(p, near))
 }
 
 impl Cells {
@@ -231,6 +271,7 @@ impl Cells {
         t: &Stored,
         c: char,
         points: &[char],
+        buffers: &mut Buffers,
     ) -> Result<(), AllocError>
         requires cells { HoldsCells t.now self.old }
         requires points { points.now ≡ decompose_canonical c }
@@ -240,15 +281,27 @@ impl Cells {
         ensures marks { OnOk result (self.new.marks.marks.items ≡ self.old.marks.marks.items) }
     {
         if points.len() == 1 {
-            return push_single(&mut self.elements, t, &self.marks, points[0]);
+            return push_single(
+                &mut self.elements,
+                t,
+                &self.marks,
+                points[0],
+                &mut buffers.near,
+            );
         }
-        let mut fresh = Vec::new(alloc);
-        push_text(alloc, &mut fresh, t, self, points)?;
-        self.elements.extend_from_slice(&fresh)
+        buffers.elements.clear();
+        push_text(alloc, &mut buffers.elements, t, self, points)?;
+        self.elements.extend_from_slice(&buffers.elements)
     }
 
     // The cell of a character, whose elements are appended to the others.
-    fn cell_of(&mut self, alloc: Global, t: &Stored, c: char) -> Result<Cell, AllocError>
+    fn cell_of(
+        &mut self,
+        alloc: Global,
+        t: &Stored,
+        c: char,
+        buffers: &mut Buffers,
+    ) -> Result<Cell, AllocError>
         requires { HoldsCells t.now self.old }
         ensures cell { IfOk result (λ cell. IsCell t.now self.new.elements.items c cell) }
         ensures cells { OnOk result (self.new.cells.items ≡ self.old.cells.items) }
@@ -258,29 +311,33 @@ impl Cells {
     {
         let mut room = ['\0'; 3];
         let points = decomposition(c, Form::Nfd, &mut room);
-        let joining = joining_of(t, &self.marks, points);
-        let bearing = bearing_of(t, &self.marks, points);
-        let cut = begins_apart(t, &self.marks, points);
+        let joins = joins_of(t, &self.marks, points);
         let before = self.elements.len();
-        self.push_elements(alloc, t, c, points)?;
+        self.push_elements(alloc, t, c, points, buffers)?;
         let (start, count) = extent(before, self.elements.len());
         Ok(Cell {
             start,
             count,
-            joining,
-            bearing,
-            cut,
+            joining: joins.joining,
+            bearing: joins.bearing,
+            cut: joins.cut,
         })
     }
 
     // Makes the cell of a character whose block has its own.
-    fn fill(&mut self, alloc: Global, t: &Stored, c: char) -> Result<(), AllocError>
+    fn fill(
+        &mut self,
+        alloc: Global,
+        t: &Stored,
+        c: char,
+        buffers: &mut Buffers,
+    ) -> Result<(), AllocError>
         requires cells { HoldsCells t.now self.old }
         requires own { c / 128 < length self.old.marks.blocks.items → 0 < get_or self.old.marks.blocks.items (c / 128) 0 }
         ensures cells { OnOk result (HoldsCells t.now self.new) }
         ensures blocks { OnOk result (self.new.marks.blocks.items ≡ self.old.marks.blocks.items) }
     {
-        let cell = self.cell_of(alloc, t, c)?;
+        let cell = self.cell_of(alloc, t, c, buffers)?;
         let Some(at) = self.marks.place(c) else {
             return Ok(());
         };
@@ -291,7 +348,13 @@ impl Cells {
     }
 
     // Makes the cells of a block of characters that has its own.
-    fn fill_block(&mut self, alloc: Global, t: &Stored, block: u32) -> Result<(), AllocError>
+    fn fill_block(
+        &mut self,
+        alloc: Global,
+        t: &Stored,
+        block: u32,
+        buffers: &mut Buffers,
+    ) -> Result<(), AllocError>
         requires cells { HoldsCells t.now self.old }
         requires within { block < 8704 }
         requires own { 0 < get_or self.old.marks.blocks.items block 0 }
@@ -300,7 +363,7 @@ impl Cells {
         let first = block * BLOCK as u32;
         for point in first..first + BLOCK as u32 {
             if let Some(c) = char::from_u32(point) {
-                self.fill(alloc, t, c)?;
+                self.fill(alloc, t, c, buffers)?;
             }
         }
         Ok(())
@@ -311,10 +374,14 @@ impl Cells {
         requires { HoldsCells t.now self.old }
         ensures { OnOk result (HoldsCells t.now self.new) }
     {
+        let mut buffers = Buffers {
+            near: 0,
+            elements: Vec::new(alloc),
+        };
         let mut left = LIMIT / BLOCK + FEW_BLOCKS + t.keys.len() / NODES_OF_A_BLOCK;
         for block in 0..BLOCKS {
             if left > 0 && self.marks.has_own(block as usize) {
-                self.fill_block(alloc, t, block)?;
+                self.fill_block(alloc, t, block, &mut buffers)?;
                 left -= 1;
             }
         }

@@ -2,26 +2,14 @@ ghost use Rattle.std.specs.Prelude.{◌≡◌, ◌<◌, ◌++◌, length, option
 ghost use Rattle.uca_model.specs.Table.{elements_at};
 ghost use Rattle.uca_model.specs.CollationElements.{elements, elements_or_implicit};
 
+use crate::cells::push_few;
 use crate::matching::match_front;
 use crate::stored::Stored;
 use std::alloc::AllocError;
 use uca_weights::Element;
 
-// Appends the elements of a match, one or more: those of the key, or else the implicit ones of its first code point
-// (UTS #10, 7.2, step S2.2).
-pub(crate) fn push_elements(
-    out: &mut Vec<Element>,
-    t: &Stored,
-    matched: &[char],
-) -> Result<(), AllocError>
-    requires { 0 < length matched.now }
-    ensures elements { OnOk result (out.new.items ≡ out.old.items ++ elements_or_implicit t.now matched.now) }
-    ensures some { OnOk result (length out.old.items < length out.new.items) }
-{
-    push_found(out, t, matched, t.get(matched))
-}
-
-// The same, with what the table has for the match.
+// Appends the elements of a match, one or more: those that the table has for it, or else the implicit ones of its first code
+// point (UTS #10, 7.2, step S2.2).
 pub(crate) fn push_found(
     out: &mut Vec<Element>,
     t: &Stored,
@@ -35,7 +23,7 @@ pub(crate) fn push_found(
     ensures some { OnOk result (length out.old.items < length out.new.items) }
 {
     match found {
-        Some(elements) => out.extend_from_slice(elements),
+        Some(elements) => push_few(out, elements),
         None => out.extend_from_slice(&t.implicit(matched[0])),
     }
 }

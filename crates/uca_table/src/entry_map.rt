@@ -152,11 +152,15 @@ fn is_key(first: char, others: &[char], key: &[char]) -> bool
     key[0] == first && &key[1..] == others
 }
 
-/// Appends elements for which there is capacity.
+/// Appends elements for which there is capacity. Most keys have one, which needs no copy of a slice.
 fn push_reserved(all: &mut Vec<Element>, elements: &[Element])
     requires { vec_len all.old + length elements.now ≤ vec_capacity all.old }
     ensures { all.new.items ≡ all.old.items ++ elements.now }
 {
+    if let [element] = elements {
+        let _fits = all.push(*element);
+        return;
+    }
     let _fits = all.extend_from_slice(elements);
 }
 

@@ -309,8 +309,9 @@ impl MarkTable {
         requires fresh { (p : ℕ) → p / 128 < length self.old.blocks.items → marks_of self.old p ≡ Untouched }
         ensures { OnOk result (HoldsMarks t.now self.new) }
     {
-        for (key, elements) in t.entries() {
-            self.mark_key(t, key.as_slice(), elements)?;
+        let mut cursor = t.cursor();
+        'entries: while let Some(elements) = cursor.advance() {
+            self.mark_key(t, cursor.key(), elements)?;
         }
         Ok(())
     }

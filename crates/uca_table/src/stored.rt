@@ -6,7 +6,7 @@ use crate::walk::Walk;
 use crate::{ideographs, implicit_weights};
 use std::alloc::{AllocError, Global};
 use std::marker::Model;
-use uca_keys::{Entries, Nodes, Trie};
+use uca_keys::{Cursor, Entries, Nodes, Trie};
 use uca_weights::{Element, Ideographs, Range};
 
 /// A collation element table: a finite map from keys to their elements, with ranges of implicit weights and of
@@ -59,6 +59,15 @@ impl Stored {
         self.keys.get(key)
     }
 
+    /// The elements of a key of one code point. `None`: it is no key. Where the code points of several calls ascend, with the same
+    /// `near`, there is no search.
+    pub(crate) fn get_near(&self, point: char, near: &mut usize) -> Option<&[Element]>
+        ensures value { option_copied result ≡ elements_at self.now (point ∷ []) }
+        ensures some { IfSome result (λ es. 0 < length es.now) }
+    {
+        self.keys.get_near(point, near)
+    }
+
     /// A walk along the keys that has not been stepped yet.
     pub(crate) fn walk(&self) -> Walk<'_>
         ensures table { table_of_walk result ≡ self.now }
@@ -90,6 +99,13 @@ impl Stored {
         ensures few { length (entries self.now.entries) < 2 ^ 64 }
     {
         self.keys.entries()
+    }
+
+    /// A walk along the entries by key order, before the first one.
+    pub(crate) fn cursor(&self) -> Cursor<'_>
+        ensures { result.coming ≡ entries self.now.entries }
+    {
+        self.keys.cursor()
     }
 
     /// A table with the same ranges and other entries.

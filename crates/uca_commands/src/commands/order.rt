@@ -48,18 +48,22 @@ fn keys_of(alloc: Global, t: &Table, s: Settings, bytes: &[u8]) -> Result<Keys, 
 }
 
 /// The lines of an input, each with its key, in the order that they have.
-fn keyed_lines<'a>(alloc: Global, of: &'a KeyedLines<'a>) -> Result<Vec<KeyedLine<'a>>, AllocError>
+fn keyed_lines(alloc: Global, of: &KeyedLines<'_>) -> Result<Vec<KeyedLine>, AllocError>
     requires small { length of.now.input.now ≤ MAX_INPUT }
     requires each { length of.now.ends.now ≡ length (lines_of of.now.input.now) }
-    ensures keys { IfOk result (λ v. map key_of v.items ≡ pieces of.now.ends.now of.now.keys.now 0) }
-    ensures lines { IfOk result (λ v. map line_of v.items ≡ lines_of of.now.input.now) }
+    ensures keys { IfOk result (λ v. map (key_of of.now) v.items ≡ pieces of.now.ends.now of.now.keys.now 0) }
+    ensures lines { IfOk result (λ v. map (line_of of.now) v.items ≡ lines_of of.now.input.now) }
 {
     let mut lines = Vec::with_capacity(alloc, of.ends.len())?;
     let mut left = of.input;
     for number in 0..of.ends.len() {
         let start = of.input.len() - left.len();
         let (_, rest) = first_line(left);
-        lines.push(KeyedLine::new(of, number as u32, start as u32))?;
+        lines.push(KeyedLine {
+            front: 0,
+            number: number as u32,
+            start: start as u32,
+        })?;
         left = rest;
     }
     Ok(lines)
@@ -94,15 +98,19 @@ fn send_line<W: Writer>(w: &mut W, out: &mut OutputBlock, line: &[u8]) -> Result
 }
 
 /// Writes lines, each with LF.
-fn write_keyed<W: Writer>(lines: &[KeyedLine<'_>], w: &mut W) -> Result<(), WriteFault>
+fn write_keyed<W: Writer>(
+    of: &KeyedLines<'_>,
+    lines: &[KeyedLine],
+    w: &mut W,
+) -> Result<(), WriteFault>
     requires { length lines.now ≤ MAX_INPUT }
     ensures { MatchResult result
-        (λ _. WritesAll (W.state w.old) (W.state w.new) (text_of_lines (map line_of lines.now)))
-        (WritesFront (W.state w.old) (W.state w.new) (text_of_lines (map line_of lines.now))) }
+        (λ _. WritesAll (W.state w.old) (W.state w.new) (text_of_lines (map (line_of of.now) lines.now)))
+        (WritesFront (W.state w.old) (W.state w.new) (text_of_lines (map (line_of of.now) lines.now))) }
 {
     let mut out = OutputBlock::new();
     for keyed in lines {
-        send_line(w, &mut out, keyed.line())?;
+        send_line(w, &mut out, of.line(*keyed))?;
     }
     out.flush(w)
 }
@@ -133,8 +141,8 @@ pub fn write_in_order<W: Writer>(
     };
     let mut sorted = keyed_lines(alloc, &of)?;
     let lines = sorted.as_mut_slice();
-    sort_lines(alloc, lines)?;
-    write_keyed(lines, w)?;
+    sort_lines(alloc, &of, lines)?;
+    write_keyed(&of, lines, w)?;
     Ok(lines.len() as u64)
 }
 

@@ -6,7 +6,7 @@ abbrev pub decreases-sort_round : goal.decreases-sort_round
 decreases-sort_round l = 16 - l.round
 
 abbrev pub invariant-loop-from : goal.invariant-loop-from
-invariant-loop-from l = RunsSorted l.initial.lines l.lines l.from
+invariant-loop-from l = RunsSorted l.of l.initial.lines l.lines l.from
 
 abbrev pub decreases-loop-from : goal.decreases-loop-from
 decreases-loop-from l = length l.initial.lines - l.from

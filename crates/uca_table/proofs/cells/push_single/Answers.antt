@@ -12,7 +12,4 @@ returns-then-not-begins c =
     pushed-ok c.extend_from_slice.result c.args.out.now.items _ _ _ c.extend_from_slice.ensures.items (c.implicit.ensures ∙ sym (elements-unknown c.args.t.now c.args.p none))
 
 pub returns : goal.returns
-returns c = on_ok_weaker c.push_elements.result (λ e. e ∙ ap (λ (l : List Element). c.args.out.now.items ++ l) (sym (elements-one c.args.t.now c.args.p))) c.push_elements.ensures.elements
-
-pub returns-then-step : goal.returns-then-step
-returns-then-step c = on_ok_weaker c.push_found.result (λ e. e ∙ ap (λ (l : List Element). c.args.out.now.items ++ l) (sym (elements-one c.args.t.now c.args.p))) c.push_found.ensures.elements
+returns c = on_ok_weaker c.push_found.result (λ e. e ∙ ap (λ (l : List Element). c.args.out.now.items ++ l) (sym (elements-one c.args.t.now c.args.p))) c.push_found.ensures.elements

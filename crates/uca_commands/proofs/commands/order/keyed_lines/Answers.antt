@@ -27,18 +27,19 @@ pub loop-number-preserved : goal.loop-number-preserved
 loop-number-preserved c =
     let n : ℕ = c.loop-number.number in let input : List ℕ = c.args.of.now.input.now in
     let line : List ℕ = c.first_line.result.0.now in let rest : List ℕ = c.first_line.result.1.now in
-    let ls : List KeyedLine = c.loop-number.lines.items in let l : KeyedLine = c.new.result in
+    let shown_key : KeyedLine → List ℕ = key_of c.args.of.now in let shown_line : KeyedLine → List ℕ = line_of c.args.of.now in
+    let ls : List KeyedLine = c.loop-number.lines.items in
+    let l : KeyedLine = record { front = 0; number = n; start = length input - length c.loop-number.left.now } in
     let keys : List (List ℕ) = pieces c.args.of.now.ends.now c.args.of.now.keys.now 0 in
     let items : c.push.new.self.items ≡ ls ++ (l ∷ []) = c.in_ok-push.ensures.items in
-    let shows : line_of l ≡ line = c.new.ensures.line ∙ ap (λ bytes. get_or (lines_of bytes) 0 []) (sym c.loop-number.invariant.left) ∙ ap (λ lines. get_or lines 0 []) c.first_line.ensures.parts in
-    let key : map key_of ls ++ (key_of l ∷ drop (n + 1) keys) ≡ keys =
-    ap (λ k. map key_of ls ++ (k ∷ drop (n + 1) keys)) c.new.ensures.key
-    ∙ ap (λ left. map key_of ls ++ left) (sym (key_at-next c.args.of.now.ends.now c.args.of.now.keys.now n c.loop-number-test.true)) ∙ c.loop-number.invariant.keys in
-    let shown : map line_of ls ++ (line_of l ∷ lines_of rest) ≡ lines_of input =
-    ap (λ m. map line_of ls ++ (m ∷ lines_of rest)) shows ∙ ap (λ left. map line_of ls ++ left) (sym c.first_line.ensures.parts) ∙ c.loop-number.invariant.lines in
+    let shows : shown_line l ≡ line = ap (λ bytes. get_or (lines_of bytes) 0 []) (sym c.loop-number.invariant.left) ∙ ap (λ lines. get_or lines 0 []) c.first_line.ensures.parts in
+    let key : map shown_key ls ++ (shown_key l ∷ drop (n + 1) keys) ≡ keys =
+    ap (λ left. map shown_key ls ++ left) (sym (key_at-next c.args.of.now.ends.now c.args.of.now.keys.now n c.loop-number-test.true)) ∙ c.loop-number.invariant.keys in
+    let shown : map shown_line ls ++ (shown_line l ∷ lines_of rest) ≡ lines_of input =
+    ap (λ m. map shown_line ls ++ (m ∷ lines_of rest)) shows ∙ ap (λ left. map shown_line ls ++ left) (sym c.first_line.ensures.parts) ∙ c.loop-number.invariant.lines in
     record {
-      keys = ap (λ v. map key_of v ++ drop (n + 1) keys) items ∙ one_more key_of ls l (drop (n + 1) keys) keys key;
-      lines = ap (λ v. map line_of v ++ lines_of rest) items ∙ one_more line_of ls l (lines_of rest) (lines_of input) shown;
+      keys = ap (λ v. map shown_key v ++ drop (n + 1) keys) items ∙ one_more shown_key ls l (drop (n + 1) keys) keys key;
+      lines = ap (λ v. map shown_line v ++ lines_of rest) items ∙ one_more shown_line ls l (lines_of rest) (lines_of input) shown;
       left = left_over input c.loop-number.left.now rest c.loop-number.invariant.within c.first_line.ensures.shorter c.loop-number.invariant.left c.first_line.ensures.after;
       within = omega (arith, c.first_line.ensures.shorter, c.loop-number.invariant.within);
       each = omega (arith, ap length c.first_line.ensures.parts, c.loop-number.invariant.each);
@@ -48,4 +49,4 @@ pub returns-clause-keys : goal.returns-clause-keys
 returns-clause-keys c =
     let keys : List (List ℕ) = pieces c.args.of.now.ends.now c.args.of.now.keys.now 0 in
     let all : length keys ≤ c.loop-number.number = omega (arith, c.loop-number-test.false, length-pieces c.args.of.now.ends.now c.args.of.now.keys.now 0) in
-    sym (append-nil (map key_of c.loop-number.lines.items)) ∙ ap (λ left. map key_of c.loop-number.lines.items ++ left) (sym (drop_of_length-le keys all)) ∙ c.loop-number.invariant.keys
+    sym (append-nil (map (key_of c.args.of.now) c.loop-number.lines.items)) ∙ ap (λ left. map (key_of c.args.of.now) c.loop-number.lines.items ++ left) (sym (drop_of_length-le keys all)) ∙ c.loop-number.invariant.keys

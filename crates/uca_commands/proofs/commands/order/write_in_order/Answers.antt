@@ -1,39 +1,20 @@
-use Rattle.std.proofs.Common.{◌≡◌, ℕ, ◌-◌, List, [], ◌∷◌, length, map, subst, sym, ap, ap₂, refl, ◌∙◌, arith, eqb-true}
-use Rattle.std.proofs.lemmas.List.{length-map, nil_from_length, take_all}
+use Rattle.std.proofs.Common.{◌≡◌, ℕ, List, length, map, subst, sym, ap, ap₂, refl, ◌∙◌, arith, eqb-true}
+use Rattle.std.proofs.lemmas.List.{length-map, nil_from_length}
+use Rattle.std.proofs.lemmas.Simd.{map-map}
 use Rattle.std.proofs.lemmas.Result.{err_from_is_err_and}
 use Rattle.uca_weights.specs.declared.settings.Settings.{Settings}
-use Rattle.uca_model.specs.Lines.{line_feed, lines_of}
+use Rattle.uca_model.specs.Lines.{lines_of}
 use Rattle.uca_model.specs.OrderOutput.{line_key, IsInOrder, IsOrderOutput, text_of_lines}
 use Rattle.uca_model.specs.Table.{ElementTable}
 use Rattle.uca_commands.specs.Ordering.{AreKeys}
 use Rattle.uca_commands.specs.declared.keyed_line.KeyedLine.{KeyedLine}
+use Rattle.uca_commands.specs.declared.keyed_line.KeyedLines.{KeyedLines}
 use Rattle.uca_commands.specs.KeyPieces.{pieces}
-use Rattle.uca_commands.specs.KeyedLines.{bare, key_of, line_of}
+use Rattle.uca_commands.specs.KeyedLines.{key_of, keyed, line_of}
 use Rattle.uca_commands.specs.LineSorting.{SortsLines}
 use Rattle.uca_commands.proofs.NoLines.{WritesInOrder-none}
 use Rattle.uca_commands.proofs.OrderingLemmas.{AreKeys-each, AreKeys-pieces, IsInOrder-from_keyed, length-lines_of}
 use Rattle.uca_commands.proofs.commands.order.write_in_order.Goals as goal
-
--- one line alone, and its key
-abbrev with_key : ElementTable → Settings → List ℕ → KeyedLine
-with_key t s line =
-    let key : List ℕ = line_key t s line in
-    record {
-      front = 0;
-      of = record {
-        ref_ptr = (0, 0);
-        now = record {
-          input = record { ref_ptr = (0, 0); now = line_feed ∷ [] };
-          keys = record { ref_ptr = (0, 0); now = key };
-          ends = record { ref_ptr = (0, 0); now = length key ∷ [] };
-        };
-      };
-      number = 0;
-      start = 0;
-    }
-
-with_key-keyed : (t : ElementTable) (s : Settings) (line : List ℕ) → key_of (with_key t s line) ≡ line_key t s line
-with_key-keyed t s line = take_all (length (line_key t s line) - 0) (line_key t s line) (omega arith)
 
 pub returns-then-is_empty : goal.returns-then-is_empty
 returns-then-is_empty g c = WritesInOrder-none c.args.t.now c.args.s c.args.bytes.now _ (nil_from_length c.args.bytes.now (eqb-true (length c.args.bytes.now) 0 (sym c.is_empty.ensures ∙ c.if-is_empty.true)))
@@ -41,59 +22,55 @@ returns-then-is_empty g c = WritesInOrder-none c.args.t.now c.args.s c.args.byte
 pub keyed_lines-requires-clause-each : goal.keyed_lines-requires-clause-each
 keyed_lines-requires-clause-each g c = ap length c.deref-2.ensures.value ∙ AreKeys-each c.args.t.now c.args.s (lines_of c.args.bytes.now) c.in_ok-keys.keys.bytes.items c.in_ok-keys.keys.ends.items c.in_ok-keys.ensures
 
--- what is beside a line changes nothing of it
-shown_bare : {X : Type 0} (show : KeyedLine → X) → ((l : KeyedLine) → show (bare l) ≡ show l) → (ls : List KeyedLine) → map show (map bare ls) ≡ map show ls
-shown_bare show same [] = refl
-shown_bare show same (l ∷ ls) = ap₂ (λ x xs. x ∷ xs) (same l) (shown_bare show same ls)
-
-lines_bare : (ls : List KeyedLine) → map line_of (map bare ls) ≡ map line_of ls
-lines_bare = shown_bare line_of (λ l. refl)
-
 -- there are as many as lines
-count : (bytes : List ℕ) (xs ys : List KeyedLine) → map line_of xs ≡ lines_of bytes → length ys ≡ length xs → length ys ≡ length (lines_of bytes)
-count bytes xs ys lines same = same ∙ sym (length-map xs line_of) ∙ ap length lines
+count : (of : KeyedLines) (bytes : List ℕ) (xs ys : List KeyedLine) → map (line_of of) xs ≡ lines_of bytes → length ys ≡ length xs → length ys ≡ length (lines_of bytes)
+count of bytes xs ys lines same = same ∙ sym (length-map xs (line_of of)) ∙ ap length lines
 
 pub write_keyed-requires : goal.write_keyed-requires
 write_keyed-requires g c =
-    let many : length c.sort_lines.new.lines ≡ length (lines_of c.args.bytes.now) = count c.args.bytes.now c.in_ok-sorted.sorted.items c.sort_lines.new.lines c.in_ok-sorted.ensures.lines (c.sort_lines.ensures.len ∙ ap length c.as_mut_slice-lines.ensures.value) in
+    let of : KeyedLines = record { input = c.args.bytes; keys = c.deref.result; ends = c.deref-2.result } in
+    let many : length c.sort_lines.new.lines ≡ length (lines_of c.args.bytes.now) = count of c.args.bytes.now c.in_ok-sorted.sorted.items c.sort_lines.new.lines c.in_ok-sorted.ensures.lines (c.sort_lines.ensures.len ∙ ap length c.as_mut_slice-lines.ensures.value) in
     omega (arith, many, length-lines_of c.args.bytes.now, c.requires.small)
 
 -- the lines that were sorted are in order
-in_order : (t : ElementTable) (s : Settings) (bytes kept ends : List ℕ) (xs ys : List KeyedLine) → AreKeys t s (lines_of bytes) kept ends → map key_of xs ≡ pieces ends kept 0 → map line_of xs ≡ lines_of bytes
-    → SortsLines xs ys → IsInOrder t s (lines_of bytes) (map line_of ys)
-in_order t s bytes kept ends xs ys are keys lines sorts =
-    subst (IsInOrder t s (lines_of bytes)) (lines_bare ys)
-    (IsInOrder-from_keyed key_of line_of (with_key t s) t s (lines_of bytes) (map bare xs) (map bare ys) (with_key-keyed t s) (lines_bare xs ∙ lines) (shown_bare key_of (λ l. refl) xs ∙ keys ∙ AreKeys-pieces t s (lines_of bytes) kept ends are)
+in_order : (of : KeyedLines) (t : ElementTable) (s : Settings) (bytes kept ends : List ℕ) (xs ys : List KeyedLine) → AreKeys t s (lines_of bytes) kept ends → map (key_of of) xs ≡ pieces ends kept 0 → map (line_of of) xs ≡ lines_of bytes
+    → SortsLines of xs ys → IsInOrder t s (lines_of bytes) (map (line_of of) ys)
+in_order of t s bytes kept ends xs ys are keys lines sorts =
+    subst (IsInOrder t s (lines_of bytes)) (map-map (λ p. p.1) (keyed of) ys)
+    (IsInOrder-from_keyed (λ p. p.0) (λ p. p.1) (λ line. (line_key t s line, line)) t s (lines_of bytes) (map (keyed of) xs) (map (keyed of) ys) (λ line. refl)
+    (map-map (λ p. p.1) (keyed of) xs ∙ lines) (map-map (λ p. p.0) (keyed of) xs ∙ keys ∙ AreKeys-pieces t s (lines_of bytes) kept ends are)
     sorts.same sorts.sorted sorts.stable)
 
 -- what is written of them
-made : (t : ElementTable) (s : Settings) (bytes kept ends : List ℕ) (xs ys : List KeyedLine) → AreKeys t s (lines_of bytes) kept ends → map key_of xs ≡ pieces ends kept 0 → map line_of xs ≡ lines_of bytes
-    → SortsLines xs ys → IsOrderOutput t s bytes (text_of_lines (map line_of ys))
-made t s bytes kept ends xs ys are keys lines sorts = record {
-  ordered = map line_of ys;
-  order = in_order t s bytes kept ends xs ys are keys lines sorts;
+made : (of : KeyedLines) (t : ElementTable) (s : Settings) (bytes kept ends : List ℕ) (xs ys : List KeyedLine) → AreKeys t s (lines_of bytes) kept ends → map (key_of of) xs ≡ pieces ends kept 0 → map (line_of of) xs ≡ lines_of bytes
+    → SortsLines of xs ys → IsOrderOutput t s bytes (text_of_lines (map (line_of of) ys))
+made of t s bytes kept ends xs ys are keys lines sorts = record {
+  ordered = map (line_of of) ys;
+  order = in_order of t s bytes kept ends xs ys are keys lines sorts;
   text = refl;
 }
 
 pub returns : goal.returns
 returns g c =
+    let of : KeyedLines = record { input = c.args.bytes; keys = c.deref.result; ends = c.deref-2.result } in
     let ys : List KeyedLine = c.sort_lines.new.lines in
-    let many : length ys ≡ length (lines_of c.args.bytes.now) = count c.args.bytes.now c.in_ok-sorted.sorted.items ys c.in_ok-sorted.ensures.lines (c.sort_lines.ensures.len ∙ ap length c.as_mut_slice-lines.ensures.value) in
+    let many : length ys ≡ length (lines_of c.args.bytes.now) = count of c.args.bytes.now c.in_ok-sorted.sorted.items ys c.in_ok-sorted.ensures.lines (c.sort_lines.ensures.len ∙ ap length c.as_mut_slice-lines.ensures.value) in
     record {
-      output = text_of_lines (map line_of ys);
-      made = made c.args.t.now c.args.s c.args.bytes.now c.in_ok-keys.keys.bytes.items c.in_ok-keys.keys.ends.items c.in_ok-sorted.sorted.items ys
-          c.in_ok-keys.ensures (c.in_ok-sorted.ensures.keys ∙ ap₂ (λ es bs. pieces es bs 0) c.deref-2.ensures.value c.deref.ensures.value) c.in_ok-sorted.ensures.lines (subst (λ ls. SortsLines ls ys) c.as_mut_slice-lines.ensures.value c.in_ok-sort_lines.ensures.sorts);
+      output = text_of_lines (map (line_of of) ys);
+      made = made of c.args.t.now c.args.s c.args.bytes.now c.in_ok-keys.keys.bytes.items c.in_ok-keys.keys.ends.items c.in_ok-sorted.sorted.items ys
+          c.in_ok-keys.ensures (c.in_ok-sorted.ensures.keys ∙ ap₂ (λ es bs. pieces es bs 0) c.deref-2.ensures.value c.deref.ensures.value) c.in_ok-sorted.ensures.lines (subst (λ ls. SortsLines of ls ys) c.as_mut_slice-lines.ensures.value c.in_ok-sort_lines.ensures.sorts);
       writes = c.in_ok-write_keyed.ensures;
       counted = omega (arith, many);
     }
 
 pub returns-in_err-write_keyed : goal.returns-in_err-write_keyed
 returns-in_err-write_keyed g c =
+    let of : KeyedLines = record { input = c.args.bytes; keys = c.deref.result; ends = c.deref-2.result } in
     let p = err_from_is_err_and c.from_residual-in_err-write_keyed.result c.from_residual-in_err-write_keyed.ensures.1 in
     let ys : List KeyedLine = c.sort_lines.new.lines in
     rw (p.1, p.2) (record {
-      output = text_of_lines (map line_of ys);
-      made = made c.args.t.now c.args.s c.args.bytes.now c.in_ok-keys.keys.bytes.items c.in_ok-keys.keys.ends.items c.in_ok-sorted.sorted.items ys
-          c.in_ok-keys.ensures (c.in_ok-sorted.ensures.keys ∙ ap₂ (λ es bs. pieces es bs 0) c.deref-2.ensures.value c.deref.ensures.value) c.in_ok-sorted.ensures.lines (subst (λ ls. SortsLines ls ys) c.as_mut_slice-lines.ensures.value c.in_ok-sort_lines.ensures.sorts);
+      output = text_of_lines (map (line_of of) ys);
+      made = made of c.args.t.now c.args.s c.args.bytes.now c.in_ok-keys.keys.bytes.items c.in_ok-keys.keys.ends.items c.in_ok-sorted.sorted.items ys
+          c.in_ok-keys.ensures (c.in_ok-sorted.ensures.keys ∙ ap₂ (λ es bs. pieces es bs 0) c.deref-2.ensures.value c.deref.ensures.value) c.in_ok-sorted.ensures.lines (subst (λ ls. SortsLines of ls ys) c.as_mut_slice-lines.ensures.value c.in_ok-sort_lines.ensures.sorts);
       writes = c.in_err-write_keyed.ensures;
     })

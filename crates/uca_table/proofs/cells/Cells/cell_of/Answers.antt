@@ -8,7 +8,7 @@ pub returns-clause-cell : goal.returns-clause-cell
 returns-clause-cell c = record {
   joining = search rules;
   bearing = search rules;
-  cut = λ holds. is_cut-parts c.args.t.now c.args.c ∙ ap (begins_apart c.args.t.now) (sym c.decomposition-points.ensures.value) ∙ c.begins_apart-cut.ensures holds;
+  cut = λ holds. is_cut-parts c.args.t.now c.args.c ∙ ap (begins_apart c.args.t.now) (sym c.decomposition-points.ensures.value) ∙ c.joins_of-joins.ensures.cut holds;
   within = search rules;
   elements = λ some.
       taken-fresh c.args.self.now.elements.items _ c.push_elements.new.self.elements.items c.extent-start.result.0 c.extent-start.result.1 c.in_ok-push_elements.ensures.elements

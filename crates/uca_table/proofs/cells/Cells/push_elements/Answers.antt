@@ -18,6 +18,6 @@ pub returns-clause-elements : goal.returns-clause-elements
 returns-clause-elements c =
     let all : List Element = c.args.self.now.elements.items in
     let fresh : c.deref.result.now ≡ elements c.args.t.now (nfd (c.args.c ∷ [])) =
-    c.deref.ensures.value ∙ c.in_ok-push_text.ensures ∙ ap (λ (l : List Element). l ++ elements c.args.t.now (nfd c.args.points.now)) c.new-fresh.ensures.items
+    c.deref.ensures.value ∙ c.in_ok-push_text.ensures ∙ ap (λ (l : List Element). l ++ elements c.args.t.now (nfd c.args.points.now)) c.clear.ensures.items
     ∙ ap (λ (l : List ℕ). elements c.args.t.now (nfd l)) c.requires.points ∙ ap (elements c.args.t.now) (nfd-decomposition c.args.c) in
     pushed-ok c.extend_from_slice.result all _ _ _ c.extend_from_slice.ensures.items fresh

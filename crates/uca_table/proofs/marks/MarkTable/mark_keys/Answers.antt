@@ -1,22 +1,21 @@
-use Rattle.std.proofs.Common.{rules, ◌/◌, ◌<◌, length, arith, ◌∙◌}
+use Rattle.std.proofs.Common.{◌≡◌, ◌∷◌, ℕ, List, ap, sym, arith, ◌∙◌}
 use Rattle.uca_table.proofs.MarkLemmas.{after-step, after-none}
 use Rattle.uca_table.specs.Marks.{marks_of}
 use Rattle.uca_table.proofs.marks.MarkTable.mark_keys.Goals as goal
 
-pub loop-key-preserved : goal.loop-key-preserved
-loop-key-preserved c = record {
-  can = tt;
-  finite = tt;
+pub entries-preserved : goal.entries-preserved
+entries-preserved c = record {
   index = c.in_ok-mark_key.ensures.index;
-  size = c.in_ok-mark_key.ensures.size ∙ c.loop-key.invariant.size;
+  size = c.in_ok-mark_key.ensures.size ∙ c.entries.invariant.size;
   marks = λ p inside.
-      let before : p / 128 < length c.loop-key.self.blocks.items = omega (arith, inside, c.in_ok-mark_key.ensures.size) in
-      after-step c.args.t.now (marks_of c.loop-key.self p) (marks_of c.mark_key.new.self p) _ p c.as_slice.result.now c.in-Some.elements.now c.loop-key.key-iterator c.next.new.self
-      (search rules) (c.in_ok-mark_key.ensures.marks p before) (c.loop-key.invariant.marks p before);
+      let next : c.entries.cursor.coming ≡ (c.key.result.now, c.in-Some.elements.now) ∷ c.advance.new.self.coming =
+      c.in-Some.ensures ∙ ap (λ (key : List ℕ). (key, c.in-Some.elements.now) ∷ c.advance.new.self.coming) (sym c.key.ensures.value) in
+      after-step c.args.t.now (marks_of c.entries.self p) (marks_of c.mark_key.new.self p) _ p c.key.result.now c.in-Some.elements.now c.entries.cursor.coming c.advance.new.self.coming
+      next (c.in_ok-mark_key.ensures.marks p (omega (arith, inside, c.in_ok-mark_key.ensures.size))) (c.entries.invariant.marks p (omega (arith, inside, c.in_ok-mark_key.ensures.size)));
 }
 
 pub returns : goal.returns
 returns c = (
-  c.loop-key.invariant.index,
-  λ p inside. after-none c.args.t.now (marks_of c.loop-key.self p) p c.loop-key.key-iterator c.in-None.ensures.steps.0 (c.loop-key.invariant.marks p inside),
+  c.entries.invariant.index,
+  λ p inside. after-none c.args.t.now (marks_of c.entries.self p) p c.entries.cursor.coming (c.in_default.ensures.0) (c.entries.invariant.marks p inside),
 )

@@ -3,11 +3,12 @@ use Rattle.std.specs.FinMap.{entries}
 use Rattle.uca_table.specs.Marks.{IsIndex, Untouched, marks_of, marks_after}
 use Rattle.uca_table.proofs.marks.MarkTable.mark_keys.Given as goal
 
-abbrev pub invariant-loop-key : goal.invariant-loop-key
-invariant-loop-key l = record {
-  can : (goal.iterator-loop-key).can_next l.key-iterator;
-  finite : (goal.iterator-loop-key).is_finite l.key-iterator;
+abbrev pub invariant-entries : goal.invariant-entries
+invariant-entries l = record {
   index : IsIndex l.self.blocks.items l.self.marks.items;
   size : length l.self.blocks.items ≡ length l.fn.self.blocks.items;
-  marks : (p : ℕ) → p / 128 < length l.self.blocks.items → marks_after l.t (marks_of l.self p) p l.key-iterator ≡ marks_after l.t Untouched p (entries l.t.entries);
+  marks : (p : ℕ) → p / 128 < length l.self.blocks.items → marks_after l.t (marks_of l.self p) p l.cursor.coming ≡ marks_after l.t Untouched p (entries l.t.entries);
 }
+
+abbrev pub decreases-entries : goal.decreases-entries
+decreases-entries l = length l.cursor.coming

@@ -1,7 +1,7 @@
 use Rattle.std.proofs.Common.{◌≡◌, ◌≤◌, length, take}
 use Rattle.uca_weights.specs.declared.limits.TheConstants.{MAX_KEY}
 use Rattle.uca_keys.specs.Nodes.{AreNext, entries_after}
-use Rattle.uca_keys.proofs.entries.EntriesIterator.next.Given as goal
+use Rattle.uca_keys.proofs.cursor.Cursor.advance.Given as goal
 
 abbrev pub invariant-loop-node : goal.invariant-loop-node
 invariant-loop-node l = record {

@@ -1,0 +1,72 @@
+ghost use Rattle.std.specs.Prelude.{◌≡◌, ◌∷◌, ◌≤◌, [], length, MatchOption};
+ghost use Rattle.uca_weights.specs.declared.limits.TheConstants.{MAX_KEY};
+
+use crate::node::Node;
+use std::marker::Model;
+use uca_weights::{Element, MAX_KEY};
+
+/// A walk along the entries of keys in their order, which lends each key where an iterator would have to copy it.
+#[derive(Drop)]
+pub struct Cursor<'t> {
+    nodes: &'t [Node],
+    elements: &'t [Element],
+    // The path of the node before these is the first `len` of these code points.
+    path: [char; MAX_KEY],
+    len: usize,
+}
+
+impl<'t> Model for Cursor<'t> {
+    ghost use Rattle.std.specs.Prelude.{◌≤◌, take};
+    ghost use Rattle.uca_weights.specs.declared.limits.TheConstants.{MAX_KEY};
+    ghost use Rattle.uca_keys.specs.Cursor.{CursorState};
+    ghost use Rattle.uca_keys.specs.Nodes.{AreNext, entries_after};
+
+    ghost Value = { CursorState };
+
+    ghost view = { λ c. record { key = take c.len c.path; coming = entries_after c.elements.now (take c.len c.path) c.nodes.now } };
+
+    ghost invariant = { λ c. (c.len ≤ MAX_KEY) × AreNext c.elements.now (take c.len c.path) c.nodes.now };
+}
+
+impl<'t> Cursor<'t> {
+    ghost use Rattle.uca_keys.specs.Nodes.{AreNext, entries_after};
+
+    /// Before the first entry of the nodes of keys.
+    pub(crate) fn new(nodes: &'t [Node], elements: &'t [Element]) -> Cursor<'t>
+        requires { AreNext elements.now [] nodes.now }
+        ensures { result ≡ record { key = []; coming = entries_after elements.now [] nodes.now } }
+    {
+        Cursor {
+            nodes,
+            elements,
+            path: ['\0'; MAX_KEY],
+            len: 0,
+        }
+    }
+
+    /// The key of the entry that it came to last.
+    pub fn key(&self) -> &[char]
+        ensures value { result.now ≡ self.now.key }
+        ensures short { length result.now ≤ MAX_KEY }
+    {
+        &self.path[..self.len]
+    }
+
+    /// Goes to the next entry, and returns its elements.
+    pub fn advance(&mut self) -> Option<&'t [Element]>
+        ensures { MatchOption result
+            ((self.old.coming ≡ []) × (self.new.coming ≡ []))
+            (λ es. self.old.coming ≡ (self.new.key, es.now) ∷ self.new.coming) }
+    {
+        while let Some((node, others)) = self.nodes.split_first() {
+            self.path[node.depth as usize] = node.point;
+            self.len = node.depth as usize + 1;
+            self.nodes = others;
+            if node.count != 0 {
+                let start = node.start as usize;
+                return Some(&self.elements[start..start + node.count as usize]);
+            }
+        }
+        None
+    }
+}
