@@ -1,7 +1,6 @@
 pub mod KeyBytes
 pub mod KeySize
 pub mod BoundLemmas
-pub mod FourWeights
 pub mod KeyPieces
 pub mod PieceLemmas
 pub mod PlacingLemmas

@@ -1,5 +1,5 @@
 -- Parts of a list between two places.
-use Rattle.std.proofs.Common.{◌≡◌, ℕ, zero, suc, ◌+◌, ◌-◌, ◌≤◌, List, [], ◌∷◌, ◌++◌, take, drop, refl, ap, ◌∙◌, arith}
+use Rattle.std.proofs.Common.{◌≡◌, ℕ, zero, suc, ◌-◌, ◌≤◌, List, [], ◌∷◌, ◌++◌, take, drop, refl, ap, ◌∙◌, arith}
 
 pub none-between : {A : Type 0} (n : ℕ) (xs : List A) → drop n (take n xs) ≡ []
 none-between zero xs = refl

@@ -20,27 +20,6 @@ fn put_weight(key: &mut [u8], at: usize, weight: u16) -> usize
     if weight == 0 { at } else { at + 2 }
 }
 
-// The bytes of four weights, which are those of one number.
-#[inline(always)]
-#[tactic(auto, using(crate::proofs::FourWeights::four_bytes))]
-fn bytes_of_four(a: u16, b: u16, c: u16, d: u16) -> [u8; 8]
-    ensures { result ≡ flat_map weight_bytes (a ∷ b ∷ c ∷ d ∷ []) }
-{
-    let front = u32::from(a) * 0x1_0000 + u32::from(b);
-    let back = u32::from(c) * 0x1_0000 + u32::from(d);
-    (u64::from(front) * 0x1_0000_0000 + u64::from(back)).to_be_bytes()
-}
-
-// Puts four weights to a place of a key.
-#[inline(always)]
-fn put_four(key: &mut [u8], at: usize, a: u16, b: u16, c: u16, d: u16)
-    requires { at + 8 ≤ length key.old }
-    ensures { take (at + 8) key.new ≡ take at key.old ++ flat_map weight_bytes (a ∷ b ∷ c ∷ d ∷ []) }
-{
-    let bytes = bytes_of_four(a, b, c, d);
-    key[at..at + 8].copy_from_slice(&bytes);
-}
-
 // Puts the weight of an element as the table has it, at a level from 1 to 3, unless it is zero.
 #[inline(always)]
 fn put_unchanged(key: &mut [u8], at: usize, element: &Element, level: u8) -> usize
@@ -53,60 +32,21 @@ fn put_unchanged(key: &mut [u8], at: usize, element: &Element, level: u8) -> usi
     put_weight(key, at, element.weight(level))
 }
 
-// Puts the bytes of one level, from 1 to 3, of elements that keep their weights, one after the other.
+// Puts the bytes of one level, from 1 to 3, of elements that keep their weights. It is a loop of its own, since most texts
+// come this way.
 #[inline(always)]
-fn put_each_unchanged(key: &mut [u8], from: usize, elements: &[Element], level: u8) -> usize
+fn put_unchanged_level(key: &mut [u8], elements: &[Element], level: u8) -> usize
     requires first { 1 ≤ level }
     requires last { level ≤ 3 }
-    requires room { from + 2 * length elements.now ≤ length key.old }
-    ensures front { take result key.new ≡ take from key.old ++ level_bytes (weighted NonIgnorable elements.now) level }
-    ensures within { result ≤ from + 2 * length elements.now }
+    requires room { 2 * length elements.now ≤ length key.old }
+    ensures front { take result key.new ≡ level_bytes (weighted NonIgnorable elements.now) level }
+    ensures within { result ≤ 2 * length elements.now }
 {
-    let mut at = from;
+    let mut at = 0;
     for element in elements {
         at = put_unchanged(key, at, element, level);
     }
     at
-}
-
-// The same of four elements at most. Four weights that are not zero, as most are, go out together.
-#[inline(always)]
-fn put_unchanged_few(key: &mut [u8], at: usize, elements: &[Element], level: u8) -> usize
-    requires first { 1 ≤ level }
-    requires last { level ≤ 3 }
-    requires room { at + 2 * length elements.now ≤ length key.old }
-    ensures front { take result key.new ≡ take at key.old ++ level_bytes (weighted NonIgnorable elements.now) level }
-    ensures within { result ≤ at + 2 * length elements.now }
-{
-    if let [a, b, c, d] = elements {
-        let (first, second) = (a.weight(level), b.weight(level));
-        let (third, fourth) = (c.weight(level), d.weight(level));
-        if first != 0 && second != 0 && third != 0 && fourth != 0 {
-            put_four(key, at, first, second, third, fourth);
-            return at + 8;
-        }
-    }
-    put_each_unchanged(key, at, elements, level)
-}
-
-// Puts the bytes of one level, from 1 to 3, of elements that keep their weights. It is a loop of its own, since most texts
-// come this way.
-#[inline(always)]
-fn put_unchanged_level(key: &mut [u8], from: usize, elements: &[Element], level: u8) -> usize
-    requires first { 1 ≤ level }
-    requires last { level ≤ 3 }
-    requires room { from + 2 * length elements.now ≤ length key.old }
-    ensures front { take result key.new ≡ take from key.old ++ level_bytes (weighted NonIgnorable elements.now) level }
-    ensures within { result ≤ from + 2 * length elements.now }
-{
-    let mut at = from;
-    let mut left = elements;
-    while left.len() >= 4 {
-        let (four, rest) = left.split_at(4);
-        at = put_unchanged_few(key, at, four, level);
-        left = rest;
-    }
-    put_each_unchanged(key, at, left, level)
 }
 
 // Puts the bytes of one level, from 1 to 4, of elements by their variable weighting.
@@ -125,8 +65,7 @@ fn put_weighted_level(
 {
     let mut at = 0;
     for element in elements {
-        let weights = weigher.weigh(*element);
-        at = put_weight(key, at, weights[level as usize - 1]);
+        at = put_weight(key, at, weigher.weigh_at(*element, level));
     }
     at
 }
@@ -150,9 +89,9 @@ pub(crate) fn put_level(
     ensures option { weigher.new.weighting ≡ v }
 {
     match (v, level) {
-        (Variable::NonIgnorable, 1) => put_unchanged_level(key, 0, elements, 1),
-        (Variable::NonIgnorable, 2) => put_unchanged_level(key, 0, elements, 2),
-        (Variable::NonIgnorable, 3) => put_unchanged_level(key, 0, elements, 3),
+        (Variable::NonIgnorable, 1) => put_unchanged_level(key, elements, 1),
+        (Variable::NonIgnorable, 2) => put_unchanged_level(key, elements, 2),
+        (Variable::NonIgnorable, 3) => put_unchanged_level(key, elements, 3),
         _ => put_weighted_level(key, weigher, elements, level),
     }
 }

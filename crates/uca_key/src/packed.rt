@@ -204,8 +204,7 @@ fn pack_weighted(
     let common = common_weight(level);
     let mut packed = before;
     for element in elements {
-        let weights = weigher.weigh(*element);
-        packed = pack_weight(key, packed, common, weights[level as usize - 1]);
+        packed = pack_weight(key, packed, common, weigher.weigh_at(*element, level));
     }
     packed
 }

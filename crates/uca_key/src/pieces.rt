@@ -36,16 +36,17 @@ impl<'t> TextReading<'t> {
         ensures holds { HoldsElements result room.new }
         ensures size { length room.new ≡ length room.old }
     {
-        let mut left = TextElements::new(t, text);
-        let read = left.read(room);
-        TextReading {
+        let mut reading = TextReading {
             table: t,
             text,
-            left,
+            left: TextElements::new(t, text),
             at: 0,
-            read,
-            held: read < room.len(),
-        }
+            read: 0,
+            held: false,
+        };
+        reading.read = reading.left.read(room);
+        reading.held = reading.read < room.len();
+        reading
     }
 
     /// Begins with the first element again.

@@ -129,10 +129,15 @@ left-safe t a b x y h safe_a safe_b =
 
 -- ---- equal texts
 
--- where nothing is left of either, they are the same
-pub left-none : (t : ElementTable) (s : Settings) (a b x y : List ℕ) → AreWithoutFront t a b x y → x ≡ [] → y ≡ [] → key_order (sort_key t s a) (sort_key t s b) ≡ Equal
-left-none t s a b x y h none_x none_y =
-    ap (λ u. key_order (sort_key t s a) (sort_key t s u)) (h.second ∙ ap (λ l. h.front ++ l) (none_y ∙ sym none_x) ∙ sym h.first) ∙ order-itself (sort_key t s a)
+-- texts that have all their bytes in common
+pub equal-texts : (t : ElementTable) (s : Settings) (a b : List ℕ) (n : ℕ) → n ≡ length a → n ≡ length b → take n a ≡ take n b → key_order (sort_key t s (chars a)) (sort_key t s (chars b)) ≡ Equal
+equal-texts t s a b n all_a all_b same =
+    let whole : (xs : List ℕ) → n ≡ length xs → take n xs ≡ xs = λ xs all. ap (λ k. take k xs) all ∙ take-length xs in
+    ap (λ x. key_order (sort_key t s (chars a)) (sort_key t s (chars x))) (sym (whole b all_b) ∙ sym same ∙ whole a all_a) ∙ order-itself (sort_key t s (chars a))
+  where
+    take-length : (xs : List ℕ) → take (length xs) xs ≡ xs
+    take-length [] = refl
+    take-length (x ∷ xs) = ap (λ l. x ∷ l) (take-length xs)
 
 -- ---- their bytes
 

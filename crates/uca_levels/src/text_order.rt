@@ -1,4 +1,4 @@
-ghost use Rattle.std.specs.Prelude.{◌≡◌, ◌<◌, ◌≤◌, ◌^◌, [], IfSome, IsTrue, chars, take};
+ghost use Rattle.std.specs.Prelude.{◌≡◌, ◌<◌, ◌≤◌, ◌^◌, IfSome, chars, take};
 ghost use Rattle.uca_model.specs.LevelWeights.{level_list};
 ghost use Rattle.uca_model.specs.DecidingLevel.{OrdersLevel};
 ghost use Rattle.uca_model.specs.SafeText.{IsSafe};
@@ -50,13 +50,6 @@ fn order_of_weights(t: &Table, v: Variable, level: u8, a: &str, b: &str) -> Orde
     }
 }
 
-// Whether both texts are empty.
-fn are_empty(a: &str, b: &str) -> bool
-    ensures { IsTrue result → (chars a.now ≡ []) × (chars b.now ≡ []) }
-{
-    a.is_empty() && b.is_empty()
-}
-
 // The order of two texts at the first four levels, as many of them as there are. Both begin with bytes in common: the first level
 // begins at the last place in them at which neither text joins what is before it, and later levels at the last one at which both may
 // be cut. `None`: the fifth level is asked for.
@@ -73,9 +66,6 @@ fn order_by_weights(t: &Table, s: Settings, a: &str, b: &str, common: usize) -> 
         return Some(order);
     }
     let (left_a, left_b) = without_front(t, a, b, common);
-    if are_empty(left_a, left_b) {
-        return Some(Ordering::Equal);
-    }
     let last = s.levels();
     let mut level = 2;
     'each: while level <= last {
@@ -114,6 +104,9 @@ pub fn compare(t: &Table, s: Settings, a: &Passage, b: &Passage) -> Ordering
 {
     let (a, b) = (a.as_str(), b.as_str());
     let common = common_front(a, b);
+    if common == a.len() && common == b.len() {
+        return Ordering::Equal;
+    }
     match order_by_weights(t, s, a, b, common) {
         Some(order) => order,
         None => order_by_sources(t, s, a, b, common),

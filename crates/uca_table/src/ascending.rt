@@ -4,7 +4,7 @@ ghost use Rattle.std.specs.FinMap.{empty, insert, is_sorted};
 ghost use Rattle.uca_model.specs.Table.{key_cmp};
 ghost use Rattle.uca_table.specs.Ascending.{IsOrder, append_fault, reported_append_fault};
 
-use crate::builder::{read_elements, read_key};
+use crate::builder::{show_elements, show_key};
 use crate::fault::AppendFault;
 use crate::table::Table;
 use std::alloc::{AllocError, Global};
@@ -68,8 +68,8 @@ impl AscendingEntries {
         if elements.len() > MAX_ELEMENTS {
             return Err(AppendFault::TooManyElements);
         }
-        read_key(key);
-        read_elements(elements);
+        show_key(key);
+        show_elements(elements);
         match order_after(&self.entries, key) {
             Ordering::Greater => match self.entries.push(key, elements) {
                 Ok(()) => {

@@ -68,8 +68,8 @@ impl TableBuilder {
         if elements.len() > MAX_ELEMENTS {
             return Err(InsertFault::TooManyElements);
         }
-        read_key(key);
-        read_elements(elements);
+        show_key(key);
+        show_elements(elements);
         self.entries.insert(self.alloc, key, elements)
     }
 
@@ -114,7 +114,7 @@ impl TableBuilder {
 }
 
 /// Shows that each code point of a slice of characters is a scalar value.
-pub(crate) fn read_key(key: &[char])
+pub(crate) fn show_key(key: &[char])
     ensures { All IsScalar key.now }
 {
     for c in key {
@@ -123,16 +123,16 @@ pub(crate) fn read_key(key: &[char])
 }
 
 /// Shows that each weight of the elements has sixteen bits.
-pub(crate) fn read_elements(elements: &[Element])
+pub(crate) fn show_elements(elements: &[Element])
     ensures { All IsElement elements.now }
 {
     for element in elements {
-        read_element(element);
+        show_element(element);
     }
 }
 
 /// Shows that each weight of an element has sixteen bits.
-fn read_element(element: &Element)
+fn show_element(element: &Element)
     ensures { IsElement element.now }
 {
     let _primary = element.l1;

@@ -29,7 +29,7 @@ pub struct Walk<'t> {
 }
 
 /// Shows that the keys and the elements of a table are within its limits.
-fn read_table(t: &Stored)
+fn show_table(t: &Stored)
     ensures { IsTable t.now }
 {
     let _longest = t.longest();
@@ -64,7 +64,7 @@ impl<'t> Walk<'t> {
         let Some(node) = self.keys.child(self.node, c) else {
             return false;
         };
-        read_table(self.table);
+        show_table(self.table);
         *self = Walk {
             table: self.table,
             keys: self.keys,
@@ -89,7 +89,7 @@ impl<'t> Walk<'t> {
         ensures few { IfSome result (λ es. length es.now ≤ MAX_ELEMENTS) }
         ensures elements { IfSome result (λ es. All IsElement es.now) }
     {
-        read_table(self.table);
+        show_table(self.table);
         self.keys.elements(self.node)
     }
 }

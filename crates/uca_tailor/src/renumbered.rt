@@ -48,16 +48,16 @@ impl<'t> Model for Renumbered<'t> {
 }
 
 /// Shows that each weight of the elements has sixteen bits.
-fn read_elements(elements: &[Element])
+fn show_elements(elements: &[Element])
     ensures { AllByRecursion IsElement elements.now }
 {
     for element in elements {
-        read_element(element);
+        show_element(element);
     }
 }
 
 /// Shows that each weight of an element has sixteen bits.
-fn read_element(element: &Element)
+fn show_element(element: &Element)
     ensures { IsElement element.now }
 {
     let _primary = element.l1;
@@ -105,7 +105,7 @@ impl<'t> Renumbered<'t> {
         requires some_elements { 1 ≤ length elements.now }
         ensures { OnOk result (self.new ≡ with_entry self.old key.now elements.now) }
     {
-        read_elements(elements);
+        show_elements(elements);
         let mut before = Vec::new(alloc);
         if !self.counts.are_none() {
             self.push_entry(&mut before, key)?;

@@ -1,4 +1,4 @@
-use Rattle.std.proofs.Common.{◌≡◌, ◌≤◌, ◌<◌, None, length}
+use Rattle.std.proofs.Common.{◌≡◌, ◌<◌, length}
 use Rattle.uca_weights.specs.VariableWeighting.{weighted}
 use Rattle.uca_levels.specs.Streams.{weights_from}
 use Rattle.uca_key.specs.PackedKey.{common_weight, packed_after, packed_level}

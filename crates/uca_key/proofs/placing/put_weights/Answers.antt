@@ -1,4 +1,4 @@
-use Rattle.std.proofs.Common.{◌≡◌, ℕ, List, ◌++◌, flat_map, take, refl, sym, ap, ◌∙◌}
+use Rattle.std.proofs.Common.{List, flat_map, refl, sym, ap, ◌∙◌}
 use Rattle.uca_weights.specs.declared.element.Element.{Element}
 use Rattle.uca_model.specs.LevelWeights.{level_weights}
 use Rattle.uca_model.specs.SortKey.{weight_bytes}

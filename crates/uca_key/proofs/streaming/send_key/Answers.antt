@@ -1,4 +1,4 @@
-use Rattle.std.proofs.Common.{◌≡◌, ℕ, chars, List, suc, ◌+◌, ◌-◌, ◌^◌, [], ◌∷◌, ◌++◌, sym, ap, ap₂, refl, ◌∙◌, arith}
+use Rattle.std.proofs.Common.{◌≡◌, ℕ, chars, List, suc, ◌+◌, ◌-◌, ◌^◌, [], ◌∷◌, ◌++◌, sym, ap, ap₂, ◌∙◌, arith}
 use Rattle.uca_weights.specs.Settings.{levels}
 use Rattle.uca_model.specs.LevelWeights.{level_list}
 use Rattle.uca_model.specs.DecidingLevel.{bytes_at, key_from}

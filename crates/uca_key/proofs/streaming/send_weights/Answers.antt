@@ -1,10 +1,10 @@
-use Rattle.std.proofs.Common.{◌≡◌, ℕ, List, [], ◌++◌, ◌^◌, flat_map, take, refl, sym, ap, ◌∙◌, arith}
+use Rattle.std.proofs.Common.{List, ◌^◌, flat_map, refl, sym, ap, ◌∙◌}
 use Rattle.uca_weights.specs.declared.element.Element.{Element}
 use Rattle.uca_model.specs.LevelWeights.{level_weights}
 use Rattle.uca_model.specs.SortKey.{weight_bytes}
 use Rattle.uca_levels.specs.Streams.{weights_from}
 use Rattle.uca_key.specs.Pieces.{pieces_left}
-use Rattle.uca_key.proofs.KeyPieces.{IsSending-start, IsSending-room, IsSending-more, IsSending-stops, IsSending-ends}
+use Rattle.uca_key.proofs.KeyPieces.{IsSending-start, IsSending-room, IsSending-more, IsSending-stops}
 use Rattle.uca_key.proofs.streaming.send_weights.Goals as goal
 
 pub each-init : goal.each-init

@@ -1,4 +1,4 @@
-use Rattle.std.proofs.Common.{◌≡◌, ◌≤◌, None, length, flat_map}
+use Rattle.std.proofs.Common.{◌≡◌, length, flat_map}
 use Rattle.uca_weights.specs.VariableWeighting.{weighted}
 use Rattle.uca_model.specs.LevelWeights.{level_weights}
 use Rattle.uca_model.specs.SortKey.{weight_bytes}

@@ -7,7 +7,7 @@ use Rattle.uca_model.proofs.LevelLemmas.{levels-within}
 use Rattle.uca_levels.proofs.ReadsLemmas.{from_ne, from_not_ne}
 use Rattle.uca_levels.proofs.LevelsFromCut.{undecided-first, undecided-next, decided-here}
 use Rattle.uca_levels.proofs.PrimaryLemmas.{orders-apart, safe-apart}
-use Rattle.uca_levels.proofs.WithoutFront.{orders-left, left-none, left-safe}
+use Rattle.uca_levels.proofs.WithoutFront.{orders-left, left-safe}
 use Rattle.uca_levels.proofs.text_order.order_by_weights.Goals as goal
 
 pub returns-then-is_ne : goal.returns-then-is_ne
@@ -16,11 +16,6 @@ returns-then-is_ne c =
     let some : 1 ≤ levels c.args.s.strength = (levels-within c.args.s.strength).0 in
     let orders = orders-apart c.args.t.now c.args.s.weighting _ _ _ _ o c.apart_after.ensures c.order_of_weights-order.ensures in
     sym (decided-here c.args.t.now c.args.s (chars c.args.a.now) (chars c.args.b.now) 1 o (undecided-first c.args.t.now c.args.s (chars c.args.a.now) (chars c.args.b.now)) some orders (from_ne o (sym c.is_ne.ensures ∙ c.if-is_ne.true))).0
-
-pub returns-then-are_empty : goal.returns-then-are_empty
-returns-then-are_empty c =
-    let none = c.are_empty.ensures c.if-are_empty.true in
-    sym (left-none c.args.t.now c.args.s _ _ _ _ c.without_front.ensures none.0 none.1)
 
 pub each-init : goal.each-init
 each-init c =

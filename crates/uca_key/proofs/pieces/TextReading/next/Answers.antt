@@ -1,4 +1,4 @@
-use Rattle.std.proofs.Common.{◌≡◌, ◌+◌, ◌-◌, List, ◌++◌, drop, take, sym, ap, ◌∙◌, arith, append_assoc}
+use Rattle.std.proofs.Common.{◌+◌, ◌-◌, List, ◌++◌, drop, take, sym, ap, ◌∙◌, arith, append_assoc}
 use Rattle.uca_weights.specs.declared.element.Element.{Element}
 use Rattle.uca_match.specs.Stretches.{elements_left}
 use Rattle.uca_key.proofs.PieceLemmas.{part-split}

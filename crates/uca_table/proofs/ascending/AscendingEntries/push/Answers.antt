@@ -15,7 +15,7 @@ push-requires-clause-after c = above_last c.self.inside.entries c.args.key.now (
 pub invariant_of-self : goal.invariant_of-self
 invariant_of-self c =
     let old = c.self.inside.entries in let key = c.args.key.now in let es = c.args.elements.now in
-    let entry : IsEntry (key, es) = record { some_points = search rules; few_points = search rules; points = c.read_key.ensures; some_elements = search rules; few_elements = search rules; elements = c.read_elements.ensures } in
+    let entry : IsEntry (key, es) = record { some_points = search rules; few_points = search rules; points = c.show_key.ensures; some_elements = search rules; few_elements = search rules; elements = c.show_elements.ensures } in
     let grown : put key_cmp key es old ≡ c.push.new.self = put_last old key es (c.order_after.ensures.after c.in-Greater.is) ∙ sym c.in-Ok.ensures.ok in (
       subst AreAscending grown (AreAscending-put old key es c.self.invariant.0 entry),
       c.max-self-inside.ensures ∙ ap (λ n. max n (length key)) c.self.invariant.1 ∙ sym (longest-put key es old) ∙ ap longest_of grown,

@@ -16,14 +16,14 @@ returns-clause-value c =
 pub returns-clause-some : goal.returns-clause-some
 returns-clause-some c =
     let w = c.args.self.now in
-    if_found (λ v. 0 < length v) c.elements.result _ (c.elements.ensures ∙ ap (find key_cmp (path_of w)) w.same) (found_entry (λ v. 0 < length v) (entries (table_of_walk w).entries) (path_of w) (λ e h. h.some_elements) (one_by_one _ c.read_table.ensures.entries))
+    if_found (λ v. 0 < length v) c.elements.result _ (c.elements.ensures ∙ ap (find key_cmp (path_of w)) w.same) (found_entry (λ v. 0 < length v) (entries (table_of_walk w).entries) (path_of w) (λ e h. h.some_elements) (one_by_one _ c.show_table.ensures.entries))
 
 pub returns-clause-few : goal.returns-clause-few
 returns-clause-few c =
     let w = c.args.self.now in
-    if_found (λ v. length v ≤ MAX_ELEMENTS) c.elements.result _ (c.elements.ensures ∙ ap (find key_cmp (path_of w)) w.same) (found_entry (λ v. length v ≤ MAX_ELEMENTS) (entries (table_of_walk w).entries) (path_of w) (λ e h. h.few_elements) (one_by_one _ c.read_table.ensures.entries))
+    if_found (λ v. length v ≤ MAX_ELEMENTS) c.elements.result _ (c.elements.ensures ∙ ap (find key_cmp (path_of w)) w.same) (found_entry (λ v. length v ≤ MAX_ELEMENTS) (entries (table_of_walk w).entries) (path_of w) (λ e h. h.few_elements) (one_by_one _ c.show_table.ensures.entries))
 
 pub returns-clause-elements : goal.returns-clause-elements
 returns-clause-elements c =
     let w = c.args.self.now in
-    if_found (λ v. All IsElement v) c.elements.result _ (c.elements.ensures ∙ ap (find key_cmp (path_of w)) w.same) (found_entry (λ v. All IsElement v) (entries (table_of_walk w).entries) (path_of w) (λ e h. h.elements) (one_by_one _ c.read_table.ensures.entries))
+    if_found (λ v. All IsElement v) c.elements.result _ (c.elements.ensures ∙ ap (find key_cmp (path_of w)) w.same) (found_entry (λ v. All IsElement v) (entries (table_of_walk w).entries) (path_of w) (λ e h. h.elements) (one_by_one _ c.show_table.ensures.entries))

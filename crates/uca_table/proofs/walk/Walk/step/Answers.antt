@@ -9,5 +9,5 @@ use Rattle.uca_table.proofs.walk.Walk.step.Goals as goal
 pub overflow_add-self : goal.overflow_add-self
 overflow_add-self c =
     let w = c.args.self.now in let p = path_of w ++ c.args.c ∷ [] in
-    let few : length p ≤ MAX_KEY = begins_short _ p c.read_table.ensures.entries (ap (λ es. begins_entry es p) (sym w.same) ∙ c.in-Some.ensures.some) in
+    let few : length p ≤ MAX_KEY = begins_short _ p c.show_table.ensures.entries (ap (λ es. begins_entry es p) (sym w.same) ∙ c.in-Some.ensures.some) in
     omega (arith, length_push (path_of w) c.args.c, w.long)

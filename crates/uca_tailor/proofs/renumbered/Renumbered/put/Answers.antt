@@ -32,7 +32,7 @@ invariant_of-self-2 c =
     ] in
     subst (λ x. IsRenumbered m x t c.over-self-inside.result c.exchange.new.self c.max-self-inside.result) (sym c.in_ok-insert.ensures.entries)
     (subst (λ n. IsRenumbered m (insert_entry vec_cmp items k i) t c.over-self-inside.result c.exchange.new.self n) (sym now)
-    (IsRenumbered-put m items t c.self.inside.tops c.over-self-inside.result c.self.inside.counts c.exchange.new.self c.self.inside.longest_key k i c.now.ensures item (subst (AllByRecursion IsElement) (sym es) c.read_elements.ensures)
+    (IsRenumbered-put m items t c.self.inside.tops c.over-self-inside.result c.self.inside.counts c.exchange.new.self c.self.inside.longest_key k i c.now.ensures item (subst (AllByRecursion IsElement) (sym es) c.show_elements.ensures)
     (subst IsKey (sym key) c.requires.key) (subst (HoldsElements c.over-self-inside.result) (sym es) c.over-self-inside.ensures.elements) c.over-self-inside.ensures.more exchanges c.self.invariant))
 
 pub returns : goal.returns

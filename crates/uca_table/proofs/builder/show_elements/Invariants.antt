@@ -1,7 +1,7 @@
 use Rattle.std.proofs.Common.{ℕ, ◌<◌, slice_index_or}
 use Rattle.uca_weights.specs.declared.element.Element.{Element}
 use Rattle.uca_model.specs.Table.{IsElement}
-use Rattle.uca_table.proofs.builder.read_elements.Given as goal
+use Rattle.uca_table.proofs.builder.show_elements.Given as goal
 
 abbrev pub invariant-loop-element : goal.invariant-loop-element
 invariant-loop-element l = (k : ℕ) (d : Element) → k < l.element-index → IsElement (slice_index_or l.elements k d)
