@@ -31,6 +31,23 @@ pub struct TextElements<'t> {
     ghost few: { ForSome stretch (λ s. length s.elements.window.points ≤ longest s.elements.table + MAX_LOOKAHEAD) },
 }
 
+// Puts elements into room at a place, and returns the place after them. Most characters have one.
+#[inline(always)]
+fn put_elements(elements: &[Element], room: &mut [Element], at: usize) -> usize
+    requires { at + length elements.now ≤ length room.old }
+    ensures elements { take result room.new ≡ take at room.old ++ elements.now }
+    ensures place { result ≡ at + length elements.now }
+    ensures size { length room.new ≡ length room.old }
+{
+    if let [element] = elements {
+        room[at] = *element;
+        return at + 1;
+    }
+    let end = at + elements.len();
+    room[at..end].copy_from_slice(elements);
+    end
+}
+
 impl<'t> TextElements<'t> {
     ghost use Rattle.uca_match.specs.Stretches.{elements_left, points_of, stretch_left};
 
@@ -131,8 +148,8 @@ impl<'t> TextElements<'t> {
         }
     }
 
-    // Puts the elements of the next characters into room from a place on, as far as each stands alone and has one. Returns the place
-    // after them. Most texts are read to their end here.
+    // Puts the elements of the next characters into room from a place on, as far as each stands alone and its elements fit. Returns
+    // the place after them. Most texts are read to their end here.
     #[inline(always)]
     fn read_alone(&mut self, room: &mut [Element], from: usize) -> usize
         requires within { from ≤ length room.old }
@@ -152,11 +169,13 @@ impl<'t> TextElements<'t> {
                 break;
             };
             let after = left.as_str();
-            let Some([element]) = table.alone_before(c, after) else {
+            let Some(alone) = table.alone_before(c, after) else {
                 break;
             };
-            room[at] = *element;
-            at += 1;
+            if alone.len() > room.len() - at {
+                break;
+            }
+            at = put_elements(alone, room, at);
             rest = after;
         }
         self.rest = rest;
