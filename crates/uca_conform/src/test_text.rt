@@ -47,12 +47,15 @@ impl TestText {
     {
         match char::from_u32(point) {
             Some(c) => {
-                // An arm for each length: where the length is known, no function is called to copy so few bytes.
-                match c.len_utf8() {
-                    1 => self.text.push_str(c.encode_utf8(&mut [0; 1])),
-                    2 => self.text.push_str(c.encode_utf8(&mut [0; 2])),
-                    3 => self.text.push_str(c.encode_utf8(&mut [0; 3])),
-                    _ => self.text.push_str(c.encode_utf8(&mut [0; 4])),
+                // A branch for each length: where the length is known, no function is called to copy so few bytes.
+                if point < 0x80 {
+                    self.text.push_str(c.encode_utf8(&mut [0; 1]));
+                } else if point < 0x800 {
+                    self.text.push_str(c.encode_utf8(&mut [0; 2]));
+                } else if point < 0x1_0000 {
+                    self.text.push_str(c.encode_utf8(&mut [0; 3]));
+                } else {
+                    self.text.push_str(c.encode_utf8(&mut [0; 4]));
                 }
                 true
             }
