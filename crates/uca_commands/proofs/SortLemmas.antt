@@ -104,7 +104,7 @@ some_or_none p [] = inr (All-nil (λ x. p x ≡ false))
 some_or_none {X} p (x ∷ xs) = elim (cases_Bool (p x)) [
   | inl passes ↦ inl (x, passes)
   | inr fails ↦ elim (some_or_none p xs) [
-      | inl some ↦ inl some
-      | inr none ↦ inr (All-cons (λ y. p y ≡ false) x xs fails none)
-    ]
+    | inl some ↦ inl some
+    | inr none ↦ inr (All-cons (λ y. p y ≡ false) x xs fails none)
+  ]
 ]
