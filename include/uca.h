@@ -241,9 +241,9 @@ uint32_t uca_packed_key(const uca_collator *collator, const uca_settings *settin
                         uint8_t *out, size_t capacity, size_t *needed, uca_fault *fault);
 
 /*
- * Writes the same sort key and size as uca_sort_key, but does not allocate. It reads the text once for each level, so it takes two
- * to four times as long as uca_sort_key, which builds the key in memory and copies it. If a key had more than SIZE_MAX bytes,
- * `needed` would be SIZE_MAX.
+ * Writes the same sort key and size as uca_sort_key, but never allocates. For a text of at most 127 bytes the two do the same. A longer
+ * text is read once for each level here, and uca_sort_key builds its key in memory and copies it, which is faster. If a key had more
+ * than SIZE_MAX bytes, `needed` would be SIZE_MAX.
  * Returns UCA_OK, UCA_BAD_SETTINGS, UCA_NOT_OPEN, UCA_NOT_UTF8 or UCA_LONG_RUN.
  */
 uint32_t uca_write_key(const uca_collator *collator, const uca_settings *settings, const uint8_t *text, size_t size,
