@@ -296,9 +296,9 @@ for case in \
     is "endless: ${case#*=}" "3|0|uca: ${case%%=*}" "$?|$(wc -c <"$work/out")|$(cat "$work/err")"
 done
 
-# The tests of crates that allocate: they try again after a refused allocation, or end with that failure. uca_lines and uca_commands
-# have no tests of their own: those of uca_cli and the commands of the program, above, call them.
-for crate in uca_weights uca_{io,window,table,allkeys,match,levels,key,tailor,conform,job,handle,cli}_tests; do
+# The tests of crates that allocate: they try again after a refused allocation, or end with that failure. uca_commands has no tests of
+# its own: those of uca_cli and the commands of the program, above, call it.
+for crate in uca_weights tests_{io,window,table,allkeys,match,levels,key,tailor,conform,job,handle,cli}; do
     folder=crates/$crate
     tests=$folder/out/${crate}_tests
     if [ ! -x "$tests" ] || [ -n "$(find crates/*/src crates.txt -newer "$tests" -print -quit)" ]; then

@@ -151,7 +151,7 @@ FAILS=
 # A build shows its progress, and ends with the script.
 new_copy "$ended"
 (cd "$work/new" && SECONDS_OF_LIB=32 exec timeout --foreground 40 ./uca --prove) >"$work/out" 2>"$work/err"
-is "each half minute of a build has a line" "$building|uca: building: N of 17 crates proved, 30 s" "$(said | sed 's/building: [0-9]*/building: N/; s/3[0-9] s/30 s/')"
+is "each half minute of a build has a line" "$building|uca: building: N of 16 crates proved, 30 s" "$(said | sed 's/building: [0-9]*/building: N/; s/3[0-9] s/30 s/')"
 # A process that has ended may stay in the list of processes for a while, as a zombie.
 is "what was begun ends with it" "" "$(sleep 1; ps -o stat= -p "$(cat "$ASKED.process")" | grep -qv '^Z' && echo "it goes on")"
 

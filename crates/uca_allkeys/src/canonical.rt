@@ -110,7 +110,7 @@ fn push_key(line: &mut Line, key: &[char])
 }
 
 /// Appends elements one after the other.
-fn push_elements(line: &mut Line, elements: &[Element])
+fn push_element_texts(line: &mut Line, elements: &[Element])
     requires { length line.old.items + 17 * length elements.now ≤ MAX_LINE }
     ensures text { line.new.items ≡ line.old.items ++ flat_map element_text elements.now }
     ensures grows { length line.new.items ≤ length line.old.items + 17 * length elements.now }
@@ -129,7 +129,7 @@ fn entry_line(key: &[char], elements: &[Element]) -> Line
     let mut line = ArrayVec::new();
     push_key(&mut line, key);
     push(&mut line, b" ; ");
-    push_elements(&mut line, elements);
+    push_element_texts(&mut line, elements);
     push(&mut line, b"\n");
     line
 }

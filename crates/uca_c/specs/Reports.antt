@@ -23,8 +23,8 @@ use Rattle.uca_handle.specs.declared.faults.OpenFault.{OpenFault}
 use Rattle.uca_handle.specs.declared.faults.OpenFault.TheVariants as opening
 use Rattle.uca_handle.specs.declared.faults.ShareFault.{ShareFault}
 use Rattle.uca_handle.specs.declared.faults.ShareFault.TheVariants as share
-use Rattle.uca_handle.specs.declared.faults.TextFault.{TextFault}
-use Rattle.uca_handle.specs.declared.faults.TextFault.TheVariants.{NotUtf8, LongRun}
+use Rattle.uca_window.specs.declared.fault.TextFault.{TextFault}
+use Rattle.uca_window.specs.declared.fault.TextFault.TheVariants.{NotUtf8, LongRun}
 use Rattle.uca_c.specs.declared.numbers.TheConstants.{OK, NOT_UTF8, LONG_RUN, CLOSED, BAD_SETTINGS, NO_MEMORY, BAD_TABLE, BAD_RULES, BAD_TAILORING, TABLE_LINE_TOO_LONG, TABLE_BAD_DIRECTIVE, TABLE_BAD_CODE_POINT, TABLE_KEY_TOO_LONG, TABLE_NO_SEMICOLON, TABLE_BAD_ELEMENT, TABLE_NO_ELEMENT, TABLE_TOO_MANY_ELEMENTS, TABLE_REPEATED, TABLE_BAD_RANGE, TABLE_TOO_LARGE, RULES_SYNTAX, RULES_LEFT_OUT, RULES_EMPTY_STRING, RULES_LONG_RUN, RULES_KEY_TOO_LONG, RULES_TOO_MANY_RELATIONS, RULES_NOT_UTF8, TAILOR_SMALL_WEIGHT, TAILOR_HIGH_RESET, TAILOR_FULL_PRIMARY, TAILOR_FULL_SECONDARY, TAILOR_FULL_TERTIARY, TAILOR_TOO_MANY_ELEMENTS}
 use Rattle.uca_c.specs.declared.reports.Digest.{Digest}
 use Rattle.uca_c.specs.declared.reports.Fault.{Fault}

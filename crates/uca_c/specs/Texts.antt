@@ -1,10 +1,9 @@
 -- What the exports report over texts that were checked before.
-use Rattle.std.specs.Prelude.{ℕ, ℤ, Option, Some, None, Result, Ok, Err}
+use Rattle.std.specs.Prelude.{ℕ, ℤ, Option, Some, None, Result}
 use Rattle.std.specs.declared.cmp.Ordering.{Ordering}
 use Rattle.uca_handle.specs.declared.faults.KeyFault.{KeyFault}
 use Rattle.uca_c.specs.Reports.{key_report, order_number}
 use Rattle.uca_c.specs.declared.numbers.TheConstants.{OK, CLOSED}
-use Rattle.uca_c.specs.declared.reports.Report.{Report}
 
 -- an order is found, unless the collator has no table
 abbrev pub order_status : Option Ordering → ℕ

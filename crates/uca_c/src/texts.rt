@@ -13,7 +13,7 @@ use crate::reports::{of_key, order_number};
 use crate::settings::{RawSettings, settings_of};
 use std::alloc::Global;
 use std::cmp::Ordering;
-use uca_handle::{Collator, KeyFault, text_of_checked};
+use uca_handle::{Collator, KeyFault, Passage};
 
 /// The status of `uca_compare_texts`.
 fn of_order(outcome: Option<Ordering>) -> u32
@@ -55,7 +55,7 @@ pub extern "C" fn uca_compare_texts(
     let Some(s) = settings_of(settings) else {
         return BAD_SETTINGS;
     };
-    let outcome = collator.compare_texts(s, &text_of_checked(a), &text_of_checked(b));
+    let outcome = collator.compare_texts(s, &Passage::of_checked(a), &Passage::of_checked(b));
     if let Some(found) = outcome {
         *order = order_number(found);
     }
@@ -82,7 +82,7 @@ pub extern "C" fn uca_sort_key_of(
         return BAD_SETTINGS;
     };
     report_size(
-        collator.sort_key_of(alloc, s, &text_of_checked(text), out),
+        collator.sort_key_of(alloc, s, &Passage::of_checked(text), out),
         needed,
     )
 }
@@ -108,7 +108,7 @@ pub extern "C" fn uca_packed_key_of(
         return BAD_SETTINGS;
     };
     report_size(
-        collator.packed_key_of(alloc, s, &text_of_checked(text), out),
+        collator.packed_key_of(alloc, s, &Passage::of_checked(text), out),
         needed,
     )
 }

@@ -10,7 +10,6 @@ mod rule_file;
 
 pub use built_in_table::built_in;
 pub use performing::{perform, status_of};
-pub use uca_commands::{CliFault, RulesTextCause, commands, faults, order};
+pub use uca_commands::{CliFault, InputCause, InputFault, RulesTextCause, commands, faults, order};
 pub use uca_conform::{ConformCause, ConformFault, Conformance, conform};
 pub use uca_job::{Job, JobFault, Task, job_of};
-pub use uca_lines::{InputCause, InputFault};

@@ -1,3 +1,4 @@
+pub mod LinesLemmas
 pub mod CommandLemmas
 pub mod SendingLemmas
 pub mod NoLines

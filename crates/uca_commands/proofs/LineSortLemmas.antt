@@ -51,7 +51,7 @@ front_before a b = is_lt (nat_cmp a.front b.front)
 
 -- a line with the bytes of a key that follow the first `depth`
 abbrev shown : ℕ → Keyed → KeyedLine
-shown depth x = record { front = front 8 (drop depth x.0); number = 0; start = 0 }
+shown depth x = record { front = front 8 (drop depth x.0); number = 0 }
 
 not_before : (n : ℕ) → (not (is_lt (nat_cmp n n)) && not (is_lt (nat_cmp n n))) ≡ true
 not_before n = ap (λ o. not (is_lt o) && not (is_lt o)) (tied_itself nat_cmp_total n)

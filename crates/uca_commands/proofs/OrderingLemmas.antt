@@ -3,7 +3,7 @@ use Rattle.std.proofs.Common.{◌≡◌, ℕ, zero, suc, ◌+◌, ◌-◌, ◌<�
 use Rattle.std.proofs.Math.Seq.{drop-append_seam, take-append_seam}
 use Rattle.std.specs.Prelude.{if◌then◌else◌}
 use Rattle.std.specs.List.Sorted.{IsStableByKey}
-use Rattle.std.proofs.lemmas.List.{drop_more, get_or-map, length-map}
+use Rattle.std.proofs.lemmas.List.{drop_more, get_or-map, length-map, map-append}
 use Rattle.std.proofs.lemmas.List.Elements.{All-nil, All-cons, All-head, All-tail}
 use Rattle.std.proofs.lemmas.List.Sorted.{All-permutation, IsPermutation-map}
 use Rattle.uca_weights.specs.declared.settings.Settings.{Settings}
@@ -58,6 +58,10 @@ pub key_at-next : (ends bytes : List ℕ) (n : ℕ) → n < length ends → drop
 key_at-next ends bytes n within =
     let few : n < length (pieces ends bytes 0) = omega (arith, length-pieces ends bytes 0) in
     drop_more (pieces ends bytes 0) n [] few ∙ ap (λ k. k ∷ drop (n + 1) (pieces ends bytes 0)) (sym (pieces-at ends bytes 0 n within))
+
+-- what elements show, with one more of them
+pub shown-more : {X : Type 0} (show : X → List ℕ) (xs : List X) (x : X) (rest whole : List (List ℕ)) → map show xs ++ (show x ∷ rest) ≡ whole → map show (xs ++ (x ∷ [])) ++ rest ≡ whole
+shown-more show xs x rest whole is = ap (λ shown. shown ++ rest) (map-append show xs (x ∷ [])) ∙ append_assoc (map show xs) (show x ∷ []) rest ∙ is
 
 -- an input has no more lines than bytes
 length-split_lines : (bytes : List ℕ) → length (split_lines bytes) ≤ length bytes

@@ -17,7 +17,7 @@ use Rattle.uca_model.specs.Table.{ElementTable}
 use Rattle.uca_model.specs.TestFile.{Report, ends, report_of, report_text}
 use Rattle.uca_model.specs.WellFormed.{broken, lint_output}
 use Rattle.uca_conform.specs.Conforming.{RefusesFile}
-use Rattle.uca_lines.specs.Input.{ReadsLines, ReadsOneLine, RefusesInput, RefusesOneLine}
+use Rattle.uca_commands.specs.Input.{ReadsLines, ReadsOneLine, RefusesInput, RefusesOneLine}
 use Rattle.uca_commands.specs.declared.faults.CliFault.{CliFault}
 use Rattle.uca_commands.specs.declared.faults.CliFault.TheVariants as fault
 

@@ -1,7 +1,9 @@
+pub mod Input
 pub mod Commands
 pub mod Sending
 pub mod Ordering
 pub mod KeyFronts
 pub mod KeyPieces
+pub mod LinePlaces
 pub mod KeyedLines
 pub mod LineSorting

@@ -9,7 +9,7 @@ use Rattle.uca_model.specs.OrderOutput.{IsOrderOutput, line_key}
 use Rattle.uca_model.specs.Table.{ElementTable}
 use Rattle.uca_commands.specs.Commands.{Ends}
 use Rattle.uca_commands.specs.KeyPieces.{ends_from}
-use Rattle.uca_lines.specs.Input.{ReadsLines, RefusesInput}
+use Rattle.uca_commands.specs.Input.{ReadsLines, RefusesInput}
 use Rattle.uca_commands.specs.declared.faults.CliFault.{CliFault}
 use Rattle.uca_commands.specs.declared.faults.CliFault.TheVariants as fault
 

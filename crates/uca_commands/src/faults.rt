@@ -1,11 +1,11 @@
 ghost use Rattle.std.specs.Prelude.{◌≡◌};
 
+use crate::input_fault::{InputCause, InputFault};
 use std::alloc::AllocError;
 use std::fmt;
 use thiserror::Error;
 use uca_allkeys::{ReadCause, ReadFault};
 use uca_conform::ConformFault;
-use uca_lines::{InputCause, InputFault};
 use uca_tailor::{RuleCause, RuleFault, TailorCause, TailorFault};
 use uca_weights::WriteFault;
 

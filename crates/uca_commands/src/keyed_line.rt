@@ -2,29 +2,36 @@ ghost use Rattle.std.specs.Prelude.{◌≡◌, ◌∷◌, drop, get_or};
 ghost use Rattle.uca_model.specs.SortKey.{key_order};
 ghost use Rattle.uca_commands.specs.KeyFronts.{IsFront};
 ghost use Rattle.uca_commands.specs.KeyPieces.{piece};
+ghost use Rattle.uca_commands.specs.LinePlaces.{line_at, no_place};
 
 use std::cmp::Ordering;
-use uca_lines::first_line;
 
 /// How many bytes of a key a line has beside it.
 pub(crate) const FRONT: usize = 8;
 
-/// The lines of an input, with their sort keys: one key after the other, and where each ends.
+/// Where a line of an input lies, without what ends it.
+#[derive(Clone, Copy)]
+pub(crate) struct LinePlace {
+    pub(crate) start: u32,
+    pub(crate) end: u32,
+}
+
+/// The lines of an input, with their sort keys: where each line lies, one key after the other, and where each key ends.
 #[derive(Clone, Copy)]
 pub(crate) struct KeyedLines<'a> {
     pub(crate) input: &'a [u8],
+    pub(crate) places: &'a [LinePlace],
     pub(crate) keys: &'a [u8],
     pub(crate) ends: &'a [usize],
 }
 
-/// A line and its sort key, by their places. Sixteen bytes, since there are as many as lines.
+/// A line and its sort key, by their number. Sixteen bytes, since there are as many as lines.
 #[derive(Clone, Copy)]
 pub(crate) struct KeyedLine {
     // Eight bytes of the key as a number, those by which lines are sorted next.
     pub(crate) front: u64,
-    // The line's number, from 0, and where it begins.
-    pub(crate) number: u32,
-    pub(crate) start: u32,
+    // The line's number, from 0.
+    pub(crate) number: usize,
 }
 
 // The byte at a place of a key, zero after its end.
@@ -83,6 +90,23 @@ fn bytes_between(bytes: &[u8], from: usize, to: usize) -> &[u8]
     &rest[..to.saturating_sub(from).min(rest.len())]
 }
 
+// Where the line of this number lies. There is none: an empty one at the start.
+fn place_at(places: &[LinePlace], number: usize) -> LinePlace
+    ensures { result ≡ get_or places.now number no_place }
+{
+    match places.get(number) {
+        Some(place) => *place,
+        None => LinePlace { start: 0, end: 0 },
+    }
+}
+
+/// The line at a place of an input.
+pub(crate) fn line_at(input: &[u8], place: LinePlace) -> &[u8]
+    ensures { result.now ≡ line_at input.now place }
+{
+    bytes_between(input, place.start as usize, place.end as usize)
+}
+
 impl<'a> KeyedLines<'a> {
     ghost use Rattle.uca_commands.specs.KeyedLines.{key_of, keyed, line_of};
 
@@ -90,23 +114,17 @@ impl<'a> KeyedLines<'a> {
     pub(crate) fn line(&self, line: KeyedLine) -> &'a [u8]
         ensures { result.now ≡ line_of self.now line }
     {
-        let rest = bytes_after(self.input, line.start as usize);
-        if rest.is_empty() {
-            return rest;
-        }
-        let (line, _) = first_line(rest);
-        line
+        line_at(self.input, place_at(self.places, line.number))
     }
 
     /// The sort key.
     fn key(&self, line: KeyedLine) -> &'a [u8]
         ensures { result.now ≡ key_of self.now line }
     {
-        let number = line.number as usize;
         bytes_between(
             self.keys,
-            start_of(self.ends, number),
-            end_of(self.ends, number),
+            start_of(self.ends, line.number),
+            end_of(self.ends, line.number),
         )
     }
 
@@ -119,7 +137,6 @@ impl<'a> KeyedLines<'a> {
         KeyedLine {
             front,
             number: line.number,
-            start: line.start,
         }
     }
 

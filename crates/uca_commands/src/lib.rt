@@ -5,9 +5,14 @@
 
 pub mod commands;
 pub mod faults;
+mod input;
+pub mod input_fault;
 mod keyed_line;
 mod line_sort;
+mod lines;
 mod output;
 
 pub use commands::order::order;
 pub use faults::{CliFault, RulesTextCause};
+pub use input::read_text_lines;
+pub use input_fault::{InputCause, InputFault};

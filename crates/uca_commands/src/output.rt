@@ -1,4 +1,4 @@
-ghost use Rattle.std.specs.Prelude.{◌≡◌, ◌+◌, ◌*◌, ◌^◌, ◌<◌, ◌≤◌, ◌++◌, length, flat_map, All, OnOk, MatchResult, chars};
+ghost use Rattle.std.specs.Prelude.{◌≡◌, ◌+◌, ◌*◌, ◌^◌, ◌<◌, ◌≤◌, ◌++◌, length, flat_map, All, OnOk, MatchResult};
 ghost use Rattle.uca_io.specs.OutputBuffer.{accepted, Accepts, FailsPartway};
 ghost use Rattle.uca_io.specs.Writer.{WritesAll, WritesFront};
 ghost use Rattle.uca_weights.specs.declared.limits.TheConstants.{MAX_INPUT};
@@ -11,11 +11,11 @@ ghost use Rattle.uca_window.specs.Passage.{text_of};
 ghost use Rattle.uca_commands.specs.Sending.{line_text, lines_text, StopsLine, StopsOutput};
 
 use crate::faults::CliFault;
+use crate::lines::first_line;
 use std::alloc::{AllocError, Global};
-use std::str::from_utf8_unchecked;
 use uca_allkeys::element_text;
+use uca_io::{OutputBlock, send_hex};
 use uca_key::KeyMaker;
-use uca_lines::{OutputBlock, first_line, send_hex};
 use uca_match::elements_of;
 use uca_table::Table;
 use uca_weights::{Element, Settings, WriteFault, Writer};
@@ -58,14 +58,6 @@ impl KeyRoom {
         self.key.clear();
         self.maker.push_key(alloc, t, s, p, &mut self.key)
     }
-}
-
-/// The text of a line that was checked.
-pub(crate) fn text_of_line(line: &[u8]) -> Passage<'_>
-    requires { IsTextLine line.now }
-    ensures { text_of result ≡ chars line.now }
-{
-    Passage::of_safe(unsafe { from_utf8_unchecked(line) })
 }
 
 /// Writes collation elements to a block of output, one after the other.
@@ -131,7 +123,7 @@ fn send_line<W: Writer>(
         (StopsLine (W.state w.old) out.old (W.state w.new) out.new (line_text form t.now s line.now)) }
     ensures small { OnOk result (accepted out.new < accepted out.old + 2 ^ 70) }
 {
-    let passage = text_of_line(line);
+    let passage = Passage::of_checked(line);
     match form {
         LineForm::Elements => {
             let elements = elements_of(alloc, t, &passage)?;

@@ -11,7 +11,8 @@ use Rattle.uca_model.specs.SortKey.{sort_key}
 use Rattle.uca_model.specs.Table.{ElementTable, with_ideographs}
 use Rattle.uca_model.proofs.ReadBackLemmas.{canonical-apart}
 use Rattle.uca_key.specs.PackedKey.{packed_key}
-use Rattle.uca_handle.specs.Fingerprint.{settings_bytes, strength_number, variable_number}
+use Rattle.uca_handle.specs.Fingerprint.{settings_bytes, variable_number}
+use Rattle.uca_weights.specs.Settings.{levels}
 use Rattle.uca_handle.specs.FingerprintLaws.{EqualFingerprintsMeanEqualKeys}
 
 -- the strength and the option that a number stands for
@@ -21,7 +22,7 @@ strength_of n = if n == 1 then Primary else if n == 2 then Secondary else if n =
 abbrev variable_of : ℕ → Variable
 variable_of n = if n == 0 then NonIgnorable else if n == 1 then Blanked else Shifted
 
-strength-said : (strength : Strength) → strength_of (strength_number strength) ≡ strength
+strength-said : (strength : Strength) → strength_of (levels strength) ≡ strength
 strength-said Primary = refl
 strength-said Secondary = refl
 strength-said Tertiary = refl

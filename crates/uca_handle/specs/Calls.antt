@@ -13,7 +13,7 @@ use Rattle.uca_key.specs.PackedKey.{packed_key}
 use Rattle.uca_handle.specs.Fingerprint.{fingerprinted}
 use Rattle.uca_handle.specs.Opening.{SaysTable, RefusesTable}
 use Rattle.uca_key.specs.Placing.{with_front}
-use Rattle.uca_handle.specs.Texts.{IsFault}
+use Rattle.uca_window.specs.TextFaults.{IsFault}
 use Rattle.uca_handle.specs.declared.bounds.BoundsSize.{BoundsSize}
 use Rattle.uca_handle.specs.declared.faults.BoundsFault.{BoundsFault}
 use Rattle.uca_handle.specs.declared.faults.BoundsFault.TheVariants as bounds
@@ -26,7 +26,7 @@ use Rattle.uca_handle.specs.declared.faults.KeyFault.TheVariants as key
 use Rattle.uca_handle.specs.declared.faults.OpenFault.{OpenFault}
 use Rattle.uca_handle.specs.declared.faults.ShareFault.{ShareFault}
 use Rattle.uca_handle.specs.declared.faults.ShareFault.TheVariants as share
-use Rattle.uca_handle.specs.declared.faults.TextFault.{TextFault}
+use Rattle.uca_window.specs.declared.fault.TextFault.{TextFault}
 
 -- a collator has the table that two texts say
 pub record HasTable (table rules : List ℕ) (held : Option ElementTable) : Type 0 where

@@ -3,7 +3,7 @@ use Rattle.std.specs.Prelude.{◌≡◌, ℕ, Bool, List, Option, Some, None, Re
 use Rattle.uca_model.specs.Lines.{IsTextLine}
 use Rattle.uca_model.specs.Prefix.{is_complete}
 use Rattle.uca_model.specs.Table.{ElementTable}
-use Rattle.uca_handle.specs.Texts.{IsFault}
+use Rattle.uca_window.specs.TextFaults.{IsFault}
 use Rattle.uca_handle.specs.declared.faults.KeyFault.{KeyFault}
 use Rattle.uca_handle.specs.declared.faults.KeyFault.TheVariants.{Closed, Text, OutOfMemory}
 

@@ -5,7 +5,7 @@ use Rattle.uca_model.specs.Lines.{IsTextLine}
 use Rattle.uca_model.specs.SortKey.{key_order, sort_key}
 use Rattle.uca_model.specs.Table.{ElementTable}
 use Rattle.uca_weights.specs.declared.settings.Settings.{Settings}
-use Rattle.uca_handle.specs.Texts.{IsFault}
+use Rattle.uca_window.specs.TextFaults.{IsFault}
 use Rattle.uca_handle.specs.declared.faults.CompareFault.{CompareFault}
 use Rattle.uca_handle.specs.declared.faults.CompareFault.TheVariants.{Closed, First, Second}
 use Rattle.uca_handle.specs.declared.levels.Decision.{Decision}

@@ -6,7 +6,7 @@ use Rattle.uca_model.specs.Lines.{IsTextLine}
 use Rattle.uca_model.specs.Match.{Match}
 use Rattle.uca_model.specs.Table.{ElementTable, is_key}
 use Rattle.uca_weights.specs.declared.element.Element.{Element}
-use Rattle.uca_handle.specs.Texts.{IsFault}
+use Rattle.uca_window.specs.TextFaults.{IsFault}
 use Rattle.uca_handle.specs.declared.faults.KeyFault.{KeyFault}
 use Rattle.uca_handle.specs.declared.faults.KeyFault.TheVariants.{Closed, Text, OutOfMemory}
 use Rattle.uca_handle.specs.declared.matches.ElementForm.{ElementForm}

@@ -2,11 +2,11 @@ ghost use Rattle.std.specs.Prelude.{◌≡◌};
 ghost use Rattle.uca_handle.specs.Calls.{PutsBoundsBy};
 
 use crate::faults::BoundsFault;
-use crate::texts::passage_of;
 use std::alloc::Global;
 use uca_key::{copy_front, prefix_bounds};
 use uca_table::Table;
 use uca_weights::Variable;
+use uca_window::Passage;
 
 /// How many bytes the two ends of a range of keys have, and of what text they are.
 #[derive(Clone, Copy, Debug, PartialEq, Eq)]
@@ -32,7 +32,7 @@ pub(crate) fn put_bounds(
 ) -> Result<BoundsSize, BoundsFault>
     ensures { PutsBoundsBy t.now v text.now lower.old lower.new upper.old upper.new result }
 {
-    let passage = match passage_of(text) {
+    let passage = match Passage::of_bytes(text) {
         Ok(passage) => passage,
         Err(fault) => return Err(BoundsFault::Text(fault)),
     };

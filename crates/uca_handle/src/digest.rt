@@ -1,30 +1,18 @@
 ghost use Rattle.std.specs.Prelude.{◌≡◌, IfOk};
 ghost use Rattle.uca_model.specs.CanonicalText.{canonical};
 ghost use Rattle.uca_handle.specs.Calls.{FingerprintsBy};
-ghost use Rattle.uca_handle.specs.Fingerprint.{settings_bytes, strength_number, variable_number};
+ghost use Rattle.uca_handle.specs.Fingerprint.{settings_bytes, variable_number};
 
 use crate::faults::FingerprintFault;
 use sha2::{Digest, Sha256};
 use std::alloc::{AllocError, Global};
 use uca_allkeys::write_table;
 use uca_table::Table;
-use uca_weights::{Settings, Strength, Variable, Writing};
+use uca_weights::{Settings, Variable, Writing};
 use unicode_normalization::UNICODE_VERSION;
 
 /// The form of sort keys. It changes if the same weights ever make another key.
 const KEY_FORM: u8 = 1;
-
-fn strength_number(strength: Strength) -> u8
-    ensures { result ≡ strength_number strength }
-{
-    match strength {
-        Strength::Primary => 1,
-        Strength::Secondary => 2,
-        Strength::Tertiary => 3,
-        Strength::Quaternary => 4,
-        Strength::Identical => 5,
-    }
-}
 
 fn variable_number(weighting: Variable) -> u8
     ensures { result ≡ variable_number weighting }
@@ -43,7 +31,7 @@ fn settings_bytes(s: Settings) -> [u8; 6]
     let (major, minor, update) = UNICODE_VERSION;
     [
         KEY_FORM,
-        strength_number(s.strength),
+        s.levels(),
         variable_number(s.weighting),
         major,
         minor,

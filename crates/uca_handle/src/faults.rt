@@ -1,20 +1,9 @@
 ghost use Rattle.std.specs.Prelude.{◌≡◌};
 
 use std::alloc::AllocError;
-use thiserror::Error;
 use uca_allkeys::{ReadCause, ReadFault};
 use uca_tailor::{RuleCause, RuleFault, TailorCause, TailorFault};
-
-/// Why bytes are no text that can be collated.
-#[derive(Clone, Copy, Debug, PartialEq, Eq, Error)]
-pub enum TextFault {
-    /// They are not UTF-8 from this byte on.
-    #[error("NotUtf8")]
-    NotUtf8(usize),
-    /// A run of nonstarters is too long, from the character at this byte on.
-    #[error("LongRun")]
-    LongRun(usize),
-}
+use uca_window::TextFault;
 
 /// Why two texts say no table.
 #[derive(Clone, Copy, Debug, PartialEq, Eq)]

@@ -6,7 +6,6 @@ ghost use Rattle.uca_handle.specs.Calls.{MakesKeyBy, WritesKeyBy};
 ghost use Rattle.uca_window.specs.Passage.{bytes_of, text_of};
 
 use crate::faults::KeyFault;
-use crate::texts::passage_of;
 use std::alloc::Global;
 use uca_key::{SHORT, copy_front, key_of, packed_key_of};
 use uca_table::Table;
@@ -32,7 +31,7 @@ pub(crate) fn put_key(
 ) -> Result<usize, KeyFault>
     ensures { MakesKeyBy (sort_key t.now s (chars text.now)) text.now out.old out.new result }
 {
-    match passage_of(text) {
+    match Passage::of_bytes(text) {
         Ok(passage) => put_text_key(alloc, t, s, &passage, out),
         Err(fault) => Err(KeyFault::Text(fault)),
     }
@@ -48,7 +47,7 @@ pub(crate) fn put_packed_key(
 ) -> Result<usize, KeyFault>
     ensures { MakesKeyBy (packed_key t.now s (chars text.now)) text.now out.old out.new result }
 {
-    match passage_of(text) {
+    match Passage::of_bytes(text) {
         Ok(passage) => put_packed_text_key(alloc, t, s, &passage, out),
         Err(fault) => Err(KeyFault::Text(fault)),
     }
@@ -102,7 +101,7 @@ pub(crate) fn write_key_of(
 ) -> Result<usize, KeyFault>
     ensures { WritesKeyBy t.now s text.now out.old out.new result }
 {
-    match passage_of(text) {
+    match Passage::of_bytes(text) {
         Ok(passage) => Ok(uca_key::put_key(t, s, &passage, out)),
         Err(fault) => Err(KeyFault::Text(fault)),
     }

@@ -7,7 +7,6 @@ ghost use Rattle.uca_window.specs.Passage.{text_of};
 ghost use Rattle.uca_handle.specs.Levels.{ComparesLevelsBy};
 
 use crate::faults::CompareFault;
-use crate::texts::passage_of;
 use std::cmp::Ordering;
 use uca_levels::compare;
 use uca_table::Table;
@@ -72,11 +71,11 @@ pub(crate) fn decision_of(
 ) -> Result<Decision, CompareFault>
     ensures { ComparesLevelsBy t.now s a.now b.now result }
 {
-    let left = match passage_of(a) {
+    let left = match Passage::of_bytes(a) {
         Ok(left) => left,
         Err(fault) => return Err(CompareFault::First(fault)),
     };
-    match passage_of(b) {
+    match Passage::of_bytes(b) {
         Ok(right) => Ok(decide(t, s, &left, &right)),
         Err(fault) => Err(CompareFault::Second(fault)),
     }

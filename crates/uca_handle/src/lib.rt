@@ -28,10 +28,9 @@ pub mod texts;
 
 pub use bounds::BoundsSize;
 pub use collator::Collator;
-pub use faults::{
-    BoundsFault, CompareFault, FingerprintFault, KeyFault, OpenFault, ShareFault, TextFault,
-};
+pub use faults::{BoundsFault, CompareFault, FingerprintFault, KeyFault, OpenFault, ShareFault};
 pub use levels::Decision;
 pub use matches::{ElementForm, MatchForm, MatchesSize};
 pub use places::{Place, locate};
-pub use texts::{check, text_of_checked};
+pub use texts::check;
+pub use uca_window::{Passage, TextFault};

@@ -9,7 +9,6 @@ ghost use Rattle.uca_handle.specs.Listed.{ListsMatch};
 ghost use Rattle.uca_handle.specs.Matches.{PutsMatchesBy, element_form, match_form, match_points, text_matches, with_items};
 
 use crate::faults::KeyFault;
-use crate::texts::passage_of;
 use std::alloc::{AllocError, Global};
 use uca_match::{Match, matches_of};
 use uca_table::Table;
@@ -77,7 +76,7 @@ fn push_points(out: &mut Vec<u32>, points: &[char]) -> Result<(), AllocError>
 }
 
 /// Appends elements, and returns how many they are.
-fn push_elements(out: &mut Vec<ElementForm>, elements: &[Element]) -> Result<usize, AllocError>
+fn push_forms(out: &mut Vec<ElementForm>, elements: &[Element]) -> Result<usize, AllocError>
     ensures pushed { OnOk result (out.new.items ≡ out.old.items ++ map element_form elements.now) }
     ensures count { IfOk result (λ n. n ≡ length elements.now) }
 {
@@ -88,19 +87,15 @@ fn push_elements(out: &mut Vec<ElementForm>, elements: &[Element]) -> Result<usi
 }
 
 /// Appends the elements of a match, and returns how many they are.
-fn push_elements_of(
-    out: &mut Vec<ElementForm>,
-    t: &Table,
-    key: &[char],
-) -> Result<usize, AllocError>
+fn push_forms_of(out: &mut Vec<ElementForm>, t: &Table, key: &[char]) -> Result<usize, AllocError>
     requires { 0 < length key.now }
     ensures pushed { OnOk result (out.new.items ≡ out.old.items ++ map element_form (elements_or_implicit t.now key.now)) }
     ensures count { IfOk result (λ n. n ≡ length (elements_or_implicit t.now key.now)) }
     ensures few { IfOk result (λ n. n ≤ MAX_ELEMENTS) }
 {
     match t.get(key) {
-        Some(elements) => push_elements(out, elements),
-        None => push_elements(out, &t.implicit(key[0])),
+        Some(elements) => push_forms(out, elements),
+        None => push_forms(out, &t.implicit(key[0])),
     }
 }
 
@@ -124,7 +119,7 @@ impl Listed {
     {
         let key = matched.key.as_slice();
         push_points(&mut self.points, key)?;
-        let elements = push_elements_of(&mut self.elements, t, key)?;
+        let elements = push_forms_of(&mut self.elements, t, key)?;
         self.matches.push(MatchForm {
             points: key.len() as u32,
             elements: elements as u32,
@@ -168,7 +163,7 @@ pub(crate) fn put_matches(
 ) -> Result<MatchesSize, KeyFault>
     ensures { PutsMatchesBy t.now text.now matches.old matches.new points.old points.new elements.old elements.new result }
 {
-    let passage = match passage_of(text) {
+    let passage = match Passage::of_bytes(text) {
         Ok(passage) => passage,
         Err(fault) => return Err(KeyFault::Text(fault)),
     };

@@ -2,6 +2,8 @@ pub mod WriteLemmas
 pub mod BufferLemmas
 pub mod SendLemmas
 pub mod DigitLemmas
+pub mod HexLanes
+pub mod HexLemmas
 pub mod WordLemmas
 pub mod LineLemmas
 pub mod ReaderLemmas

@@ -7,6 +7,7 @@ pub mod OutputBuffer
 pub mod Lines
 pub mod Words
 pub mod Digits
+pub mod Hex
 pub mod LineFold
 pub mod LineReader
 pub mod LineProgress

@@ -5,6 +5,7 @@
 #![tactic(auto)]
 
 pub mod digits;
+mod hex;
 pub mod limits;
 pub mod line_reader;
 pub mod lines;
@@ -15,9 +16,10 @@ pub mod words;
 pub mod writer;
 pub mod writing;
 
+pub use hex::send_hex;
 pub use limits::{MAX_INPUT, MAX_LINE};
 pub use line_reader::{LineCause, LineFault, LineSink, read_lines};
-pub use output_buffer::OutputBuffer;
+pub use output_buffer::{Buffer, OutputBlock, OutputBuffer};
 pub use reader::{Reader, Reading, Refused};
 pub use reading::{Stop, read_whole};
 pub use writer::{WriteCause, WriteFault, Writer, Writing};

@@ -62,7 +62,7 @@ between_longer t v p lower upper complete first last s x same =
     let whole : sort_key t s (p ++ x) ≡ lower ++ begins.rest = begins.parts ∙ ap (λ l. l ++ begins.rest) (ap (λ w. primary_key t w p) same ∙ sym first) in
     subst (λ u. IsBetween lower u (sort_key t s (p ++ x))) (sym last) (subst (IsBetween lower (end_of_prefix lower)) (sym whole) (begins-between lower begins.rest))
 
-some_levels : (s : Strength) → levels Primary ≤ levels s
+pub some_levels : (s : Strength) → levels Primary ≤ levels s
 some_levels Primary = omega arith
 some_levels Secondary = omega arith
 some_levels Tertiary = omega arith
@@ -70,7 +70,7 @@ some_levels Quaternary = omega arith
 some_levels Identical = omega arith
 
 -- a sort key has bytes
-bytes-append : (xs ys : List ℕ) → AreBytes xs → AreBytes ys → AreBytes (xs ++ ys)
+pub bytes-append : (xs ys : List ℕ) → AreBytes xs → AreBytes ys → AreBytes (xs ++ ys)
 bytes-append [] ys h g = g
 bytes-append (x ∷ xs) ys h g = (h.0, bytes-append xs ys h.1 g)
 
@@ -78,7 +78,7 @@ weights-bytes : (ws : List ℕ) → AreBytes (flat_map weight_bytes ws)
 weights-bytes [] = tt
 weights-bytes (w ∷ ws) = (omega arith, (omega arith, weights-bytes ws))
 
-points-bytes : (cs : List ℕ) → AreBytes (flat_map code_point_bytes cs)
+pub points-bytes : (cs : List ℕ) → AreBytes (flat_map code_point_bytes cs)
 points-bytes [] = tt
 points-bytes (c ∷ cs) = (omega arith, (omega arith, (omega arith, points-bytes cs)))
 
@@ -87,7 +87,7 @@ joined-bytes [] h = tt
 joined-bytes (x ∷ []) h = h.0
 joined-bytes (x ∷ y ∷ ls) h = bytes-append x (0 ∷ 0 ∷ joined (y ∷ ls)) h.0 (omega arith, (omega arith, joined-bytes (y ∷ ls) h.1))
 
-take-bytes : (n : ℕ) (ls : List (List ℕ)) → AllByRecursion AreBytes ls → AllByRecursion AreBytes (take n ls)
+pub take-bytes : (n : ℕ) (ls : List (List ℕ)) → AllByRecursion AreBytes ls → AllByRecursion AreBytes (take n ls)
 take-bytes zero ls h = tt
 take-bytes (suc n) [] h = tt
 take-bytes (suc n) (l ∷ ls) h = (h.0, take-bytes n ls h.1)

@@ -62,7 +62,7 @@ length-weighted_after : (v : Variable) (before es : List Element) → length (we
 length-weighted_after v before [] = refl
 length-weighted_after v before (e ∷ es) = ap suc (length-weighted_after v (before ++ e ∷ []) es)
 
-passed_few : (p : ℕ → Bool) (xs : List ℕ) → length (filter p xs) ≤ length xs
+pub passed_few : (p : ℕ → Bool) (xs : List ℕ) → length (filter p xs) ≤ length xs
 passed_few p [] = omega arith
 passed_few p (x ∷ xs) = elim (cases_Bool (p x)) [
   | inl holds ↦ omega (arith, ap length (cond-true (p x) (x ∷ filter p xs) (filter p xs) holds), passed_few p xs)

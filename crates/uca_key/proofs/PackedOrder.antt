@@ -27,13 +27,13 @@ use Rattle.uca_key.specs.PackedLaws.{PackedKeysFollowKeys, PackedKeysTellTextsAp
 
 -- ---- bytes and weights
 
-is_less : (x y : ℕ) → x < y → nat_cmp x y ≡ Less
+pub is_less : (x y : ℕ) → x < y → nat_cmp x y ≡ Less
 is_less x y h = grind (arith, nat_tests)
 
-is_greater : (x y : ℕ) → y < x → nat_cmp x y ≡ Greater
+pub is_greater : (x y : ℕ) → y < x → nat_cmp x y ≡ Greater
 is_greater x y h = grind (arith, nat_tests)
 
-is_equal : (x y : ℕ) → x ≡ y → nat_cmp x y ≡ Equal
+pub is_equal : (x y : ℕ) → x ≡ y → nat_cmp x y ≡ Equal
 is_equal x y h = grind (arith, nat_tests)
 
 -- ---- a weight that is not the common one
@@ -45,7 +45,7 @@ other_three : (w : ℕ) → 254 ≤ w → other_bytes w ≡ 254 ∷ weight_bytes
 other_three w h = cond-false _ _ _ (le-ltb w 254 h)
 
 -- two of them, and what follows them
-other_first : (x y : ℕ) (a b : List ℕ) → x < 65536 → y < 65536 → key_order (other_bytes x ++ a) (other_bytes y ++ b) ≡ ordering_then (nat_cmp x y) (key_order a b)
+pub other_first : (x y : ℕ) (a b : List ℕ) → x < 65536 → y < 65536 → key_order (other_bytes x ++ a) (other_bytes y ++ b) ≡ ordering_then (nat_cmp x y) (key_order a b)
 other_first x y a b h g =
     elim (cases_lt x 254) [
       | inl x_low ↦ elim (cases_lt y 254) [
@@ -70,12 +70,12 @@ eq-test : (a b : ℕ) → a ≡ b → (a == b) ≡ true
 eq-test a b e = grind (arith, nat_tests)
 
 -- the first of some bytes is within these
-record Begins (bytes : List ℕ) (low high : ℕ) : Type 0 where
-  head : ℕ
-  tail : List ℕ
-  is : bytes ≡ head ∷ tail
-  from : low ≤ head
-  to : head ≤ high
+pub record Begins (bytes : List ℕ) (low high : ℕ) : Type 0 where
+  pub head : ℕ
+  pub tail : List ℕ
+  pub is : bytes ≡ head ∷ tail
+  pub from : low ≤ head
+  pub to : head ≤ high
 
 -- a level by its first weight
 module _ (c n : ℕ) (few : n < 84) (w : ℕ) (ws : List ℕ) where
@@ -102,10 +102,10 @@ packed_after-four c n w x y z ws few is_w is_x is_y is_z =
     ∙ ap (λ k. packed_after c k ws) sum
 
 -- below, at or above the common weight
-abbrev Kinds : ℕ → ℕ → Type 0
+abbrev pub Kinds : ℕ → ℕ → Type 0
 Kinds w c = (w < c) ⊎ ((w ≡ c) ⊎ (c < w))
 
-kind_of : (w c : ℕ) → Kinds w c
+pub kind_of : (w c : ℕ) → Kinds w c
 kind_of w c = elim (cases_lt w c) [ inl below ↦ inl below | inr h ↦ elim (cases_lt c w) [ inl above ↦ inr (inr above) | inr g ↦ inr (inl (omega arith)) ] ]
 
 -- any level
@@ -139,24 +139,24 @@ begins_above : (c n : ℕ) (w : ℕ) (ws : List ℕ) → n < 84 → c < w → Be
 begins_above c n w ws few above = record { head = 255 - n; tail = other_bytes w ++ packed_after c 0 ws; is = at_above c n few w ws above; from = omega arith; to = omega arith }
 
 -- the first bytes differ
-heads_less : (a b r s : List ℕ) (la ha lb hb : ℕ) → Begins a la ha → Begins b lb hb → ha < lb → key_order (a ++ r) (b ++ s) ≡ Less
+pub heads_less : (a b r s : List ℕ) (la ha lb hb : ℕ) → Begins a la ha → Begins b lb hb → ha < lb → key_order (a ++ r) (b ++ s) ≡ Less
 heads_less a b r s la ha lb hb p q apart =
     let first : p.head < q.head = omega arith in
     ap₂ (λ u v. key_order (u ++ r) (v ++ s)) p.is q.is ∙ ap (λ o. ordering_then o (key_order (p.tail ++ r) (q.tail ++ s))) (is_less p.head q.head first)
 
-heads_greater : (a b r s : List ℕ) (la ha lb hb : ℕ) → Begins a la ha → Begins b lb hb → hb < la → key_order (a ++ r) (b ++ s) ≡ Greater
+pub heads_greater : (a b r s : List ℕ) (la ha lb hb : ℕ) → Begins a la ha → Begins b lb hb → hb < la → key_order (a ++ r) (b ++ s) ≡ Greater
 heads_greater a b r s la ha lb hb p q apart =
     let first : q.head < p.head = omega arith in
     ap₂ (λ u v. key_order (u ++ r) (v ++ s)) p.is q.is ∙ ap (λ o. ordering_then o (key_order (p.tail ++ r) (q.tail ++ s))) (is_greater p.head q.head first)
 
 -- the first weights differ
-lists_less : (x y : ℕ) (xs ys : List ℕ) (o : Ordering) → x < y → ordering_then (key_order (x ∷ xs) (y ∷ ys)) o ≡ Less
+pub lists_less : (x y : ℕ) (xs ys : List ℕ) (o : Ordering) → x < y → ordering_then (key_order (x ∷ xs) (y ∷ ys)) o ≡ Less
 lists_less x y xs ys o h = ap (λ p. ordering_then (ordering_then p (key_order xs ys)) o) (is_less x y h)
 
-lists_greater : (x y : ℕ) (xs ys : List ℕ) (o : Ordering) → y < x → ordering_then (key_order (x ∷ xs) (y ∷ ys)) o ≡ Greater
+pub lists_greater : (x y : ℕ) (xs ys : List ℕ) (o : Ordering) → y < x → ordering_then (key_order (x ∷ xs) (y ∷ ys)) o ≡ Greater
 lists_greater x y xs ys o h = ap (λ p. ordering_then (ordering_then p (key_order xs ys)) o) (is_greater x y h)
 
-lists_same : (x y : ℕ) (xs ys : List ℕ) (o : Ordering) → x ≡ y → ordering_then (key_order (x ∷ xs) (y ∷ ys)) o ≡ ordering_then (key_order xs ys) o
+pub lists_same : (x y : ℕ) (xs ys : List ℕ) (o : Ordering) → x ≡ y → ordering_then (key_order (x ∷ xs) (y ∷ ys)) o ≡ ordering_then (key_order xs ys) o
 lists_same x y xs ys o h = ap (λ p. ordering_then (ordering_then p (key_order xs ys)) o) (is_equal x y h)
 
 -- two weights after the same byte
@@ -225,7 +225,7 @@ packed_order c n (x ∷ xs) (y ∷ ys) r s few p q =
 -- ---- keys
 
 -- the order of the lists from a level on, with this many levels after it: the first that differ decide
-abbrev ordered_from : ℕ → ℕ → (ℕ → List ℕ) → (ℕ → List ℕ) → Ordering
+abbrev pub ordered_from : ℕ → ℕ → (ℕ → List ℕ) → (ℕ → List ℕ) → Ordering
 ordered_from zero level xs ys = list_order (xs level) (ys level)
 ordered_from (suc n) level xs ys = ordering_then (list_order (xs level) (ys level)) (ordered_from n (level + 1) xs ys)
 
@@ -238,7 +238,7 @@ key_from-ordered (suc n) level xs ys inside orders =
     ∙ ap (ordering_then (list_order (xs level) (ys level))) (key_from-ordered n (level + 1) xs ys (omega arith) (λ k low top. orders k (omega arith) (omega arith)))
 
 -- the order of sort keys
-sort_key-ordered : (t : ElementTable) (s : Settings) (a b : List ℕ) → HasWeights t s a → HasWeights t s b
+pub sort_key-ordered : (t : ElementTable) (s : Settings) (a b : List ℕ) → HasWeights t s a → HasWeights t s b
     → key_order (sort_key t s a) (sort_key t s b) ≡ ordered_from (levels s.strength - 1) 1 (level_list t s.weighting a) (level_list t s.weighting b)
 sort_key-ordered t s a b p q =
     let few : levels s.strength ≤ 5 = (levels-within s.strength).1 in
@@ -295,7 +295,7 @@ packed_key-order t s a b p q = packed_key-ordered t s a b p q ∙ sym (sort_key-
 pub packed-follow : PackedKeysFollowKeys
 packed-follow t s a b table of_a of_b = packed_key-order t s a b (HasWeights-IsTable t s a table of_a) (HasWeights-IsTable t s b table of_b)
 
-same_order : (x y : List ℕ) → x ≡ y → key_order x y ≡ Equal
+pub same_order : (x y : List ℕ) → x ≡ y → key_order x y ≡ Equal
 same_order x y e = subst (λ z. key_order x z ≡ Equal) e (itself x)
   where
     itself : (z : List ℕ) → key_order z z ≡ Equal

@@ -20,7 +20,7 @@ use Rattle.uca_key.specs.PackedKey.{packed_levels, packed_key}
 use Rattle.uca_key.specs.PackedLaws.{PackedKeysGrowByLevels, PackedKeysBeginWithCompleteTexts, PackedKeysBeginWithPrimaryWeights, PackedKeysOfBeginnings}
 
 -- the first pieces, one after the other, begin with fewer of them
-begins-take : (m n : ℕ) (ls : List (List ℕ)) → m ≤ n → BeginsWith (concat (take n ls)) (concat (take m ls))
+pub begins-take : (m n : ℕ) (ls : List (List ℕ)) → m ≤ n → BeginsWith (concat (take n ls)) (concat (take m ls))
 begins-take zero n ls few = record { rest = concat (take n ls); parts = refl }
 begins-take (suc m) zero ls few = absurd (omega arith)
 begins-take (suc m) (suc n) [] few = record { rest = []; parts = refl }

@@ -1,7 +1,7 @@
 -- Bytes that are put into a buffer one piece after the other.
-use Rattle.std.proofs.Common.{◌≡◌, ℕ, zero, suc, ◌+◌, ◌-◌, ◌^◌, ◌≤◌, ◌<◌, List, [], ◌∷◌, ◌++◌, length, take, drop, refl, sym, ap, ap₂, subst, ◌∙◌, arith, inl, inr, append_assoc, append-nil, take-append-drop, length-append}
+use Rattle.std.proofs.Common.{◌≡◌, ℕ, zero, suc, ◌+◌, ◌-◌, ◌^◌, ◌≤◌, ◌<◌, List, [], ◌∷◌, ◌++◌, length, take, drop, slice_set, get_or, refl, sym, ap, ap₂, subst, ◌∙◌, arith, inl, inr, append_assoc, append-nil, take-append-drop, length-append}
 use Rattle.std.proofs.lemmas.Bool.{cases_lt}
-use Rattle.uca_key.specs.Placing.{with_bytes_at, PutsAt}
+use Rattle.uca_key.specs.Placing.{with_bytes_at, PutsAt, IsPutting}
 
 take-nil : (n : ℕ) → take {A = ℕ} n [] ≡ []
 take-nil zero = refl
@@ -60,10 +60,10 @@ front-with_bytes_at zero bytes buffer = refl
 front-with_bytes_at (suc n) bytes [] = ap (take (suc n)) (with_bytes_at-past (suc n) bytes [] (omega arith))
 front-with_bytes_at (suc n) bytes (x ∷ xs) = ap (λ l. x ∷ l) (front-with_bytes_at n bytes xs)
 
-PutsAt-none : (at : ℕ) (buffer : List ℕ) → at < 2 ^ 64 → PutsAt at [] buffer buffer at
+pub PutsAt-none : (at : ℕ) (buffer : List ℕ) → at < 2 ^ 64 → PutsAt at [] buffer buffer at
 PutsAt-none at buffer h = record { written = sym (with_bytes_at-none at buffer); counted = omega arith }
 
-PutsAt-more : (at mid next : ℕ) (a b before then after : List ℕ) → length before < 2 ^ 64 → PutsAt at a before then mid → PutsAt mid b then after next → PutsAt at (a ++ b) before after next
+pub PutsAt-more : (at mid next : ℕ) (a b before then after : List ℕ) → length before < 2 ^ 64 → PutsAt at a before then mid → PutsAt mid b then after next → PutsAt at (a ++ b) before after next
 PutsAt-more at mid next a b before then after room h k =
     let whole : length (a ++ b) ≡ length a + length b = omega (arith, length-append {A = ℕ}) in
     record {
@@ -82,12 +82,6 @@ PutsAt-more at mid next a b before then after room h k =
       counted = omega (arith, h.counted, k.counted, whole);
     }
 
--- a front of the whole was put, and the other bytes are left
-pub record IsPutting (at : ℕ) (before : List ℕ) (next : ℕ) (now whole left : List ℕ) : Type 0 where
-  pub put : List ℕ
-  pub puts : PutsAt at put before now next
-  pub parts : put ++ left ≡ whole
-
 pub IsPutting-start : (at : ℕ) (buffer whole left : List ℕ) → at < 2 ^ 64 → left ≡ whole → IsPutting at buffer at buffer whole left
 IsPutting-start at buffer whole left small same = record { put = []; puts = PutsAt-none at buffer small; parts = same }
 
@@ -104,3 +98,34 @@ module _ (at next : ℕ) (before now whole left : List ℕ) (h : IsPutting at be
 
   pub IsPutting-ends : left ≡ [] → PutsAt at whole before now next
   IsPutting-ends none = subst (λ (l : List ℕ). PutsAt at l before now next) (sym (append-nil h.put) ∙ ap (λ l. h.put ++ l) (sym none) ∙ h.parts) h.puts
+
+-- two bytes that fit
+pub pair-with_bytes_at : (n a b : ℕ) (buffer : List ℕ) → n + 2 ≤ length buffer → slice_set (slice_set buffer n a) (n + 1) b ≡ with_bytes_at n (a ∷ b ∷ []) buffer
+pair-with_bytes_at n a b [] fits = absurd (omega arith)
+pair-with_bytes_at zero a b (x ∷ []) fits = absurd (omega arith)
+pair-with_bytes_at zero a b (x ∷ y ∷ buffer) fits = sym (ap (λ l. a ∷ b ∷ (l ++ buffer)) (take-nil (length buffer)))
+pair-with_bytes_at (suc n) a b (x ∷ buffer) fits =
+    let next : suc n + 1 ≡ suc (n + 1) = omega arith in
+    ap (λ m. slice_set (x ∷ slice_set buffer n a) m b) next ∙ ap (λ l. x ∷ l) (pair-with_bytes_at n a b buffer (omega arith))
+
+pub PutsAt-pair : (at : ℕ) (pair buffer : List ℕ) → length pair ≡ 2 → at + 2 ≤ length buffer → length buffer < 2 ^ 64 → PutsAt at pair buffer (slice_set (slice_set buffer at (get_or pair 0 0)) (at + 1) (get_or pair 1 0)) (at + 2)
+PutsAt-pair at [] buffer two fits small = absurd (omega arith)
+PutsAt-pair at (a ∷ []) buffer two fits small = absurd (omega arith)
+PutsAt-pair at (a ∷ b ∷ []) buffer two fits small = record { written = pair-with_bytes_at at a b buffer fits; counted = omega arith }
+PutsAt-pair at (a ∷ b ∷ c ∷ pair) buffer two fits small = absurd (omega arith)
+
+-- what is put at the front of a buffer, where it fits
+pub record FrontPut (bytes before after : List ℕ) (next : ℕ) : Type 0 where
+  pub is : take next after ≡ bytes
+  pub size : next ≡ length bytes
+  pub within : next ≤ length after
+
+pub front-put : (bytes before after : List ℕ) (next : ℕ) → PutsAt 0 bytes before after next → length bytes ≤ length before → length before < 2 ^ 64 → FrontPut bytes before after next
+front-put bytes before after next puts fits small =
+    let n : next ≡ 0 + length bytes = omega (arith, puts.counted) in
+    let long : length after ≡ length before = ap length puts.written ∙ length-with_bytes_at 0 bytes before in
+    record {
+      is = ap₂ take n puts.written ∙ take-with_bytes_at 0 bytes before (omega (arith, fits));
+      size = omega (arith, n);
+      within = omega (arith, n, long);
+    }

@@ -2,5 +2,11 @@ pub mod Faults
 pub mod Form
 pub mod PackedKey
 pub mod PackedLaws
+pub mod PackedLevel
 pub mod Pieces
 pub mod Placing
+pub mod PrimaryCode
+pub mod ShortKey
+pub mod ShortLaws
+pub mod SlotTables
+pub mod Reach

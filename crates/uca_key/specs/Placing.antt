@@ -13,3 +13,9 @@ with_bytes_at at bytes buffer = take at buffer ++ with_front bytes (drop at buff
 pub record PutsAt (at : ℕ) (bytes before after : List ℕ) (next : ℕ) : Type 0 where
   pub written : after ≡ with_bytes_at at bytes before
   pub counted : next ≡ min (at + length bytes) (2 ^ 64 - 1)
+
+-- a front of the whole was put, and the other bytes are left
+pub record IsPutting (at : ℕ) (before : List ℕ) (next : ℕ) (now whole left : List ℕ) : Type 0 where
+  pub put : List ℕ
+  pub puts : PutsAt at put before now next
+  pub parts : put ++ left ≡ whole

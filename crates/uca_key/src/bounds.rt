@@ -63,7 +63,7 @@ pub fn prefix_bounds(
 
 // The first byte string after all that begin with these bytes.
 #[tactic(auto, using(crate::proofs::BoundLemmas::end_nothing))]
-fn end_of_prefix(alloc: Global, bytes: &[u8]) -> Result<Option<Vec<u8>>, AllocError>
+pub(crate) fn end_of_prefix(alloc: Global, bytes: &[u8]) -> Result<Option<Vec<u8>>, AllocError>
     ensures { IfOk result (λ end. option_map (λ (v : _). v.items) end ≡ end_of_prefix bytes.now) }
 {
     let mut n = bytes.len();

@@ -40,7 +40,6 @@ fn put(
 ) -> usize
     requires safe { IsSafe (chars text.now) }
     requires some { 0 < length room.old }
-    requires place { at < 2 ^ 64 }
     requires size { length out.old < 2 ^ 64 }
     ensures bytes { PutsAt at (key_in form t.now s (chars text.now)) out.old out.new result }
     ensures room { length room.new ≡ length room.old }

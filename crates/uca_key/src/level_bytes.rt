@@ -1,97 +1,187 @@
-ghost use Rattle.std.specs.Prelude.{◌≡◌, ◌==◌, ◌+◌, ◌*◌, ◌≤◌, ◌++◌, ◌∷◌, [], ℕ, List, not, length, filter, flat_map, take};
+ghost use Rattle.std.specs.Prelude.{◌≡◌, IsTrue, ◌+◌, ◌*◌, ◌==◌, ◌≤◌, ◌<◌, ◌^◌, ◌++◌, ◌∷◌, [], List, not, length, filter, flat_map};
 ghost use Rattle.uca_weights.specs.declared.element.Element.{Element};
 ghost use Rattle.uca_weights.specs.declared.settings.Variable.TheVariants.{NonIgnorable};
 ghost use Rattle.uca_weights.specs.VariableWeighting.{unchanged, weighted};
 ghost use Rattle.uca_model.specs.SortKey.{weight_bytes, level_bytes};
 ghost use Rattle.uca_levels.specs.Streams.{weights_from};
+ghost use Rattle.uca_key.specs.Placing.{PutsAt};
 
+use crate::placing::put_bytes;
 use uca_weights::{Element, Variable, Weigher};
 
-// Puts a weight to a place of a key, and returns where the next one goes: to the same place after a zero, which is left out.
+// Whether a weight of each of so many elements fits between a place of a buffer and its end.
 #[inline(always)]
-fn put_weight(key: &mut [u8], at: usize, weight: u16) -> usize
-    requires { at + 2 ≤ length key.old }
-    ensures front { take result key.new ≡ take at key.old ++ flat_map weight_bytes (filter (λ w. not (w == 0)) (weight ∷ [])) }
-    ensures within { result ≤ at + 2 }
+fn has_room(elements: usize, at: usize, room: usize) -> bool
+    ensures { IsTrue result → at + 2 * elements ≤ room }
 {
-    let [high, low] = weight.to_be_bytes();
-    key[at] = high;
-    key[at + 1] = low;
-    if weight == 0 { at } else { at + 2 }
+    at <= room && elements <= (room - at) / 2
 }
 
-// Puts the weight of an element as the table has it, at a level from 1 to 3, unless it is zero.
+// Puts two bytes at a place of a key, where they fit, and returns the place after them.
 #[inline(always)]
-fn put_unchanged(key: &mut [u8], at: usize, element: &Element, level: u8) -> usize
-    requires first { 1 ≤ level }
-    requires last { level ≤ 3 }
-    requires room { at + 2 ≤ length key.old }
-    ensures front { take result key.new ≡ take at key.old ++ level_bytes (unchanged element.now 0 ∷ []) level }
+fn put_pair(pair: [u8; 2], at: usize, out: &mut [u8]) -> usize
+    requires { at + 2 ≤ length out.old }
+    ensures puts { PutsAt at pair out.old out.new result }
     ensures within { result ≤ at + 2 }
 {
-    put_weight(key, at, element.weight(level))
+    out[at] = pair[0];
+    out[at + 1] = pair[1];
+    at + 2
+}
+
+// Puts a weight at a place of a key, where it fits, unless it is zero, and returns where the next one goes.
+#[inline(always)]
+fn put_weight(weight: u16, at: usize, out: &mut [u8]) -> usize
+    requires { at + 2 ≤ length out.old }
+    ensures puts { PutsAt at (flat_map weight_bytes (filter (λ w. not (w == 0)) (weight ∷ []))) out.old out.new result }
+    ensures within { result ≤ at + 2 }
+{
+    if weight == 0 {
+        return at;
+    }
+    put_pair(weight.to_be_bytes(), at, out)
+}
+
+// The same where it may not fit.
+fn put_some_weight(weight: u16, at: usize, out: &mut [u8]) -> usize
+    ensures { PutsAt at (flat_map weight_bytes (filter (λ w. not (w == 0)) (weight ∷ []))) out.old out.new result }
+{
+    if weight > 0 {
+        return put_bytes(&weight.to_be_bytes(), at, out);
+    }
+    at
+}
+
+// Puts the weight of an element as the table has it, at a level from 1 to 3, where it fits, unless it is zero.
+#[inline(always)]
+fn put_unchanged(element: &Element, level: u8, at: usize, out: &mut [u8]) -> usize
+    requires first { 1 ≤ level }
+    requires last { level ≤ 3 }
+    requires room { at + 2 ≤ length out.old }
+    ensures puts { PutsAt at (level_bytes (unchanged element.now 0 ∷ []) level) out.old out.new result }
+    ensures within { result ≤ at + 2 }
+{
+    put_weight(element.weight(level), at, out)
+}
+
+// The same where it may not fit.
+fn put_some_unchanged(element: &Element, level: u8, at: usize, out: &mut [u8]) -> usize
+    requires first { 1 ≤ level }
+    requires last { level ≤ 3 }
+    ensures { PutsAt at (level_bytes (unchanged element.now 0 ∷ []) level) out.old out.new result }
+{
+    put_some_weight(element.weight(level), at, out)
+}
+
+// Puts the bytes of one level, from 1 to 3, of elements that keep their weights, and that may not fit.
+#[inline(never)]
+fn put_some_level(elements: &[Element], level: u8, at: usize, out: &mut [u8]) -> usize
+    requires first { 1 ≤ level }
+    requires last { level ≤ 3 }
+    requires size { length out.old < 2 ^ 64 }
+    ensures { PutsAt at (level_bytes (weighted NonIgnorable elements.now) level) out.old out.new result }
+{
+    let mut next = at;
+    for element in elements {
+        next = put_some_unchanged(element, level, next, out);
+    }
+    next
 }
 
 // Puts the bytes of one level, from 1 to 3, of elements that keep their weights. It is a loop of its own, since most texts
 // come this way.
 #[inline(always)]
-fn put_unchanged_level(key: &mut [u8], elements: &[Element], level: u8) -> usize
+fn put_unchanged_level(elements: &[Element], level: u8, at: usize, out: &mut [u8]) -> usize
     requires first { 1 ≤ level }
     requires last { level ≤ 3 }
-    requires room { 2 * length elements.now ≤ length key.old }
-    ensures front { take result key.new ≡ level_bytes (weighted NonIgnorable elements.now) level }
-    ensures within { result ≤ 2 * length elements.now }
+    requires size { length out.old < 2 ^ 64 }
+    ensures { PutsAt at (level_bytes (weighted NonIgnorable elements.now) level) out.old out.new result }
 {
-    let mut at = 0;
-    for element in elements {
-        at = put_unchanged(key, at, element, level);
+    if !has_room(elements.len(), at, out.len()) {
+        return put_some_level(elements, level, at, out);
     }
-    at
+    let mut next = at;
+    for element in elements {
+        next = put_unchanged(element, level, next, out);
+    }
+    next
 }
 
-// Puts the bytes of one level, from 1 to 4, of elements by their variable weighting.
-fn put_weighted_level(
-    key: &mut [u8],
+// Puts the bytes of one level, from 1 to 4, of elements by their variable weighting, where they may not fit.
+#[inline(never)]
+fn put_some_weighted_level(
     weigher: &mut Weigher,
     elements: &[Element],
     level: u8,
+    at: usize,
+    out: &mut [u8],
 ) -> usize
     requires first { 1 ≤ level }
     requires last { level ≤ 4 }
-    requires room { 2 * length elements.now ≤ length key.old }
-    ensures front { (es : List Element) → take result key.new ++ flat_map weight_bytes (weights_from weigher.new level es) ≡ flat_map weight_bytes (weights_from weigher.old level (elements.now ++ es)) }
-    ensures within { result ≤ 2 * length elements.now }
-    ensures weighting { weigher.new.weighting ≡ weigher.old.weighting }
+    requires size { length out.old < 2 ^ 64 }
+    ensures bytes { PutsAt at (flat_map weight_bytes (weights_from weigher.old level elements.now)) out.old out.new result }
+    ensures seen { (es : List Element) → weights_from weigher.old level (elements.now ++ es) ≡ weights_from weigher.old level elements.now ++ weights_from weigher.new level es }
+    ensures option { weigher.new.weighting ≡ weigher.old.weighting }
 {
-    let mut at = 0;
+    let mut next = at;
     for element in elements {
-        at = put_weight(key, at, weigher.weigh_at(*element, level));
+        next = put_some_weight(weigher.weigh_at(*element, level), next, out);
     }
-    at
+    next
 }
 
-/// Puts the bytes of one level, from 1 to 4, of some elements into the front of a piece, and returns how many they are (UTS #10,
-/// section 7.3, step S3). The weigher has seen the elements before them. Each level of elements that keep their weights has a
-/// loop of its own, which asks for no level.
+// Puts the bytes of one level, from 1 to 4, of elements by their variable weighting.
+#[inline(always)]
+fn put_weighted_level(
+    weigher: &mut Weigher,
+    elements: &[Element],
+    level: u8,
+    at: usize,
+    out: &mut [u8],
+) -> usize
+    requires first { 1 ≤ level }
+    requires last { level ≤ 4 }
+    requires size { length out.old < 2 ^ 64 }
+    ensures bytes { PutsAt at (flat_map weight_bytes (weights_from weigher.old level elements.now)) out.old out.new result }
+    ensures seen { (es : List Element) → weights_from weigher.old level (elements.now ++ es) ≡ weights_from weigher.old level elements.now ++ weights_from weigher.new level es }
+    ensures option { weigher.new.weighting ≡ weigher.old.weighting }
+{
+    if !has_room(elements.len(), at, out.len()) {
+        return put_some_weighted_level(weigher, elements, level, at, out);
+    }
+    let mut next = at;
+    for element in elements {
+        next = put_weight(weigher.weigh_at(*element, level), next, out);
+    }
+    next
+}
+
+/// Puts the bytes of one level, from 1 to 4, of some elements at a place of a key, and returns the place after them (UTS #10,
+/// section 7.3, step S3). The weigher has seen the elements before them. Each level of elements that keep their weights
+/// has a loop of its own, which asks for no level.
 pub(crate) fn put_level(
-    key: &mut [u8],
     v: Variable,
     weigher: &mut Weigher,
     elements: &[Element],
     level: u8,
+    at: usize,
+    out: &mut [u8],
 ) -> usize
     requires first { 1 ≤ level }
     requires last { level ≤ 4 }
     requires option { weigher.old.weighting ≡ v }
-    requires room { 2 * length elements.now ≤ length key.old }
-    ensures front { (es : List Element) → take result key.new ++ flat_map weight_bytes (weights_from weigher.new level es) ≡ flat_map weight_bytes (weights_from weigher.old level (elements.now ++ es)) }
-    ensures within { result ≤ 2 * length elements.now }
+    requires size { length out.old < 2 ^ 64 }
+    ensures bytes { PutsAt at (flat_map weight_bytes (weights_from weigher.old level elements.now)) out.old out.new result }
+    ensures seen { (es : List Element) → weights_from weigher.old level (elements.now ++ es) ≡ weights_from weigher.old level elements.now ++ weights_from weigher.new level es }
     ensures option { weigher.new.weighting ≡ v }
 {
     match (v, level) {
-        (Variable::NonIgnorable, 1) => put_unchanged_level(key, elements, 1),
-        (Variable::NonIgnorable, 2) => put_unchanged_level(key, elements, 2),
-        (Variable::NonIgnorable, 3) => put_unchanged_level(key, elements, 3),
-        _ => put_weighted_level(key, weigher, elements, level),
+        (Variable::NonIgnorable, 1) => put_unchanged_level(elements, 1, at, out),
+        (Variable::NonIgnorable, 2) => put_unchanged_level(elements, 2, at, out),
+        (Variable::NonIgnorable, 3) => put_unchanged_level(elements, 3, at, out),
+        (_, 1) => put_weighted_level(weigher, elements, 1, at, out),
+        (_, 2) => put_weighted_level(weigher, elements, 2, at, out),
+        (_, 3) => put_weighted_level(weigher, elements, 3, at, out),
+        _ => put_weighted_level(weigher, elements, 4, at, out),
     }
 }

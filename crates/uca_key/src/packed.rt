@@ -9,8 +9,9 @@ ghost use Rattle.uca_model.specs.SortKey.{level_bytes};
 ghost use Rattle.uca_levels.specs.Streams.{weights_from};
 ghost use Rattle.uca_window.specs.Passage.{bytes_of, text_of};
 ghost use Rattle.uca_key.specs.PackedKey.{common_weight, later_bytes, other_bytes, packed_after, packed_key, packed_level};
-ghost use Rattle.uca_key.specs.Pieces.{HoldsElements, SameText, elements_of, pieces_left};
-ghost use Rattle.uca_key.specs.Placing.{PutsAt, with_front};
+ghost use Rattle.uca_key.specs.PackedLevel.{bytes_left};
+ghost use Rattle.uca_key.specs.Pieces.{HoldsElements, elements_of};
+ghost use Rattle.uca_key.specs.Placing.{IsPutting, PutsAt, with_front};
 
 use crate::pieces::{PIECE, TextReading};
 use crate::placing::{ROOM, put_bytes, put_text, put_weights};
@@ -35,7 +36,7 @@ struct Packed {
 
 // The weight that most characters have at a level from 2 to 4.
 #[inline(always)]
-fn common_weight(level: u8) -> u16
+pub(crate) fn common_weight(level: u8) -> u16
     ensures { result ≡ common_weight level }
 {
     match level {
@@ -236,11 +237,74 @@ fn pack(
     }
 }
 
-// Puts a packed level, from 2 to 4, of elements that are left.
-fn put_packed(
+// How far a packed level is put: the place after its bytes, how many common weights were counted since, and the weigher of the elements
+// that follow.
+#[derive(Drop)]
+struct PackedLevel {
+    next: usize,
+    run: u8,
+    weigher: Weigher,
+}
+
+impl PackedLevel {
+    // A level that begins at a place.
+    fn new(v: Variable, at: usize) -> PackedLevel
+        ensures next { result.next ≡ at }
+        ensures few { result.run < 84 }
+        ensures option { result.weigher.weighting ≡ v }
+        ensures left { (level : ℕ) (es : List Element) → bytes_left level result es ≡ packed_level (weighted v es) level }
+    {
+        PackedLevel {
+            next: at,
+            run: 0,
+            weigher: Weigher::new(v),
+        }
+    }
+}
+
+// Packs the weights of some elements at a level from 2 to 4, a piece at a time.
+fn put_packed_elements(
     v: Variable,
     level: u8,
-    reading: &mut TextReading,
+    state: &mut PackedLevel,
+    elements: &[Element],
+    out: &mut [u8],
+)
+    requires few { state.old.run < 84 }
+    requires first { 2 ≤ level }
+    requires last { level ≤ 4 }
+    requires option { state.old.weigher.weighting ≡ v }
+    requires size { length out.old < 2 ^ 64 }
+    ensures bytes { (at : ℕ) (before whole : List ℕ) (es : List Element) → IsPutting at before state.old.next out.old whole (bytes_left level state.old (elements.now ++ es)) → IsPutting at before state.new.next out.new whole (bytes_left level state.new es) }
+    ensures few { state.new.run < 84 }
+    ensures option { state.new.weigher.weighting ≡ v }
+    ensures size { length out.new ≡ length out.old }
+{
+    let mut bytes = [0; OTHER * PIECE];
+    let mut left = elements;
+    'pieces: while !left.is_empty() {
+        let (piece, rest) = left.split_at(left.len().min(PIECE));
+        let packed = pack(&mut bytes, state.run, v, &mut state.weigher, piece, level);
+        state.next = put_bytes(&bytes[..packed.at], state.next, out);
+        state.run = packed.run;
+        left = rest;
+    }
+}
+
+// Puts the end of a packed level.
+fn put_packed_end(state: &PackedLevel, out: &mut [u8]) -> usize
+    requires few { state.now.run < 84 }
+    ensures { PutsAt state.now.next ((2 * state.now.run + 1) ∷ []) out.old out.new result }
+{
+    put_bytes(&[2 * state.run + 1], state.next, out)
+}
+
+// Puts a packed level, from 2 to 4, of a text that the room does not hold, as it is read once more.
+#[inline(never)]
+fn put_packed_again(
+    v: Variable,
+    level: u8,
+    reading: &TextReading,
     room: &mut [Element],
     at: usize,
     out: &mut [u8],
@@ -248,53 +312,50 @@ fn put_packed(
     requires first { 2 ≤ level }
     requires last { level ≤ 4 }
     requires some { 0 < length room.old }
-    requires holds { HoldsElements reading.old room.old }
-    requires place { at < 2 ^ 64 }
     requires size { length out.old < 2 ^ 64 }
-    ensures bytes { PutsAt at (packed_level (weighted v (pieces_left reading.old room.old)) level) out.old out.new result }
-    ensures holds { HoldsElements reading.new room.new }
-    ensures same { SameText reading.old reading.new }
+    ensures bytes { PutsAt at (packed_level (weighted v (elements_of reading.now)) level) out.old out.new result }
     ensures room { length room.new ≡ length room.old }
 {
-    let mut weigher = Weigher::new(v);
-    let mut bytes = [0; OTHER * PIECE];
-    let mut run = 0;
-    let mut next = at;
+    let mut state = PackedLevel::new(v, at);
+    let mut left = reading.again();
     'each: loop {
-        let (from, to) = reading.next(room);
-        if from == to {
-            return put_bytes(&[2 * run + 1], next, out);
+        let n = left.read(room);
+        if n == 0 {
+            return put_packed_end(&state, out);
         }
-        let packed = pack(&mut bytes, run, v, &mut weigher, &room[from..to], level);
-        next = put_bytes(&bytes[..packed.at], next, out);
-        run = packed.run;
+        put_packed_elements(v, level, &mut state, &room[..n], out);
     }
 }
 
-// Puts the first level of a text that was read into room, which is that of its sort key.
-fn put_first(
-    reading: &mut TextReading,
+// Puts a packed level, from 2 to 4, of a text that was read into room.
+fn put_packed(
     v: Variable,
+    level: u8,
+    reading: &TextReading,
     room: &mut [Element],
     at: usize,
     out: &mut [u8],
 ) -> usize
-    requires place { at < 2 ^ 64 }
+    requires first { 2 ≤ level }
+    requires last { level ≤ 4 }
     requires some { 0 < length room.old }
-    requires holds { HoldsElements reading.old room.old }
+    requires holds { HoldsElements reading.now room.old }
     requires size { length out.old < 2 ^ 64 }
-    ensures bytes { PutsAt at (level_bytes (weighted v (elements_of reading.old)) 1) out.old out.new result }
-    ensures holds { HoldsElements reading.new room.new }
-    ensures same { SameText reading.old reading.new }
+    ensures bytes { PutsAt at (packed_level (weighted v (elements_of reading.now)) level) out.old out.new result }
+    ensures holds { HoldsElements reading.now room.new }
     ensures room { length room.new ≡ length room.old }
 {
-    reading.restart(room);
-    put_weights(v, 1, reading, room, at, out)
+    if let Some(held) = reading.held {
+        let mut state = PackedLevel::new(v, at);
+        put_packed_elements(v, level, &mut state, &room[..held], out);
+        return put_packed_end(&state, out);
+    }
+    put_packed_again(v, level, reading, room, at, out)
 }
 
 // Puts a later level of a text that was read into room, from 2 to 5.
 fn put_later(
-    reading: &mut TextReading,
+    reading: &TextReading,
     v: Variable,
     level: u8,
     room: &mut [Element],
@@ -304,18 +365,15 @@ fn put_later(
     requires first { 2 ≤ level }
     requires last { level ≤ 5 }
     requires some { 0 < length room.old }
-    requires holds { HoldsElements reading.old room.old }
-    requires place { at < 2 ^ 64 }
+    requires holds { HoldsElements reading.now room.old }
     requires size { length out.old < 2 ^ 64 }
-    ensures bytes { PutsAt at (later_bytes reading.old.table.now v (chars reading.old.text.now) level) out.old out.new result }
-    ensures holds { HoldsElements reading.new room.new }
-    ensures same { SameText reading.old reading.new }
+    ensures bytes { PutsAt at (later_bytes reading.now.table.now v (chars reading.now.text.now) level) out.old out.new result }
+    ensures holds { HoldsElements reading.now room.new }
     ensures room { length room.new ≡ length room.old }
 {
     if level == 5 {
         return put_text(reading.table, v, reading.text, at, out);
     }
-    reading.restart(room);
     put_packed(v, level, reading, room, at, out)
 }
 
@@ -330,14 +388,13 @@ pub(crate) fn put_packed_levels(
 ) -> usize
     requires safe { IsSafe (chars text.now) }
     requires some { 0 < length room.old }
-    requires place { at < 2 ^ 64 }
     requires size { length out.old < 2 ^ 64 }
     ensures bytes { PutsAt at (packed_key t.now s (chars text.now)) out.old out.new result }
     ensures room { length room.new ≡ length room.old }
 {
     let last = s.levels();
-    let mut reading = TextReading::new(t, text, room);
-    let mut next = put_first(&mut reading, s.weighting, room, at, out);
+    let reading = TextReading::new(t, text, room);
+    let mut next = put_weights(s.weighting, 1, &reading, room, at, out);
     if last == 1 {
         return next;
     }
@@ -345,7 +402,7 @@ pub(crate) fn put_packed_levels(
     let mut level = 1;
     'each: while level < last {
         level += 1;
-        next = put_later(&mut reading, s.weighting, level, room, next, out);
+        next = put_later(&reading, s.weighting, level, room, next, out);
     }
     next
 }

@@ -1,17 +1,17 @@
 // Keys that are put into a buffer piece by piece, level after level.
-ghost use Rattle.std.specs.Prelude.{◌≡◌, ◌<◌, ◌≤◌, ◌-◌, ◌^◌, None, chars, flat_map, length, min};
+ghost use Rattle.std.specs.Prelude.{◌≡◌, ◌<◌, ◌≤◌, ◌-◌, ◌^◌, chars, length, min};
 ghost use Rattle.uca_weights.specs.VariableWeighting.{weighted};
 ghost use Rattle.uca_model.specs.DecidingLevel.{bytes_at};
-ghost use Rattle.uca_model.specs.LevelWeights.{level_list, level_weights};
+ghost use Rattle.uca_model.specs.LevelWeights.{level_list};
 ghost use Rattle.uca_model.specs.SafeText.{IsSafe};
-ghost use Rattle.uca_model.specs.SortKey.{code_point_bytes, sort_key, weight_bytes};
+ghost use Rattle.uca_model.specs.SortKey.{code_point_bytes, level_bytes, sort_key};
 ghost use Rattle.uca_model.specs.Source.{unread};
 ghost use Rattle.uca_window.specs.Passage.{bytes_of, text_of};
-ghost use Rattle.uca_key.specs.Pieces.{HoldsElements, SameText, pieces_left};
+ghost use Rattle.uca_key.specs.Pieces.{HoldsElements, elements_of};
 ghost use Rattle.uca_key.specs.Placing.{PutsAt, with_front};
 
 use crate::level_bytes::put_level;
-use crate::pieces::{PIECE, TextReading};
+use crate::pieces::TextReading;
 use uca_levels::Points;
 use uca_table::Table;
 use uca_weights::{Element, Settings, Variable, Weigher};
@@ -49,11 +49,12 @@ fn put_point(point: char, at: usize, out: &mut [u8]) -> usize
     put_bytes(&(point as u32).to_be_bytes()[1..], at, out)
 }
 
-// Puts the weights of a level of elements that are left.
-pub(crate) fn put_weights(
+// Puts the weights of a level of elements that the room does not hold, as they are read once more.
+#[inline(never)]
+fn put_weights_again(
     v: Variable,
     level: u8,
-    reading: &mut TextReading,
+    reading: &TextReading,
     room: &mut [Element],
     at: usize,
     out: &mut [u8],
@@ -61,25 +62,45 @@ pub(crate) fn put_weights(
     requires first { 1 ≤ level }
     requires last { level ≤ 4 }
     requires some { 0 < length room.old }
-    requires holds { HoldsElements reading.old room.old }
-    requires place { at < 2 ^ 64 }
     requires size { length out.old < 2 ^ 64 }
-    ensures bytes { PutsAt at (flat_map weight_bytes (level_weights level (weighted v (pieces_left reading.old room.old)))) out.old out.new result }
-    ensures holds { HoldsElements reading.new room.new }
-    ensures same { SameText reading.old reading.new }
+    ensures bytes { PutsAt at (level_bytes (weighted v (elements_of reading.now)) level) out.old out.new result }
     ensures room { length room.new ≡ length room.old }
 {
+    let mut left = reading.again();
     let mut weigher = Weigher::new(v);
-    let mut bytes = [0; 2 * PIECE];
     let mut next = at;
     'each: loop {
-        let (from, to) = reading.next(room);
-        if from == to {
+        let n = left.read(room);
+        if n == 0 {
             return next;
         }
-        let size = put_level(&mut bytes, v, &mut weigher, &room[from..to], level);
-        next = put_bytes(&bytes[..size], next, out);
+        next = put_level(v, &mut weigher, &room[..n], level, next, out);
     }
+}
+
+// Puts the weights of a level of a text that was read into room.
+pub(crate) fn put_weights(
+    v: Variable,
+    level: u8,
+    reading: &TextReading,
+    room: &mut [Element],
+    at: usize,
+    out: &mut [u8],
+) -> usize
+    requires first { 1 ≤ level }
+    requires last { level ≤ 4 }
+    requires some { 0 < length room.old }
+    requires holds { HoldsElements reading.now room.old }
+    requires size { length out.old < 2 ^ 64 }
+    ensures bytes { PutsAt at (level_bytes (weighted v (elements_of reading.now)) level) out.old out.new result }
+    ensures holds { HoldsElements reading.now room.new }
+    ensures room { length room.new ≡ length room.old }
+{
+    if let Some(held) = reading.held {
+        let mut weigher = Weigher::new(v);
+        return put_level(v, &mut weigher, &room[..held], level, at, out);
+    }
+    put_weights_again(v, level, reading, room, at, out)
 }
 
 // Puts the code points in NFD, of what a source has not given yet.
@@ -109,7 +130,7 @@ pub(crate) fn put_text(t: &Table, v: Variable, text: &str, at: usize, out: &mut 
 
 // Puts one level of a text that was read into room.
 fn put_level_of(
-    reading: &mut TextReading,
+    reading: &TextReading,
     v: Variable,
     level: u8,
     room: &mut [Element],
@@ -119,17 +140,15 @@ fn put_level_of(
     requires first { 1 ≤ level }
     requires last { level ≤ 5 }
     requires some { 0 < length room.old }
-    requires holds { HoldsElements reading.old room.old }
+    requires holds { HoldsElements reading.now room.old }
     requires size { length out.old < 2 ^ 64 }
-    ensures bytes { PutsAt at (bytes_at level (level_list reading.old.table.now v (chars reading.old.text.now) level)) out.old out.new result }
-    ensures holds { HoldsElements reading.new room.new }
-    ensures same { SameText reading.old reading.new }
+    ensures bytes { PutsAt at (bytes_at level (level_list reading.now.table.now v (chars reading.now.text.now) level)) out.old out.new result }
+    ensures holds { HoldsElements reading.now room.new }
     ensures room { length room.new ≡ length room.old }
 {
     if level == 5 {
         return put_text(reading.table, v, reading.text, at, out);
     }
-    reading.restart(room);
     put_weights(v, level, reading, room, at, out)
 }
 
@@ -144,17 +163,16 @@ pub(crate) fn put_levels(
 ) -> usize
     requires safe { IsSafe (chars text.now) }
     requires some { 0 < length room.old }
-    requires place { at < 2 ^ 64 }
     requires size { length out.old < 2 ^ 64 }
     ensures bytes { PutsAt at (sort_key t.now s (chars text.now)) out.old out.new result }
     ensures room { length room.new ≡ length room.old }
 {
     let last = s.levels();
-    let mut reading = TextReading::new(t, text, room);
+    let reading = TextReading::new(t, text, room);
     let mut level = 1;
     let mut next = at;
     'each: loop {
-        next = put_level_of(&mut reading, s.weighting, level, room, next, out);
+        next = put_level_of(&reading, s.weighting, level, room, next, out);
         if level == last {
             return next;
         }

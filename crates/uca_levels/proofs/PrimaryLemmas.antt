@@ -1,5 +1,5 @@
--- Two texts after what both have in common, where neither joins what is before it.
-use Rattle.std.proofs.Common.{◌≡◌, ℕ, List, ◌++◌, sym, subst, ap, ap₂, ◌∙◌, arith, inl, inr}
+-- Two texts after what both have in common, where both may be cut for their elements.
+use Rattle.std.proofs.Common.{◌≡◌, ℕ, List, ◌++◌, sym, subst, ap, ap₂, ◌∙◌, inl, inr}
 use Rattle.unicode_normalization.specs.Forms.{nfd}
 use Rattle.uca_weights.specs.declared.element.Element.{Element}
 use Rattle.uca_weights.specs.declared.settings.Variable.{Variable}
@@ -9,19 +9,17 @@ use Rattle.uca_model.specs.CollationElements.{elements}
 use Rattle.uca_model.specs.LevelWeights.{level_weights, level_list}
 use Rattle.uca_model.specs.DecidingLevel.{OrdersLevel}
 use Rattle.uca_model.specs.SafeText.{IsSafe}
-use Rattle.uca_model.proofs.StandAloneLemmas.{apart-before, apart-end}
 use Rattle.uca_model.proofs.PrefixLemmas.{first_level-is, first_level-append}
 use Rattle.uca_model.proofs.LevelLemmas.{OrdersLevel-front}
-use Rattle.uca_match.specs.JoinsNothing.{JoinsNothing}
-use Rattle.uca_match.proofs.TextLemmas.{IsSafe-rest, elements-apart}
-use Rattle.uca_levels.specs.WithoutFront.{AreApart}
+use Rattle.uca_match.proofs.TextLemmas.{IsSafe-rest}
+use Rattle.uca_levels.specs.WithoutFront.{AreApart, IsApart}
 
 primaries-append : (v : Variable) (es fs : List Element) → level_weights 1 (weighted v (es ++ fs)) ≡ level_weights 1 (weighted v es) ++ level_weights 1 (weighted v fs)
 primaries-append v es fs = first_level-is v (es ++ fs) ∙ first_level-append v es fs ∙ sym (ap₂ (λ a b. a ++ b) (first_level-is v es) (first_level-is v fs))
 
--- what joins nothing adds its weights to those of what comes before it
-lists-apart : (t : ElementTable) (v : Variable) (front left : List ℕ) → JoinsNothing t left → level_list t v (front ++ left) 1 ≡ level_list t v front 1 ++ level_list t v left 1
-lists-apart t v front left joins = ap (λ l. level_weights 1 (weighted v l)) (elements-apart t front left joins) ∙ primaries-append v (elements t (nfd front)) (elements t (nfd left))
+-- what has its elements by itself adds its weights to those of what comes before it
+lists-apart : (t : ElementTable) (v : Variable) (front left : List ℕ) → IsApart t front left → level_list t v (front ++ left) 1 ≡ level_list t v front 1 ++ level_list t v left 1
+lists-apart t v front left apart = ap (λ l. level_weights 1 (weighted v l)) apart ∙ primaries-append v (elements t (nfd front)) (elements t (nfd left))
 
 -- what was passed over has the same weights in both at the first level, and does not decide it
 pub orders-apart : (t : ElementTable) (v : Variable) (a b x y : List ℕ) (o : _) → AreApart t a b x y → OrdersLevel 1 (level_list t v x 1) (level_list t v y 1) o → OrdersLevel 1 (level_list t v a 1) (level_list t v b 1) o

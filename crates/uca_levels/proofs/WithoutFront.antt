@@ -1,9 +1,8 @@
 -- Two texts without a common front have the order of the whole texts.
 use Rattle.std.proofs.Common.{◌≡◌, ℕ, zero, suc, ◌+◌, ◌-◌, ◌≤◌, Bool, ◌&&◌, ◌==◌, List, [], ◌∷◌, ◌++◌, All, length, take, drop, chars, IsUtf8, refl, sym, ap, ap₂, subst, ◌∙◌, arith, inl, inr, append-nil}
 use Rattle.std.proofs.lemmas.Bool.{cases_Bool, cond-true, cond-false}
-use Rattle.std.proofs.lemmas.List.{take-append-drop}
 use Rattle.std.proofs.lemmas.List.Sums.{AllPass-from_list_all}
-use Rattle.std.proofs.lemmas.Str.{chars-append, scalars-chars, IsUtf8-take}
+use Rattle.std.proofs.lemmas.Str.{scalars-chars}
 use Rattle.std.proofs.lemmas.List.Elements.{All-drop}
 use Rattle.std.proofs.Math.Seq.{drop-append_seam}
 use Rattle.std.specs.Char.{IsScalar}
@@ -142,8 +141,8 @@ equal-texts t s a b n all_a all_b same =
 -- ---- their bytes
 
 -- what is left from a place on, up to which the bytes are the same
-pub left-at : (Follows : List ℕ → Type 0) (a b x y : List ℕ) (at : ℕ) → IsUtf8 a → IsUtf8 b → IsCharBoundary a at → IsCharBoundary b at → take at a ≡ take at b → x ≡ drop at a → y ≡ drop at b
-    → Follows (chars x) → Follows (chars y) → AreLeft Follows (chars a) (chars b) (chars x) (chars y)
+pub left-at : (Follows : List ℕ → List ℕ → Type 0) (a b x y : List ℕ) (at : ℕ) → IsUtf8 a → IsUtf8 b → IsCharBoundary a at → IsCharBoundary b at → take at a ≡ take at b → x ≡ drop at a → y ≡ drop at b
+    → Follows (chars (take at a)) (chars x) → Follows (chars (take at a)) (chars y) → AreLeft Follows (chars a) (chars b) (chars x) (chars y)
 left-at Follows a b x y at utf8_a utf8_b inside_a inside_b same of_a of_b may_a may_b = record {
   front = chars (take at a);
   first = parts-at a x at utf8_a inside_a of_a;
@@ -151,7 +150,7 @@ left-at Follows a b x y at utf8_a utf8_b inside_a inside_b same of_a of_b may_a 
   follow = inr (may_a, may_b);
 }
 
-pub left-whole : (Follows : List ℕ → Type 0) (a b : List ℕ) → AreLeft Follows a b a b
+pub left-whole : (Follows : List ℕ → List ℕ → Type 0) (a b : List ℕ) → AreLeft Follows a b a b
 left-whole Follows a b = record { front = []; first = refl; second = refl; follow = inl refl }
 
 take-fewer : (k n : ℕ) (l : List ℕ) → k ≤ n → take k (take n l) ≡ take k l

@@ -6,5 +6,5 @@ pub mod WithoutFront
 pub mod Decides
 pub mod Streams
 pub mod CellWeights
-pub mod TextWeights
+pub mod JoinedWeights
 pub mod FirstWeight

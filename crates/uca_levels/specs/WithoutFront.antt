@@ -2,7 +2,8 @@
 use Rattle.std.specs.Prelude.{◌≡◌, ◌⊎◌, ℕ, true, List, [], ◌∷◌, ◌++◌}
 use Rattle.uca_model.specs.Table.{ElementTable}
 use Rattle.uca_model.specs.SafeCut.{is_cut}
-use Rattle.uca_match.specs.JoinsNothing.{JoinsNothing}
+use Rattle.uca_model.specs.CollationElements.{elements}
+use Rattle.unicode_normalization.specs.Forms.{nfd}
 
 -- a text begins with a character before which it may be cut
 pub record BeginsWithCut (t : ElementTable) (text : List ℕ) : Type 0 where
@@ -15,17 +16,21 @@ pub record BeginsWithCut (t : ElementTable) (text : List ℕ) : Type 0 where
 abbrev pub MayFollow : ElementTable → List ℕ → Type 0
 MayFollow t text = (text ≡ []) ⊎ BeginsWithCut t text
 
--- these are left of two texts after a front that they have in common, and both are of such a kind if there is one
-pub record AreLeft (Follows : List ℕ → Type 0) (a b left_a left_b : List ℕ) : Type 0 where
+-- these are left of two texts after a front that they have in common, and both follow it so if there is one
+pub record AreLeft (Follows : List ℕ → List ℕ → Type 0) (a b left_a left_b : List ℕ) : Type 0 where
   pub front : List ℕ
   pub first : a ≡ front ++ left_a
   pub second : b ≡ front ++ left_b
-  pub follow : (front ≡ []) ⊎ (Follows left_a × Follows left_b)
+  pub follow : (front ≡ []) ⊎ (Follows front left_a × Follows front left_b)
 
--- they may follow it
+-- they may follow any text
 abbrev pub AreWithoutFront : ElementTable → List ℕ → List ℕ → List ℕ → List ℕ → Type 0
-AreWithoutFront t = AreLeft (MayFollow t)
+AreWithoutFront t = AreLeft (λ front left. MayFollow t left)
 
--- they join nothing of it
+-- a text after a front has its elements by itself, and so has the front
+abbrev pub IsApart : ElementTable → List ℕ → List ℕ → Type 0
+IsApart t front left = elements t (nfd (front ++ left)) ≡ elements t (nfd front) ++ elements t (nfd left)
+
+-- so have both
 abbrev pub AreApart : ElementTable → List ℕ → List ℕ → List ℕ → List ℕ → Type 0
-AreApart t = AreLeft (JoinsNothing t)
+AreApart t = AreLeft (IsApart t)

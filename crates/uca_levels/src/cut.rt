@@ -2,9 +2,10 @@ ghost use Rattle.std.specs.Prelude.{◌≡◌, IsTrue, chars, length, take, ◌+
 ghost use Rattle.std.specs.Str.{IsCharBoundary};
 ghost use Rattle.std.specs.Simd.Lanes.{chunk};
 ghost use Rattle.uca_model.specs.SafeCut.{is_cut};
-ghost use Rattle.uca_levels.specs.WithoutFront.{AreApart, AreWithoutFront, MayFollow};
+ghost use Rattle.uca_levels.specs.WithoutFront.{AreApart, AreWithoutFront, IsApart, MayFollow};
 
 use std::simd::prelude::*;
+use uca_match::completeness::split_last;
 use uca_match::joins_nothing;
 use uca_table::Table;
 
@@ -104,8 +105,22 @@ pub(crate) fn without_front<'t>(
     (a, b)
 }
 
-/// What is left of two texts from the last place on at which neither joins what is before it, of those in the bytes that they
-/// have in common.
+// Whether a text may be cut at a place: whether its two parts have their elements independently. `false`: that is not known.
+#[inline(always)]
+fn is_apart(t: &Table, front: &str, left: &str) -> bool
+    ensures { IsTrue result → IsApart t.now (chars front.now) (chars left.now) }
+{
+    if joins_nothing(t, left) {
+        return true;
+    }
+    match split_last(front) {
+        Some((_before, c)) => t.bears_all(c),
+        None => false,
+    }
+}
+
+/// What is left of two texts from the last place on at which each may be cut for its elements, of those in the bytes that they have
+/// in common.
 pub(crate) fn apart_after<'t>(
     t: &Table,
     a: &'t str,
@@ -118,9 +133,9 @@ pub(crate) fn apart_after<'t>(
     let mut at = common;
     'back: while at > 0 {
         if are_whole(a, b, at) {
-            let left_a = a.split_at(at).1;
+            let (front, left_a) = a.split_at(at);
             let left_b = b.split_at(at).1;
-            if joins_nothing(t, left_a) && joins_nothing(t, left_b) {
+            if is_apart(t, front, left_a) && is_apart(t, front, left_b) {
                 return (left_a, left_b);
             }
         }

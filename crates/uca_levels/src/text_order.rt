@@ -11,48 +11,48 @@ ghost use Rattle.uca_levels.specs.Streams.{given_before};
 use crate::cell_weights::CellWeights;
 use crate::comparison::compare_sources;
 use crate::cut::{apart_after, common_front, without_front};
+use crate::joined_weights::JoinedWeights;
 use crate::stream::order_of;
-use crate::text_weights::TextWeights;
 use std::cmp::Ordering;
 use uca_table::Table;
 use uca_weights::{Settings, Variable};
 use uca_window::{Passage, PassageSource};
 
 // The order of two texts of which some characters do not stand alone. What the first gave and was not compared comes before its
-// other weights.
+// other weights. `None`: many characters join each other.
 #[inline(never)]
-fn order_of_joined(left: CellWeights, right: CellWeights, given: Option<u16>) -> Ordering
+fn order_of_joined(left: CellWeights, right: CellWeights, given: Option<u16>) -> Option<Ordering>
     requires level { left.level ≡ right.level }
     requires given { IfSome given (λ w. (0 < w) × (w < 2 ^ 16)) }
-    ensures { OrdersLevel left.entry.level (given_before given (cell_weights_left left.entry)) (cell_weights_left right.entry) result }
+    ensures { IfSome result (OrdersLevel left.entry.level (given_before given (cell_weights_left left.entry)) (cell_weights_left right.entry)) }
 {
-    let mut left = TextWeights::after(left, given);
-    let mut right = TextWeights::after(right, None);
+    let mut left = JoinedWeights::after(left, given);
+    let mut right = JoinedWeights::after(right, None);
     match order_of(&mut left, &mut right) {
-        Ok(order) => order,
-        Err(_) => unreachable!(),
+        Ok(order) => Some(order),
+        Err(_) => None,
     }
 }
 
-// The order of two texts at a level of weights.
-fn order_of_weights(t: &Table, v: Variable, level: u8, a: &str, b: &str) -> Ordering
+// The order of two texts at a level of weights. `None`: many characters join each other.
+fn order_of_weights(t: &Table, v: Variable, level: u8, a: &str, b: &str) -> Option<Ordering>
     requires first { 1 ≤ level }
     requires last { level ≤ 4 }
     requires safe_a { IsSafe (chars a.now) }
     requires safe_b { IsSafe (chars b.now) }
-    ensures { OrdersLevel level (level_list t.now v (chars a.now) level) (level_list t.now v (chars b.now) level) result }
+    ensures { IfSome result (OrdersLevel level (level_list t.now v (chars a.now) level) (level_list t.now v (chars b.now) level)) }
 {
     let mut left = CellWeights::new(t, v, level, a);
     let mut right = CellWeights::new(t, v, level, b);
     match order_of(&mut left, &mut right) {
-        Ok(order) => order,
+        Ok(order) => Some(order),
         Err(undecided) => order_of_joined(left, right, undecided.given),
     }
 }
 
 // The order of two texts at the first four levels, as many of them as there are. Both begin with bytes in common: the first level
-// begins at the last place in them at which neither text joins what is before it, and later levels at the last one at which both may
-// be cut. `None`: the fifth level is asked for.
+// begins at the last place in them at which both texts may be cut for their elements, and later levels at the last one at which they
+// may be cut for all weights. `None`: the fifth level is asked for, or many characters join each other.
 fn order_by_weights(t: &Table, s: Settings, a: &str, b: &str, common: usize) -> Option<Ordering>
     requires safe_a { IsSafe (chars a.now) }
     requires safe_b { IsSafe (chars b.now) }
@@ -61,7 +61,7 @@ fn order_by_weights(t: &Table, s: Settings, a: &str, b: &str, common: usize) -> 
 {
     let _longest = t.longest();
     let (left_a, left_b) = apart_after(t, a, b, common);
-    let order = order_of_weights(t, s.weighting, 1, left_a, left_b);
+    let order = order_of_weights(t, s.weighting, 1, left_a, left_b)?;
     if order.is_ne() {
         return Some(order);
     }
@@ -72,7 +72,7 @@ fn order_by_weights(t: &Table, s: Settings, a: &str, b: &str, common: usize) -> 
         if level == 5 {
             return None;
         }
-        let order = order_of_weights(t, s.weighting, level, left_a, left_b);
+        let order = order_of_weights(t, s.weighting, level, left_a, left_b)?;
         if order.is_ne() {
             return Some(order);
         }
@@ -97,8 +97,8 @@ fn order_by_sources(t: &Table, s: Settings, a: &str, b: &str, common: usize) -> 
 
 /// The order of the sort keys of two texts (UTS #10, section 7.4, step S4), without their keys. It does not allocate.
 ///
-/// The bytes that both texts begin with are passed over. Only where the fifth level decides, [`compare_sources`] compares what is
-/// left of the texts from the last place on at which both may be cut.
+/// The bytes that both texts begin with are passed over. Only where the fifth level decides, or where many characters join each other,
+/// [`compare_sources`] compares what is left of the texts from the last place on at which both may be cut.
 pub fn compare(t: &Table, s: Settings, a: &Passage, b: &Passage) -> Ordering
     ensures { result ≡ key_order (sort_key t.now s (text_of a.now)) (sort_key t.now s (text_of b.now)) }
 {

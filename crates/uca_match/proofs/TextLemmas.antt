@@ -1,19 +1,24 @@
 -- The elements of a text that are left: one step of its characters.
-use Rattle.std.proofs.Common.{◌≡◌, ℕ, ◌+◌, ◌≤◌, max, take-append-drop, List, [], ◌∷◌, ◌++◌, length, take, drop, flat_map, All, chars, IsUtf8, refl, sym, ap, subst, ◌∙◌, arith, inl, inr}
+use Rattle.std.proofs.Common.{◌≡◌, ℕ, ◌+◌, ◌-◌, ◌≤◌, true, append_assoc, append-nil, length-append, ap₂, max, length-take-le, take-take, take-append-drop, List, [], ◌∷◌, ◌++◌, length, take, drop, flat_map, All, chars, IsUtf8, refl, sym, ap, subst, ◌∙◌, arith, inl, inr}
 use Rattle.std.proofs.lemmas.Bool.{cases_Bool}
-use Rattle.std.proofs.lemmas.List.{drop_at}
+use Rattle.std.proofs.lemmas.List.{drop_at, take-append-le}
+use Rattle.uca_weights.specs.declared.element.Element.{Element}
 use Rattle.std.proofs.lemmas.List.Concat.{flat_map-append}
 use Rattle.std.proofs.lemmas.List.Elements.{All-drop}
 use Rattle.std.proofs.lemmas.Str.{chars-append, IsUtf8-take}
 use Rattle.std.specs.Str.{IsCharBoundary}
+use Rattle.std.proofs.Math.Seq.{take-append_seam}
 use Rattle.unicode_normalization.specs.Decompose.{decompose_canonical}
 use Rattle.unicode_normalization.specs.Forms.{nfd}
-use Rattle.unicode_normalization.specs.Order.{is_nonstarter}
+use Rattle.unicode_normalization.specs.Order.{is_nonstarter, is_ordered, canonical_order}
+use Rattle.unicode_normalization.proofs.OrderLemmas.{canonical_order-front, is_ordered-canonical_order}
 use Rattle.uca_weights.specs.declared.limits.TheConstants.{MAX_DECOMPOSITION}
 use Rattle.uca_model.specs.CollationElements.{elements}
 use Rattle.uca_model.specs.Table.{ElementTable}
 use Rattle.uca_model.specs.SafeText.{IsSafe, longest_run, longest_run_after}
-use Rattle.uca_model.proofs.SafeLemmas.{longest_run-nfd, run_after, runs-append}
+use Rattle.uca_model.specs.StandAlone.{bearing}
+use Rattle.uca_model.proofs.ClosingLemmas.{apart-after}
+use Rattle.uca_model.proofs.SafeLemmas.{nfd-is, longest_run-nfd, run_after, runs-append}
 use Rattle.uca_model.proofs.StandAloneLemmas.{apart-before, apart-end}
 use Rattle.uca_match.specs.JoinsNothing.{JoinsNothing}
 
@@ -59,3 +64,51 @@ elements-apart t front left joins =
       | inl none ↦ ap (λ l. elements t (nfd (front ++ l))) none ∙ apart-end t front ∙ ap (λ l. elements t (nfd front) ++ elements t (nfd l)) (sym none)
       | inr some ↦ ap (λ l. elements t (nfd (front ++ l))) some.same ∙ apart-before t front some.later some.c (omega (arith, some.apart)) ∙ ap (λ l. elements t (nfd front) ++ elements t (nfd l)) (sym some.same)
     ]
+
+-- ---- what was read of a text, by what is left of it
+
+abbrev pub front_of : List ℕ → List ℕ → List ℕ
+front_of all left = take (length all - length left) all
+
+-- what is left is the end of the text
+abbrev pub IsFront : List ℕ → List ℕ → Type 0
+IsFront all left = all ≡ front_of all left ++ left
+
+pub front-none : (all : List ℕ) → front_of all all ≡ []
+front-none all = let e : length all - length all ≡ 0 = omega arith in ap (λ n. take n all) e
+
+-- the text after a front
+pub front-is : (all front left : List ℕ) → all ≡ front ++ left → front_of all left ≡ front
+front-is all front left e =
+    let size : length all ≡ length front + length left = ap length e ∙ length-append front left in
+    let n : length all - length left ≡ length front = omega (arith, size) in
+    ap₂ take n e ∙ take-append_seam front left
+
+-- one character more was read
+pub front-more : (all old new : List ℕ) (c : ℕ) → IsFront all old → old ≡ c ∷ new → front_of all new ≡ front_of all old ++ c ∷ []
+front-more all old new c is e = front-is all (front_of all old ++ c ∷ []) new (is ∙ ap (λ l. front_of all old ++ l) e ∙ sym (append_assoc (front_of all old) (c ∷ []) new))
+
+pub IsFront-more : (all old new : List ℕ) (c : ℕ) → IsFront all old → old ≡ c ∷ new → IsFront all new
+IsFront-more all old new c is e =
+    is ∙ ap (λ l. front_of all old ++ l) e ∙ sym (append_assoc (front_of all old) (c ∷ []) new) ∙ ap (λ l. l ++ new) (sym (front-more all old new c is e))
+
+-- the NFD of a text and one character more
+pub nfd-more : (front : List ℕ) (c : ℕ) → nfd (front ++ c ∷ []) ≡ canonical_order (nfd front ++ decompose_canonical c)
+nfd-more front c =
+    nfd-is (front ++ c ∷ []) ∙ ap canonical_order (flat_map-append decompose_canonical front (c ∷ []) ∙ ap (λ l. flat_map decompose_canonical front ++ l) (append-nil (decompose_canonical c)))
+    ∙ sym (canonical_order-front (flat_map decompose_canonical front) (decompose_canonical c)) ∙ ap (λ l. canonical_order (l ++ decompose_canonical c)) (sym (nfd-is front))
+
+pub nfd-ordered : (front : List ℕ) → is_ordered (nfd front) ≡ true
+nfd-ordered front = ap is_ordered (nfd-is front) ∙ is_ordered-canonical_order (flat_map decompose_canonical front)
+
+-- a text has its elements after those of a character that bears all, or where it joins nothing
+pub elements-after : (t : ElementTable) (front left : List ℕ) (c : ℕ) → 3 ≤ bearing t c → elements t (nfd ((front ++ c ∷ []) ++ left)) ≡ elements t (nfd (front ++ c ∷ [])) ++ elements t (nfd left)
+elements-after t front left c all = apart-after t front left c all
+
+-- ---- room
+
+-- what was put after a place leaves what is before it
+pub kept-before : (from at end : ℕ) (new old : List Element) (es : List Element) → from ≤ at → at ≤ length old → from ≤ end → take end new ≡ take at old ++ es → take from new ≡ take from old
+kept-before from at end new old es first within last e =
+    let size : length (take at old) ≡ at = length-take-le at old within in
+    sym (take-take from end new last) ∙ ap (take from) e ∙ take-append-le from (take at old) es (omega (arith, size)) ∙ take-take from at old first

@@ -5,4 +5,4 @@ pub mod Keys
 pub mod Matches
 pub mod Found
 pub mod JoinsNothing
-pub mod Stretches
+pub mod TextLeft

@@ -1,8 +1,8 @@
 ghost use Rattle.std.specs.Prelude.{◌≡◌, ◌∷◌, ◌++◌, ◌||◌, [], List, ℕ, not, drop, reverse, chars, unwrap_or, IfSome, IfNone};
 ghost use Rattle.std.specs.Str.{IsUtf8};
 ghost use Rattle.uca_model.specs.CollationElements.{elements_or_implicit};
-ghost use Rattle.uca_model.specs.StandAlone.{is_first};
-ghost use Rattle.uca_model.specs.Prefix.{ends_matches, have_primaries_of, is_before_last, is_closed, is_complete, is_complete_from, is_primary_of, is_silent, keeps_primaries, lack_primary};
+ghost use Rattle.uca_model.specs.StandAlone.{is_first, ends_matches, is_before_last};
+ghost use Rattle.uca_model.specs.Prefix.{have_primaries_of, is_closed, is_complete, is_complete_from, is_primary_of, is_silent, keeps_primaries, lack_primary};
 ghost use Rattle.uca_window.specs.Passage.{text_of};
 
 use uca_table::Table;
@@ -31,8 +31,8 @@ pub fn is_complete(t: &Table, p: &Passage) -> bool
     true
 }
 
-// What comes before the last character of a text, and the character.
-fn split_last(text: &str) -> Option<(&str, char)>
+/// What comes before the last character of a text, and the character.
+pub fn split_last(text: &str) -> Option<(&str, char)>
     ensures some { IfSome result (λ r. chars text.now ≡ chars r.0.now ++ r.1 ∷ []) }
     ensures utf8 { IfSome result (λ r. IsUtf8 r.0.now) }
     ensures none { IfNone result (chars text.now ≡ []) }

@@ -11,11 +11,12 @@ pub mod keys;
 pub mod matches;
 pub mod stretch;
 pub mod text_elements;
+pub mod text_window;
 mod window_match;
 
 pub use completeness::is_complete;
 pub use elements::{Elements, elements_of};
 pub use keys::Keys;
 pub use matches::{Match, matches_of, matches_of_points};
-pub use stretch::{Stretch, joins_nothing, split_stretch};
-pub use text_elements::TextElements;
+pub use stretch::{joins_nothing, put_stretch};
+pub use text_elements::{TextElements, read_text};

@@ -1,50 +1,17 @@
-ghost use Rattle.std.specs.Prelude.{◌≡◌, IsTrue, ◌+◌, ◌++◌, ◌<◌, ◌≤◌, chars, length};
+ghost use Rattle.std.specs.Prelude.{◌≡◌, ℕ, List, [], ◌∷◌, IsTrue, ◌+◌, ◌++◌, ◌<◌, ◌≤◌, chars, length, option_copied, take, IfNone, IfSome};
 ghost use Rattle.unicode_normalization.specs.Forms.{nfd};
 ghost use Rattle.uca_weights.specs.declared.limits.TheConstants.{MAX_LOOKAHEAD};
-ghost use Rattle.uca_model.specs.CollationElements.{elements};
+ghost use Rattle.uca_model.specs.CollationElements.{elements, elements_or_implicit};
 ghost use Rattle.uca_model.specs.SafeText.{IsSafe};
-ghost use Rattle.uca_model.specs.Source.{unread};
-ghost use Rattle.uca_model.specs.Table.{longest};
-ghost use Rattle.uca_model.specs.Window.{Fits};
-ghost use Rattle.uca_match.specs.RemainingElements.{remaining_elements};
+ghost use Rattle.uca_model.specs.Table.{elements_at};
 ghost use Rattle.uca_match.specs.JoinsNothing.{JoinsNothing};
-ghost use Rattle.uca_match.specs.Yields.{YieldsFirst};
 
-use crate::elements::Elements;
+use arrayvec::ArrayVec;
 use uca_table::Table;
-use uca_weights::Element;
-use uca_window::{Passage, PassageSource};
-
-/// The elements of some characters of a text that join each other, one by one over a window.
-#[derive(Drop)]
-pub struct Stretch<'t> {
-    pub elements: Elements<'t>,
-    pub source: PassageSource<'t>,
-    ghost fits: { Fits elements.window (unread source) },
-}
-
-impl<'t> Stretch<'t> {
-    pub fn new(t: &'t Table, text: &'t str) -> Stretch<'t>
-        requires { IsSafe (chars text.now) }
-        ensures table { result.elements.table ≡ t.now }
-        ensures bound { length result.elements.window.points ≤ longest t.now + MAX_LOOKAHEAD }
-        ensures left { remaining_elements result.elements (unread result.source) ≡ elements t.now (nfd (chars text.now)) }
-    {
-        Stretch {
-            elements: Elements::new(t),
-            source: PassageSource::new(&Passage::of_safe(text)),
-        }
-    }
-
-    /// The next element, or `None` at the end.
-    pub fn next(&mut self) -> Option<Element>
-        ensures table { self.new.elements.table ≡ self.old.elements.table }
-        ensures bound { length self.new.elements.window.points ≤ longest self.new.elements.table + MAX_LOOKAHEAD }
-        ensures yields { YieldsFirst (remaining_elements self.old.elements (unread self.old.source)) result (remaining_elements self.new.elements (unread self.new.source)) }
-    {
-        self.elements.next(&mut self.source)
-    }
-}
+use uca_table::matching::match_front;
+use uca_table::stored::Stored;
+use uca_weights::{Element, MAX_DECOMPOSITION, MAX_LOOKAHEAD};
+use uca_window::points::{ROOM, push_decomposed};
 
 /// Whether a text joins nothing before it.
 pub fn joins_nothing(t: &Table, text: &str) -> bool
@@ -56,22 +23,144 @@ pub fn joins_nothing(t: &Table, text: &str) -> bool
     }
 }
 
-/// The first characters of a text, up to the next that joins nothing before it, and the text after them.
-pub fn split_stretch<'t>(t: &Table, text: &'t str) -> (&'t str, &'t str)
-    requires some { 0 < length text.now }
-    ensures parts { chars text.now ≡ chars result.0.now ++ chars result.1.now }
-    ensures apart { elements t.now (nfd (chars text.now)) ≡ elements t.now (nfd (chars result.0.now)) ++ elements t.now (nfd (chars result.1.now)) }
-    ensures fewer { length result.1.now < length text.now }
+/// Whether a text may be cut between a character and what is after it, whatever comes before the character: its two parts then
+/// have their collation elements independently (UTS #10, section 7.2). `false`: that is not known.
+#[inline(always)]
+pub fn may_cut_after(t: &Table, c: char, after: &str) -> bool
+    ensures { IsTrue result → (front : List ℕ) → elements t.now (nfd ((front ++ c ∷ []) ++ chars after.now)) ≡ elements t.now (nfd (front ++ c ∷ [])) ++ elements t.now (nfd (chars after.now)) }
 {
-    let mut at = 1;
-    while at < text.len() {
-        if text.is_char_boundary(at) {
-            let (front, back) = text.split_at(at);
-            if joins_nothing(t, back) {
-                return (front, back);
-            }
-        }
-        at += 1;
+    if t.bears_all(c) {
+        return true;
     }
-    (text, "")
+    joins_nothing(t, after)
+}
+
+// Reads the first characters of a text, up to the next place at which the text may be cut, into points in NFD. Returns the text
+// after them. `None`: they have more than `MAX_LOOKAHEAD` points, or nearly so.
+fn read_stretch<'t>(t: &Table, text: &'t str, points: &mut ArrayVec<char, ROOM>) -> Option<&'t str>
+    requires none { points.old.items ≡ [] }
+    requires safe { IsSafe (chars text.now) }
+    ensures apart { IfSome result (λ rest. elements t.now points.new.items ++ elements t.now (nfd (chars rest.now)) ≡ elements t.now (nfd (chars text.now))) }
+    ensures fewer { IfSome result (λ rest. length rest.now < length text.now) }
+    ensures safe { IfSome result (λ rest. IsSafe (chars rest.now)) }
+    ensures few { length points.new.items ≤ MAX_LOOKAHEAD }
+{
+    let mut closed = 0;
+    let mut left = text.chars();
+    'characters: while let Some(c) = left.next() {
+        if points.len() + MAX_DECOMPOSITION > MAX_LOOKAHEAD {
+            return None;
+        }
+        closed = push_decomposed(points, closed, c);
+        let rest = left.as_str();
+        if may_cut_after(t, c, rest) {
+            return Some(rest);
+        }
+    }
+    None
+}
+
+/// Puts elements into room at a place, and returns the place after them. Most characters have one.
+#[inline(always)]
+pub(crate) fn put_elements(elements: &[Element], room: &mut [Element], at: usize) -> usize
+    requires { at + length elements.now ≤ length room.old }
+    ensures elements { take result room.new ≡ take at room.old ++ elements.now }
+    ensures place { result ≡ at + length elements.now }
+    ensures size { length room.new ≡ length room.old }
+{
+    if let [element] = elements {
+        room[at] = *element;
+        return at + 1;
+    }
+    let end = at + elements.len();
+    room[at..end].copy_from_slice(elements);
+    end
+}
+
+// The same where they fit. `None`: they do not.
+fn put_fitting(elements: &[Element], room: &mut [Element], at: usize) -> Option<usize>
+    requires { at ≤ length room.old }
+    ensures elements { IfSome result (λ end. take end room.new ≡ take at room.old ++ elements.now) }
+    ensures place { IfSome result (λ end. end ≡ at + length elements.now) }
+    ensures within { IfSome result (λ end. end ≤ length room.old) }
+    ensures none { IfNone result (take at room.new ≡ take at room.old) }
+    ensures size { length room.new ≡ length room.old }
+{
+    if elements.len() > room.len() - at {
+        return None;
+    }
+    Some(put_elements(elements, room, at))
+}
+
+// Puts the elements of a match into room at a place: those that the table has for it, or else the implicit ones of its first code
+// point (UTS #10, 7.2, step S2.2). `None`: they do not fit.
+fn put_match(
+    t: &Stored,
+    matched: &[char],
+    found: Option<&[Element]>,
+    room: &mut [Element],
+    at: usize,
+) -> Option<usize>
+    requires within { at ≤ length room.old }
+    requires some { 0 < length matched.now }
+    requires found { option_copied found ≡ elements_at t.now matched.now }
+    ensures elements { IfSome result (λ end. take end room.new ≡ take at room.old ++ elements_or_implicit t.now matched.now) }
+    ensures later { IfSome result (λ end. at ≤ end) }
+    ensures within { IfSome result (λ end. end ≤ length room.old) }
+    ensures none { IfNone result (take at room.new ≡ take at room.old) }
+    ensures size { length room.new ≡ length room.old }
+{
+    match found {
+        Some(elements) => put_fitting(elements, room, at),
+        None => put_fitting(&t.implicit(matched[0]), room, at),
+    }
+}
+
+// Puts the elements of points in NFD into room from a place on, match after match (UTS #10, 7.2, step S2). `None`: they do not fit.
+fn put_matches(t: &Stored, points: &mut [char], room: &mut [Element], from: usize) -> Option<usize>
+    requires within { from ≤ length room.old }
+    ensures elements { IfSome result (λ end. take end room.new ≡ take from room.old ++ elements t.now points.old) }
+    ensures later { IfSome result (λ end. from ≤ end) }
+    ensures within { IfSome result (λ end. end ≤ length room.old) }
+    ensures none { IfNone result (take from room.new ≡ take from room.old) }
+    ensures size { length room.new ≡ length room.old }
+{
+    let mut at = from;
+    let mut next = 0;
+    'matches: while next < points.len() {
+        let matched = match_front(t, &mut points[next..]);
+        let end = next + matched.len;
+        let Some(placed) = put_match(t, &points[next..end], matched.elements, room, at) else {
+            return None;
+        };
+        at = placed;
+        next = end;
+    }
+    Some(at)
+}
+
+/// Puts the elements of the first characters of a text, which may join each other, into room from a place on: of those up to the
+/// next place at which the text may be cut. Returns the place after the elements, and the text after those characters. `None`:
+/// the characters are many, or their elements do not fit. It does not allocate, and holds at most `MAX_LOOKAHEAD` code points.
+#[inline(never)]
+pub fn put_stretch<'t>(
+    t: &Table,
+    text: &'t str,
+    room: &mut [Element],
+    from: usize,
+) -> Option<(usize, &'t str)>
+    requires within { from ≤ length room.old }
+    requires safe { IsSafe (chars text.now) }
+    ensures left { IfSome result (λ r. take r.0 room.new ++ elements t.now (nfd (chars r.1.now)) ≡ take from room.old ++ elements t.now (nfd (chars text.now))) }
+    ensures later { IfSome result (λ r. from ≤ r.0) }
+    ensures within { IfSome result (λ r. r.0 ≤ length room.old) }
+    ensures fewer { IfSome result (λ r. length r.1.now < length text.now) }
+    ensures safe { IfSome result (λ r. IsSafe (chars r.1.now)) }
+    ensures none { IfNone result (take from room.new ≡ take from room.old) }
+    ensures size { length room.new ≡ length room.old }
+{
+    let mut points = ArrayVec::new();
+    let rest = read_stretch(t, text, &mut points)?;
+    let at = put_matches(t.stored(), points.as_mut_slice(), room, from)?;
+    Some((at, rest))
 }

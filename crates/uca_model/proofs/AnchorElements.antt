@@ -7,7 +7,7 @@ use Rattle.std.specs.Option.{option_map_or}
 use Rattle.uca_weights.specs.declared.element.Element.{Element}
 use Rattle.uca_weights.specs.Element.{weight}
 use Rattle.uca_model.specs.Table.{ElementTable}
-use Rattle.uca_model.specs.Room.{has_no_room, max_weight}
+use Rattle.uca_model.specs.Gap.{cannot_move, max_weight}
 use Rattle.uca_model.specs.Tailoring.{small_weight, high_reset, full, Anchor, alone, preceded_by, anchor_of, least, is_high, is_full, fault_at}
 
 none_some : {A : Type 0} (b : Bool) (x : A) (o : Option A) → cond b (Some x) o ≡ None → (b ≡ false) × (o ≡ None)
@@ -26,8 +26,8 @@ pub record IsFree (level w : ℕ) (t : ElementTable) (anchor : List Element) : T
   pub large : least level ≤ w
   pub low : list_any is_high anchor ≡ false
   pub below_top : (w == max_weight level) ≡ false
-  pub anchor_room : list_any (has_no_room level w) anchor ≡ false
-  pub table_room : list_any (list_any (has_no_room level w)) (values t.entries) ≡ false
+  pub anchor_can_move : list_any (cannot_move level w) anchor ≡ false
+  pub table_can_move : list_any (list_any (cannot_move level w)) (values t.entries) ≡ false
 
 pub is_free : (level w : ℕ) (t : ElementTable) (anchor : List Element) → fault_at level w t anchor ≡ None → IsFree level w t anchor
 is_free level w t anchor e =
@@ -36,7 +36,7 @@ is_free level w t anchor e =
     let full = none_some (is_full level w t anchor) (full level) None high.1 in
     let one = or_false _ _ full.0 in
     let two = or_false _ _ one.0 in
-    record { large = not_below _ _ small.0; low = high.0; below_top = two.0; anchor_room = two.1; table_room = one.1 }
+    record { large = not_below _ _ small.0; low = high.0; below_top = two.0; anchor_can_move = two.1; table_can_move = one.1 }
 
 false_or : (a b : Bool) → a ≡ false → b ≡ false → (a || b) ≡ false
 false_or a b p q = rw (p, q) refl

@@ -5,10 +5,10 @@ use Rattle.std.specs.List.{AllByRecursion}
 use Rattle.std.specs.Option.{option_map_or}
 use Rattle.uca_weights.specs.declared.element.Element.{Element}
 use Rattle.uca_weights.specs.Element.{weight}
-use Rattle.uca_model.specs.Room.{weight_with_room, with_room}
+use Rattle.uca_model.specs.Gap.{weight_with_gap, with_gap}
 use Rattle.uca_model.specs.Tailoring.{Anchor, alone, preceded_by, anchor_of, raised}
-use Rattle.uca_model.specs.AnchorLaws.{EndsInAWeight, AnchorsEndInAWeight, ItemsStandInTheRoom}
-use Rattle.uca_model.proofs.RoomAtWeights.{weight_with_room-room, raised-first, raised-second, raised-third}
+use Rattle.uca_model.specs.AnchorLaws.{EndsInAWeight, AnchorsEndInAWeight, ItemsLieInTheGap}
+use Rattle.uca_model.proofs.GapAtWeights.{weight_with_gap-apart, raised-first, raised-second, raised-third}
 
 -- ## Anchors
 
@@ -43,21 +43,21 @@ ends_in_a_weight level (e ∷ es) a h = ends_step level e es (anchor_of level es
 -- ## Items
 
 -- the weights of elements moved for the gap, and then one raised by one
-first_weights : (w : ℕ) (es : List Element) (e : Element) → w ≡ weight 1 e → map (weight 1) (map (with_room 1 w) es ++ raised 1 e ∷ []) ≡ map (λ x. weight_with_room 1 w (weight 1 x)) es ++ (w + 1) ∷ []
+first_weights : (w : ℕ) (es : List Element) (e : Element) → w ≡ weight 1 e → map (weight 1) (map (with_gap 1 w) es ++ raised 1 e ∷ []) ≡ map (λ x. weight_with_gap 1 w (weight 1 x)) es ++ (w + 1) ∷ []
 first_weights w [] e is = ap (λ v. v ∷ []) (raised-first e ∙ ap (λ v. v + 1) (sym is))
-first_weights w (x ∷ es) e is = ap (λ vs. weight_with_room 1 w (weight 1 x) ∷ vs) (first_weights w es e is)
+first_weights w (x ∷ es) e is = ap (λ vs. weight_with_gap 1 w (weight 1 x) ∷ vs) (first_weights w es e is)
 
-second_weights : (w : ℕ) (es : List Element) (e : Element) → w ≡ weight 2 e → map (weight 2) (map (with_room 2 w) es ++ raised 2 e ∷ []) ≡ map (λ x. weight_with_room 2 w (weight 2 x)) es ++ (w + 1) ∷ []
+second_weights : (w : ℕ) (es : List Element) (e : Element) → w ≡ weight 2 e → map (weight 2) (map (with_gap 2 w) es ++ raised 2 e ∷ []) ≡ map (λ x. weight_with_gap 2 w (weight 2 x)) es ++ (w + 1) ∷ []
 second_weights w [] e is = ap (λ v. v ∷ []) (raised-second e ∙ ap (λ v. v + 1) (sym is))
-second_weights w (x ∷ es) e is = ap (λ vs. weight_with_room 2 w (weight 2 x) ∷ vs) (second_weights w es e is)
+second_weights w (x ∷ es) e is = ap (λ vs. weight_with_gap 2 w (weight 2 x) ∷ vs) (second_weights w es e is)
 
-third_weights : (w : ℕ) (es : List Element) (e : Element) → w ≡ weight 3 e → map (weight 3) (map (with_room 3 w) es ++ raised 3 e ∷ []) ≡ map (λ x. weight_with_room 3 w (weight 3 x)) es ++ (w + 1) ∷ []
+third_weights : (w : ℕ) (es : List Element) (e : Element) → w ≡ weight 3 e → map (weight 3) (map (with_gap 3 w) es ++ raised 3 e ∷ []) ≡ map (λ x. weight_with_gap 3 w (weight 3 x)) es ++ (w + 1) ∷ []
 third_weights w [] e is = ap (λ v. v ∷ []) (raised-third e ∙ ap (λ v. v + 1) (sym is))
-third_weights w (x ∷ es) e is = ap (λ vs. weight_with_room 3 w (weight 3 x) ∷ vs) (third_weights w es e is)
+third_weights w (x ∷ es) e is = ap (λ vs. weight_with_gap 3 w (weight 3 x) ∷ vs) (third_weights w es e is)
 
-pub stand_in_the_room : ItemsStandInTheRoom
-stand_in_the_room zero t a low high = absurd (omega arith)
-stand_in_the_room (suc zero) t a low high = record { weights = first_weights (weight 1 a.last) a.before a.last refl; alone = λ below e is. weight_with_room-room 1 (weight 1 a.last) (weight 1 e) below is }
-stand_in_the_room (suc (suc zero)) t a low high = record { weights = second_weights (weight 2 a.last) a.before a.last refl; alone = λ below e is. weight_with_room-room 2 (weight 2 a.last) (weight 2 e) below is }
-stand_in_the_room (suc (suc (suc zero))) t a low high = record { weights = third_weights (weight 3 a.last) a.before a.last refl; alone = λ below e is. weight_with_room-room 3 (weight 3 a.last) (weight 3 e) below is }
-stand_in_the_room (suc (suc (suc (suc n)))) t a low high = absurd (omega arith)
+pub lie_in_the_gap : ItemsLieInTheGap
+lie_in_the_gap zero t a low high = absurd (omega arith)
+lie_in_the_gap (suc zero) t a low high = record { weights = first_weights (weight 1 a.last) a.before a.last refl; alone = λ below e is. weight_with_gap-apart 1 (weight 1 a.last) (weight 1 e) below is }
+lie_in_the_gap (suc (suc zero)) t a low high = record { weights = second_weights (weight 2 a.last) a.before a.last refl; alone = λ below e is. weight_with_gap-apart 2 (weight 2 a.last) (weight 2 e) below is }
+lie_in_the_gap (suc (suc (suc zero))) t a low high = record { weights = third_weights (weight 3 a.last) a.before a.last refl; alone = λ below e is. weight_with_gap-apart 3 (weight 3 a.last) (weight 3 e) below is }
+lie_in_the_gap (suc (suc (suc (suc n)))) t a low high = absurd (omega arith)

@@ -3,10 +3,11 @@ pub mod JoinedLevels
 pub mod ImplicitLemmas
 pub mod RewritingLemmas
 pub mod StandAloneLemmas
+pub mod ClosingLemmas
 pub mod OrderLemmas
 pub mod LongestKey
 pub mod FirstLines
-pub mod OutputLemmas
+pub mod TextLines
 pub mod SafeLemmas
 pub mod SafeForms
 pub mod CharacterLemmas
@@ -26,8 +27,8 @@ pub mod AddedRanges
 pub mod SortedLemmas
 pub mod ReadBackLemmas
 pub mod GrowingLemmas
-pub mod RoomAtWeights
-pub mod RoomLookups
+pub mod GapAtWeights
+pub mod GapLookups
 pub mod AnchorElements
 pub mod AnchorPlaces
 pub mod RuleTextLemmas

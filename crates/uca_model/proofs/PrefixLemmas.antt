@@ -24,8 +24,8 @@ use Rattle.uca_model.specs.Match.{Match, Step, longest_match_len, is_blocked, di
 use Rattle.uca_model.specs.CollationElements.{step, elements, elements_or_implicit}
 use Rattle.uca_model.specs.ImplicitWeights.{implicit}
 use Rattle.uca_model.specs.LevelWeights.{level_weights}
-use Rattle.uca_model.specs.StandAlone.{is_first}
-use Rattle.uca_model.specs.Prefix.{is_before_last, lack_primary, is_primary_of, have_primaries_of, keeps_primary, keeps_primaries, ends_matches, is_closed, is_silent, is_complete_from, is_complete}
+use Rattle.uca_model.specs.StandAlone.{is_first, is_before_last, ends_matches}
+use Rattle.uca_model.specs.Prefix.{lack_primary, is_primary_of, have_primaries_of, keeps_primary, keeps_primaries, is_closed, is_silent, is_complete_from, is_complete}
 use Rattle.uca_model.proofs.RewritingLemmas.{elements_nil, elements_step, step_shorter, discontiguous_match-shorter}
 use Rattle.uca_model.proofs.SafeCutLemmas.{step-begins, each_passes, some_or_none, discontiguous_match-cut, greatest-holds, greatest-within}
 use Rattle.uca_model.proofs.SafeLemmas.{nfd-is}
@@ -145,10 +145,10 @@ abbrev is_last_in : ℕ → List ℕ × List Element → Bool
 is_last_in s entry = not (is_before_last s (drop 1 entry.0))
 
 -- no key has the code point between two others
-abbrev IsLast : ElementTable → ℕ → Type 0
+abbrev pub IsLast : ElementTable → ℕ → Type 0
 IsLast t s = (b : ℕ) (before : List ℕ) (c : ℕ) (after : List ℕ) → is_key t (b ∷ before ++ s ∷ c ∷ after) ≡ false
 
-last-facts : (t : ElementTable) (s : ℕ) → ends_matches t s ≡ true → IsLast t s
+pub last-facts : (t : ElementTable) (s : ℕ) → ends_matches t s ≡ true → IsLast t s
 last-facts t s h b before c after = some_or_none ⊥ (elements_at t key) (λ es e. not_so es (at es e))
   where
     key : List ℕ
@@ -271,16 +271,16 @@ extension-none key front none passed (y ∷ ys) = elim (cases_Bool (is_starter y
   never false b h = refl
 
 -- the match at the front ends before the starter, whatever follows it
-record EndsBefore (key : List ℕ → Bool) (all : List ℕ) (s : ℕ) : Type 0 where
-  matched : Match
-  left : List ℕ
-  same : (ys : List ℕ) → step key (all ++ s ∷ ys) ≡ record { matched = matched; rest = left ++ s ∷ ys }
-  less : length left < length all
+pub record EndsBefore (key : List ℕ → Bool) (all : List ℕ) (s : ℕ) : Type 0 where
+  pub matched : Match
+  pub left : List ℕ
+  pub same : (ys : List ℕ) → step key (all ++ s ∷ ys) ≡ record { matched = matched; rest = left ++ s ∷ ys }
+  pub less : length left < length all
 
 -- the match at the front ends with the starter, whatever follows it
-record EndsWith (key : List ℕ → Bool) (all : List ℕ) (s : ℕ) : Type 0 where
-  matched : Match
-  same : (ys : List ℕ) → step key (all ++ s ∷ ys) ≡ record { matched = matched; rest = ys }
+pub record EndsWith (key : List ℕ → Bool) (all : List ℕ) (s : ℕ) : Type 0 where
+  pub matched : Match
+  pub same : (ys : List ℕ) → step key (all ++ s ∷ ys) ≡ record { matched = matched; rest = ys }
 
 module _ (key : List ℕ → Bool) (s : ℕ) (starter : is_starter s ≡ true) (x : ℕ) (xs : List ℕ) (last : (c : ℕ) (after : List ℕ) → key ((x ∷ xs) ++ s ∷ c ∷ after) ≡ false) where
   abbrev whole : List ℕ
@@ -293,7 +293,7 @@ module _ (key : List ℕ → Bool) (s : ℕ) (starter : is_starter s ≡ true) (
   same_length [] = refl
   same_length (y ∷ ys) = ap (longest_match_len key) (sym (append_assoc (x ∷ xs) (s ∷ []) (y ∷ ys))) ∙ longest_match_len-front key whole y ys (longer y)
 
-  steps : EndsBefore key (x ∷ xs) s ⊎ EndsWith key (x ∷ xs) s
+  pub steps : EndsBefore key (x ∷ xs) s ⊎ EndsWith key (x ∷ xs) s
   steps =
       let n = longest_match_len key whole in
       let within : n ≤ length whole = greatest-within (λ k. key (take k whole)) (length whole) in

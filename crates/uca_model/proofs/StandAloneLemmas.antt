@@ -21,7 +21,7 @@ use Rattle.uca_model.specs.Table.{ElementTable, key_cmp, elements_at, is_key}
 use Rattle.uca_model.specs.ImplicitWeights.{implicit}
 use Rattle.uca_model.specs.Match.{Step, took, greatest, longest_match_len, is_blocked, discontiguous_match}
 use Rattle.uca_model.specs.CollationElements.{step, took_alone, matches_within, matches, elements, elements_or_implicit}
-use Rattle.uca_model.specs.StandAlone.{is_first, is_longer_from, is_inside, begins, leads, continues, ends_in_starter, joining_of, bearing_of, joining, bearing, stands_alone}
+use Rattle.uca_model.specs.StandAlone.{is_first, is_longer_from, is_inside, begins, leads, continues, ends_matches, ends_in_starter, ends_all_matches, joining_of, bearing_of, joining, bearing, stands_alone}
 use Rattle.uca_model.proofs.SafeLemmas.{nfd-is}
 use Rattle.uca_model.proofs.MatchingLemmas.{same_key}
 use Rattle.uca_model.proofs.RewritingLemmas.{matches-step, step_shorter, elements_nil}
@@ -55,7 +55,7 @@ no_key t p key none passes = elim (cases_Bool (is_key t key)) [
   | inr fails ↦ fails
 ]
 
-leads-no_key : (t : ElementTable) (p q : ℕ) (key : List ℕ) → leads t p ≡ false → is_key t (p ∷ q ∷ key) ≡ false
+pub leads-no_key : (t : ElementTable) (p q : ℕ) (key : List ℕ) → leads t p ≡ false → is_key t (p ∷ q ∷ key) ≡ false
 unfolding leads
 leads-no_key t p q key none = no_key t (is_longer_from p) (p ∷ q ∷ key) none (eq-eqb p p refl)
 
@@ -146,7 +146,7 @@ module _ (key : List ℕ → Bool) (p : ℕ) (single : (q : ℕ) (after : List �
     here : (z : List ℕ) (n : ℕ) → longest_match_len key (p ∷ z) ≡ 1 → ((w : List ℕ) → discontiguous_match key (p ∷ []) [] w ≡ took (p ∷ []) w) → step key (p ∷ z) ≡ took (p ∷ []) z
     here z n one e = cond-false _ _ _ (ap (λ k. nat_eq k 0) one) ∙ ap (λ k. discontiguous_match key (take k (p ∷ z)) [] (drop k (p ∷ z))) one ∙ e z
 
-  matches-single : (ys : List ℕ) → matches key (p ∷ ys) ≡ matches key (p ∷ []) ++ matches key ys
+  pub matches-single : (ys : List ℕ) → matches key (p ∷ ys) ≡ matches key (p ∷ []) ++ matches key ys
   unfolding matches_within
   matches-single ys =
       let here = step key (p ∷ []) in
@@ -204,7 +204,7 @@ module _ (key : List ℕ → Bool) (s : ℕ) (ys : List ℕ) (starter : is_start
 
 -- ---- the elements
 
-elements-parts : (t : ElementTable) (xs ys zs : List ℕ) → matches (is_key t) zs ≡ matches (is_key t) xs ++ matches (is_key t) ys → elements t zs ≡ elements t xs ++ elements t ys
+pub elements-parts : (t : ElementTable) (xs ys zs : List ℕ) → matches (is_key t) zs ≡ matches (is_key t) xs ++ matches (is_key t) ys → elements t zs ≡ elements t xs ++ elements t ys
 elements-parts t xs ys zs h =
     ap (flat_map (λ m. elements_or_implicit t m.code_points)) h
     ∙ flat_map-append (λ m. elements_or_implicit t m.code_points) (matches (is_key t) xs) (matches (is_key t) ys)
@@ -248,7 +248,7 @@ nfd-cut p x c s others parts starter =
     ∙ ap₂ (λ u v. u ++ v) (sym (nfd-is p)) (sym (nfd-first x c s others parts starter))
 
 -- after one whose decomposition ends with a starter
-order-after : (front ds later : List ℕ) → ends_in_starter ds ≡ true → canonical_order (front ++ (ds ++ later)) ≡ canonical_order (front ++ ds) ++ canonical_order later
+pub order-after : (front ds later : List ℕ) → ends_in_starter ds ≡ true → canonical_order (front ++ (ds ++ later)) ≡ canonical_order (front ++ ds) ++ canonical_order later
 order-after front [] later h = cc
 order-after front (s ∷ []) later h =
     canonical_order-at_starter front s later (is_starter-true s h)
@@ -266,20 +266,43 @@ nfd-after c x h =
 
 -- ---- characters that stand alone
 
-bearing-plain : (t : ElementTable) (ds : List ℕ) → 1 ≤ bearing_of t ds → list_all (λ p. not (leads t p)) ds ≡ true
+pub bearing-plain : (t : ElementTable) (ds : List ℕ) → 1 ≤ bearing_of t ds → list_all (λ p. not (leads t p)) ds ≡ true
 bearing-plain t ds h = elim (cases_Bool (list_all (λ p. not (leads t p)) ds)) [
   | inl plain ↦ plain
   | inr other ↦ let e : bearing_of t ds ≡ 0 = cond-false _ _ _ other in absurd (omega arith)
 ]
 
+pub closes-ends : (t : ElementTable) (ds : List ℕ) → ends_all_matches t ds ≡ true → ends_in_starter ds ≡ true
+closes-ends t [] h = cc
+closes-ends t (x ∷ []) h = (and_parts (is_starter x) (ends_matches t x) h).0
+closes-ends t (x ∷ y ∷ ds) h = closes-ends t (y ∷ ds) h
+
 bearing-closed : (t : ElementTable) (ds : List ℕ) → 2 ≤ bearing_of t ds → ends_in_starter ds ≡ true
 bearing-closed t ds h = elim (cases_Bool (ends_in_starter ds)) [
   | inl ends ↦ ends
-  | inr other ↦ let e : bearing_of t ds ≡ cond (list_all (λ p. not (leads t p)) ds) 1 0 = ap (λ b. cond (list_all (λ p. not (leads t p)) ds) (cond b 2 1) 0) other in absurd (few (list_all (λ p. not (leads t p)) ds) e)
+  | inr mark ↦ elim (cases_Bool (ends_all_matches t ds)) [
+    | inl closes ↦ closes-ends t ds closes
+    | inr other ↦
+        let e : bearing_of t ds ≡ cond (list_all (λ p. not (leads t p)) ds) 1 0 = ap₂ (λ a b. cond (list_all (λ p. not (leads t p)) ds) (cond a 3 (cond b 2 1)) 0) other mark in
+        absurd (few (list_all (λ p. not (leads t p)) ds) e)
+  ]
 ] where
   few : (b : Bool) → bearing_of t ds ≡ cond b 1 0 → ⊥
   few true e = omega arith
   few false e = omega arith
+
+-- it bears all, whatever comes before it
+pub bearing-all : (t : ElementTable) (ds : List ℕ) → 3 ≤ bearing_of t ds → ends_all_matches t ds ≡ true
+bearing-all t ds h = elim (cases_Bool (ends_all_matches t ds)) [
+  | inl closes ↦ closes
+  | inr other ↦
+      let e : bearing_of t ds ≡ cond (list_all (λ p. not (leads t p)) ds) (cond (ends_in_starter ds) 2 1) 0 = ap (λ a. cond (list_all (λ p. not (leads t p)) ds) (cond a 3 (cond (ends_in_starter ds) 2 1)) 0) other in
+      absurd (few (list_all (λ p. not (leads t p)) ds) (ends_in_starter ds) e)
+] where
+  few : (a b : Bool) → bearing_of t ds ≡ cond a (cond b 2 1) 0 → ⊥
+  few true true e = omega arith
+  few true false e = omega arith
+  few false b e = omega arith
 
 plain-nfd : (t : ElementTable) (c : ℕ) → list_all (λ p. not (leads t p)) (decompose_canonical c) ≡ true → list_all (λ p. not (leads t p)) (nfd (c ∷ [])) ≡ true
 plain-nfd t c h =
@@ -359,6 +382,13 @@ ends_in_starter-last (x ∷ []) h = refl
 ends_in_starter-last (x ∷ y ∷ ds) h =
     let last : suc (suc (length ds)) - 1 ≡ suc (suc (length ds) - 1) = omega arith in
     ends_in_starter-last (y ∷ ds) (omega arith) ∙ sym (ap (λ (n : ℕ). is_starter (get_or (x ∷ y ∷ ds) n 0)) last)
+
+pub ends_all_matches-last : (t : ElementTable) (ds : List ℕ) → 0 < length ds → ends_all_matches t ds ≡ (is_starter (get_or ds (length ds - 1) 0) && ends_matches t (get_or ds (length ds - 1) 0))
+ends_all_matches-last t [] h = absurd (omega arith)
+ends_all_matches-last t (x ∷ []) h = refl
+ends_all_matches-last t (x ∷ y ∷ ds) h =
+    let last : suc (suc (length ds)) - 1 ≡ suc (suc (length ds) - 1) = omega arith in
+    ends_all_matches-last t (y ∷ ds) (omega arith) ∙ sym (ap (λ (n : ℕ). is_starter (get_or (x ∷ y ∷ ds) n 0) && ends_matches t (get_or (x ∷ y ∷ ds) n 0)) last)
 
 -- a short key sets no flag
 pub longer-short : (p : ℕ) (key : List ℕ) → length key < 2 → is_longer_from p key ≡ false

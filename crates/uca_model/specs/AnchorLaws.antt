@@ -4,7 +4,7 @@ use Rattle.std.specs.List.{AllByRecursion}
 use Rattle.uca_weights.specs.declared.element.Element.{Element}
 use Rattle.uca_weights.specs.Element.{weight}
 use Rattle.uca_model.specs.Table.{ElementTable}
-use Rattle.uca_model.specs.Room.{weight_with_room, with_room}
+use Rattle.uca_model.specs.Gap.{weight_with_gap, with_gap}
 use Rattle.uca_model.specs.Tailoring.{Anchor, anchor_of, placed_next_to}
 
 -- elements up to the last one that has a weight at the level; those after it are dropped
@@ -19,11 +19,11 @@ abbrev pub AnchorsEndInAWeight : Type 0
 AnchorsEndInAWeight = (level : ℕ) (es : List Element) (a : Anchor) → anchor_of level es ≡ Some a → EndsInAWeight level es a
 
 -- an item has the weights of the elements before the last one of its anchor, moved for the gap, and then the raised weight of that one alone ..
-pub record StandsInTheRoom (level w : ℕ) (before es : List Element) : Type 0 where
-  pub weights : map (weight level) es ≡ map (λ e. weight_with_room level w (weight level e)) before ++ (w + 1) ∷ []
+pub record LiesInTheGap (level w : ℕ) (before es : List Element) : Type 0 where
+  pub weights : map (weight level) es ≡ map (λ e. weight_with_gap level w (weight level e)) before ++ (w + 1) ∷ []
   -- .. which no weight from before has once the gap is made
-  pub alone : (level ≡ 1 → w < 0x7FFF) → (e : Element) → weight level (with_room level w e) ≢ w + 1
+  pub alone : (level ≡ 1 → w < 0x7FFF) → (e : Element) → weight level (with_gap level w e) ≢ w + 1
 
 -- so does each item next to an anchor
-abbrev pub ItemsStandInTheRoom : Type 0
-ItemsStandInTheRoom = (level : ℕ) (t : ElementTable) (a : Anchor) → 1 ≤ level → level ≤ 3 → StandsInTheRoom level (weight level a.last) a.before (placed_next_to level t a).base
+abbrev pub ItemsLieInTheGap : Type 0
+ItemsLieInTheGap = (level : ℕ) (t : ElementTable) (a : Anchor) → 1 ≤ level → level ≤ 3 → LiesInTheGap level (weight level a.last) a.before (placed_next_to level t a).base

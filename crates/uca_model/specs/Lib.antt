@@ -25,7 +25,7 @@ pub mod CanonicalText
 pub mod ElementsOutput
 pub mod CompareOutput
 pub mod Rules
-pub mod Room
+pub mod Gap
 pub mod Tailoring
 pub mod AnchorLaws
 pub mod RuleText

@@ -1,16 +1,12 @@
 -- What the commands write.
-use Rattle.std.specs.Prelude.{ℕ, List, [], ◌∷◌, ◌++◌, map, flat_map, chars}
-use Rattle.std.specs.List.{join_with_byte}
+use Rattle.std.specs.Prelude.{ℕ, List, [], ◌∷◌, ◌++◌, flat_map, chars}
 pub use Rattle.uca_io.specs.Digits.{hex_digit, hex_pair}
+pub use Rattle.uca_io.specs.Hex.{hex_text}
 pub use Rattle.uca_io.specs.Words.{blank}
 use Rattle.uca_weights.specs.declared.settings.Settings.{Settings}
 use Rattle.uca_model.specs.Table.{ElementTable}
 use Rattle.uca_model.specs.SortKey.{sort_key}
 use Rattle.uca_model.specs.Lines.{lines_of, line_feed}
-
--- bytes as pairs of digits with one blank between
-abbrev pub hex_text : List ℕ → List ℕ
-hex_text bytes = join_with_byte blank (map hex_pair bytes)
 
 -- bytes as pairs of digits, and LF
 abbrev pub hex_line : List ℕ → List ℕ

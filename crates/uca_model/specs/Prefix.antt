@@ -12,14 +12,8 @@ use Rattle.uca_weights.specs.declared.settings.Variable.{Variable}
 use Rattle.uca_weights.specs.Element.{has_primary}
 use Rattle.uca_model.specs.Table.{ElementTable}
 use Rattle.uca_model.specs.CollationElements.{elements_or_implicit}
-use Rattle.uca_model.specs.StandAlone.{is_first}
+use Rattle.uca_model.specs.StandAlone.{is_first, ends_matches}
 use Rattle.uca_model.specs.SortKey.{key_order, sort_key}
-
--- the code point is in the key before its last place
-abbrev pub is_before_last : ℕ → List ℕ → Bool
-is_before_last s [] = false
-is_before_last s (x ∷ []) = false
-is_before_last s (x ∷ y ∷ key) = x == s || is_before_last s (y ∷ key)
 
 -- no element has a primary weight
 abbrev pub lack_primary : List Element → Bool
@@ -42,10 +36,6 @@ keeps_primary t c entry = not (is_first c entry.0) || have_primaries_of (element
 -- whatever follows the code point, a match that begins with it has its primary weights
 abbrev pub keeps_primaries : ElementTable → ℕ → Bool
 keeps_primaries t c = list_all (keeps_primary t c) (entries t.entries)
-
--- no match that began before the code point goes on after it
-abbrev pub ends_matches : ElementTable → ℕ → Bool
-ends_matches t s = list_all (λ entry. not (is_before_last s (drop 1 entry.0))) (entries t.entries)
 
 -- a starter whose primary weights are the same whatever follows
 abbrev pub is_closed : ElementTable → ℕ → Bool

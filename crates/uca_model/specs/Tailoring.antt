@@ -13,7 +13,7 @@ use Rattle.uca_model.specs.Table.{ElementTable, key_cmp, with_entry, is_key}
 use Rattle.uca_model.specs.CollationElements.{elements, matches}
 use Rattle.uca_model.specs.TableText.{◌>>=◌}
 use Rattle.uca_model.specs.Rules.{Operator, first, second, third, same, Relation, Chain, items}
-use Rattle.uca_model.specs.Room.{with_room, has_no_room, table_with_room, max_weight}
+use Rattle.uca_model.specs.Gap.{with_gap, cannot_move, table_with_gap, max_weight}
 
 -- why a relation is refused
 pub data TailorCause : Type 0 where
@@ -50,7 +50,7 @@ is_high e = nat_le 0x8000 e.l1
 
 -- no gap can be made above w at a level: some weight that has to move cannot, or w itself cannot be raised
 abbrev pub is_full : ℕ → ℕ → ElementTable → List Element → Bool
-is_full level w t anchor = w == max_weight level || list_any (has_no_room level w) anchor || list_any (list_any (has_no_room level w)) (values t.entries)
+is_full level w t anchor = w == max_weight level || list_any (cannot_move level w) anchor || list_any (list_any (cannot_move level w)) (values t.entries)
 
 -- the first fault of a relation at a level, after elements whose last weight at that level is w
 abbrev pub fault_at : ℕ → ℕ → ElementTable → List Element → Option TailorCause
@@ -78,7 +78,7 @@ pub record Placed : Type 0 where
 
 -- directly after an anchor
 abbrev pub placed_next_to : ℕ → ElementTable → Anchor → Placed
-placed_next_to level t a = let w = weight level a.last in record { base = map (with_room level w) a.before ++ raised level a.last ∷ []; table = table_with_room level w t }
+placed_next_to level t a = let w = weight level a.last in record { base = map (with_gap level w) a.before ++ raised level a.last ∷ []; table = table_with_gap level w t }
 
 -- the same, or its first fault
 abbrev pub placed_at : ℕ → ElementTable → List Element → Anchor → Result Placed TailorCause

@@ -1,5 +1,5 @@
 ghost use Rattle.uca_model.specs.Laws.{KeysFollowLevels, KeyOrderIsDecided, CanonicalTextIsReadBack, CanonicalTextsTellTablesApart, KeysGrowByLevels, TextsAreCutApart, KeysBeginWithCompleteTexts, PrefixesAreRanges, KeysBeginWithPrimaryWeights};
-ghost use Rattle.uca_model.specs.AnchorLaws.{AnchorsEndInAWeight, ItemsStandInTheRoom};
+ghost use Rattle.uca_model.specs.AnchorLaws.{AnchorsEndInAWeight, ItemsLieInTheGap};
 ghost use Rattle.uca_model.specs.TextLaws.{EquivalentTextsHaveOneKey, IdenticalKeysTellTextsApart, KeysOutliveTables, StrengthsRefine};
 
 /// Keys of weights are in the byte order in which their level lists are (UTS #10, section 7.4).
@@ -64,8 +64,8 @@ pub fn anchors_end_in_a_weight()
 
 /// An item next to an anchor has at the level the weights of the anchor's other elements, moved for the gap, and then its last weight
 /// raised by one. No element had that weight before: it is the gap that was made.
-pub fn items_stand_in_the_room()
-    ensures { ItemsStandInTheRoom }
+pub fn items_lie_in_the_gap()
+    ensures { ItemsLieInTheGap }
 {}
 
 /// Canonically equivalent texts (UAX #15) have the same sort key, under every table and all settings (UTS #10, section 3.1,

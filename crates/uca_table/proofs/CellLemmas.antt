@@ -1,5 +1,5 @@
 -- Cells of characters, and texts that go character by character where the elements stand alone.
-use Rattle.std.proofs.Common.{◌≡◌, ℕ, ◌+◌, ◌-◌, ◌/◌, ◌≤◌, ◌<◌, true, false, not, ◌||◌, ◌&&◌, cond, List, [], ◌∷◌, ◌++◌, length, take, drop, get_or, set, refl, sym, ap, ap₂, subst, ◌∙◌, arith, inl, inr, append_assoc, append-nil, length-append}
+use Rattle.std.proofs.Common.{Bool, ◌≡◌, ℕ, ◌+◌, ◌-◌, ◌/◌, ◌≤◌, ◌<◌, true, false, not, ◌||◌, ◌&&◌, cond, List, [], ◌∷◌, ◌++◌, length, take, drop, get_or, set, refl, sym, ap, ap₂, subst, ◌∙◌, arith, inl, inr, append_assoc, append-nil, length-append}
 use Rattle.std.proofs.lemmas.Bool.{le-leb, cases_eq, cases_lt, or_parts}
 use Rattle.std.specs.List.{list_any}
 use Rattle.std.specs.FinMap.{entries}
@@ -13,7 +13,7 @@ use Rattle.uca_weights.specs.declared.element.Element.{Element}
 use Rattle.uca_model.specs.Table.{ElementTable}
 use Rattle.uca_model.specs.CollationElements.{elements}
 use Rattle.uca_model.specs.ImplicitWeights.{implicit}
-use Rattle.uca_model.specs.StandAlone.{is_first, is_longer_from, begins, leads, bearing_of, stands_alone, joining, bearing}
+use Rattle.uca_model.specs.StandAlone.{is_first, is_longer_from, begins, leads, ends_matches, bearing_of, stands_alone, joining, bearing}
 use Rattle.uca_model.proofs.StandAloneLemmas.{apart-alone, apart-before, apart-end, elements_none, elements-unknown, nfd-single, joining-most}
 use Rattle.uca_table.specs.declared.cells.Cell.{Cell}
 use Rattle.uca_table.specs.Cells.{IsCell, AreCells, Grows, unknown}
@@ -114,15 +114,20 @@ leads-none : (t : ElementTable) (p : ℕ) → begins t p ≡ false → leads t p
 unfolding begins leads
 leads-none t p none = none-longer p (entries t.entries) none
 
-bears-all : (t : ElementTable) (p : ℕ) → leads t p ≡ false → is_starter p ≡ true → bearing_of t (p ∷ []) ≡ 2
-bears-all t p none starter = ap₂ (λ a b. cond (not a && true) (cond b 2 1) 0) none starter
+bears-all : (t : ElementTable) (p : ℕ) → leads t p ≡ false → is_starter p ≡ true → 2 ≤ bearing_of t (p ∷ [])
+bears-all t p none starter =
+    let e : bearing_of t (p ∷ []) ≡ cond (ends_matches t p) 3 2 = ap₂ (λ a b. cond (not a && true) (cond (b && ends_matches t p) 3 (cond b 2 1)) 0) none starter in
+    either (ends_matches t p) e where
+      either : (b : Bool) → bearing_of t (p ∷ []) ≡ cond b 3 2 → 2 ≤ bearing_of t (p ∷ [])
+      either true e = omega (arith, e)
+      either false e = omega (arith, e)
 
 -- a starter without key that is its own NFD stands alone, with its implicit elements
 pub implicit-alone : (t : ElementTable) (c : ℕ) (after : List ℕ) (es : List Element) → begins t c ≡ false → decompose_canonical c ≡ c ∷ [] → is_starter c ≡ true → es ≡ implicit t c → es ++ elements t (nfd after) ≡ elements t (nfd (c ∷ after))
 implicit-alone t c after es none own starter is =
     ap (λ l. l ++ elements t (nfd after)) (is ∙ sym (elements-unknown t c none) ∙ ap (elements t) (sym (nfd-single c c own))) ∙ sym (apart-alone t c after (alone after)) where
-      bears : bearing t c ≡ 2
-      bears = ap (bearing_of t) own ∙ bears-all t c (leads-none t c none) starter
+      bears : 2 ≤ bearing t c
+      bears = let same : bearing t c ≡ bearing_of t (c ∷ []) = ap (bearing_of t) own in omega (arith, same, bears-all t c (leads-none t c none) starter)
 
       alone : (x : List ℕ) → stands_alone t c x ≡ true
       alone [] = refl

@@ -6,7 +6,6 @@ pub mod ExtentLemmas
 pub mod RangeMapLemmas
 pub mod RangeSearchLemmas
 pub mod PutLemmas
-pub mod ChangedLists
 pub mod BoundsLemmas
 pub mod MatchLemmas
 pub mod MovedForward

@@ -14,9 +14,9 @@ use Rattle.uca_weights.specs.declared.element.Element.{Element}
 use Rattle.uca_model.specs.Table.{ElementTable, key_cmp}
 use Rattle.uca_model.specs.CollationElements.{elements_or_implicit}
 use Rattle.uca_model.specs.ImplicitWeights.{implicit}
-use Rattle.uca_model.specs.Prefix.{have_primaries_of, is_before_last, is_primary_of, keeps_primary}
+use Rattle.uca_model.specs.Prefix.{have_primaries_of, is_primary_of, keeps_primary}
 use Rattle.uca_model.specs.SafeCut.{begins_with_primary, is_safe_starter, begins_apart, is_cut, keeps_apart}
-use Rattle.uca_model.specs.StandAlone.{is_first, is_longer_from, is_inside, begins, leads, continues, joining_of}
+use Rattle.uca_model.specs.StandAlone.{is_first, is_longer_from, is_inside, begins, leads, continues, joining_of, is_before_last}
 use Rattle.uca_model.proofs.SafeCutLemmas.{is_cut-parts}
 use Rattle.uca_table.specs.declared.marks.MarkTable.{MarkTable}
 use Rattle.uca_table.specs.declared.marks.Marks.{Marks}

@@ -1,7 +1,8 @@
 -- Primary weights of elements, and code points between others, place by place.
 use Rattle.std.proofs.Common.{◌≡◌, ℕ, zero, suc, ◌+◌, ◌≤◌, ◌<◌, Bool, true, false, ◌&&◌, ◌||◌, List, [], ◌∷◌, length, drop, get_or, refl, sym, ap, ap₂, ◌∙◌, arith, eq-eqb, ne_eqb}
 use Rattle.uca_weights.specs.declared.element.Element.{Element}
-use Rattle.uca_model.specs.Prefix.{is_before_last, lack_primary, is_primary_of, have_primaries_of}
+use Rattle.uca_model.specs.Prefix.{lack_primary, is_primary_of, have_primaries_of}
+use Rattle.uca_model.specs.StandAlone.{is_before_last}
 
 -- ---- keys
 

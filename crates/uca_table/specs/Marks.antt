@@ -5,9 +5,9 @@ use Rattle.std.specs.FinMap.{entries}
 use Rattle.uca_weights.specs.declared.element.Element.{Element}
 use Rattle.uca_model.specs.Table.{ElementTable}
 use Rattle.uca_model.specs.CollationElements.{elements_or_implicit}
-use Rattle.uca_model.specs.Prefix.{have_primaries_of, is_before_last, ends_matches, keeps_primaries}
+use Rattle.uca_model.specs.Prefix.{have_primaries_of, keeps_primaries}
 use Rattle.uca_model.specs.SafeCut.{keeps_apart}
-use Rattle.uca_model.specs.StandAlone.{is_first, is_longer_from, is_inside, begins, leads, continues}
+use Rattle.uca_model.specs.StandAlone.{is_first, is_longer_from, is_inside, begins, leads, continues, is_before_last, ends_matches}
 use Rattle.uca_table.specs.declared.marks.Marks.{Marks}
 use Rattle.uca_table.specs.declared.marks.MarkTable.{MarkTable}
 
@@ -25,6 +25,7 @@ pub record AreKnown (t : ElementTable) (p : ℕ) (m : Marks) : Type 0 where
   pub longer : m.leads ≡ false → leads t p ≡ false
   pub inside : m.continues ≡ false → continues t p ≡ false
   pub kept : m.apart ≡ true → keep_apart t p ≡ true
+  pub last : m.ends ≡ true → ends_matches t p ≡ true
 
 -- what none says
 abbrev pub Untouched : Marks

@@ -5,7 +5,7 @@ ghost use Rattle.unicode_normalization.specs.Forms.{nfd};
 ghost use Rattle.unicode_normalization.specs.Order.{is_starter};
 ghost use Rattle.uca_model.specs.CollationElements.{elements};
 ghost use Rattle.uca_model.specs.SafeCut.{begins_apart, is_cut};
-ghost use Rattle.uca_model.specs.StandAlone.{begins, leads, joining_of, bearing_of, joining, bearing, ends_in_starter};
+ghost use Rattle.uca_model.specs.StandAlone.{begins, leads, joining_of, bearing_of, joining, bearing, ends_all_matches, ends_in_starter};
 ghost use Rattle.uca_table.specs.Cells.{IsCell, HoldsCells, Grows, unknown};
 ghost use Rattle.uca_table.specs.Marks.{AreKnown, HoldsMarks, marks, place};
 
@@ -42,7 +42,7 @@ pub(crate) struct Cell {
     count: u8,
     // How a text that begins with it may join the text before: 0 not at all, 1 in a key, 2 as nonstarters too.
     joining: u8,
-    // The greatest of these that it bears after it.
+    // The greatest of these that it bears after it; 3 where it bears all, whatever comes before it.
     bearing: u8,
     // Whether a text may be cut before it. `false`: that is not known.
     cut: bool,
@@ -151,6 +151,17 @@ fn ends_in_starter(points: &[char]) -> bool
     is_starter(points[points.len() - 1])
 }
 
+// Whether the last code point is a starter after which no match goes on that began before it. `false`: that is not known.
+fn ends_all_matches(marks: &MarkTable, points: &[char]) -> bool
+    ensures { (t : _) → HoldsMarks t marks.now → IsTrue result → ends_all_matches t points.now ≡ true }
+{
+    if points.is_empty() {
+        return false;
+    }
+    let last = points[points.len() - 1];
+    is_starter(last) && known_marks(marks, last).ends
+}
+
 // How a character joins other text. `points` are its decomposition.
 #[derive(Clone, Copy)]
 struct Joins {
@@ -166,10 +177,12 @@ fn bearing_of_one(p: char, starter: bool, known: Marks) -> u8
 {
     if known.leads {
         0
-    } else if starter {
-        2
-    } else {
+    } else if !starter {
         1
+    } else if known.ends {
+        3
+    } else {
+        2
     }
 }
 
@@ -180,6 +193,9 @@ fn bearing_of(t: &Stored, marks: &MarkTable, points: &[char]) -> u8
 {
     if !is_plain(t, marks, points) {
         return 0;
+    }
+    if ends_all_matches(marks, points) {
+        return 3;
     }
     if ends_in_starter(points) { 2 } else { 1 }
 }
@@ -505,6 +521,15 @@ impl Cells {
             Some(c) => self.cell(c).joining,
             None => 0,
         }
+    }
+
+    /// Whether a text may be cut after a character, whatever comes before it. `false`: that is not known.
+    #[inline(always)]
+    pub(crate) fn bears_all(&self, t: &Stored, c: char) -> bool
+        requires cells { HoldsCells t.now self.now }
+        ensures { IsTrue result → 3 ≤ bearing t.now c }
+    {
+        self.cell(c).bearing == 3
     }
 
     /// Whether a character joins nothing before it.

@@ -1,14 +1,14 @@
 //! Ranges of unified ideographs besides those of the standard's list (UTS #10, section 10.1.3).
 ghost use Rattle.std.specs.Prelude.{◌≡◌, ◌≤◌, length, None, MatchResult, OnErr, OnOk};
 ghost use Rattle.std.specs.List.{insert, list_any};
-ghost use Rattle.uca_model.specs.UnifiedIdeographs.{AreIdeographs, is_added_ideograph, repeats_listed, shares_with};
+ghost use Rattle.uca_model.specs.UnifiedIdeographs.{AreIdeographs, is_added_ideograph, is_listed_ideograph, repeats_listed, shares_with};
 ghost use Rattle.uca_model.specs.AddedIdeographs.{are_bad_ideographs, put_ideographs, shares};
 ghost use Rattle.uca_table.specs.Builder.{ideographs_fault, reported_range_fault};
 
 use crate::fault::RangeFault;
 use uca_weights::Ideographs;
 
-/// The unified ideographs of the standard's list, which no further range may repeat.
+/// The unified ideographs of the standard's list: the first and the last code point of each range.
 const LISTED: [(char, char); 17] = [
     ('\u{3400}', '\u{4DBF}'),
     ('\u{4E00}', '\u{9FFF}'),
@@ -28,6 +28,14 @@ const LISTED: [(char, char); 17] = [
     ('\u{30000}', '\u{3134A}'),
     ('\u{31350}', '\u{323AF}'),
 ];
+
+/// Whether the code point is in the standard's list of unified ideographs.
+#[tactic(auto, unfolding(uca_model::specs::UnifiedIdeographs::is_listed_ideograph))]
+pub(crate) fn is_listed(c: char) -> bool
+    ensures { result ≡ is_listed_ideograph c }
+{
+    LISTED.iter().any(|pair| pair.0 <= c && c <= pair.1)
+}
 
 /// Whether a code point lies in one of the ranges.
 pub(crate) fn is_added(added: &[Ideographs], c: char) -> bool

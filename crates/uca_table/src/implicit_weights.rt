@@ -1,10 +1,9 @@
 ghost use Rattle.std.specs.Prelude.{◌≡◌};
 ghost use Rattle.uca_model.specs.Table.{AreRanges};
 ghost use Rattle.uca_model.specs.ImplicitWeights.{implicit_over, in_some, core_blocks, pair, is_unified_ideograph, is_assigned, two_parts_base};
-ghost use Rattle.uca_model.specs.UnifiedIdeographs.{is_listed_ideograph};
 ghost use Rattle.uca_model.specs.Ranges.{AreByFirst};
 
-use crate::ideographs::is_added;
+use crate::ideographs::{is_added, is_listed};
 use crate::ranges::Ranges;
 use uca_weights::{Element, Ideographs};
 use unicode::properties::GeneralCategory;
@@ -61,34 +60,7 @@ fn is_in_core_block(c: char) -> bool
 fn is_unified_ideograph(added: &[Ideographs], c: char) -> bool
     ensures { result ≡ is_unified_ideograph added.now c }
 {
-    is_listed_ideograph(c) || is_added(added, c)
-}
-
-/// Whether the code point is in the standard's list of unified ideographs.
-#[tactic(auto, unfolding(uca_model::specs::UnifiedIdeographs::is_listed_ideograph))]
-fn is_listed_ideograph(c: char) -> bool
-    ensures { result ≡ is_listed_ideograph c }
-{
-    matches!(
-        c,
-        '\u{3400}'..='\u{4DBF}'
-            | '\u{4E00}'..='\u{9FFF}'
-            | '\u{FA0E}'..='\u{FA0F}'
-            | '\u{FA11}'
-            | '\u{FA13}'..='\u{FA14}'
-            | '\u{FA1F}'
-            | '\u{FA21}'
-            | '\u{FA23}'..='\u{FA24}'
-            | '\u{FA27}'..='\u{FA29}'
-            | '\u{20000}'..='\u{2A6DF}'
-            | '\u{2A700}'..='\u{2B739}'
-            | '\u{2B740}'..='\u{2B81D}'
-            | '\u{2B820}'..='\u{2CEA1}'
-            | '\u{2CEB0}'..='\u{2EBE0}'
-            | '\u{2EBF0}'..='\u{2EE5D}'
-            | '\u{30000}'..='\u{3134A}'
-            | '\u{31350}'..='\u{323AF}'
-    )
+    is_listed(c) || is_added(added, c)
 }
 
 /// The two elements of a code point without a key, `[.AAAA.0020.0002][.BBBB.0000.0000]`.

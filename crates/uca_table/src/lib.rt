@@ -22,7 +22,6 @@ pub mod matching;
 mod primaries;
 mod range_map;
 mod ranges;
-pub mod room;
 mod scan;
 pub mod stored;
 pub mod table;

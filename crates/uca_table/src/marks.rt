@@ -1,8 +1,8 @@
 ghost use Rattle.std.specs.Prelude.{◌≡◌, ◌+◌, ◌*◌, ◌/◌, ◌%◌, ◌==◌, ◌<◌, ◌≤◌, ◌∷◌, ◌&&◌, ◌||◌, [], ℕ, not, cond, drop, length, get_or, slice_index, IfOk, IfSome, IfNone, OnOk, IsTrue};
 ghost use Rattle.std.specs.List.{list_any};
 ghost use Rattle.uca_model.specs.CollationElements.{elements_or_implicit};
-ghost use Rattle.uca_model.specs.Prefix.{have_primaries_of, is_before_last};
-ghost use Rattle.uca_model.specs.StandAlone.{is_longer_from};
+ghost use Rattle.uca_model.specs.Prefix.{have_primaries_of};
+ghost use Rattle.uca_model.specs.StandAlone.{is_longer_from, is_before_last};
 ghost use Rattle.uca_table.specs.Marks.{IsIndex, HoldsMarks, Untouched, first_marks, inside_marks, between_marks, marks, marks_of, marks_with, place};
 
 use crate::primaries::{begins_with_primary, have_primaries_of};

@@ -98,16 +98,16 @@ fn extend(walk: &mut Walk<'_>, text: &mut [char], start: usize) -> usize
 
 /// A match at the front of a text.
 #[derive(Clone, Copy)]
-pub(crate) struct Matched<'t> {
+pub struct Matched<'t> {
     /// How many code points it has.
-    pub(crate) len: usize,
+    pub len: usize,
     /// The elements of the key, where it is one.
-    pub(crate) elements: Option<&'t [Element]>,
+    pub elements: Option<&'t [Element]>,
 }
 
 /// Moves the longest match to the front of a text in NFD. What is left of the text follows it (UTS #10, 7.2, step
 /// S2.1). A code point that begins no key is a match by itself.
-pub(crate) fn match_front<'t>(t: &'t Stored, text: &mut [char]) -> Matched<'t>
+pub fn match_front<'t>(t: &'t Stored, text: &mut [char]) -> Matched<'t>
     requires { 0 < length text.old }
     ensures matched { (step (is_key t.now) text.old).matched.code_points ≡ take result.len text.new }
     ensures rest { (step (is_key t.now) text.old).rest ≡ drop result.len text.new }

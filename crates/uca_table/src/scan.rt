@@ -2,9 +2,9 @@ ghost use Rattle.std.specs.Prelude.{◌≡◌, ◌==◌, ◌∷◌, ◌&&◌, �
 ghost use Rattle.std.specs.List.{list_any, list_all};
 ghost use Rattle.std.specs.FinMap.{entries};
 ghost use Rattle.uca_model.specs.CollationElements.{elements_or_implicit};
-ghost use Rattle.uca_model.specs.Prefix.{ends_matches, have_primaries_of, is_before_last, is_closed, is_silent, keeps_primaries, lack_primary};
+ghost use Rattle.uca_model.specs.Prefix.{have_primaries_of, is_closed, is_silent, keeps_primaries, lack_primary};
 ghost use Rattle.uca_model.specs.SafeCut.{is_cut, is_safe_starter, keeps_apart};
-ghost use Rattle.uca_model.specs.StandAlone.{is_first};
+ghost use Rattle.uca_model.specs.StandAlone.{is_first, ends_matches, is_before_last};
 ghost use Rattle.uca_table.specs.Cells.{HoldsCells};
 ghost use Rattle.uca_table.specs.Marks.{keep_apart};
 

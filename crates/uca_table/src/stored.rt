@@ -87,7 +87,7 @@ impl Stored {
 
     /// The two collation elements of a code point that is no key where it stands alone. Their primary weights are
     /// made from the code point (UTS #10, section 10.1.3).
-    pub(crate) fn implicit(&self, c: char) -> [Element; 2]
+    pub fn implicit(&self, c: char) -> [Element; 2]
         ensures { result ≡ implicit self.now c }
     {
         implicit_weights::implicit(&self.ranges, self.ideographs.as_slice(), c)

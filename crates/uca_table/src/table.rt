@@ -1,7 +1,7 @@
 ghost use Rattle.std.specs.Prelude.{◌≡◌, ℕ, List, ◌≤◌, ◌<◌, ◌^◌, ◌++◌, ◌∷◌, [], length, chars, All, option_copied, IfSome, IfOk, OnOk, OnErr, IsTrue, MatchResult, None};
 ghost use Rattle.unicode_normalization.specs.Forms.{nfd};
 ghost use Rattle.uca_model.specs.CollationElements.{elements};
-ghost use Rattle.uca_model.specs.StandAlone.{joining};
+ghost use Rattle.uca_model.specs.StandAlone.{joining, bearing};
 
 use crate::cells::{Cells, push_text};
 use crate::fault::RangeFault;
@@ -180,6 +180,15 @@ impl Table {
         ensures { IsTrue result → joining self.now c ≡ 0 }
     {
         self.cells.joins_nothing(&self.stored, c)
+    }
+
+    /// Whether a text after a character has its collation elements by itself, whatever comes before the character (UTS #10,
+    /// section 7.2). It does not allocate. `false` means that it is not known.
+    #[inline(always)]
+    pub fn bears_all(&self, c: char) -> bool
+        ensures { IsTrue result → 3 ≤ bearing self.now c }
+    {
+        self.cells.bears_all(&self.stored, c)
     }
 
     /// The collation elements of a character before other text, where that text does not change them (UTS #10, section 7.2).

@@ -5,7 +5,7 @@ use Rattle.std.specs.List.{list_any}
 use Rattle.std.specs.Option.{option_map_or}
 use Rattle.uca_weights.specs.declared.element.Element.{Element}
 use Rattle.uca_weights.specs.Element.{weight}
-use Rattle.uca_model.specs.Room.{with_room, table_with_room, has_no_room}
+use Rattle.uca_model.specs.Gap.{with_gap, table_with_gap, cannot_move}
 use Rattle.uca_model.specs.Table.{ElementTable}
 use Rattle.uca_model.specs.Tailoring.{TailorCause, small_weight, Anchor, alone, preceded_by, anchor_of, is_high, fault_at, raised, placed_next_to, placed_at, placed_after}
 use Rattle.uca_model.proofs.AnchorElements.{is_free, any_anchor, below_top}
@@ -48,8 +48,8 @@ next_fits level w t es before last p q f a is e =
     subst (λ x. x < 65535) is (below_top level w last p q is f high.1 free.below_top)
 
 -- each element before the last can move up
-pub before_moves : (level w : ℕ) (t : ElementTable) (es before : List Element) (last : Element) → anchor_of level es ≡ Some (anchor_as before last) → w ≡ weight level last → fault_at level w t es ≡ None → list_any (has_no_room level (weight level last)) before ≡ false
-before_moves level w t es before last a is e = subst (λ x. list_any (has_no_room level x) before ≡ false) is (any_anchor (has_no_room level w) level es _ a (is_free level w t es e).anchor_room).0
+pub before_moves : (level w : ℕ) (t : ElementTable) (es before : List Element) (last : Element) → anchor_of level es ≡ Some (anchor_as before last) → w ≡ weight level last → fault_at level w t es ≡ None → list_any (cannot_move level (weight level last)) before ≡ false
+before_moves level w t es before last a is e = subst (λ x. list_any (cannot_move level x) before ≡ false) is (any_anchor (cannot_move level w) level es _ a (is_free level w t es e).anchor_can_move).0
 
 -- Where an item is placed
 
@@ -57,11 +57,11 @@ pub placed_nowhere : (level : ℕ) (t : ElementTable) (es : List Element) → an
 placed_nowhere level t es a = ap (λ o. option_map_or (placed_at level t es) o (Err small_weight)) a
 
 pub placed_there : (level w : ℕ) (t u : ElementTable) (es before base : List Element) (last : Element) → anchor_of level es ≡ Some (anchor_as before last) → w ≡ weight level last → fault_at level w t es ≡ None
-    → base ≡ map (with_room level (weight level last)) before ++ raised level last ∷ [] → u ≡ table_with_room level w t → placed_after level t es ≡ Ok (placed_as base u)
+    → base ≡ map (with_gap level (weight level last)) before ++ raised level last ∷ [] → u ≡ table_with_gap level w t → placed_after level t es ≡ Ok (placed_as base u)
 placed_there level w t u es before base last a is e b moved =
     let none : fault_at level (weight level last) t es ≡ None = subst (λ x. fault_at level x t es ≡ None) is e in
     ap (λ o. option_map_or (placed_at level t es) o (Err small_weight)) a ∙ ap (λ o. option_map_or (λ cause. Err cause) o (Ok (placed_next_to level t (anchor_as before last)))) none
-    ∙ ap₂ (λ x y. Ok (placed_as x y)) (sym b) (sym (moved ∙ ap (λ x. table_with_room level x t) is))
+    ∙ ap₂ (λ x y. Ok (placed_as x y)) (sym b) (sym (moved ∙ ap (λ x. table_with_gap level x t) is))
 
 refused : (level : ℕ) (t : ElementTable) (es : List Element) (a : Anchor) (cause : Option TailorCause) → anchor_of level es ≡ Some a → MatchOption cause (Unit {0}) (λ c. fault_at level (weight level a.last) t es ≡ Some c) → MatchOption cause (Unit {0}) (λ c. placed_after level t es ≡ Err c)
 refused level t es a None is fault = tt

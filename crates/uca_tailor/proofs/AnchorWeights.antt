@@ -5,13 +5,13 @@ use Rattle.std.specs.List.{AllByRecursion, list_any}
 use Rattle.uca_weights.specs.declared.element.Element.{Element}
 use Rattle.uca_weights.specs.Element.{weight}
 use Rattle.uca_model.specs.WellFormed.{skips_a_level}
-use Rattle.uca_model.specs.Room.{weight_with_room, with_room}
+use Rattle.uca_model.specs.Gap.{weight_with_gap, with_gap}
 use Rattle.uca_model.specs.Tailoring.{Anchor, anchor_of, is_high, raised}
 use Rattle.uca_model.proofs.AnchorElements.{or_false}
 use Rattle.uca_model.proofs.AnchorPlaces.{ends_in_a_weight}
-use Rattle.uca_model.proofs.RoomAtWeights.{weight_with_room-is_zero}
+use Rattle.uca_model.proofs.GapAtWeights.{weight_with_gap-is_zero}
 use Rattle.uca_tailor.specs.TailoringLaws.{weights_at}
-use Rattle.uca_tailor.proofs.Levels.{IsLevel, IsBelow, first_of_second, first_of_third, second_of_third, weight-with_room, weight-raised, weight-shifted_above, weight-raised_above}
+use Rattle.uca_tailor.proofs.Levels.{IsLevel, IsBelow, first_of_second, first_of_third, second_of_third, weight-with_gap, weight-raised, weight-shifted_above, weight-raised_above}
 
 -- an element that is well-formed: where a weight is zero, those at the levels below it are
 abbrev pub IsFull : Element → Type 0
@@ -52,11 +52,11 @@ zeros j m (e ∷ es) b h n = (zero_above j m e b h.0 n.0, zeros j m es b h.1 n.1
 
 -- below the level of a relation the base has the weights of the anchor
 pub placed_below : (j m w : ℕ) (es : List Element) (a : Anchor) → anchor_of m es ≡ Some a → IsBelow j m → AllByRecursion IsFull es
-    → weights_at j (map (with_room m w) a.before ++ raised m a.last ∷ []) ≡ weights_at j es
+    → weights_at j (map (with_gap m w) a.before ++ raised m a.last ∷ []) ≡ weights_at j es
 placed_below j m w es a h b full =
     let s = ends_in_a_weight m es a h in
     let rest : AllByRecursion IsFull (a.last ∷ s.dropped) = (parts_of IsFull a.before (a.last ∷ s.dropped) (subst (AllByRecursion IsFull) s.parts full)).1 in
-    weights_at-append j (map (with_room m w) a.before) (raised m a.last ∷ []) ∙ ap₂ (λ x y. x ++ y) (weights_at-same j (with_room m w) (λ e. weight-shifted_above j m w e b) a.before)
+    weights_at-append j (map (with_gap m w) a.before) (raised m a.last ∷ []) ∙ ap₂ (λ x y. x ++ y) (weights_at-same j (with_gap m w) (λ e. weight-shifted_above j m w e b) a.before)
     (weights_at-cons j (raised m a.last) [] s.dropped a.last (weight-raised_above j m a.last b) (sym (weights_at-none j s.dropped (zeros j m s.dropped b rest.1 s.none))))
     ∙ sym (ap (weights_at j) s.parts ∙ weights_at-append j a.before (a.last ∷ s.dropped))
 
@@ -70,18 +70,18 @@ placed_anchor m es a h =
     ap (weights_at m) s.parts ∙ weights_at-append m a.before (a.last ∷ s.dropped)
     ∙ ap (λ x. weights_at m a.before ++ x) (weights_at-cons m a.last s.dropped [] a.last refl (weights_at-none m s.dropped s.none) ∙ some_weight m a.last s.some)
 
-pub weights_at-weight_with_room : (m w : ℕ) → IsLevel m → (es : List Element) → weights_at m (map (with_room m w) es) ≡ map (weight_with_room m w) (weights_at m es)
-weights_at-weight_with_room m w l [] = refl
-weights_at-weight_with_room m w l (e ∷ es) = ap₂ (λ x xs. cond (not (x == 0)) (x ∷ xs) xs) (weight-with_room m w e l) (weights_at-weight_with_room m w l es) ∙ by_zero (eqb (weight m e) 0) (weight_with_room-is_zero m w (weight m e)) where
-  by_zero : (b : Bool) → eqb (weight_with_room m w (weight m e)) 0 ≡ b → cond (not (eqb (weight_with_room m w (weight m e)) 0)) (weight_with_room m w (weight m e) ∷ map (weight_with_room m w) (weights_at m es)) (map (weight_with_room m w) (weights_at m es)) ≡ map (weight_with_room m w) (cond (not b) (weight m e ∷ weights_at m es) (weights_at m es))
-  by_zero true z = ap (λ b. cond (not b) (weight_with_room m w (weight m e) ∷ map (weight_with_room m w) (weights_at m es)) (map (weight_with_room m w) (weights_at m es))) z
-  by_zero false z = ap (λ b. cond (not b) (weight_with_room m w (weight m e) ∷ map (weight_with_room m w) (weights_at m es)) (map (weight_with_room m w) (weights_at m es))) z
+pub weights_at-weight_with_gap : (m w : ℕ) → IsLevel m → (es : List Element) → weights_at m (map (with_gap m w) es) ≡ map (weight_with_gap m w) (weights_at m es)
+weights_at-weight_with_gap m w l [] = refl
+weights_at-weight_with_gap m w l (e ∷ es) = ap₂ (λ x xs. cond (not (x == 0)) (x ∷ xs) xs) (weight-with_gap m w e l) (weights_at-weight_with_gap m w l es) ∙ by_zero (eqb (weight m e) 0) (weight_with_gap-is_zero m w (weight m e)) where
+  by_zero : (b : Bool) → eqb (weight_with_gap m w (weight m e)) 0 ≡ b → cond (not (eqb (weight_with_gap m w (weight m e)) 0)) (weight_with_gap m w (weight m e) ∷ map (weight_with_gap m w) (weights_at m es)) (map (weight_with_gap m w) (weights_at m es)) ≡ map (weight_with_gap m w) (cond (not b) (weight m e ∷ weights_at m es) (weights_at m es))
+  by_zero true z = ap (λ b. cond (not b) (weight_with_gap m w (weight m e) ∷ map (weight_with_gap m w) (weights_at m es)) (map (weight_with_gap m w) (weights_at m es))) z
+  by_zero false z = ap (λ b. cond (not b) (weight_with_gap m w (weight m e) ∷ map (weight_with_gap m w) (weights_at m es)) (map (weight_with_gap m w) (weights_at m es))) z
 
 -- and the base in the next one, after the moved weights of what comes before
-pub placed_base : (m w : ℕ) (a : Anchor) → IsLevel m → weights_at m (map (with_room m w) a.before ++ raised m a.last ∷ []) ≡ map (weight_with_room m w) (weights_at m a.before) ++ (weight m a.last + 1) ∷ []
+pub placed_base : (m w : ℕ) (a : Anchor) → IsLevel m → weights_at m (map (with_gap m w) a.before ++ raised m a.last ∷ []) ≡ map (weight_with_gap m w) (weights_at m a.before) ++ (weight m a.last + 1) ∷ []
 placed_base m w a l =
-    weights_at-append m (map (with_room m w) a.before) (raised m a.last ∷ [])
-    ∙ ap₂ (λ x y. x ++ y) (weights_at-weight_with_room m w l a.before) (some_weight m (raised m a.last) above ∙ ap (λ x. x ∷ []) (weight-raised m a.last l)) where
+    weights_at-append m (map (with_gap m w) a.before) (raised m a.last ∷ [])
+    ∙ ap₂ (λ x y. x ++ y) (weights_at-weight_with_gap m w l a.before) (some_weight m (raised m a.last) above ∙ ap (λ x. x ∷ []) (weight-raised m a.last l)) where
       above : weight m (raised m a.last) ≡ 0 → ⊥
       above e = let more : weight m a.last + 1 ≡ 0 = sym (weight-raised m a.last l) ∙ e in absurd (omega arith)
 

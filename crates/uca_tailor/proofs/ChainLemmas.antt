@@ -1,10 +1,10 @@
 -- A chain of rules comes out in the order in which it is written.
-use Rattle.std.proofs.Common.{◌≡◌, ℕ, suc, zero, ◌+◌, ◌≤◌, ◌<◌, min, List, [], ◌∷◌, ◌++◌, length, Ok, refl, sym, ap, ap₂, subst, ◌∙◌, arith, inl, inr}
+use Rattle.std.proofs.Common.{◌≡◌, ℕ, ◌+◌, ◌≤◌, min, List, [], ◌∷◌, ◌++◌, length, Ok, refl, sym, ap, subst, ◌∙◌, arith, inl, inr}
 use Rattle.std.proofs.lemmas.Bool.{cases_lt}
 use Rattle.std.proofs.lemmas.Cmp.{nat_list_cmp_total}
 use Rattle.std.proofs.lemmas.Map.Lookups.{exact_bytes}
 use Rattle.std.specs.Prelude.{Result, Err}
-use Rattle.std.specs.declared.cmp.Ordering.TheVariants.{Less, Equal}
+use Rattle.std.specs.declared.cmp.Ordering.TheVariants.{Less}
 use Rattle.unicode_normalization.specs.Forms.{nfd}
 use Rattle.uca_weights.specs.declared.element.Element.{Element}
 use Rattle.uca_weights.specs.declared.settings.Strength.{Strength}
@@ -18,7 +18,7 @@ use Rattle.uca_model.specs.TableText.{◌>>=◌}
 use Rattle.uca_model.specs.Tailoring.{TailorCause, TailorFault, Related, related, at_relation, related_all, tailored_from, tailored}
 use Rattle.uca_model.proofs.EquivalenceLemmas.{order-itself}
 use Rattle.uca_tailor.specs.TailoringLaws.{plain_key, IsNext}
-use Rattle.uca_tailor.specs.ChainLaws.{Place, chain, rules_after, string_before, EndPlain, Tailors, AreNeighbours, ComesBefore, NeighboursComeAsWritten, ComeInOrder, strongest, last_text, ChainsComeAsWritten}
+use Rattle.uca_tailor.specs.ChainLaws.{Place, chain, rules_after, string_before, EndPlain, Tailors, AreNeighbours, ComesBefore, NeighboursComeAsWritten, strongest, last_text, ChainsComeAsWritten}
 use Rattle.uca_tailor.proofs.KeyAlone.{each_anchor}
 use Rattle.uca_tailor.proofs.NextToAnchor.{each_next}
 use Rattle.uca_tailor.proofs.Untouched.{untouched}

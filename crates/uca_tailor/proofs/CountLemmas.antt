@@ -13,11 +13,11 @@ use Rattle.std.specs.FinMap.{find, put, entries, values, from_entries, from_sort
 use Rattle.std.specs.FinMap.Entries.{below_all, by_order}
 use Rattle.uca_weights.specs.declared.element.Element.{Element}
 use Rattle.uca_weights.specs.Element.{weight}
-use Rattle.uca_model.specs.Room.{moves, weight_with_room, with_room, entry_with_room, table_with_room, has_no_room, max_weight}
+use Rattle.uca_model.specs.Gap.{moves, weight_with_gap, with_gap, entry_with_gap, table_with_gap, cannot_move, max_weight}
 use Rattle.uca_model.specs.Table.{ElementTable, key_cmp, with_entry}
 use Rattle.uca_tailor.specs.Counts.{count_at, count_in, Reach, Opens, AreCounts, AreNone, HaveCounts, elements_or_none, reaches_limit}
 use Rattle.uca_tailor.specs.declared.counts.Counts.{Counts}
-use Rattle.uca_tailor.proofs.Levels.{IsLevel, weight-with_room}
+use Rattle.uca_tailor.proofs.Levels.{IsLevel, weight-with_gap}
 
 -- one where two weights are the same
 abbrev pub one_at : ℕ → ℕ → ℕ
@@ -59,56 +59,56 @@ Reach-less level i es d w counts new n h is step reach =
 pub Reach-end : (level i : ℕ) (es : List Element) (counts : List ℕ) (n : ℕ → ℕ) → length es ≤ i → Reach counts (λ x. n x + count_at level x (drop i es)) → Reach counts n
 Reach-end level i es counts n h = Reach-same counts (λ x. n x + count_at level x (drop i es)) n (λ x. let e : count_at level x (drop i es) ≡ 0 = ap (count_at level x) (drop_all i es h) in omega (arith, e))
 
--- ## Room
+-- ## A gap
 
-one_below : (level w x y : ℕ) → x ≤ w → one_at (weight_with_room level w y) x ≡ one_at y x
+one_below : (level w x y : ℕ) → x ≤ w → one_at (weight_with_gap level w y) x ≡ one_at y x
 one_below level w x y h = grind (arith, nat_tests)
 
-one_between : (level w y : ℕ) → w < max_weight level → one_at (weight_with_room level w y) (w + 1) ≡ 0
+one_between : (level w y : ℕ) → w < max_weight level → one_at (weight_with_gap level w y) (w + 1) ≡ 0
 one_between level w y h = grind (arith, nat_tests)
 
-one_above : (level w x y : ℕ) → w < x → x < max_weight level → one_at (weight_with_room level w y) (x + 1) ≡ one_at y x
+one_above : (level w x y : ℕ) → w < x → x < max_weight level → one_at (weight_with_gap level w y) (x + 1) ≡ one_at y x
 one_above level w x y h k = grind (arith, nat_tests)
 
 -- what a gap at a level does to the count of a weight, where it does so to each element
-all_at : (level w k x y : ℕ) → ((e : Element) → one_at (weight k (with_room level w e)) y ≡ one_at (weight k e) x) → (es : List Element) → count_at k y (map (with_room level w) es) ≡ count_at k x es
+all_at : (level w k x y : ℕ) → ((e : Element) → one_at (weight k (with_gap level w e)) y ≡ one_at (weight k e) x) → (es : List Element) → count_at k y (map (with_gap level w) es) ≡ count_at k x es
 all_at level w k x y each [] = refl
 all_at level w k x y each (e ∷ es) = ap₂ (λ a b. a + b) (each e) (all_at level w k x y each es)
 
-all_in : (level w k x y : ℕ) → ((e : Element) → one_at (weight k (with_room level w e)) y ≡ one_at (weight k e) x) → (es : List (List ℕ × List Element)) → count_in k y (map (entry_with_room level w) es) ≡ count_in k x es
+all_in : (level w k x y : ℕ) → ((e : Element) → one_at (weight k (with_gap level w e)) y ≡ one_at (weight k e) x) → (es : List (List ℕ × List Element)) → count_in k y (map (entry_with_gap level w) es) ≡ count_in k x es
 all_in level w k x y each [] = refl
 all_in level w k x y each (e ∷ es) = ap₂ (λ a b. a + b) (all_at level w k x y each e.1) (all_in level w k x y each es)
 
-none_at : (level w k y : ℕ) → ((e : Element) → one_at (weight k (with_room level w e)) y ≡ 0) → (es : List Element) → count_at k y (map (with_room level w) es) ≡ 0
+none_at : (level w k y : ℕ) → ((e : Element) → one_at (weight k (with_gap level w e)) y ≡ 0) → (es : List Element) → count_at k y (map (with_gap level w) es) ≡ 0
 none_at level w k y each [] = refl
 none_at level w k y each (e ∷ es) = ap₂ (λ a b. a + b) (each e) (none_at level w k y each es)
 
-none_in : (level w k y : ℕ) → ((e : Element) → one_at (weight k (with_room level w e)) y ≡ 0) → (es : List (List ℕ × List Element)) → count_in k y (map (entry_with_room level w) es) ≡ 0
+none_in : (level w k y : ℕ) → ((e : Element) → one_at (weight k (with_gap level w e)) y ≡ 0) → (es : List (List ℕ × List Element)) → count_in k y (map (entry_with_gap level w) es) ≡ 0
 none_in level w k y each [] = refl
 none_in level w k y each (e ∷ es) = ap₂ (λ a b. a + b) (none_at level w k y each e.1) (none_in level w k y each es)
 
-Reach-room : (level w : ℕ) (es : List (List ℕ × List Element)) (old new : List ℕ) → IsLevel level → length old ≤ max_weight level + 1 → Opens w old new → Reach old (λ x. count_in level x es) → Reach new (λ x. count_in level x (map (entry_with_room level w) es))
-Reach-room level w es old new l within opens reach x h few = elim (cases_lt w x) [
+Reach-gap : (level w : ℕ) (es : List (List ℕ × List Element)) (old new : List ℕ) → IsLevel level → length old ≤ max_weight level + 1 → Opens w old new → Reach old (λ x. count_in level x es) → Reach new (λ x. count_in level x (map (entry_with_gap level w) es))
+Reach-gap level w es old new l within opens reach x h few = elim (cases_lt w x) [
   | inl high ↦ above x high h few
   | inr low ↦
-      let same = all_in level w level x x (λ e. ap (λ y. one_at y x) (weight-with_room level w e l) ∙ one_below level w x (weight level e) low) es in
+      let same = all_in level w level x x (λ e. ap (λ y. one_at y x) (weight-with_gap level w e l) ∙ one_below level w x (weight level e) low) es in
       let at = opens.below x low in let size = opens.size in
       at ∙ reach x (omega (arith, size, h)) (omega (arith, at, few)) ∙ sym same
 ] where
-  above : (x : ℕ) → w < x → x < length new → slice_index new x < 4294967295 → slice_index new x ≡ count_in level x (map (entry_with_room level w) es)
+  above : (x : ℕ) → w < x → x < length new → slice_index new x < 4294967295 → slice_index new x ≡ count_in level x (map (entry_with_gap level w) es)
   above zero high h few = absurd (omega arith)
   above (suc x) high h few = elim (cases_lt w x) [
     | inl more ↦
         let size = opens.size in
         let is : suc x ≡ x + 1 = omega arith in
-        let same : count_in level (suc x) (map (entry_with_room level w) es) ≡ count_in level x es = ap (λ k. count_in level k (map (entry_with_room level w) es)) is ∙ all_in level w level x (x + 1) (λ e. ap (λ y. one_at y (x + 1)) (weight-with_room level w e l) ∙ one_above level w x (weight level e) more (omega (arith, size, h, within))) es in
+        let same : count_in level (suc x) (map (entry_with_gap level w) es) ≡ count_in level x es = ap (λ k. count_in level k (map (entry_with_gap level w) es)) is ∙ all_in level w level x (x + 1) (λ e. ap (λ y. one_at y (x + 1)) (weight-with_gap level w e l) ∙ one_above level w x (weight level e) more (omega (arith, size, h, within))) es in
         let at : slice_index new (suc x) ≡ slice_index old x = ap (slice_index new) is ∙ opens.above x more (omega (arith, size, h)) in
         at ∙ reach x (omega (arith, size, h)) (omega (arith, at, few)) ∙ sym same
     | inr low ↦
         let size = opens.size in
         let is : suc x ≡ w + 1 = omega (arith, low, high) in
-        let none = none_in level w level (w + 1) (λ e. ap (λ y. one_at y (w + 1)) (weight-with_room level w e l) ∙ one_between level w (weight level e) (omega (arith, size, h, within, is))) es in
-        ap (slice_index new) is ∙ opens.next (omega (arith, size, h, is)) ∙ sym none ∙ ap (λ k. count_in level k (map (entry_with_room level w) es)) (sym is)
+        let none = none_in level w level (w + 1) (λ e. ap (λ y. one_at y (w + 1)) (weight-with_gap level w e l) ∙ one_between level w (weight level e) (omega (arith, size, h, within, is))) es in
+        ap (slice_index new) is ∙ opens.next (omega (arith, size, h, is)) ∙ sym none ∙ ap (λ k. count_in level k (map (entry_with_gap level w) es)) (sym is)
   ]
 
 pub entries-from_entries : (es : List (List ℕ × List Element)) → T (is_sorted key_cmp es) → entries (from_entries {R = key_cmp} es) ≡ es
@@ -116,28 +116,28 @@ entries-from_entries es sorted =
     ap entries (same_map nat_list_cmp_total (slice_cmp-IsAntisymmetric nat_cmp-IsAntisymmetric) (from_entries es) (from_sorted es) (λ q. get-from_entries nat_list_cmp_total es q ∙ sym (get-from_sorted key_cmp es q sorted)))
     ∙ entries-from_sorted key_cmp es sorted
 
-below-room : (level w : ℕ) (k : List ℕ) (es : List (List ℕ × List Element)) → below_all key_cmp k (map (entry_with_room level w) es) ≡ below_all key_cmp k es
-below-room level w k [] = refl
-below-room level w k (e ∷ es) = ap (λ b. is_lt (key_cmp k e.0) && b) (below-room level w k es)
+below-gap : (level w : ℕ) (k : List ℕ) (es : List (List ℕ × List Element)) → below_all key_cmp k (map (entry_with_gap level w) es) ≡ below_all key_cmp k es
+below-gap level w k [] = refl
+below-gap level w k (e ∷ es) = ap (λ b. is_lt (key_cmp k e.0) && b) (below-gap level w k es)
 
-sorted-room : (level w : ℕ) (es : List (List ℕ × List Element)) → is_sorted key_cmp (map (entry_with_room level w) es) ≡ is_sorted key_cmp es
-sorted-room level w [] = refl
-sorted-room level w (e ∷ es) = ap₂ (λ a b. a && b) (below-room level w e.0 es) (sorted-room level w es)
+sorted-gap : (level w : ℕ) (es : List (List ℕ × List Element)) → is_sorted key_cmp (map (entry_with_gap level w) es) ≡ is_sorted key_cmp es
+sorted-gap level w [] = refl
+sorted-gap level w (e ∷ es) = ap₂ (λ a b. a && b) (below-gap level w e.0 es) (sorted-gap level w es)
 
-entries-room : (level w : ℕ) (t : ElementTable) → entries (table_with_room level w t).entries ≡ map (entry_with_room level w) (entries t.entries)
-entries-room level w t = entries-from_entries (map (entry_with_room level w) (entries t.entries)) (subst T (sym (sorted-room level w (entries t.entries))) (entries_sorted t.entries))
+entries-gap : (level w : ℕ) (t : ElementTable) → entries (table_with_gap level w t).entries ≡ map (entry_with_gap level w) (entries t.entries)
+entries-gap level w t = entries-from_entries (map (entry_with_gap level w) (entries t.entries)) (subst T (sym (sorted-gap level w (entries t.entries))) (entries_sorted t.entries))
 
-pub AreCounts-room : (level w : ℕ) (t : ElementTable) (old new : List ℕ) → IsLevel level → Opens w old new → AreCounts level old t → AreCounts level new (table_with_room level w t)
-AreCounts-room level w t old new l opens are = record {
+pub AreCounts-gap : (level w : ℕ) (t : ElementTable) (old new : List ℕ) → IsLevel level → Opens w old new → AreCounts level old t → AreCounts level new (table_with_gap level w t)
+AreCounts-gap level w t old new l opens are = record {
   within = let a = are.within in let b = opens.size in omega (arith, a, b);
-  reach = subst (λ es. Reach new (λ x. count_in level x es)) (sym (entries-room level w t)) (Reach-room level w (entries t.entries) old new l are.within opens are.reach);
+  reach = subst (λ es. Reach new (λ x. count_in level x es)) (sym (entries-gap level w t)) (Reach-gap level w (entries t.entries) old new l are.within opens are.reach);
 }
 
 -- at the other levels
-pub AreCounts-other : (level w k : ℕ) (t : ElementTable) (counts : List ℕ) → ((e : Element) → weight k (with_room level w e) ≡ weight k e) → AreCounts k counts t → AreCounts k counts (table_with_room level w t)
+pub AreCounts-other : (level w k : ℕ) (t : ElementTable) (counts : List ℕ) → ((e : Element) → weight k (with_gap level w e) ≡ weight k e) → AreCounts k counts t → AreCounts k counts (table_with_gap level w t)
 AreCounts-other level w k t counts stays are = record {
   within = are.within;
-  reach = λ x h few. are.reach x h few ∙ sym (ap (count_in k x) (entries-room level w t) ∙ all_in level w k x x (λ e. ap (λ y. one_at y x) (stays e)) (entries t.entries));
+  reach = λ x h few. are.reach x h few ∙ sym (ap (count_in k x) (entries-gap level w t) ∙ all_in level w k x x (λ e. ap (λ y. one_at y x) (stays e)) (entries t.entries));
 }
 
 -- ## An entry
@@ -211,16 +211,16 @@ limit_one level w x n b h is = grind (arith, nat_tests)
 limit_both : (m n : ℕ) → (nat_lt 0 m || nat_lt 0 n) ≡ nat_lt 0 (m + n)
 limit_both m n = grind (arith, nat_tests)
 
-limit_at : (level w : ℕ) (es : List Element) → w < max_weight level → list_any (has_no_room level w) es ≡ nat_lt 0 (count_at level (max_weight level) es)
+limit_at : (level w : ℕ) (es : List Element) → w < max_weight level → list_any (cannot_move level w) es ≡ nat_lt 0 (count_at level (max_weight level) es)
 limit_at level w [] h = refl
 limit_at level w (e ∷ es) h = limit_one level w (weight level e) (count_at level (max_weight level) es) _ h (limit_at level w es h)
 
-limit_in : (level w : ℕ) (es : List (List ℕ × List Element)) → w < max_weight level → list_any (list_any (has_no_room level w)) (map (λ e. e.1) es) ≡ nat_lt 0 (count_in level (max_weight level) es)
+limit_in : (level w : ℕ) (es : List (List ℕ × List Element)) → w < max_weight level → list_any (list_any (cannot_move level w)) (map (λ e. e.1) es) ≡ nat_lt 0 (count_in level (max_weight level) es)
 limit_in level w [] h = refl
 limit_in level w (e ∷ es) h = ap₂ (λ a b. a || b) (limit_at level w e.1 h) (limit_in level w es h) ∙ limit_both (count_at level (max_weight level) e.1) (count_in level (max_weight level) es)
 
 -- below the greatest weight no gap can be made exactly where some element has it
-pub lacks-below : (level w : ℕ) (t : ElementTable) → w < max_weight level → reaches_limit level t ≡ list_any (list_any (has_no_room level w)) (values t.entries)
+pub lacks-below : (level w : ℕ) (t : ElementTable) → w < max_weight level → reaches_limit level t ≡ list_any (list_any (cannot_move level w)) (values t.entries)
 lacks-below level w t h = sym (limit_in level w (entries t.entries) h)
 
 -- and above it nothing moves
@@ -230,15 +230,15 @@ stays_one level w x h = grind (arith, nat_tests)
 both_false : (a b : Bool) → a ≡ false → b ≡ false → (a || b) ≡ false
 both_false a b p q = rw (p, q) refl
 
-stays_at : (level w : ℕ) (es : List Element) → max_weight level ≤ w → list_any (has_no_room level w) es ≡ false
+stays_at : (level w : ℕ) (es : List Element) → max_weight level ≤ w → list_any (cannot_move level w) es ≡ false
 stays_at level w [] h = refl
 stays_at level w (e ∷ es) h = both_false _ _ (stays_one level w (weight level e) h) (stays_at level w es h)
 
-stays_in : (level w : ℕ) (es : List (List ℕ × List Element)) → max_weight level ≤ w → list_any (list_any (has_no_room level w)) (map (λ e. e.1) es) ≡ false
+stays_in : (level w : ℕ) (es : List (List ℕ × List Element)) → max_weight level ≤ w → list_any (list_any (cannot_move level w)) (map (λ e. e.1) es) ≡ false
 stays_in level w [] h = refl
 stays_in level w (e ∷ es) h = both_false _ _ (stays_at level w e.1 h) (stays_in level w es h)
 
-pub lacks-above : (level w : ℕ) (t : ElementTable) → max_weight level ≤ w → list_any (list_any (has_no_room level w)) (values t.entries) ≡ false
+pub lacks-above : (level w : ℕ) (t : ElementTable) → max_weight level ≤ w → list_any (list_any (cannot_move level w)) (values t.entries) ≡ false
 lacks-above level w t h = stays_in level w (entries t.entries) h
 
 -- ## Written back
@@ -246,10 +246,10 @@ lacks-above level w t h = stays_in level w (entries t.entries) h
 pub whole-items : {Z : Type 0} (v : Vec ℕ Z) (xs : List ℕ) → length xs ≡ length v.items → (with_items v xs).items ≡ xs
 whole-items v xs same = with_items_is v xs (let h = v.ok.0 in omega (arith, same, h))
 
-pub AreCounts-opened : {Z : Type 0} (level w : ℕ) (t : ElementTable) (v : Vec ℕ Z) (old new : List ℕ) → IsLevel level → old ≡ v.items → Opens w old new → AreCounts level v.items t → AreCounts level (with_items v new).items (table_with_room level w t)
+pub AreCounts-opened : {Z : Type 0} (level w : ℕ) (t : ElementTable) (v : Vec ℕ Z) (old new : List ℕ) → IsLevel level → old ≡ v.items → Opens w old new → AreCounts level v.items t → AreCounts level (with_items v new).items (table_with_gap level w t)
 AreCounts-opened level w t v old new l is opens are =
     let size : length new ≡ length v.items = opens.size ∙ ap length is in
-    subst (λ xs. AreCounts level xs (table_with_room level w t)) (sym (whole-items v new size)) (AreCounts-room level w t old new l opens (subst (λ xs. AreCounts level xs t) (sym is) are))
+    subst (λ xs. AreCounts level xs (table_with_gap level w t)) (sym (whole-items v new size)) (AreCounts-gap level w t old new l opens (subst (λ xs. AreCounts level xs t) (sym is) are))
 
 pub AreCounts-exchanged : {Z : Type 0} (level : ℕ) (t : ElementTable) (k : List ℕ) (es before : List Element) (v : Vec ℕ Z) (old new : List ℕ) → old ≡ v.items → length new ≡ length old → before ≡ elements_or_none t k
     → ((n : ℕ → ℕ) → Reach old (λ x. n x + count_at level x before) → Reach new (λ x. n x + count_at level x es)) → AreCounts level v.items t → AreCounts level (with_items v new).items (with_entry t k es)

@@ -17,7 +17,7 @@ use Rattle.std.specs.declared.cmp.Ordering.{Ordering}
 use Rattle.std.specs.declared.cmp.Ordering.TheVariants.{Less, Equal, Greater}
 use Rattle.uca_weights.specs.declared.element.Element.{Element}
 use Rattle.uca_weights.specs.Element.{weight}
-use Rattle.uca_model.specs.Room.{max_weight}
+use Rattle.uca_model.specs.Gap.{max_weight}
 use Rattle.uca_model.specs.Table.{ElementTable, key_cmp}
 use Rattle.uca_model.proofs.WeightLemmas.{Fits}
 use Rattle.uca_tailor.specs.declared.items.Item.{Item}

@@ -9,27 +9,27 @@ use Rattle.std.specs.FinMap.{entries, values, get-entries}
 use Rattle.uca_weights.specs.declared.element.Element.{Element}
 use Rattle.uca_weights.specs.Element.{weight}
 use Rattle.uca_model.specs.Table.{ElementTable, IsElement, key_cmp, elements_at, with_entry}
-use Rattle.uca_model.specs.Room.{with_room, table_with_room, has_no_room, max_weight}
+use Rattle.uca_model.specs.Gap.{with_gap, table_with_gap, cannot_move, max_weight}
 use Rattle.uca_model.specs.Tailoring.{is_high, raised, Placed}
 use Rattle.uca_model.proofs.AnchorElements.{any_anchor}
 use Rattle.uca_model.proofs.AnchorPlaces.{ends_in_a_weight}
-use Rattle.uca_model.proofs.RoomLookups.{elements_at-with_room}
-use Rattle.uca_model.proofs.RoomAtWeights.{weight_with_room-fits}
+use Rattle.uca_model.proofs.GapLookups.{elements_at-with_gap}
+use Rattle.uca_model.proofs.GapAtWeights.{weight_with_gap-fits}
 use Rattle.uca_model.proofs.WeightLemmas.{Fits, each-append}
 use Rattle.uca_tailor.proofs.Levels.{IsLevel, level_one, level_two, level_three}
-use Rattle.uca_tailor.proofs.LevelOrders.{AllHaveRoom}
-use Rattle.uca_tailor.proofs.ChangedTables.{all_of_none, found_room, elements_at-same, elements_at-other}
+use Rattle.uca_tailor.proofs.LevelOrders.{AllCanMove}
+use Rattle.uca_tailor.proofs.ChangedTables.{all_of_none, found_can_move, elements_at-same, elements_at-other}
 use Rattle.uca_tailor.proofs.RelationFacts.{IsPlacedAt}
 use Rattle.uca_tailor.proofs.AnchorWeights.{parts_of}
 
 -- ## An element moved for a gap
 
-element_fits : (m w : ℕ) (e : Element) → IsLevel m → has_no_room m w e ≡ false → IsElement e → IsElement (with_room m w e)
-element_fits m w e level_one s h = record { l1 = weight_with_room-fits 1 w e.l1 s h.l1; l2 = h.l2; l3 = h.l3 }
-element_fits m w e level_two s h = record { l1 = h.l1; l2 = weight_with_room-fits 2 w e.l2 s h.l2; l3 = h.l3 }
-element_fits m w e level_three s h = record { l1 = h.l1; l2 = h.l2; l3 = weight_with_room-fits 3 w e.l3 s h.l3 }
+element_fits : (m w : ℕ) (e : Element) → IsLevel m → cannot_move m w e ≡ false → IsElement e → IsElement (with_gap m w e)
+element_fits m w e level_one s h = record { l1 = weight_with_gap-fits 1 w e.l1 s h.l1; l2 = h.l2; l3 = h.l3 }
+element_fits m w e level_two s h = record { l1 = h.l1; l2 = weight_with_gap-fits 2 w e.l2 s h.l2; l3 = h.l3 }
+element_fits m w e level_three s h = record { l1 = h.l1; l2 = h.l2; l3 = weight_with_gap-fits 3 w e.l3 s h.l3 }
 
-pub shifted_fit : (m w : ℕ) (es : List Element) → IsLevel m → AllHaveRoom m w es → AllByRecursion IsElement es → AllByRecursion IsElement (map (with_room m w) es)
+pub shifted_fit : (m w : ℕ) (es : List Element) → IsLevel m → AllCanMove m w es → AllByRecursion IsElement es → AllByRecursion IsElement (map (with_gap m w) es)
 shifted_fit m w [] l s h = tt
 shifted_fit m w (e ∷ es) l s h = (element_fits m w e l s.0 h.0, shifted_fit m w es l s.1 h.1)
 
@@ -52,30 +52,30 @@ base_fits m t es p l h fit =
     let w = weight m a.last in
     let s = ends_in_a_weight m es a h.is_split in
     let parts = parts_of IsElement a.before (a.last ∷ s.dropped) (subst (AllByRecursion IsElement) s.parts fit) in
-    let room = any_anchor (has_no_room m w) m es a h.is_split h.free.anchor_room in
+    let room = any_anchor (cannot_move m w) m es a h.is_split h.free.anchor_can_move in
     let low = any_anchor is_high m es a h.is_split h.free.low in
     subst (λ z. AllByRecursion IsElement z.base) (sym h.are)
-    (each-append IsElement (map (with_room m w) a.before) (raised m a.last ∷ []) (shifted_fit m w a.before l (all_of_none (has_no_room m w) a.before room.0) parts.0)
+    (each-append IsElement (map (with_gap m w) a.before) (raised m a.last ∷ []) (shifted_fit m w a.before l (all_of_none (cannot_move m w) a.before room.0) parts.0)
     (raised_fits m a.last l parts.1.0 low.1 h.free.below_top, tt))
 
 -- ## The new table
 
-pub entry_room : (m w : ℕ) (t : ElementTable) (key : List ℕ) (es : List Element) → list_any (list_any (has_no_room m w)) (values t.entries) ≡ false → elements_at t key ≡ Some es → AllHaveRoom m w es
-entry_room m w t key es h e = subst (λ o. AllHaveRoom m w (unwrap_or o [])) (sym (get-entries t.entries key) ∙ e) (found_room m w key (entries t.entries) h [] tt)
+pub entry_can_move : (m w : ℕ) (t : ElementTable) (key : List ℕ) (es : List Element) → list_any (list_any (cannot_move m w)) (values t.entries) ≡ false → elements_at t key ≡ Some es → AllCanMove m w es
+entry_can_move m w t key es h e = subst (λ o. AllCanMove m w (unwrap_or o [])) (sym (get-entries t.entries key) ∙ e) (found_can_move m w key (entries t.entries) h [] tt)
 
-pub shifted_entry_fits : (m w : ℕ) (t : ElementTable) (key : List ℕ) (o : Option (List Element)) (es : List Element) → IsLevel m → Fits t → list_any (list_any (has_no_room m w)) (values t.entries) ≡ false → elements_at t key ≡ o
-    → option_map (map (with_room m w)) o ≡ Some es → AllByRecursion IsElement es
+pub shifted_entry_fits : (m w : ℕ) (t : ElementTable) (key : List ℕ) (o : Option (List Element)) (es : List Element) → IsLevel m → Fits t → list_any (list_any (cannot_move m w)) (values t.entries) ≡ false → elements_at t key ≡ o
+    → option_map (map (with_gap m w)) o ≡ Some es → AllByRecursion IsElement es
 shifted_entry_fits m w t key None es l f h is e = absurd (cc)
-shifted_entry_fits m w t key (Some fs) es l f h is e = let found : map (with_room m w) fs ≡ es = cc in subst (AllByRecursion IsElement) found (shifted_fit m w fs l (entry_room m w t key fs h is) (f.entries key fs is))
+shifted_entry_fits m w t key (Some fs) es l f h is e = let found : map (with_gap m w) fs ≡ es = cc in subst (AllByRecursion IsElement) found (shifted_fit m w fs l (entry_can_move m w t key fs h is) (f.entries key fs is))
 
-pub new_fits : (m w : ℕ) (t u : ElementTable) (item : List ℕ) (whole : List Element) → IsLevel m → Fits t → list_any (list_any (has_no_room m w)) (values t.entries) ≡ false → AllByRecursion IsElement whole
-    → u ≡ with_entry (table_with_room m w t) item whole → Fits u
+pub new_fits : (m w : ℕ) (t u : ElementTable) (item : List ℕ) (whole : List Element) → IsLevel m → Fits t → list_any (list_any (cannot_move m w)) (values t.entries) ≡ false → AllByRecursion IsElement whole
+    → u ≡ with_entry (table_with_gap m w t) item whole → Fits u
 new_fits m w t u item whole l f h g is = subst Fits (sym is) (record {
   ranges = f.ranges;
   entries = λ key es e. elim (cases_Bool (eq_by_cmp key_cmp key item)) [
     | inl here ↦
-        let found : Some whole ≡ Some es = sym (elements_at-same (table_with_room m w t) item whole key here) ∙ e in
+        let found : Some whole ≡ Some es = sym (elements_at-same (table_with_gap m w t) item whole key here) ∙ e in
         let value : whole ≡ es = cc in subst (AllByRecursion IsElement) value g
-    | inr other ↦ shifted_entry_fits m w t key (elements_at t key) es l f h refl (sym (elements_at-with_room m w t key) ∙ sym (elements_at-other (table_with_room m w t) item whole key other) ∙ e)
+    | inr other ↦ shifted_entry_fits m w t key (elements_at t key) es l f h refl (sym (elements_at-with_gap m w t key) ∙ sym (elements_at-other (table_with_gap m w t) item whole key other) ∙ e)
   ];
 })

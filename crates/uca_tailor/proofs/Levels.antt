@@ -4,9 +4,9 @@ use Rattle.uca_weights.specs.declared.element.Element.{Element}
 use Rattle.uca_weights.specs.Element.{weight}
 use Rattle.uca_model.specs.Table.{ElementTable}
 use Rattle.uca_model.specs.Rules.{Operator, first, second, third, same}
-use Rattle.uca_model.specs.Room.{weight_with_room, with_room}
+use Rattle.uca_model.specs.Gap.{weight_with_gap, with_gap}
 use Rattle.uca_model.specs.Tailoring.{raised, placed_after, placed}
-use Rattle.uca_model.proofs.RoomAtWeights.{raised-first, raised-second, raised-third}
+use Rattle.uca_model.proofs.GapAtWeights.{raised-first, raised-second, raised-third}
 use Rattle.uca_tailor.specs.TailoringLaws.{op_level}
 
 -- levels 1 to 3
@@ -56,10 +56,10 @@ places_at level same is some = let none : 0 ≡ level = is in absurd (omega arit
 -- ## The weights of an element
 
 -- at the level: moved for the gap, and one more
-pub weight-with_room : (m w : ℕ) (e : Element) → IsLevel m → weight m (with_room m w e) ≡ weight_with_room m w (weight m e)
-weight-with_room m w e level_one = refl
-weight-with_room m w e level_two = refl
-weight-with_room m w e level_three = refl
+pub weight-with_gap : (m w : ℕ) (e : Element) → IsLevel m → weight m (with_gap m w e) ≡ weight_with_gap m w (weight m e)
+weight-with_gap m w e level_one = refl
+weight-with_gap m w e level_two = refl
+weight-with_gap m w e level_three = refl
 
 pub weight-raised : (m : ℕ) (e : Element) → IsLevel m → weight m (raised m e) ≡ weight m e + 1
 weight-raised m e level_one = raised-first e
@@ -67,7 +67,7 @@ weight-raised m e level_two = raised-second e
 weight-raised m e level_three = raised-third e
 
 -- below the level: as they were
-pub weight-shifted_above : (j m w : ℕ) (e : Element) → IsBelow j m → weight j (with_room m w e) ≡ weight j e
+pub weight-shifted_above : (j m w : ℕ) (e : Element) → IsBelow j m → weight j (with_gap m w e) ≡ weight j e
 weight-shifted_above j m w e first_of_second = refl
 weight-shifted_above j m w e first_of_third = refl
 weight-shifted_above j m w e second_of_third = refl

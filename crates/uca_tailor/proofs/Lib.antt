@@ -5,7 +5,7 @@ pub mod PieceLemmas
 pub mod StringLemmas
 pub mod ParsingLemmas
 pub mod Levels
-pub mod RoomAndWeighting
+pub mod GapAndWeighting
 pub mod LevelOrders
 pub mod ImplicitElements
 pub mod ChangedTables

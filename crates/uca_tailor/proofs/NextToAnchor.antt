@@ -20,17 +20,17 @@ use Rattle.uca_model.specs.SortKey.{key_order}
 use Rattle.uca_model.specs.DecidingLevel.{list_order}
 use Rattle.uca_model.specs.WellFormed.{skips_a_level}
 use Rattle.uca_model.specs.Rules.{Relation}
-use Rattle.uca_model.specs.Room.{weight_with_room, with_room, table_with_room}
+use Rattle.uca_model.specs.Gap.{weight_with_gap, with_gap, table_with_gap}
 use Rattle.uca_model.specs.Tailoring.{least, Related}
 use Rattle.uca_model.proofs.LevelLemmas.{levels-within}
 use Rattle.uca_model.proofs.RewritingLemmas.{elements_nil}
-use Rattle.uca_model.proofs.RoomAtWeights.{weight_with_room-low}
+use Rattle.uca_model.proofs.GapAtWeights.{weight_with_gap-low}
 use Rattle.uca_model.proofs.WeightLemmas.{HasWeights, Fits, Fits-IsTable, elements-fit, HasWeights-Fits}
 use Rattle.uca_tailor.specs.TailoringLaws.{weights_at, Lacks, HasNoMatch, plain_key, IsNext, EachItemIsNext}
 use Rattle.uca_tailor.proofs.Levels.{IsLevel, level_most, level_of, is_below, places_at, weight-shifted_above}
-use Rattle.uca_tailor.proofs.ChangedTables.{elements_of_keys, elements_of_matches, elements_of_keys-with_room, elements_of_keys-with_entry, elements_at-here}
+use Rattle.uca_tailor.proofs.ChangedTables.{elements_of_keys, elements_of_matches, elements_of_keys-with_gap, elements_of_keys-with_entry, elements_at-here}
 use Rattle.uca_tailor.proofs.RelationFacts.{IsRelated, is_related}
-use Rattle.uca_tailor.proofs.AnchorWeights.{weights_at-same, weights_at-weight_with_room}
+use Rattle.uca_tailor.proofs.AnchorWeights.{weights_at-same, weights_at-weight_with_gap}
 use Rattle.uca_tailor.proofs.FittingWeights.{base_fits, new_fits}
 use Rattle.uca_tailor.proofs.RaisedWeight.{LacksAll, lacks_matches}
 use Rattle.uca_tailor.proofs.Placed.{is_placed}
@@ -46,14 +46,14 @@ others key [] h = tt
 others key (m ∷ ms) h = (h.0, others key ms h.1)
 
 -- a text with the same matches has its elements, moved for the gap
-anchor_elements : (m w : ℕ) (t u : ElementTable) (item : List ℕ) (es : List Element) (text : List ℕ) → AreRanges t.ranges → least m ≤ w → u ≡ with_entry (table_with_room m w t) item es
-    → matches (is_key t) (nfd text) ≡ matches (is_key u) (nfd text) → HasNoMatch t item text → elements u (nfd text) ≡ map (with_room m w) (elements t (nfd text))
+anchor_elements : (m w : ℕ) (t u : ElementTable) (item : List ℕ) (es : List Element) (text : List ℕ) → AreRanges t.ranges → least m ≤ w → u ≡ with_entry (table_with_gap m w t) item es
+    → matches (is_key t) (nfd text) ≡ matches (is_key u) (nfd text) → HasNoMatch t item text → elements u (nfd text) ≡ map (with_gap m w) (elements t (nfd text))
 anchor_elements m w t u item es text r h is alike none =
     let ms = matches (is_key t) (nfd text) in
     let ks = map (λ x. x.code_points) ms in
     ap (flat_map (λ x. elements_or_implicit u x.code_points)) (sym alike) ∙ elements_of_matches u ms ∙ ap (λ x. elements_of_keys x ks) is
-    ∙ elements_of_keys-with_entry (table_with_room m w t) item es ks (others item ms none)
-    ∙ elements_of_keys-with_room m w t ks r h ∙ ap (map (with_room m w)) (sym (elements_of_matches t ms))
+    ∙ elements_of_keys-with_entry (table_with_gap m w t) item es ks (others item ms none)
+    ∙ elements_of_keys-with_gap m w t ks r h ∙ ap (map (with_gap m w)) (sym (elements_of_matches t ms))
 
 -- ## The lists of the anchor's text and of its item
 
@@ -67,7 +67,7 @@ pub record Neighbours (m : ℕ) (u : ElementTable) (text item key : List ℕ) (f
 neighbours : (m : ℕ) (t : ElementTable) (text item : List ℕ) (r : Relation) (next : Related) → IsLevel m → IsTable t → All IsScalar text → 1 ≤ length r.item → nfd item ≡ r.item → r.expansion ≡ []
     → list_any skips_a_level (elements t (nfd text)) ≡ false → (h : IsRelated m t (elements t (nfd text)) r next)
     → matches (is_key t) (nfd text) ≡ matches (is_key next.table) (nfd text) → HasNoMatch t r.item text
-    → Neighbours m next.table text item r.item (map (weight_with_room m (weight m h.how.split.last)) (weights_at m h.how.split.before)) (weight m h.how.split.last)
+    → Neighbours m next.table text item r.item (map (weight_with_gap m (weight m h.how.split.last)) (weights_at m h.how.split.before)) (weight m h.how.split.last)
 neighbours m t text item r next l table scalars some decomposed no_expansion full h alike none =
     let es = elements t (nfd text) in
     let a = h.how.split in
@@ -75,23 +75,23 @@ neighbours m t text item r next l table scalars some decomposed no_expansion ful
     let u = next.table in
     let place = h.entered.place in
     let p = is_placed m t es r next l table.ranges full h in
-    let moved : place.table ≡ table_with_room m w t = ap (λ z. z.table) h.how.are in
+    let moved : place.table ≡ table_with_gap m w t = ap (λ z. z.table) h.how.are in
     let whole : place.base ++ elements place.table r.expansion ≡ next.anchor =
     ap (λ x. place.base ++ elements place.table x) no_expansion ∙ ap (λ x. place.base ++ x) (elements_nil place.table) ∙ append-nil place.base ∙ sym h.entered.base in
-    let made : u ≡ with_entry (table_with_room m w t) r.item next.anchor = h.entered.table ∙ ap₂ (λ x y. with_entry x r.item y) moved whole in
-    let of_anchor : elements u (nfd text) ≡ map (with_room m w) es = anchor_elements m w t u r.item next.anchor text table.ranges h.how.free.large made alike none in
-    let of_item : elements u (nfd item) ≡ next.anchor = ap (elements u) decomposed ∙ item_elements u r.item next.anchor some (ap (λ z. elements_at z r.item) made ∙ elements_at-here (table_with_room m w t) r.item next.anchor) in
+    let made : u ≡ with_entry (table_with_gap m w t) r.item next.anchor = h.entered.table ∙ ap₂ (λ x y. with_entry x r.item y) moved whole in
+    let of_anchor : elements u (nfd text) ≡ map (with_gap m w) es = anchor_elements m w t u r.item next.anchor text table.ranges h.how.free.large made alike none in
+    let of_item : elements u (nfd item) ≡ next.anchor = ap (elements u) decomposed ∙ item_elements u r.item next.anchor some (ap (λ z. elements_at z r.item) made ∙ elements_at-here (table_with_gap m w t) r.item next.anchor) in
     let fit = elements-fit t text (Fits-IsTable t table) scalars in
     record {
-      fits = new_fits m w t u r.item next.anchor l (Fits-IsTable t table) h.how.free.table_room (subst (AllByRecursion IsElement) (sym h.entered.base) (base_fits m t es place l h.how fit)) made;
+      fits = new_fits m w t u r.item next.anchor l (Fits-IsTable t table) h.how.free.table_can_move (subst (AllByRecursion IsElement) (sym h.entered.base) (base_fits m t es place l h.how fit)) made;
       below = λ j low less.
           let most : m ≤ 3 = level_most m l in
           let lj = level_of j low (omega arith) in
-          plain_list u text j lj ∙ ap (weights_at j) of_anchor ∙ weights_at-same j (with_room m w) (λ e. weight-shifted_above j m w e (is_below j m l low less)) es
+          plain_list u text j lj ∙ ap (weights_at j) of_anchor ∙ weights_at-same j (with_gap m w) (λ e. weight-shifted_above j m w e (is_below j m l low less)) es
           ∙ sym (p.below j low less) ∙ ap (weights_at j) (sym of_item) ∙ sym (plain_list u item j lj);
       of_text =
-          plain_list u text m l ∙ ap (weights_at m) of_anchor ∙ weights_at-weight_with_room m w l es ∙ ap (map (weight_with_room m w)) p.old
-          ∙ map-append (weight_with_room m w) (weights_at m a.before) (w ∷ []) ∙ ap (λ x. map (weight_with_room m w) (weights_at m a.before) ++ x ∷ []) (weight_with_room-low m w w (omega arith));
+          plain_list u text m l ∙ ap (weights_at m) of_anchor ∙ weights_at-weight_with_gap m w l es ∙ ap (map (weight_with_gap m w)) p.old
+          ∙ map-append (weight_with_gap m w) (weights_at m a.before) (w ∷ []) ∙ ap (λ x. map (weight_with_gap m w) (weights_at m a.before) ++ x ∷ []) (weight_with_gap-low m w w (omega arith));
       of_item = plain_list u item m l ∙ ap (weights_at m) of_item ∙ p.at;
       lacks = record { entries = p.none_in_others; implicit_ones = p.none_implicit };
     }

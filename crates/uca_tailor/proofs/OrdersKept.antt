@@ -9,11 +9,11 @@ use Rattle.uca_weights.specs.Element.{weight}
 use Rattle.uca_model.specs.Table.{ElementTable, AreRanges, IsElement, key_cmp, with_entry}
 use Rattle.uca_model.specs.CollationElements.{elements}
 use Rattle.uca_model.specs.Rules.{Operator, first, second, third, same, Relation, Chain}
-use Rattle.uca_model.specs.Room.{table_with_room, has_no_room}
+use Rattle.uca_model.specs.Gap.{table_with_gap, cannot_move}
 use Rattle.uca_model.specs.Tailoring.{TailorCause, TailorFault, least, Placed, placed, Related, related, at_relation, related_all, tailored_from}
 use Rattle.uca_tailor.proofs.Levels.{IsLevel, level_one, level_two, level_three}
-use Rattle.uca_tailor.proofs.LevelOrders.{level_order, level_order-with_room}
-use Rattle.uca_tailor.proofs.ChangedTables.{elements_of_keys, elements_of_keys-with_room, elements_of_keys_room, elements_of_keys-with_entry}
+use Rattle.uca_tailor.proofs.LevelOrders.{level_order, level_order-with_gap}
+use Rattle.uca_tailor.proofs.ChangedTables.{elements_of_keys, elements_of_keys-with_gap, elements_of_keys_can_move, elements_of_keys-with_entry}
 use Rattle.uca_tailor.proofs.RelationFacts.{same_ok, bind_ok, IsPlacedAt, is_placed_at, is_entered}
 use Rattle.uca_tailor.proofs.FittingWeights.{shifted_fit}
 
@@ -53,19 +53,19 @@ KeepsOrders-with_entry t k es q apart = record {
   kept xs h = elements_of_keys-with_entry t k es xs (each xs h)
 
 -- making a gap where one can be made keeps all orders
-KeepsOrders-with_room : (m w : ℕ) (t : ElementTable) (q : List ℕ → Bool) → IsLevel m → AreRanges t.ranges → least m ≤ w → list_any (list_any (has_no_room m w)) (values t.entries) ≡ false → KeepsOrders t (table_with_room m w t) q
-KeepsOrders-with_room m w t q l r h e = record {
+KeepsOrders-with_gap : (m w : ℕ) (t : ElementTable) (q : List ℕ → Bool) → IsLevel m → AreRanges t.ranges → least m ≤ w → list_any (list_any (cannot_move m w)) (values t.entries) ≡ false → KeepsOrders t (table_with_gap m w t) q
+KeepsOrders-with_gap m w t q l r h e = record {
   ranges = refl;
   orders = λ ks ls a b v level low most.
-      ap₂ (level_order v level) (elements_of_keys-with_room m w t ks r h) (elements_of_keys-with_room m w t ls r h)
-      ∙ level_order-with_room v m w level (elements_of_keys t ks) (elements_of_keys t ls) low most (elements_of_keys_room m w t ks l r h e) (elements_of_keys_room m w t ls l r h e);
-  fits = λ ks a g. subst (AllByRecursion IsElement) (sym (elements_of_keys-with_room m w t ks r h)) (shifted_fit m w (elements_of_keys t ks) l (elements_of_keys_room m w t ks l r h e) g);
+      ap₂ (level_order v level) (elements_of_keys-with_gap m w t ks r h) (elements_of_keys-with_gap m w t ls r h)
+      ∙ level_order-with_gap v m w level (elements_of_keys t ks) (elements_of_keys t ls) low most (elements_of_keys_can_move m w t ks l r h e) (elements_of_keys_can_move m w t ls l r h e);
+  fits = λ ks a g. subst (AllByRecursion IsElement) (sym (elements_of_keys-with_gap m w t ks r h)) (shifted_fit m w (elements_of_keys t ks) l (elements_of_keys_can_move m w t ks l r h e) g);
 }
 
 -- ## One relation
 
 at_level : (level : ℕ) (t : ElementTable) (anchor : List Element) (p : Placed) (q : List ℕ → Bool) → IsLevel level → AreRanges t.ranges → IsPlacedAt level t anchor p → KeepsOrders t p.table q
-at_level level t anchor p q l r h = subst (λ z. KeepsOrders t z.table q) (sym h.are) (KeepsOrders-with_room level (weight level h.split.last) t q l r h.free.large h.free.table_room)
+at_level level t anchor p q l r h = subst (λ z. KeepsOrders t z.table q) (sym h.are) (KeepsOrders-with_gap level (weight level h.split.last) t q l r h.free.large h.free.table_can_move)
 
 keeps_placed : (t : ElementTable) (anchor : List Element) (op : Operator) (p : Placed) (q : List ℕ → Bool) → AreRanges t.ranges → placed t anchor op ≡ Ok p → KeepsOrders t p.table q
 keeps_placed t anchor first p q r e = at_level 1 t anchor p q level_one r (is_placed_at 1 t anchor p e)

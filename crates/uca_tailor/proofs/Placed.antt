@@ -8,7 +8,7 @@ use Rattle.uca_model.specs.ImplicitWeights.{implicit}
 use Rattle.uca_model.specs.CollationElements.{elements}
 use Rattle.uca_model.specs.WellFormed.{skips_a_level}
 use Rattle.uca_model.specs.Rules.{Relation}
-use Rattle.uca_model.specs.Room.{with_room, table_with_room}
+use Rattle.uca_model.specs.Gap.{with_gap, table_with_gap}
 use Rattle.uca_model.specs.Tailoring.{raised, Related}
 use Rattle.uca_tailor.specs.TailoringLaws.{weights_at, Lacks, IsPlaced, EachItemIsPlaced}
 use Rattle.uca_tailor.proofs.Levels.{IsLevel, is_below, places_at, weight-raised}
@@ -24,21 +24,21 @@ is_placed m t anchor r next l ranges full h =
     let w = weight m a.last in
     let place = h.entered.place in
     let room = is_below_top m t anchor place h.how in
-    let base : next.anchor ≡ map (with_room m w) a.before ++ raised m a.last ∷ [] = h.entered.base ∙ ap (λ p. p.base) h.how.are in
-    let moved : place.table ≡ table_with_room m w t = ap (λ p. p.table) h.how.are in
-    let wholly : LacksAll m (w + 1) (table_with_room m w t) no_key = record { entries = λ key es other e. lacks_table m w t key es l room e; implicit_ones = λ c. lacks_implicit m w t.ranges t.ideographs c l room h.how.free.large ranges } in
+    let base : next.anchor ≡ map (with_gap m w) a.before ++ raised m a.last ∷ [] = h.entered.base ∙ ap (λ p. p.base) h.how.are in
+    let moved : place.table ≡ table_with_gap m w t = ap (λ p. p.table) h.how.are in
+    let wholly : LacksAll m (w + 1) (table_with_gap m w t) no_key = record { entries = λ key es other e. lacks_table m w t key es l room e; implicit_ones = λ c. lacks_implicit m w t.ranges t.ideographs c l room h.how.free.large ranges } in
     record {
       old = placed_anchor m anchor a h.how.is_split;
       at = ap (weights_at m) base ∙ placed_base m w a l;
       below = λ j low less. ap (weights_at j) base ∙ placed_below j m w anchor a h.how.is_split (is_below j m l low less) (all_full anchor h.how.free.low full);
-      before = map (with_room m w) a.before;
+      before = map (with_gap m w) a.before;
       last = raised m a.last;
       expansion = elements place.table r.expansion;
       base = base;
       item = ap (λ u. elements_at u r.item) h.entered.table ∙ elements_at-here place.table r.item _ ∙ ap (λ b. Some (b ++ elements place.table r.expansion)) (sym h.entered.base);
       raised = weight-raised m a.last l;
       none_before = lacks_shifted m w a.before l room;
-      none_in_expansion = subst (λ u. Lacks m (w + 1) (elements u r.expansion)) (sym moved) (lacks_text m (w + 1) (table_with_room m w t) r.expansion wholly);
+      none_in_expansion = subst (λ u. Lacks m (w + 1) (elements u r.expansion)) (sym moved) (lacks_text m (w + 1) (table_with_gap m w t) r.expansion wholly);
       none_in_others = λ key es other e. lacks_table m w t key es l room (ap (λ u. elements_at u key) (sym moved) ∙ sym (elements_at-other place.table r.item _ key other) ∙ ap (λ u. elements_at u key) (sym h.entered.table) ∙ e);
       none_implicit = λ c. subst (λ u. Lacks m (w + 1) (implicit u c)) (sym h.entered.table) (subst (λ u. Lacks m (w + 1) (implicit u c)) (sym moved) (wholly.implicit_ones c));
     }

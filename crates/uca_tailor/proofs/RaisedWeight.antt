@@ -11,14 +11,14 @@ use Rattle.uca_model.specs.Table.{ElementTable, AreRanges, elements_at, is_key}
 use Rattle.uca_model.specs.ImplicitWeights.{pair, implicit, implicit_over}
 use Rattle.uca_model.specs.Match.{Match}
 use Rattle.uca_model.specs.CollationElements.{elements, elements_or_implicit, matches}
-use Rattle.uca_model.specs.Room.{with_room, table_with_room, max_weight}
+use Rattle.uca_model.specs.Gap.{with_gap, table_with_gap, max_weight}
 use Rattle.uca_model.specs.Tailoring.{least, is_high, Placed}
 use Rattle.uca_model.proofs.AnchorElements.{any_anchor}
-use Rattle.uca_model.proofs.RoomLookups.{elements_at-with_room}
-use Rattle.uca_model.proofs.RoomAtWeights.{weight_with_room-room}
+use Rattle.uca_model.proofs.GapLookups.{elements_at-with_gap}
+use Rattle.uca_model.proofs.GapAtWeights.{weight_with_gap-apart}
 use Rattle.uca_model.proofs.WeightLemmas.{each-append}
 use Rattle.uca_tailor.specs.TailoringLaws.{Lacks}
-use Rattle.uca_tailor.proofs.Levels.{IsLevel, level_one, level_two, level_three, weight-with_room}
+use Rattle.uca_tailor.proofs.Levels.{IsLevel, level_one, level_two, level_three, weight-with_gap}
 use Rattle.uca_tailor.proofs.ImplicitElements.{implicit_pair}
 use Rattle.uca_tailor.proofs.RelationFacts.{IsPlacedAt}
 
@@ -36,9 +36,9 @@ is_below_top m t es p h is =
 
 -- ## Entries and implicit elements
 
-pub lacks_shifted : (m w : ℕ) (es : List Element) → IsLevel m → IsBelowTop m w → Lacks m (w + 1) (map (with_room m w) es)
+pub lacks_shifted : (m w : ℕ) (es : List Element) → IsLevel m → IsBelowTop m w → Lacks m (w + 1) (map (with_gap m w) es)
 lacks_shifted m w [] l h = tt
-lacks_shifted m w (e ∷ es) l h = (λ is. weight_with_room-room m w (weight m e) h (sym (weight-with_room m w e l) ∙ is), lacks_shifted m w es l h)
+lacks_shifted m w (e ∷ es) l h = (λ is. weight_with_gap-apart m w (weight m e) h (sym (weight-with_gap m w e l) ∙ is), lacks_shifted m w es l h)
 
 lacks_pair : (m w a b : ℕ) → IsLevel m → IsBelowTop m w → least m ≤ w → 32768 ≤ a → 32768 ≤ b → Lacks m (w + 1) (pair a b)
 lacks_pair m w a b level_one h g p q = let f : w < 32767 = h refl in (λ e. omega arith, (λ e. omega arith, tt))
@@ -48,12 +48,12 @@ lacks_pair m w a b level_three h g p q = let f : 2 ≤ w = g in (λ e. omega ari
 pub lacks_implicit : (m w : ℕ) (rs : List Range) (added : List Ideographs) (c : ℕ) → IsLevel m → IsBelowTop m w → least m ≤ w → AreRanges rs → Lacks m (w + 1) (implicit_over rs added c)
 lacks_implicit m w rs added c l h g r = let p = implicit_pair rs added c r in subst (Lacks m (w + 1)) (sym p.are) (lacks_pair m w p.first p.second l h g p.first_high p.second_high)
 
-lacks_entry : (m w : ℕ) (o : Option (List Element)) (es : List Element) → IsLevel m → IsBelowTop m w → option_map (map (with_room m w)) o ≡ Some es → Lacks m (w + 1) es
+lacks_entry : (m w : ℕ) (o : Option (List Element)) (es : List Element) → IsLevel m → IsBelowTop m w → option_map (map (with_gap m w)) o ≡ Some es → Lacks m (w + 1) es
 lacks_entry m w None es l h e = absurd (cc)
-lacks_entry m w (Some fs) es l h e = let is : map (with_room m w) fs ≡ es = cc in subst (Lacks m (w + 1)) is (lacks_shifted m w fs l h)
+lacks_entry m w (Some fs) es l h e = let is : map (with_gap m w) fs ≡ es = cc in subst (Lacks m (w + 1)) is (lacks_shifted m w fs l h)
 
-pub lacks_table : (m w : ℕ) (t : ElementTable) (key : List ℕ) (es : List Element) → IsLevel m → IsBelowTop m w → elements_at (table_with_room m w t) key ≡ Some es → Lacks m (w + 1) es
-lacks_table m w t key es l h e = lacks_entry m w (elements_at t key) es l h (sym (elements_at-with_room m w t key) ∙ e)
+pub lacks_table : (m w : ℕ) (t : ElementTable) (key : List ℕ) (es : List Element) → IsLevel m → IsBelowTop m w → elements_at (table_with_gap m w t) key ≡ Some es → Lacks m (w + 1) es
+lacks_table m w t key es l h e = lacks_entry m w (elements_at t key) es l h (sym (elements_at-with_gap m w t key) ∙ e)
 
 -- ## Texts
 

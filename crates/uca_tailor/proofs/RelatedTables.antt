@@ -15,7 +15,7 @@ use Rattle.uca_weights.specs.Element.{weight}
 use Rattle.uca_model.specs.Table.{ElementTable, IsEntry, IsTable, IsElement, key_cmp}
 use Rattle.uca_model.specs.CollationElements.{elements}
 use Rattle.uca_model.specs.Rules.{Operator, first, second, third, same}
-use Rattle.uca_model.specs.Room.{with_room, entry_with_room, table_with_room, has_no_room}
+use Rattle.uca_model.specs.Gap.{with_gap, entry_with_gap, table_with_gap, cannot_move}
 use Rattle.uca_model.specs.Tailoring.{TailorCause, raised, Placed, placed}
 use Rattle.uca_model.proofs.CharacterLemmas.{scalar-small}
 use Rattle.uca_model.proofs.AnchorElements.{or_false}
@@ -45,28 +45,28 @@ all-from_entries : (es : List (List ℕ × List Element)) → AllByRecursion IsE
 all-from_entries [] a = subst (AllByRecursion IsEntry) (sym (nil_from_length (entries (empty {X = List Element} {R = key_cmp})) (sym (len-entries (empty {X = List Element} {R = key_cmp})) ∙ len-empty key_cmp (List Element)))) tt
 all-from_entries (e ∷ es) a = all-insert (from_entries {R = key_cmp} es) e.0 e.1 a.0 (all-from_entries es a.1)
 
--- ## Room
+-- ## A gap
 
-shifted_entries : (m w : ℕ) (es : List (List ℕ × List Element)) → IsLevel m → list_any (list_any (has_no_room m w)) (map (λ e. e.1) es) ≡ false → AllByRecursion IsEntry es → AllByRecursion IsEntry (map (entry_with_room m w) es)
+shifted_entries : (m w : ℕ) (es : List (List ℕ × List Element)) → IsLevel m → list_any (list_any (cannot_move m w)) (map (λ e. e.1) es) ≡ false → AllByRecursion IsEntry es → AllByRecursion IsEntry (map (entry_with_gap m w) es)
 shifted_entries m w [] l h a = tt
 shifted_entries m w (e ∷ es) l h a =
-    let b = or_false (list_any (has_no_room m w) e.1) (list_any (list_any (has_no_room m w)) (map (λ x. x.1) es)) h in
+    let b = or_false (list_any (cannot_move m w) e.1) (list_any (list_any (cannot_move m w)) (map (λ x. x.1) es)) h in
     let whole = a.0 in
-    let n : length (map (with_room m w) e.1) ≡ length e.1 = length-map e.1 (with_room m w) in (
+    let n : length (map (with_gap m w) e.1) ≡ length e.1 = length-map e.1 (with_gap m w) in (
       record {
         some_points = whole.some_points;
         few_points = whole.few_points;
         points = whole.points;
         some_elements = subst (λ k. 1 ≤ k) (sym n) whole.some_elements;
         few_elements = subst (λ k. k ≤ MAX_ELEMENTS) (sym n) whole.few_elements;
-        elements = All-from_recursion IsElement _ (shifted_fit m w e.1 l (all_of_none (has_no_room m w) e.1 b.0) (recursion_from_All IsElement e.1 whole.elements));
+        elements = All-from_recursion IsElement _ (shifted_fit m w e.1 l (all_of_none (cannot_move m w) e.1 b.0) (recursion_from_All IsElement e.1 whole.elements));
       },
       shifted_entries m w es l b.1 a.1,
     )
 
-shifted_is_table : (m w : ℕ) (t : ElementTable) → IsLevel m → list_any (list_any (has_no_room m w)) (values t.entries) ≡ false → IsTable t → IsTable (table_with_room m w t)
+shifted_is_table : (m w : ℕ) (t : ElementTable) → IsLevel m → list_any (list_any (cannot_move m w)) (values t.entries) ≡ false → IsTable t → IsTable (table_with_gap m w t)
 shifted_is_table m w t l h table = record {
-  entries = All-from_recursion IsEntry _ (all-from_entries (map (entry_with_room m w) (entries t.entries)) (shifted_entries m w (entries t.entries) l h (recursion_from_All IsEntry (entries t.entries) table.entries)));
+  entries = All-from_recursion IsEntry _ (all-from_entries (map (entry_with_gap m w) (entries t.entries)) (shifted_entries m w (entries t.entries) l h (recursion_from_All IsEntry (entries t.entries) table.entries)));
   ranges = table.ranges;
   ideographs = table.ideographs;
 }
@@ -83,8 +83,8 @@ one_more xs e = let n : length (xs ++ e ∷ []) ≡ length xs + 1 = length-appen
 
 placed_at_level : (m : ℕ) (t : ElementTable) (es : List Element) (p : Placed) → IsLevel m → IsTable t → AllByRecursion IsElement es → IsPlacedAt m t es p → AreFit p
 placed_at_level m t es p l table fit h = record {
-  table = subst (λ z. IsTable z.table) (sym h.are) (shifted_is_table m (weight m h.split.last) t l h.free.table_room table);
-  some = subst (λ z. 1 ≤ length z.base) (sym h.are) (one_more (map (with_room m (weight m h.split.last)) h.split.before) (raised m h.split.last));
+  table = subst (λ z. IsTable z.table) (sym h.are) (shifted_is_table m (weight m h.split.last) t l h.free.table_can_move table);
+  some = subst (λ z. 1 ≤ length z.base) (sym h.are) (one_more (map (with_gap m (weight m h.split.last)) h.split.before) (raised m h.split.last));
   base = base_fits m t es p l h fit;
 }
 

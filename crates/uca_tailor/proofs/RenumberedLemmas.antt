@@ -19,13 +19,13 @@ use Rattle.std.specs.FinSet.{contains, same_set}
 use Rattle.uca_weights.specs.declared.element.Element.{Element}
 use Rattle.uca_weights.specs.declared.limits.TheConstants.{MAX_KEY}
 use Rattle.uca_weights.specs.Element.{weight}
-use Rattle.uca_model.specs.Room.{moves, weight_with_room, with_room, entry_with_room, table_with_room, has_no_room}
+use Rattle.uca_model.specs.Gap.{moves, weight_with_gap, with_gap, entry_with_gap, table_with_gap, cannot_move}
 use Rattle.uca_model.specs.Table.{ElementTable, key_cmp, elements_at, is_key, with_entry, with_ideographs, longest, IsElement, IsKey, IsTable}
 use Rattle.uca_model.specs.CollationElements.{step, matches, matches_within, elements, elements_or_implicit}
 use Rattle.uca_model.specs.ImplicitWeights.{implicit}
 use Rattle.uca_model.specs.Match as model
 use Rattle.uca_model.proofs.RewritingLemmas.{step_some, matches-step}
-use Rattle.uca_model.proofs.RoomLookups.{elements_at-with_room}
+use Rattle.uca_model.proofs.GapLookups.{elements_at-with_gap}
 use Rattle.uca_model.proofs.WeightLemmas.{Fits, Fits-IsTable}
 use Rattle.uca_match.specs.Keys.{HasLongest, IsReached, key_set}
 use Rattle.uca_match.proofs.KeyLemmas.{contains-key_set, HasLongest-table}
@@ -43,8 +43,8 @@ use Rattle.uca_tailor.specs.Shifts.{moved}
 use Rattle.uca_tailor.specs.Tops.{raised, HoldsElements, IsAtMost}
 use Rattle.uca_tailor.proofs.ChangedTables.{elements_at-same, elements_at-other}
 use Rattle.uca_tailor.proofs.CountLemmas.{HaveCounts-none}
-use Rattle.uca_tailor.proofs.FittingWeights.{entry_room, shifted_entry_fits}
-use Rattle.uca_tailor.proofs.LevelOrders.{AllHaveRoom}
+use Rattle.uca_tailor.proofs.FittingWeights.{entry_can_move, shifted_entry_fits}
+use Rattle.uca_tailor.proofs.LevelOrders.{AllCanMove}
 use Rattle.uca_tailor.proofs.Levels.{IsLevel, level_one, level_two, level_three}
 use Rattle.uca_tailor.proofs.ShiftLemmas.{moved-append}
 use Rattle.uca_tailor.proofs.TopLemmas.{IsBelow-more, raised_weight}
@@ -111,39 +111,39 @@ renumbered-none t items none = same_table _ t refl refl (λ q. elements_at-renum
 
 -- ## One more gap
 
-moved-later : (level w a : ℕ) (ws : List ℕ) (x : ℕ) → a ≤ length ws → moved level (drop a (ws ++ w ∷ [])) x ≡ weight_with_room level w (moved level (drop a ws) x)
+moved-later : (level w a : ℕ) (ws : List ℕ) (x : ℕ) → a ≤ length ws → moved level (drop a (ws ++ w ∷ [])) x ≡ weight_with_gap level w (moved level (drop a ws) x)
 moved-later level w a ws x h = ap (λ xs. moved level xs x) (drop-append-le a ws (w ∷ []) h) ∙ moved-append level (drop a ws) (w ∷ []) x
 
-element-with : (level w : ℕ) (m : Moves) (after : Stamp) (e : Element) → IsLevel level → IsPast m after → moved_element (with_move level w m) after e ≡ with_room level w (moved_element m after e)
+element-with : (level w : ℕ) (m : Moves) (after : Stamp) (e : Element) → IsLevel level → IsPast m after → moved_element (with_move level w m) after e ≡ with_gap level w (moved_element m after e)
 element-with level w m after e level_one past = ap (λ x. record { starred = e.starred; l1 = x; l2 = moved 2 (drop after.second m.second) e.l2; l3 = moved 3 (drop after.third m.third) e.l3 }) (moved-later 1 w after.first m.first e.l1 past.first)
 element-with level w m after e level_two past = ap (λ x. record { starred = e.starred; l1 = moved 1 (drop after.first m.first) e.l1; l2 = x; l3 = moved 3 (drop after.third m.third) e.l3 }) (moved-later 2 w after.second m.second e.l2 past.second)
 element-with level w m after e level_three past = ap (λ x. record { starred = e.starred; l1 = moved 1 (drop after.first m.first) e.l1; l2 = moved 2 (drop after.second m.second) e.l2; l3 = x }) (moved-later 3 w after.third m.third e.l3 past.third)
 
-elements-with : (level w : ℕ) (m : Moves) (after : Stamp) (es : List Element) → IsLevel level → IsPast m after → map (moved_element (with_move level w m) after) es ≡ map (with_room level w) (map (moved_element m after) es)
+elements-with : (level w : ℕ) (m : Moves) (after : Stamp) (es : List Element) → IsLevel level → IsPast m after → map (moved_element (with_move level w m) after) es ≡ map (with_gap level w) (map (moved_element m after) es)
 elements-with level w m after [] l past = refl
 elements-with level w m after (e ∷ es) l past = ap₂ (λ x xs. x ∷ xs) (element-with level w m after e l past) (elements-with level w m after es l past)
 
-items-with : {Y : Type 0} (level w : ℕ) (m : Moves) (items : List (Vec ℕ Y × Item)) → IsLevel level → AllByRecursion (λ i. IsItem m i.1) items → map (item_entry (with_move level w m)) items ≡ map (entry_with_room level w) (map (item_entry m) items)
+items-with : {Y : Type 0} (level w : ℕ) (m : Moves) (items : List (Vec ℕ Y × Item)) → IsLevel level → AllByRecursion (λ i. IsItem m i.1) items → map (item_entry (with_move level w m)) items ≡ map (entry_with_gap level w) (map (item_entry m) items)
 items-with level w m [] l all = refl
 items-with level w m (i ∷ items) l all = ap₂ (λ x xs. (i.0.items, x) ∷ xs) (elements-with level w m i.1.after i.1.elements.items l all.0.past) (items-with level w m items l all.1)
 
 start-past : (m : Moves) → IsPast m start
 start-past m = record { first = omega arith; second = omega arith; third = omega arith }
 
-entries-with : (level w : ℕ) (m : Moves) (es : List (List ℕ × List Element)) → IsLevel level → map (moved_entry (with_move level w m)) es ≡ map (entry_with_room level w) (map (moved_entry m) es)
+entries-with : (level w : ℕ) (m : Moves) (es : List (List ℕ × List Element)) → IsLevel level → map (moved_entry (with_move level w m)) es ≡ map (entry_with_gap level w) (map (moved_entry m) es)
 entries-with level w m [] l = refl
 entries-with level w m (e ∷ es) l = ap₂ (λ x xs. (e.0, x) ∷ xs) (elements-with level w m start e.1 l (start-past m)) (entries-with level w m es l)
 
-all-with : {Y : Type 0} (level w : ℕ) (m : Moves) (items : List (Vec ℕ Y × Item)) (es : List (List ℕ × List Element)) → IsLevel level → AllByRecursion (λ i. IsItem m i.1) items → all_entries (with_move level w m) items es ≡ map (entry_with_room level w) (all_entries m items es)
-all-with level w m items es l all = ap₂ (λ xs ys. xs ++ ys) (items-with level w m items l all) (entries-with level w m es l) ∙ sym (map-append (entry_with_room level w) (map (item_entry m) items) (map (moved_entry m) es))
+all-with : {Y : Type 0} (level w : ℕ) (m : Moves) (items : List (Vec ℕ Y × Item)) (es : List (List ℕ × List Element)) → IsLevel level → AllByRecursion (λ i. IsItem m i.1) items → all_entries (with_move level w m) items es ≡ map (entry_with_gap level w) (all_entries m items es)
+all-with level w m items es l all = ap₂ (λ xs ys. xs ++ ys) (items-with level w m items l all) (entries-with level w m es l) ∙ sym (map-append (entry_with_gap level w) (map (item_entry m) items) (map (moved_entry m) es))
 
-pub renumbered-with : {Y : Type 0} (level w : ℕ) (m : Moves) (items : List (Vec ℕ Y × Item)) (t : ElementTable) → IsLevel level → AllByRecursion (λ i. IsItem m i.1) items → renumbered (with_move level w m) items t ≡ table_with_room level w (renumbered m items t)
+pub renumbered-with : {Y : Type 0} (level w : ℕ) (m : Moves) (items : List (Vec ℕ Y × Item)) (t : ElementTable) → IsLevel level → AllByRecursion (λ i. IsItem m i.1) items → renumbered (with_move level w m) items t ≡ table_with_gap level w (renumbered m items t)
 renumbered-with level w m items t l all = same_table _ _ refl refl (λ q.
     get-from_entries nat_list_cmp_total (all_entries (with_move level w m) items (entries t.entries)) q
     ∙ ap (find key_cmp q) (all-with level w m items (entries t.entries) l all)
-    ∙ find-map (map (with_room level w)) q (all_entries m items (entries t.entries))
-    ∙ ap (option_map (map (with_room level w))) (sym (get-from_entries nat_list_cmp_total (all_entries m items (entries t.entries)) q))
-    ∙ sym (elements_at-with_room level w (renumbered m items t) q))
+    ∙ find-map (map (with_gap level w)) q (all_entries m items (entries t.entries))
+    ∙ ap (option_map (map (with_gap level w))) (sym (get-from_entries nat_list_cmp_total (all_entries m items (entries t.entries)) q))
+    ∙ sym (elements_at-with_gap level w (renumbered m items t) q))
 
 longer : (b : Bool) (n w : ℕ) (ws : List ℕ) → n ≤ length ws → n ≤ length (cond b (ws ++ w ∷ []) ws)
 longer true n w ws h = let e : length (ws ++ w ∷ []) ≡ length ws + 1 = length-append ws (w ∷ []) in omega arith
@@ -158,10 +158,10 @@ entered-with : {Y : Type 0} (level w : ℕ) (m : Moves) (items : List (Vec ℕ Y
 entered-with level w m [] l all = tt
 entered-with level w m (i ∷ items) l all = (record { past = past-with level w m i.1.after l all.0.past; some = all.0.some }, entered-with level w m items l all.1)
 
-fits-with : (level w : ℕ) (t : ElementTable) → IsLevel level → list_any (list_any (has_no_room level w)) (values t.entries) ≡ false → Fits t → Fits (table_with_room level w t)
+fits-with : (level w : ℕ) (t : ElementTable) → IsLevel level → list_any (list_any (cannot_move level w)) (values t.entries) ≡ false → Fits t → Fits (table_with_gap level w t)
 fits-with level w t l room f = record {
   ranges = f.ranges;
-  entries = λ key es e. shifted_entry_fits level w t key (elements_at t key) es l f room refl (sym (elements_at-with_room level w t key) ∙ e);
+  entries = λ key es e. shifted_entry_fits level w t key (elements_at t key) es l f room refl (sym (elements_at-with_gap level w t key) ∙ e);
 }
 
 parts_false : (a b : Bool) → (a || b) ≡ false → (a ≡ false) × (b ≡ false)
@@ -173,25 +173,25 @@ both_false a b p q = rw (p, q) refl
 
 -- what a gap does to a weight of a level, as far as the tops go
 abbrev Raises : ℕ → ℕ → ℕ → ℕ → ℕ → Type 0
-Raises level w k top next = (e : Element) → IsElement e → has_no_room level w e ≡ false → moves k top (weight k e) ≡ false → moves k next (weight k (with_room level w e)) ≡ false
+Raises level w k top next = (e : Element) → IsElement e → cannot_move level w e ≡ false → moves k top (weight k e) ≡ false → moves k next (weight k (with_gap level w e)) ≡ false
 
-below-with : (level w k top next : ℕ) → Raises level w k top next → (es : List Element) → AllByRecursion IsElement es → AllHaveRoom level w es → IsBelow k top es → IsBelow k next (map (with_room level w) es)
+below-with : (level w k top next : ℕ) → Raises level w k top next → (es : List Element) → AllByRecursion IsElement es → AllCanMove level w es → IsBelow k top es → IsBelow k next (map (with_gap level w) es)
 below-with level w k top next h [] fit room below = refl
 below-with level w k top next h (e ∷ es) fit room below =
     let b = parts_false (moves k top (weight k e)) _ below in
     both_false _ _ (h e fit.0 room.0 b.0) (below-with level w k top next h es fit.1 room.1 b.1)
 
-found-with : (level w k top next : ℕ) (t : ElementTable) (key : List ℕ) (o : Option (List Element)) (es : List Element) → Raises level w k top next → Fits t → list_any (list_any (has_no_room level w)) (values t.entries) ≡ false → HasTop k top t
-    → elements_at t key ≡ o → option_map (map (with_room level w)) o ≡ Some es → IsBelow k next es
+found-with : (level w k top next : ℕ) (t : ElementTable) (key : List ℕ) (o : Option (List Element)) (es : List Element) → Raises level w k top next → Fits t → list_any (list_any (cannot_move level w)) (values t.entries) ≡ false → HasTop k top t
+    → elements_at t key ≡ o → option_map (map (with_gap level w)) o ≡ Some es → IsBelow k next es
 found-with level w k top next t key None es h f room below is e = absurd (cc)
 found-with level w k top next t key (Some fs) es h f room below is e =
-    let found : map (with_room level w) fs ≡ es = cc in
-    subst (IsBelow k next) found (below-with level w k top next h fs (f.entries key fs is) (entry_room level w t key fs room is) (below key fs is))
+    let found : map (with_gap level w) fs ≡ es = cc in
+    subst (IsBelow k next) found (below-with level w k top next h fs (f.entries key fs is) (entry_can_move level w t key fs room is) (below key fs is))
 
-top-with : (level w k top next : ℕ) (t : ElementTable) → Raises level w k top next → Fits t → list_any (list_any (has_no_room level w)) (values t.entries) ≡ false → HasTop k top t → HasTop k next (table_with_room level w t)
-top-with level w k top next t h f room below key es e = found-with level w k top next t key (elements_at t key) es h f room below refl (sym (elements_at-with_room level w t key) ∙ e)
+top-with : (level w k top next : ℕ) (t : ElementTable) → Raises level w k top next → Fits t → list_any (list_any (cannot_move level w)) (values t.entries) ≡ false → HasTop k top t → HasTop k next (table_with_gap level w t)
+top-with level w k top next t h f room below key es e = found-with level w k top next t key (elements_at t key) es h f room below refl (sym (elements_at-with_gap level w t key) ∙ e)
 
-tops-with : (level w : ℕ) (t : ElementTable) (tops : Tops) → IsLevel level → Fits t → list_any (list_any (has_no_room level w)) (values t.entries) ≡ false → HaveTops tops t → HaveTops (raised level w tops) (table_with_room level w t)
+tops-with : (level w : ℕ) (t : ElementTable) (tops : Tops) → IsLevel level → Fits t → list_any (list_any (cannot_move level w)) (values t.entries) ≡ false → HaveTops tops t → HaveTops (raised level w tops) (table_with_gap level w t)
 tops-with level w t tops level_one f room have = record {
   first = top-with 1 w 1 tops.first _ t (λ e fit free below. raised_weight 1 w tops.first e.l1 fit.l1 free below) f room have.first;
   second = top-with 1 w 2 tops.second _ t (λ e fit free below. below) f room have.second;
@@ -212,12 +212,12 @@ is_some-map : {A B : Type 0} (f : A → B) (o : Option A) → is_some (option_ma
 is_some-map f None = refl
 is_some-map f (Some x) = refl
 
-keys-with : (level w : ℕ) (t : ElementTable) → key_set (table_with_room level w t) ≡ key_set t
+keys-with : (level w : ℕ) (t : ElementTable) → key_set (table_with_gap level w t) ≡ key_set t
 keys-with level w t = same_set nat_list_cmp_total (slice_cmp-IsAntisymmetric nat_cmp-IsAntisymmetric) _ _ (λ q.
-    contains-key_set (table_with_room level w t) q ∙ ap is_some (elements_at-with_room level w t q) ∙ is_some-map (map (with_room level w)) (elements_at t q) ∙ sym (contains-key_set t q))
+    contains-key_set (table_with_gap level w t) q ∙ ap is_some (elements_at-with_gap level w t q) ∙ is_some-map (map (with_gap level w)) (elements_at t q) ∙ sym (contains-key_set t q))
 
-pub IsRenumbered-with : {Y : Type 0} (level w : ℕ) (m : Moves) (items : List (Vec ℕ Y × Item)) (t : ElementTable) (tops : Tops) (old new : Counts) (longest : ℕ) → IsLevel level → list_any (list_any (has_no_room level w)) (values (renumbered m items t).entries) ≡ false
-    → ((u : ElementTable) → HaveCounts old u → HaveCounts new (table_with_room level w u)) → IsRenumbered m items t tops old longest → IsRenumbered (with_move level w m) items t (raised level w tops) new longest
+pub IsRenumbered-with : {Y : Type 0} (level w : ℕ) (m : Moves) (items : List (Vec ℕ Y × Item)) (t : ElementTable) (tops : Tops) (old new : Counts) (longest : ℕ) → IsLevel level → list_any (list_any (cannot_move level w)) (values (renumbered m items t).entries) ≡ false
+    → ((u : ElementTable) → HaveCounts old u → HaveCounts new (table_with_gap level w u)) → IsRenumbered m items t tops old longest → IsRenumbered (with_move level w m) items t (raised level w tops) new longest
 IsRenumbered-with level w m items t tops old new longest l room opens is =
     let same = sym (renumbered-with level w m items t l is.entered) in
     record {

@@ -3,7 +3,7 @@ use Rattle.std.proofs.Common.{◌≡◌, ℕ, zero, suc, ◌+◌, ◌-◌, ◌�
 use Rattle.std.proofs.lemmas.Bool.{cases_lt, lt-ltb, le-ltb, cond-true, cond-false}
 use Rattle.std.proofs.lemmas.Bool.Decides.{nat_tests}
 use Rattle.std.specs.List.{AllByRecursion}
-use Rattle.uca_model.specs.Room.{weight_with_room}
+use Rattle.uca_model.specs.Gap.{weight_with_gap}
 use Rattle.uca_tailor.specs.Shifts.{moved, count_below, moved_at_once, bounds_with, Rise, AreBounds}
 
 -- ## Bounds in rising order
@@ -78,15 +78,15 @@ count_below-with x w (b ∷ bs) r =
     ]
 
 once_more : (level w x c n : ℕ) → n ≡ c + cond (nat_lt w (x + c)) 1 0
-    → cond (level == 1) (cond (nat_le 0x8000 x) x (min 0x8000 (x + n))) (x + n) ≡ weight_with_room level w (cond (level == 1) (cond (nat_le 0x8000 x) x (min 0x8000 (x + c))) (x + c))
+    → cond (level == 1) (cond (nat_le 0x8000 x) x (min 0x8000 (x + n))) (x + n) ≡ weight_with_gap level w (cond (level == 1) (cond (nat_le 0x8000 x) x (min 0x8000 (x + c))) (x + c))
 once_more level w x c n is = grind (arith, nat_tests)
 
-pub moved_at_once-with : (level w x : ℕ) (bs : List ℕ) → Rise bs → moved_at_once level (bounds_with w bs) x ≡ weight_with_room level w (moved_at_once level bs x)
+pub moved_at_once-with : (level w x : ℕ) (bs : List ℕ) → Rise bs → moved_at_once level (bounds_with w bs) x ≡ weight_with_gap level w (moved_at_once level bs x)
 moved_at_once-with level w x bs r = once_more level w x (count_below x bs) (count_below x (bounds_with w bs)) (count_below-with x w bs r)
 
 pub moved-append : (level : ℕ) (ws vs : List ℕ) (x : ℕ) → moved level (ws ++ vs) x ≡ moved level vs (moved level ws x)
 moved-append level [] vs x = refl
-moved-append level (w ∷ ws) vs x = moved-append level ws vs (weight_with_room level w x)
+moved-append level (w ∷ ws) vs x = moved-append level ws vs (weight_with_gap level w x)
 
 stays : (level x : ℕ) → cond (level == 1) (cond (nat_le 0x8000 x) x (min 0x8000 (x + 0))) (x + 0) ≡ x
 stays level x = grind (arith, nat_tests)
@@ -97,7 +97,7 @@ AreBounds-none = record { rise = tt; same = λ level x. stays level x }
 pub AreBounds-with : (bounds ws : List ℕ) (w : ℕ) → AreBounds bounds ws → AreBounds (bounds_with w bounds) (ws ++ w ∷ [])
 AreBounds-with bounds ws w are = record {
   rise = Rise-with w bounds are.rise;
-  same = λ level x. moved_at_once-with level w x bounds are.rise ∙ ap (weight_with_room level w) (are.same level x) ∙ sym (moved-append level ws (w ∷ []) x);
+  same = λ level x. moved_at_once-with level w x bounds are.rise ∙ ap (weight_with_gap level w) (are.same level x) ∙ sym (moved-append level ws (w ∷ []) x);
 }
 
 -- the place that a search finds
@@ -118,14 +118,14 @@ insert-with w (suc i) (b ∷ bs) h low high =
 
 -- ## Sixteen bits
 
-grows_once : (level w x : ℕ) → x ≤ weight_with_room level w x
+grows_once : (level w x : ℕ) → x ≤ weight_with_gap level w x
 grows_once level w x = grind (arith, nat_tests)
 
 pub moved-grows : (level : ℕ) (ws : List ℕ) (x : ℕ) → x ≤ moved level ws x
 moved-grows level [] x = omega arith
 moved-grows level (w ∷ ws) x =
-    let a : x ≤ weight_with_room level w x = grows_once level w x in
-    let b : weight_with_room level w x ≤ moved level ws (weight_with_room level w x) = moved-grows level ws (weight_with_room level w x) in
+    let a : x ≤ weight_with_gap level w x = grows_once level w x in
+    let b : weight_with_gap level w x ≤ moved level ws (weight_with_gap level w x) = moved-grows level ws (weight_with_gap level w x) in
     omega arith
 
 -- a weight that was cut to sixteen bits is still cut after more gaps

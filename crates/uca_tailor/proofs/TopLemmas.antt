@@ -14,7 +14,7 @@ use Rattle.std.specs.FinMap.{find, entries, values, is_sorted, entries_sorted, g
 use Rattle.std.specs.FinMap.Entries.{below_all, find_tied}
 use Rattle.uca_weights.specs.declared.element.Element.{Element}
 use Rattle.uca_weights.specs.Element.{weight}
-use Rattle.uca_model.specs.Room.{moves, weight_with_room, has_no_room, max_weight}
+use Rattle.uca_model.specs.Gap.{moves, weight_with_gap, cannot_move, max_weight}
 use Rattle.uca_model.specs.Table.{ElementTable, key_cmp}
 use Rattle.uca_tailor.specs.declared.tops.Tops.{Tops}
 use Rattle.uca_tailor.specs.Renumbered.{IsBelow, HasTop, HaveTops}
@@ -92,7 +92,7 @@ HaveTops-entries tops t all = record {
 
 -- ## After a gap
 
-pub raised_weight : (level w top x : ℕ) → x < 65536 → (moves level w x && x == max_weight level) ≡ false → moves level top x ≡ false → moves level (min (weight_with_room level w top) 65535) (weight_with_room level w x) ≡ false
+pub raised_weight : (level w top x : ℕ) → x < 65536 → (moves level w x && x == max_weight level) ≡ false → moves level top x ≡ false → moves level (min (weight_with_gap level w top) 65535) (weight_with_gap level w x) ≡ false
 raised_weight level w top x h room e = grind (arith, nat_tests)
 
 pub above_is : (level top x : ℕ) → moves level top x ≡ true → top ≤ x
@@ -103,7 +103,7 @@ above_is level top x e = grind (arith, nat_tests)
 no_lack : (level w top x : ℕ) → top < max_weight level → moves level top x ≡ false → (moves level w x && x == max_weight level) ≡ false
 no_lack level w top x h e = grind (arith, nat_tests)
 
-below_lacks : (level w top : ℕ) (es : List Element) → top < max_weight level → IsBelow level top es → list_any (has_no_room level w) es ≡ false
+below_lacks : (level w top : ℕ) (es : List Element) → top < max_weight level → IsBelow level top es → list_any (cannot_move level w) es ≡ false
 below_lacks level w top [] h below = refl
 below_lacks level w top (e ∷ es) h below =
     let b = parts_false (moves level top (weight level e)) _ below in
@@ -143,8 +143,8 @@ values_none p (e ∷ es) sorted each =
     both_false _ _ (each e.0 e.1 (ap (λ t. cond t (Some e.1) (find key_cmp e.0 es)) ((eq_by_cmp_equiv nat_list_cmp_total).refl e.0)))
     (values_none p es b.1 (λ q v found. each q v (later q v e es b.0 found)))
 
-pub lacks_none : (level w top : ℕ) (t : ElementTable) → top < max_weight level → HasTop level top t → list_any (list_any (has_no_room level w)) (values t.entries) ≡ false
-lacks_none level w top t h below = values_none (list_any (has_no_room level w)) (entries t.entries) (entries_sorted t.entries) (λ q v found. below_lacks level w top v h (below q v (get-entries t.entries q ∙ found)))
+pub lacks_none : (level w top : ℕ) (t : ElementTable) → top < max_weight level → HasTop level top t → list_any (list_any (cannot_move level w)) (values t.entries) ≡ false
+lacks_none level w top t h below = values_none (list_any (cannot_move level w)) (entries t.entries) (entries_sorted t.entries) (λ q v found. below_lacks level w top v h (below q v (get-entries t.entries q ∙ found)))
 
 pub top_of : (level top : ℕ) (tops : Tops) (t : ElementTable) → IsLevel level → (level ≡ 1 → top ≡ tops.first) → (level ≡ 2 → top ≡ tops.second) → (level ≡ 3 → top ≡ tops.third) → HaveTops tops t → HasTop level top t
 top_of level top tops t level_one f g h have = subst (λ x. HasTop 1 x t) (sym (f refl)) have.first

@@ -5,7 +5,7 @@ use Rattle.std.specs.Option.{unwrap_or}
 use Rattle.uca_weights.specs.declared.element.Element.{Element}
 use Rattle.uca_weights.specs.Element.{weight}
 use Rattle.uca_model.specs.Table.{ElementTable, elements_at}
-use Rattle.uca_model.specs.Room.{max_weight}
+use Rattle.uca_model.specs.Gap.{max_weight}
 use Rattle.uca_tailor.specs.declared.counts.Counts.{Counts}
 
 -- how many of the elements have a weight x

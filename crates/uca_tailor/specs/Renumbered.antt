@@ -6,7 +6,7 @@ use Rattle.std.specs.FinMap.{from_entries, entries}
 use Rattle.uca_weights.specs.declared.element.Element.{Element}
 use Rattle.uca_weights.specs.Element.{weight}
 use Rattle.uca_model.specs.Table.{ElementTable, key_cmp, elements_at}
-use Rattle.uca_model.specs.Room.{moves}
+use Rattle.uca_model.specs.Gap.{moves}
 use Rattle.uca_model.proofs.WeightLemmas.{Fits}
 use Rattle.uca_match.specs.Keys.{HasLongest, key_set}
 use Rattle.uca_tailor.specs.declared.counts.Counts.{Counts}

@@ -1,12 +1,12 @@
 -- Gaps that are made at one level one after the other, and how far they move a weight together.
 use Rattle.std.specs.Prelude.{◌≡◌, ℕ, ◌+◌, ◌-◌, ◌%◌, ◌≤◌, min, ◌==◌, nat_lt, nat_le, List, [], ◌∷◌, length, take, drop, if◌then◌else◌}
 use Rattle.std.specs.List.{AllByRecursion}
-use Rattle.uca_model.specs.Room.{weight_with_room}
+use Rattle.uca_model.specs.Gap.{weight_with_gap}
 
 -- a weight of a level after a gap was made above each of these weights, one after the other
 abbrev pub moved : ℕ → List ℕ → ℕ → ℕ
 moved level [] x = x
-moved level (w ∷ ws) x = moved level ws (weight_with_room level w x)
+moved level (w ∷ ws) x = moved level ws (weight_with_gap level w x)
 
 -- A gap moves exactly those weights that were above some bound at first. So all gaps together are the list of these bounds.
 

@@ -19,7 +19,7 @@ use Rattle.uca_model.specs.LevelWeights.{level_list}
 use Rattle.uca_model.specs.SortKey.{sort_key, key_order}
 use Rattle.uca_model.specs.WellFormed.{skips_a_level}
 use Rattle.uca_model.specs.Rules.{Operator, first, second, third, same, Relation, Chain, IsRelation}
-use Rattle.uca_model.specs.Room.{weight_with_room, with_room}
+use Rattle.uca_model.specs.Gap.{weight_with_gap, with_gap}
 use Rattle.uca_model.specs.Tailoring.{Anchor, anchor_of, Related, related, tailored, IsUntouched}
 
 -- Untouched texts
@@ -51,7 +51,7 @@ Lacks level w es = AllByRecursion (λ e. weight level e ≢ w) es
 pub record IsPlaced (level : ℕ) (anchor : List Element) (r : Relation) (next : Related) (front : List ℕ) (w : ℕ) : Type 0 where
   -- at the level the item has the weights of the anchor moved for the gap, the last one raised by one ..
   pub old : weights_at level anchor ≡ front ++ w ∷ []
-  pub at : weights_at level next.anchor ≡ map (weight_with_room level w) front ++ (w + 1) ∷ []
+  pub at : weights_at level next.anchor ≡ map (weight_with_gap level w) front ++ (w + 1) ∷ []
   -- .. and at each level below, those of the anchor
   pub below : (j : ℕ) → 1 ≤ j → j < level → weights_at j next.anchor ≡ weights_at j anchor
   -- the raised weight is that of the last element of the item's place ..
@@ -122,22 +122,22 @@ abbrev pub has_weight : ℕ → ℕ → List Element → Bool
 has_weight level x es = list_any (λ e. weight level e == x) es
 
 -- a weight that occurs at a level of a table: zero, that of an entry or of an implicit element, and FFFF, with which level 4 compares those of level 1
-pub data StandsAt (level : ℕ) (t : ElementTable) (x : ℕ) : Type 0 where
-  is_none : x ≡ 0 → StandsAt level t x
-  of_entry : (key : List ℕ) (es : List Element) → elements_at t key ≡ Some es → has_weight level x es ≡ true → StandsAt level t x
-  of_implicit : (c : ℕ) → has_weight level x (implicit t c) ≡ true → StandsAt level t x
-  is_highest : level ≡ 1 → x ≡ 0xFFFF → StandsAt level t x
+pub data LiesAt (level : ℕ) (t : ElementTable) (x : ℕ) : Type 0 where
+  is_none : x ≡ 0 → LiesAt level t x
+  of_entry : (key : List ℕ) (es : List Element) → elements_at t key ≡ Some es → has_weight level x es ≡ true → LiesAt level t x
+  of_implicit : (c : ℕ) → has_weight level x (implicit t c) ≡ true → LiesAt level t x
+  is_highest : level ≡ 1 → x ≡ 0xFFFF → LiesAt level t x
 
 -- what a relation does to the weights of its level, whose anchor's last weight there is w
 pub record IsShift (level w : ℕ) (t : ElementTable) (r : Relation) (next : Related) : Type 0 where
   -- all entries but that of the item are shifted ..
-  pub entries : (key : List ℕ) → eq_by_cmp key_cmp key r.item ≡ false → elements_at next.table key ≡ option_map (map (with_room level w)) (elements_at t key)
+  pub entries : (key : List ℕ) → eq_by_cmp key_cmp key r.item ≡ false → elements_at next.table key ≡ option_map (map (with_gap level w)) (elements_at t key)
   -- .. the shift is strictly increasing on the weights that occur there ..
-  pub increases : (x y : ℕ) → StandsAt level t x → StandsAt level t y → x < y → weight_with_room level w x < weight_with_room level w y
+  pub increases : (x y : ℕ) → LiesAt level t x → LiesAt level t y → x < y → weight_with_gap level w x < weight_with_gap level w y
   -- .. and leaves zero, those of implicit elements, and FFFF at level 1
-  pub none_stays : weight_with_room level w 0 ≡ 0
-  pub implicit_stays : (c : ℕ) → map (with_room level w) (implicit t c) ≡ implicit t c
-  pub highest_stays : level ≡ 1 → weight_with_room level w 0xFFFF ≡ 0xFFFF
+  pub none_stays : weight_with_gap level w 0 ≡ 0
+  pub implicit_stays : (c : ℕ) → map (with_gap level w) (implicit t c) ≡ implicit t c
+  pub highest_stays : level ≡ 1 → weight_with_gap level w 0xFFFF ≡ 0xFFFF
 
 -- so does each relation other than `=`
 abbrev pub EachShiftIsIncreasing : Type 0

@@ -1,16 +1,16 @@
 -- Upper bounds of the weights of a table.
 use Rattle.std.specs.Prelude.{ℕ, ◌≤◌, min, ◌==◌, List, if◌then◌else◌}
 use Rattle.uca_weights.specs.declared.element.Element.{Element}
-use Rattle.uca_model.specs.Room.{weight_with_room}
+use Rattle.uca_model.specs.Gap.{weight_with_gap}
 use Rattle.uca_tailor.specs.declared.tops.Tops.{Tops}
 use Rattle.uca_tailor.specs.Renumbered.{IsBelow}
 
 -- with a gap above w at a level
 abbrev pub raised : ℕ → ℕ → Tops → Tops
 raised level w t = record {
-  first = if level == 1 then min (weight_with_room 1 w t.first) 65535 else t.first;
-  second = if level == 2 then min (weight_with_room 2 w t.second) 65535 else t.second;
-  third = if level == 3 then min (weight_with_room 3 w t.third) 65535 else t.third;
+  first = if level == 1 then min (weight_with_gap 1 w t.first) 65535 else t.first;
+  second = if level == 2 then min (weight_with_gap 2 w t.second) 65535 else t.second;
+  third = if level == 3 then min (weight_with_gap 3 w t.third) 65535 else t.third;
 }
 
 -- no weight of the elements is above them

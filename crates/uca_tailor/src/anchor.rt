@@ -1,15 +1,15 @@
 ghost use Rattle.std.specs.Prelude.{◌≡◌, ◌≤◌, ◌<◌, ◌∷◌, ◌++◌, [], false, None, Some, length, map, IfOk, MatchOption, MatchResult};
 ghost use Rattle.std.specs.List.{list_any};
 ghost use Rattle.uca_weights.specs.Element.{weight};
-ghost use Rattle.uca_model.specs.Room.{with_room, has_no_room};
+ghost use Rattle.uca_model.specs.Gap.{with_gap, cannot_move};
 ghost use Rattle.uca_model.specs.Tailoring.{anchor_of, least, is_high, is_full, fault_at, raised};
 ghost use Rattle.uca_tailor.specs.Steps.{anchor_as, Reports};
 
 use crate::faults::TailorCause;
+use crate::gap::{any_cannot_move, max_weight, with_gap};
 use crate::renumbered::Renumbered;
 use std::alloc::{AllocError, Global};
 use uca_table::Element;
-use uca_table::room::{any_has_no_room, make_room, max_weight};
 
 /// Elements up to the last that has a weight at a level.
 #[derive(Clone, Copy)]
@@ -72,10 +72,10 @@ fn is_full(
     if w == max_weight(level) {
         return Ok(true);
     }
-    if any_has_no_room(level, w, elements) {
+    if any_cannot_move(level, w, elements) {
         return Ok(true);
     }
-    t.lacks_room(alloc, level, w)
+    t.any_cannot_move(alloc, level, w)
 }
 
 /// Why no item can be placed after elements whose last weight at a level is `w`.
@@ -107,7 +107,7 @@ pub(crate) fn check_place(
 fn raised(level: u8, e: Element) -> Element
     requires first { 1 ≤ level }
     requires last { level ≤ 3 }
-    requires room { weight level e < 65535 }
+    requires below { weight level e < 65535 }
     ensures { result ≡ raised level e }
 {
     let mut next = e;
@@ -136,11 +136,14 @@ pub(crate) fn base_after(
     requires first { 1 ≤ level }
     requires last { level ≤ 3 }
     requires next { weight level last < 65535 }
-    requires room { list_any (has_no_room level (weight level last)) before.now ≡ false }
-    ensures { IfOk result (λ v. v.items ≡ map (with_room level (weight level last)) before.now ++ raised level last ∷ []) }
+    requires free { list_any (cannot_move level (weight level last)) before.now ≡ false }
+    ensures { IfOk result (λ v. v.items ≡ map (with_gap level (weight level last)) before.now ++ raised level last ∷ []) }
 {
-    let mut base = before.to_vec(alloc)?;
-    make_room(level, last.weight(level), &mut base);
+    let w = last.weight(level);
+    let mut base = Vec::with_capacity(alloc, before.len() + 1)?;
+    for element in before {
+        base.push(with_gap(level, w, *element))?;
+    }
     base.push(raised(level, last))?;
     Ok(base)
 }

@@ -3,7 +3,7 @@ ghost use Rattle.std.specs.Prelude.{◌≡◌, ℕ, ◌≤◌, ◌+◌, length, 
 ghost use Rattle.std.specs.FinMap.{entries};
 ghost use Rattle.std.specs.List.{AllByRecursion};
 ghost use Rattle.uca_model.proofs.WeightLemmas.{Fits};
-ghost use Rattle.uca_model.specs.Room.{max_weight};
+ghost use Rattle.uca_model.specs.Gap.{max_weight};
 ghost use Rattle.uca_tailor.specs.Copy.{item_entries};
 ghost use Rattle.uca_tailor.specs.Counting.{count_shown, AreInOrder};
 ghost use Rattle.uca_tailor.specs.Counts.{count_at, count_in, AreAllCounts, AreCapped};
@@ -11,11 +11,11 @@ ghost use Rattle.uca_tailor.specs.Moves.{IsPast, cut, moved_element};
 ghost use Rattle.uca_tailor.specs.Renumbered.{renumbered, IsItem};
 
 use crate::counts::add_one;
+use crate::gap::max_weight;
 use crate::items::Item;
 use crate::moves::{Moves, START, Stamp};
 use std::alloc::{AllocError, Global};
 use std::collections::BTreeMap;
-use uca_table::room::max_weight;
 use uca_table::{Element, Table};
 
 /// Counts elements that were added after the first gaps, as they have moved since.

@@ -1,13 +1,13 @@
 //! How many elements of a table have each weight of a level, so that no look at the table is needed to tell whether one
 //! has the greatest.
 ghost use Rattle.std.specs.Prelude.{◌≡◌, ◌≤◌, ◌<◌, ◌+◌, ◌-◌, ◌==◌, ℕ, List, min, length, if◌then◌else◌, IsTrue, IfSome};
-ghost use Rattle.uca_model.specs.Room.{table_with_room};
+ghost use Rattle.uca_model.specs.Gap.{table_with_gap};
 ghost use Rattle.uca_model.specs.Table.{ElementTable, with_entry};
 ghost use Rattle.uca_tailor.specs.Counts.{count_at, Reach, Opens, AreAllCounts, AreCapped, AreCounts, AreNone, HaveCounts, elements_or_none, reaches_limit};
 
+use crate::gap::max_weight;
 use std::alloc::Global;
 use uca_table::Element;
-use uca_table::room::max_weight;
 
 /// For each level how many elements of a table have each weight below the implicit ones, or nothing where that was not
 /// counted.
@@ -95,7 +95,7 @@ fn exchange(level: u8, counts: &mut [u32], before: &[Element], elements: &[Eleme
 }
 
 /// Makes a gap above a weight: the counts of all weights above it go up by one place, but that of the greatest is left out.
-fn make_room(counts: &mut [u32], w: u16)
+fn make_gap(counts: &mut [u32], w: u16)
     ensures { Opens w counts.old counts.new }
 {
     let from = w as usize + 1;
@@ -160,15 +160,15 @@ impl Counts {
     }
 
     /// Makes a gap above a weight of a level, 1 to 3.
-    pub(crate) fn make_room(&mut self, level: u8, w: u16)
+    pub(crate) fn make_gap(&mut self, level: u8, w: u16)
         requires first { 1 ≤ level }
         requires last { level ≤ 3 }
-        ensures { (t : ElementTable) → HaveCounts self.old t → HaveCounts self.new (table_with_room level w t) }
+        ensures { (t : ElementTable) → HaveCounts self.old t → HaveCounts self.new (table_with_gap level w t) }
     {
         match level {
-            1 => make_room(&mut self.first, w),
-            2 => make_room(&mut self.second, w),
-            _ => make_room(&mut self.third, w),
+            1 => make_gap(&mut self.first, w),
+            2 => make_gap(&mut self.second, w),
+            _ => make_gap(&mut self.third, w),
         }
     }
 

@@ -53,7 +53,7 @@ impl Moves {
     }
 
     /// Makes a gap above a weight of a level, 1 to 3.
-    pub(crate) fn make_room(&mut self, level: u8, w: u16) -> Result<(), AllocError>
+    pub(crate) fn make_gap(&mut self, level: u8, w: u16) -> Result<(), AllocError>
         requires first { 1 ≤ level }
         requires last { level ≤ 3 }
         ensures ok { OnOk result (self.new ≡ with_move level w self.old) }

@@ -3,13 +3,14 @@ ghost use Rattle.std.specs.Prelude.{◌≡◌, ◌≤◌, ◌<◌, ◌++◌, fal
 ghost use Rattle.std.specs.FinMap.{values};
 ghost use Rattle.std.specs.List.{list_any, AllByRecursion};
 ghost use Rattle.uca_model.specs.CollationElements.{elements, elements_or_implicit};
-ghost use Rattle.uca_model.specs.Room.{has_no_room, table_with_room};
+ghost use Rattle.uca_model.specs.Gap.{cannot_move, table_with_gap};
 ghost use Rattle.uca_model.specs.Table.{elements_at, with_entry, IsElement, IsKey};
 ghost use Rattle.uca_match.specs.Keys.{key_set};
 ghost use Rattle.uca_tailor.specs.Counts.{elements_or_none};
 
 use crate::counting::counts_of;
 use crate::counts::{Counts, has_greatest};
+use crate::gap::max_weight;
 use crate::items::Item;
 use crate::merging::{in_order, merge};
 use crate::moves::{Moves, START};
@@ -18,7 +19,6 @@ use std::alloc::{AllocError, Global};
 use std::collections::BTreeMap;
 use std::marker::Model;
 use uca_match::{Keys, matches_of_points};
-use uca_table::room::max_weight;
 use uca_table::{AscendingEntries, Element, Table};
 
 /// A table that borrows the entries of another one: gaps that were made move their weights together, and items that
@@ -82,15 +82,15 @@ impl<'t> Renumbered<'t> {
     }
 
     /// Makes a gap above `w` at a level, 1 to 3: all weights above it go up by one, but at level 1 not the implicit ones.
-    pub(crate) fn make_room(&mut self, level: u8, w: u16) -> Result<(), AllocError>
+    pub(crate) fn make_gap(&mut self, level: u8, w: u16) -> Result<(), AllocError>
         requires first { 1 ≤ level }
         requires last { level ≤ 3 }
-        requires room { list_any (list_any (has_no_room level w)) (values self.old.entries) ≡ false }
-        ensures { OnOk result (self.new ≡ table_with_room level w self.old) }
+        requires free { list_any (list_any (cannot_move level w)) (values self.old.entries) ≡ false }
+        ensures { OnOk result (self.new ≡ table_with_gap level w self.old) }
     {
-        self.moves.make_room(level, w)?;
+        self.moves.make_gap(level, w)?;
         self.tops = self.tops.raised(level, w);
-        self.counts.make_room(level, w);
+        self.counts.make_gap(level, w);
         Ok(())
     }
 
@@ -125,7 +125,7 @@ impl<'t> Renumbered<'t> {
     /// Whether some weight of the entries at a level, 1 to 3, would have to move for a gap above `w`, and can't. The
     /// weights are counted only where the greatest of the level may reach the limit for the first time, over the given
     /// entries and the items, without a copy. From then on the counts say whether one is there.
-    pub(crate) fn lacks_room(
+    pub(crate) fn any_cannot_move(
         &mut self,
         alloc: Global,
         level: u8,
@@ -133,7 +133,7 @@ impl<'t> Renumbered<'t> {
     ) -> Result<bool, AllocError>
         requires first { 1 ≤ level }
         requires last { level ≤ 3 }
-        ensures lacks { IfOk result (λ lacks. lacks ≡ list_any (list_any (has_no_room level w)) (values self.old.entries)) }
+        ensures lacks { IfOk result (λ lacks. lacks ≡ list_any (list_any (cannot_move level w)) (values self.old.entries)) }
         ensures same { self.new ≡ self.old }
     {
         if self.tops.at(level) < max_weight(level) {
@@ -179,7 +179,7 @@ impl<'t> Renumbered<'t> {
     }
 
     /// Appends the elements of a match: those of a key, or the implicit ones of its first code point.
-    fn push_elements(&self, out: &mut Vec<Element>, matched: &[char]) -> Result<(), AllocError>
+    fn push_match(&self, out: &mut Vec<Element>, matched: &[char]) -> Result<(), AllocError>
         requires { 0 < length matched.now }
         ensures elements { OnOk result (out.new.items ≡ out.old.items ++ elements_or_implicit self.now matched.now) }
         ensures some { OnOk result (length out.old.items < length out.new.items) }
@@ -204,7 +204,7 @@ impl<'t> Keys for Renumbered<'t> {
 }
 
 /// The elements of a text in NFD, at least one of them if it has a code point.
-pub(crate) fn elements_of(
+pub(crate) fn elements_under(
     alloc: Global,
     t: &Renumbered<'_>,
     points: &[char],
@@ -215,7 +215,7 @@ pub(crate) fn elements_of(
     let matches = matches_of_points(alloc, t, points)?;
     let mut elements = Vec::new(alloc);
     for matched in &matches {
-        t.push_elements(&mut elements, matched.key.as_slice())?;
+        t.push_match(&mut elements, matched.key.as_slice())?;
     }
     Ok(elements)
 }

@@ -1,8 +1,8 @@
 //! The gaps that were made at one level, one after the other.
 ghost use Rattle.std.specs.Prelude.{◌≡◌, ◌+◌, ◌-◌, ◌<◌, ◌≤◌, ◌++◌, ◌∷◌, [], min, length, take, drop, insert, vec_len, vec_capacity, OnOk, OnErr};
-ghost use Rattle.uca_model.specs.Room.{weight_with_room};
 ghost use Rattle.uca_tailor.specs.Shifts.{moved, moved_at_once, count_below, bounds_with, Rise};
 
+use crate::gap::weight_with_gap;
 use std::alloc::{AllocError, Global};
 use std::marker::Model;
 
@@ -94,8 +94,8 @@ impl Shifts {
                 moved = by_narrow;
                 at += narrow.len();
             } else {
-                let by_room = with_room(level, self.made[at], moved);
-                moved = by_room;
+                let by_gap = weight_with_gap(level, self.made[at], moved);
+                moved = by_gap;
                 at += 1;
             }
         }
@@ -115,7 +115,7 @@ fn block(bounds: &[u16], at: usize, size: usize) -> &[u16]
 /// Inserts the bound of one more gap among those of the last gaps, which begin at a place. It does not allocate.
 fn insert_bound(bounds: &mut Vec<u16>, from: usize, w: u16)
     requires from { from ≤ length bounds.old.items }
-    requires room { vec_len bounds.old < vec_capacity bounds.old }
+    requires capacity { vec_len bounds.old < vec_capacity bounds.old }
     requires rise { Rise (drop from bounds.old.items) }
     ensures { bounds.new.items ≡ take from bounds.old.items ++ bounds_with w (drop from bounds.old.items) }
 {
@@ -174,15 +174,4 @@ fn moved_at_once(level: u8, bounds: &[u16], weight: u16) -> u16
     let most = if level == 1 { 0x8000 } else { 0xFFFF };
     let count = count_below(bounds, weight);
     count.saturating_add(weight as usize).min(most) as u16
-}
-
-/// A weight with a gap above `w`, at most 65535.
-pub(crate) fn with_room(level: u8, w: u16, weight: u16) -> u16
-    ensures { result ≡ min (weight_with_room level w weight) 65535 }
-{
-    if w < weight && (level != 1 || weight < 0x8000) {
-        weight.saturating_add(1)
-    } else {
-        weight
-    }
 }

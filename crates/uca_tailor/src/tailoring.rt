@@ -8,7 +8,7 @@ ghost use Rattle.uca_tailor.specs.Steps.{Refuses, placed_as, related_as};
 
 use crate::anchor::{anchor_of, base_after, check_place};
 use crate::faults::{TailorCause, TailorFault};
-use crate::renumbered::{Renumbered, elements_of};
+use crate::renumbered::{Renumbered, elements_under};
 use crate::rules::{Op, Relation, Rules};
 use std::alloc::{AllocError, Global};
 use uca_table::{Element, Table};
@@ -32,7 +32,7 @@ fn place_after(
     let w = anchor.last.weight(level);
     check_place(alloc, level, w, t, elements)?;
     let base = base_after(alloc, level, anchor.before, anchor.last)?;
-    t.make_room(level, w)?;
+    t.make_gap(level, w)?;
     Ok(base)
 }
 
@@ -65,7 +65,7 @@ fn whole_of(
     ensures { IfOk result (λ v. v.items ≡ base.now ++ elements t.now expansion.now) }
 {
     let mut whole = base.to_vec(alloc)?;
-    let others = elements_of(alloc, t, expansion)?;
+    let others = elements_under(alloc, t, expansion)?;
     whole.extend_from_slice(&others)?;
     Ok(whole)
 }
@@ -149,7 +149,7 @@ fn relate_chains(alloc: Global, t: &mut Renumbered<'_>, r: &Rules) -> Result<(),
 {
     let mut count = 0;
     for chain in r.chains() {
-        let reset = elements_of(alloc, t, &chain.reset)?;
+        let reset = elements_under(alloc, t, &chain.reset)?;
         relate_all(alloc, t, reset, &chain.relations, count)?;
         count += chain.relations.len() as u64;
     }

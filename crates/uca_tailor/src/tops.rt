@@ -1,10 +1,9 @@
 //! Upper bounds of the weights of a table, so that a relation need not look at the whole table for a gap.
-ghost use Rattle.std.specs.Prelude.{◌≡◌, ◌≤◌, min};
-ghost use Rattle.uca_model.specs.Room.{moves, weight_with_room};
+ghost use Rattle.std.specs.Prelude.{◌≡◌, ◌≤◌};
 ghost use Rattle.uca_tailor.specs.Renumbered.{IsBelow, HaveTops};
 ghost use Rattle.uca_tailor.specs.Tops.{raised, HoldsElements, IsAtMost};
 
-use crate::shifts::with_room;
+use crate::gap::{moves, weight_with_gap};
 use uca_table::{Element, Table};
 
 /// For each level an upper bound of the weights of a table, apart from implicit ones.
@@ -13,13 +12,6 @@ pub(crate) struct Tops {
     pub(crate) first: u16,
     pub(crate) second: u16,
     pub(crate) third: u16,
-}
-
-/// Whether a weight of a level is above another one, and not implicit.
-fn is_above(level: u8, top: u16, weight: u16) -> bool
-    ensures { result ≡ moves level top weight }
-{
-    top < weight && (level != 1 || weight < 0x8000)
 }
 
 /// A weight, or the greatest one of the elements that is above it at a level, 1 to 3.
@@ -32,7 +24,7 @@ fn highest(level: u8, elements: &[Element], top: u16) -> u16
     let mut highest = top;
     for element in elements {
         let weight = element.weight(level);
-        if is_above(level, highest, weight) {
+        if moves(level, highest, weight) {
             highest = weight;
         }
     }
@@ -75,9 +67,9 @@ impl Tops {
     {
         let mut raised = self;
         match level {
-            1 => raised.first = with_room(1, w, self.first),
-            2 => raised.second = with_room(2, w, self.second),
-            _ => raised.third = with_room(3, w, self.third),
+            1 => raised.first = weight_with_gap(1, w, self.first),
+            2 => raised.second = weight_with_gap(2, w, self.second),
+            _ => raised.third = weight_with_gap(3, w, self.third),
         }
         raised
     }

@@ -1,4 +1,5 @@
 pub mod Passage
+pub mod TextFaults
 pub mod Scan
 pub mod PassageSource
 pub mod Segment

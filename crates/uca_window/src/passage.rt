@@ -1,4 +1,4 @@
-ghost use Rattle.std.specs.Prelude.{◌≡◌, ◌≤◌, ◌<◌, ◌↔◌, length, chars, IfOk, IfErr, IsOk, IfSome, IfNone, IsSome};
+ghost use Rattle.std.specs.Prelude.{◌≡◌, ◌≤◌, ◌<◌, ◌↔◌, length, chars, IfOk, IfErr, IsOk, IfSome, IfNone, IsSome, MatchResult};
 ghost use Rattle.std.specs.Str.{IsAscii};
 ghost use Rattle.unicode_normalization.specs.Decompose.{decompose_canonical};
 ghost use Rattle.uca_model.specs.Lines.{IsTextLine};
@@ -7,7 +7,9 @@ ghost use Rattle.uca_window.specs.Passing.{ending};
 ghost use Rattle.uca_window.specs.Scan.{run_after, Fits};
 
 use crate::ascii::is_ascii;
+use crate::fault::TextFault;
 use crate::passing::{STRIDE, is_passed, pass, skip};
+use simdutf8::compat::from_utf8;
 use std::str::from_utf8_unchecked;
 use thiserror::Error;
 use uca_weights::{MAX_DECOMPOSITION, MAX_RUN};
@@ -35,6 +37,7 @@ pub struct Passage<'t> {
 
 impl<'t> Passage<'t> {
     ghost use Rattle.uca_window.specs.Passage.{bytes_of, text_of};
+    ghost use Rattle.uca_window.specs.TextFaults.{IsFault};
 
     /// Checks that a text is safe, and wraps it. It does not allocate.
     pub fn check(text: &'t str) -> Result<Passage<'t>, LongRun>
@@ -59,6 +62,39 @@ impl<'t> Passage<'t> {
             return None;
         }
         Some(Passage::of_safe(unsafe { from_utf8_unchecked(bytes) }))
+    }
+
+    /// The text that bytes are. Most texts of databases are ASCII, and many are empty: these need no look for faults. It does not
+    /// allocate.
+    pub fn of_bytes(bytes: &'t [u8]) -> Result<Passage<'t>, TextFault>
+        ensures { MatchResult result (λ p. IsTextLine bytes.now × (text_of p ≡ chars bytes.now)) (IsFault bytes.now) }
+    {
+        match Passage::of_ascii(bytes) {
+            Some(passage) => Ok(passage),
+            None => Passage::of_any(bytes),
+        }
+    }
+
+    /// The text that bytes are after a look for faults. It is not inlined, so that a text in ASCII does not pay for its stack frame.
+    #[inline(never)]
+    fn of_any(bytes: &'t [u8]) -> Result<Passage<'t>, TextFault>
+        ensures { MatchResult result (λ p. IsTextLine bytes.now × (text_of p ≡ chars bytes.now)) (IsFault bytes.now) }
+    {
+        match from_utf8(bytes) {
+            Ok(text) => match Passage::check(text) {
+                Ok(passage) => Ok(passage),
+                Err(run) => Err(TextFault::LongRun(run.at)),
+            },
+            Err(error) => Err(TextFault::NotUtf8(error.valid_up_to())),
+        }
+    }
+
+    /// The text of bytes that were checked before.
+    pub fn of_checked(bytes: &'t [u8]) -> Passage<'t>
+        requires { IsTextLine bytes.now }
+        ensures { bytes_of result ≡ bytes.now }
+    {
+        Passage::of_safe(unsafe { from_utf8_unchecked(bytes) })
     }
 
     /// A text that is known to be safe.

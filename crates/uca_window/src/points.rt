@@ -10,15 +10,15 @@ use uca_weights::{MAX_KEY, MAX_LOOKAHEAD};
 use unicode_normalization::Form;
 use unicode_normalization::char::{canonical_combining_class, decomposition};
 
-// The most points that a window can hold.
-pub(crate) const ROOM: usize = MAX_KEY + MAX_LOOKAHEAD;
+/// The most points that a window can hold.
+pub const ROOM: usize = MAX_KEY + MAX_LOOKAHEAD;
 
 // The first character that has a decomposition. Each one below is a starter, too.
 const FIRST_DECOMPOSED: char = '\u{C0}';
 
-// Puts what a character decomposes to after points in canonical order, and keeps them in order. The first `closed`
-// points are in closed segments; returns how many are then.
-pub(crate) fn push_decomposed(points: &mut ArrayVec<char, ROOM>, closed: usize, c: char) -> usize
+/// Puts what a character decomposes to after points in canonical order, and keeps them in order. The first `closed`
+/// points are in closed segments; returns how many are then.
+pub fn push_decomposed(points: &mut ArrayVec<char, ROOM>, closed: usize, c: char) -> usize
     requires room { array_vec_len points.old + length (decompose_canonical c) ≤ ROOM }
     requires ordered { is_ordered points.old.items ≡ true }
     requires segments { IsOpen closed points.old.items }

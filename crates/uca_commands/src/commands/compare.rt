@@ -7,14 +7,15 @@ ghost use Rattle.uca_model.specs.Lines.{lines_of, IsTextLine};
 ghost use Rattle.uca_commands.specs.Commands.{Does, Fails, compare_command};
 
 use crate::faults::CliFault;
-use crate::output::text_of_line;
+use crate::input::read_text_lines;
+use crate::lines::first_line;
 use std::alloc::Global;
 use std::cmp::Ordering;
 use uca_io::OutputBuffer;
 use uca_levels::compare;
-use uca_lines::{first_line, read_lines};
 use uca_table::Table;
 use uca_weights::{Reader, Settings, WriteFault, Writer};
+use uca_window::Passage;
 
 /// The line of an order.
 fn order_line(order: Ordering) -> &'static [u8]
@@ -45,8 +46,9 @@ fn send_order<W: Writer>(
         (FailsPartway (W.state w.old) out.old (W.state w.new) (compare_line t.now s before.now line.now)) }
     ensures small { OnOk result (accepted out.new < accepted out.old + 2 ^ 70) }
 {
-    let order = compare(t, s, &text_of_line(before), &text_of_line(line));
-    out.write(w, order_line(order))
+    let before = Passage::of_checked(before);
+    let line = Passage::of_checked(line);
+    out.write(w, order_line(compare(t, s, &before, &line)))
 }
 
 /// Writes the order of each pair of neighbouring lines of an input that was checked.
@@ -94,7 +96,7 @@ pub fn run<I: Reader, W: Writer>(
         (record { input = I.state input.new; output = W.state output.new })) }
     ensures calls { I.calls input.new ≤ I.calls input.old + (MAX_INPUT + 1) }
 {
-    let bytes = read_lines(alloc, input)?;
+    let bytes = read_text_lines(alloc, input)?;
     write_orders(t, s, &bytes, output)?;
     Ok(0)
 }

@@ -3,9 +3,9 @@ ghost use Rattle.uca_weights.specs.declared.limits.TheConstants.{MAX_INPUT};
 ghost use Rattle.uca_commands.specs.Commands.{Does, Fails, elements_command};
 
 use crate::faults::CliFault;
+use crate::input::read_text_lines;
 use crate::output::{LineForm, write_lines};
 use std::alloc::Global;
-use uca_lines::read_lines;
 use uca_table::Table;
 use uca_weights::{Reader, Settings, Writer};
 
@@ -25,7 +25,7 @@ pub fn run<I: Reader, W: Writer>(
         (record { input = I.state input.new; output = W.state output.new })) }
     ensures calls { I.calls input.new ≤ I.calls input.old + (MAX_INPUT + 1) }
 {
-    let bytes = read_lines(alloc, input)?;
+    let bytes = read_text_lines(alloc, input)?;
     write_lines(alloc, LineForm::Elements, t, s, &bytes, output)?;
     Ok(0)
 }

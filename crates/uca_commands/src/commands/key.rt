@@ -3,15 +3,17 @@ ghost use Rattle.uca_weights.specs.declared.limits.TheConstants.{MAX_INPUT};
 ghost use Rattle.uca_io.specs.Writer.{WritesAll, WritesFront};
 ghost use Rattle.uca_model.specs.Lines.{lines_of, IsTextLine};
 ghost use Rattle.uca_commands.specs.Commands.{Does, Fails, key_command, raw_key_command, raw_key_output};
-ghost use Rattle.uca_lines.specs.Input.{IsOneLine};
+ghost use Rattle.uca_commands.specs.Input.{IsOneLine};
 
 use crate::faults::CliFault;
-use crate::output::{LineForm, text_of_line, write_lines};
+use crate::input::{read_one_line, read_text_lines};
+use crate::lines::first_line;
+use crate::output::{LineForm, write_lines};
 use std::alloc::Global;
 use uca_key::write_key;
-use uca_lines::{first_line, read_lines, read_one_line};
 use uca_table::Table;
 use uca_weights::{Reader, Settings, WriteFault, Writer};
+use uca_window::Passage;
 
 /// Writes the sort key of each line of its input, as digits.
 pub fn run<I: Reader, W: Writer>(
@@ -29,7 +31,7 @@ pub fn run<I: Reader, W: Writer>(
         (record { input = I.state input.new; output = W.state output.new })) }
     ensures calls { I.calls input.new ≤ I.calls input.old + (MAX_INPUT + 1) }
 {
-    let bytes = read_lines(alloc, input)?;
+    let bytes = read_text_lines(alloc, input)?;
     write_lines(alloc, LineForm::Key, t, s, &bytes, output)?;
     Ok(0)
 }
@@ -48,7 +50,7 @@ fn write_raw_key<W: Writer>(
         (WritesFront (W.state w.old) (W.state w.new) (raw_key_output t.now s (lines_of bytes.now))) }
 {
     let (line, _) = first_line(bytes);
-    write_key(w, t, s, &text_of_line(line))?;
+    write_key(w, t, s, &Passage::of_checked(line))?;
     Ok(())
 }
 

@@ -6,65 +6,83 @@ ghost use Rattle.uca_model.specs.Lines.{line_feed, lines_of, IsTextLine};
 ghost use Rattle.uca_model.specs.OrderOutput.{text_of_lines};
 ghost use Rattle.uca_commands.specs.KeyPieces.{pieces};
 ghost use Rattle.uca_commands.specs.KeyedLines.{key_of, line_of};
+ghost use Rattle.uca_commands.specs.LinePlaces.{line_at};
 ghost use Rattle.uca_commands.specs.Ordering.{AreKeys, Orders, RefusesOrder, StopsInOrder, WritesInOrder};
 ghost use Rattle.uca_commands.specs.Commands.{Does, Fails, order_command};
 
 use crate::faults::CliFault;
-use crate::keyed_line::{KeyedLine, KeyedLines};
+use crate::input::read_text_lines;
+use crate::keyed_line::{KeyedLine, KeyedLines, LinePlace, line_at};
 use crate::line_sort::sort_lines;
-use crate::output::text_of_line;
+use crate::lines::first_line;
 use std::alloc::{AllocError, Global};
+use uca_io::OutputBlock;
+use uca_io::output_buffer::BLOCK;
 use uca_key::KeyMaker;
-use uca_lines::output_block::BLOCK;
-use uca_lines::{OutputBlock, first_line, read_lines};
 use uca_table::Table;
 use uca_weights::{Reader, Settings, WriteFault, Writer};
+use uca_window::Passage;
 
 /// The sort keys of all lines, one after the other, and where each ends.
 #[derive(Drop)]
-struct Keys {
+struct LineKeys {
     bytes: Vec<u8>,
     ends: Vec<usize>,
 }
 
-/// The sort keys of the lines of an input, which was checked.
-fn keys_of(alloc: Global, t: &Table, s: Settings, bytes: &[u8]) -> Result<Keys, AllocError>
-    requires { All IsTextLine (lines_of bytes.now) }
-    ensures { IfOk result (λ keys. AreKeys t.now s (lines_of bytes.now) keys.bytes.items keys.ends.items) }
+/// Where the lines of an input lie.
+fn line_places(alloc: Global, bytes: &[u8]) -> Result<Vec<LinePlace>, AllocError>
+    requires { length bytes.now ≤ MAX_INPUT }
+    ensures { IfOk result (λ v. map (line_at bytes.now) v.items ≡ lines_of bytes.now) }
 {
-    let mut keys = Keys {
+    let mut places = Vec::new(alloc);
+    let mut left = bytes;
+    while !left.is_empty() {
+        let start = bytes.len() - left.len();
+        let (line, rest) = first_line(left);
+        let end = start + line.len();
+        places.push(LinePlace {
+            start: start as u32,
+            end: end as u32,
+        })?;
+        left = rest;
+    }
+    Ok(places)
+}
+
+/// The sort keys of the lines of an input at some places, which were checked.
+fn keys_of(
+    alloc: Global,
+    t: &Table,
+    s: Settings,
+    input: &[u8],
+    places: &[LinePlace],
+) -> Result<LineKeys, AllocError>
+    requires { All IsTextLine (map (line_at input.now) places.now) }
+    ensures { IfOk result (λ keys. AreKeys t.now s (map (line_at input.now) places.now) keys.bytes.items keys.ends.items) }
+{
+    let mut keys = LineKeys {
         bytes: Vec::new(alloc),
         ends: Vec::new(alloc),
     };
     let mut maker = KeyMaker::new(alloc);
-    let mut left = bytes;
-    while !left.is_empty() {
-        let (line, rest) = first_line(left);
-        maker.push_key(alloc, t, s, &text_of_line(line), &mut keys.bytes)?;
+    for place in places {
+        let line = Passage::of_checked(line_at(input, *place));
+        maker.push_key(alloc, t, s, &line, &mut keys.bytes)?;
         keys.ends.push(keys.bytes.len())?;
-        left = rest;
     }
     Ok(keys)
 }
 
 /// The lines of an input, each with its key, in the order that they have.
 fn keyed_lines(alloc: Global, of: &KeyedLines<'_>) -> Result<Vec<KeyedLine>, AllocError>
-    requires small { length of.now.input.now ≤ MAX_INPUT }
-    requires each { length of.now.ends.now ≡ length (lines_of of.now.input.now) }
+    requires { length of.now.ends.now ≡ length of.now.places.now }
     ensures keys { IfOk result (λ v. map (key_of of.now) v.items ≡ pieces of.now.ends.now of.now.keys.now 0) }
-    ensures lines { IfOk result (λ v. map (line_of of.now) v.items ≡ lines_of of.now.input.now) }
+    ensures lines { IfOk result (λ v. map (line_of of.now) v.items ≡ map (line_at of.now.input.now) of.now.places.now) }
 {
-    let mut lines = Vec::with_capacity(alloc, of.ends.len())?;
-    let mut left = of.input;
-    for number in 0..of.ends.len() {
-        let start = of.input.len() - left.len();
-        let (_, rest) = first_line(left);
-        lines.push(KeyedLine {
-            front: 0,
-            number: number as u32,
-            start: start as u32,
-        })?;
-        left = rest;
+    let mut lines = Vec::with_capacity(alloc, of.places.len())?;
+    for number in 0..of.places.len() {
+        lines.push(KeyedLine { front: 0, number })?;
     }
     Ok(lines)
 }
@@ -133,9 +151,11 @@ pub fn write_in_order<W: Writer>(
     if bytes.is_empty() {
         return Ok(0);
     }
-    let keys = keys_of(alloc, t, s, bytes)?;
+    let places = line_places(alloc, bytes)?;
+    let keys = keys_of(alloc, t, s, bytes, &places)?;
     let of = KeyedLines {
         input: bytes,
+        places: &places,
         keys: &keys.bytes,
         ends: &keys.ends,
     };
@@ -167,7 +187,7 @@ pub fn order<R: Reader, W: Writer>(
         (record { input = R.state r.new; output = W.state w.new })) }
     ensures calls { R.calls r.new ≤ R.calls r.old + (MAX_INPUT + 1) }
 {
-    let bytes = read_lines(alloc, r)?;
+    let bytes = read_text_lines(alloc, r)?;
     write_in_order(alloc, t, s, &bytes, w)
 }
 

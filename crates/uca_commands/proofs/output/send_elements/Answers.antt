@@ -8,10 +8,10 @@ use Rattle.uca_model.proofs.CanonicalLines.{length-elements}
 use Rattle.uca_commands.proofs.SendingLemmas.{accepted-after}
 use Rattle.uca_commands.proofs.output.send_elements.Goals as goal
 
-pub write-requires-clause-room : goal.write-requires-clause-room
-write-requires-clause-room g c =
+pub write-requires : goal.write-requires
+write-requires g c =
     let size : accepted c.send_each.new.out ≡ accepted c.args.out.now + length (flat_map element_text c.args.elements.now) = accepted-Accepts _ _ _ _ (flat_map element_text c.args.elements.now) c.in_ok-send_each.ensures in
-    omega (arith, size, length-elements c.args.elements.now)
+    (omega arith, (omega arith, omega (arith, size, length-elements c.args.elements.now)))
 
 pub returns-clause-sends : goal.returns-clause-sends
 returns-clause-sends g c = both_sent _ _ _ _ _ _ (flat_map element_text c.args.elements.now) (line_feed ∷ []) c.write.result c.in_ok-send_each.ensures c.write.ensures.all

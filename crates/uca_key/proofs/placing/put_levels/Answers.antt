@@ -13,11 +13,9 @@ each-init c =
     record {
       first = omega arith;
       last = (levels-within c.args.s.strength).0;
-      table = c.new-reading.ensures.table;
-      text = c.new-reading.ensures.text;
       holds = c.new-reading.ensures.holds;
       size = c.new-reading.ensures.size;
-      putting = IsPutting-start _ _ _ _ c.requires.place (sym (sort_key-levels c.args.t.now c.args.s (chars c.args.text.now)));
+      putting = IsPutting-start _ _ _ _ c.ranges.at.fits (sym (sort_key-levels c.args.t.now c.args.s (chars c.args.text.now)));
     }
 
 pub returns-then-level-last-clause-bytes : goal.returns-then-level-last-clause-bytes
@@ -26,7 +24,7 @@ returns-then-level-last-clause-bytes c =
     let at : ℕ = c.each.level in
     let top : ℕ = levels c.args.s.strength in
     let split = key_from-split (top - at) at lists (lists at) refl in
-    let puts = subst (λ (b : List ℕ). PutsAt c.each.next b c.each.out c.put_level_of-next.new.out c.put_level_of-next.result) (ap₂ (λ t x. bytes_at at (level_list t c.args.s.weighting (chars x) at)) c.each.invariant.table c.each.invariant.text) c.put_level_of-next.ensures.bytes in
+    let puts = subst (λ (b : List ℕ). PutsAt c.each.next b c.each.out c.put_level_of-next.new.out c.put_level_of-next.result) (ap₂ (λ t x. bytes_at at (level_list t c.args.s.weighting (chars x) at)) c.new-reading.ensures.table c.new-reading.ensures.text) c.put_level_of-next.ensures.bytes in
     let one = IsPutting-more _ _ _ _ _ _ c.each.invariant.putting _ _ (bytes_at at (lists at)) (tail_of (top - at) at lists) c.requires.size split puts in
     let none : top - at ≡ 0 = omega (arith, c.levels-last.ensures, c.if-level-last.true) in
     IsPutting-ends _ _ _ _ _ _ one (ap (λ n. tail_of n at lists) none)
@@ -37,15 +35,13 @@ each-preserved c =
     let at : ℕ = c.each.level in
     let top : ℕ = levels c.args.s.strength in
     let split = key_from-split (top - at) at lists (lists at) refl in
-    let puts = subst (λ (b : List ℕ). PutsAt c.each.next b c.each.out c.put_level_of-next.new.out c.put_level_of-next.result) (ap₂ (λ t x. bytes_at at (level_list t c.args.s.weighting (chars x) at)) c.each.invariant.table c.each.invariant.text) c.put_level_of-next.ensures.bytes in
+    let puts = subst (λ (b : List ℕ). PutsAt c.each.next b c.each.out c.put_level_of-next.new.out c.put_level_of-next.result) (ap₂ (λ t x. bytes_at at (level_list t c.args.s.weighting (chars x) at)) c.new-reading.ensures.table c.new-reading.ensures.text) c.put_level_of-next.ensures.bytes in
     let one = IsPutting-more _ _ _ _ _ _ c.each.invariant.putting _ _ (bytes_at at (lists at)) (tail_of (top - at) at lists) c.requires.size split puts in
     let some : top - at ≡ suc (top - (at + 1)) = omega (arith, c.each.invariant.last, c.levels-last.ensures, c.if-level-last.false) in
     let later : tail_of (top - at) at lists ≡ (0 ∷ 0 ∷ []) ++ key_from (top - (at + 1)) (at + 1) lists = ap (λ n. tail_of n at lists) some in
     record {
       first = omega arith;
       last = omega (arith, c.each.invariant.last, c.levels-last.ensures, c.if-level-last.false);
-      table = c.put_level_of-next.ensures.same.0 ∙ c.each.invariant.table;
-      text = c.put_level_of-next.ensures.same.1 ∙ c.each.invariant.text;
       holds = c.put_level_of-next.ensures.holds;
       size = c.put_level_of-next.ensures.room ∙ c.each.invariant.size;
       putting = IsPutting-more _ _ _ _ _ _ one _ _ (0 ∷ 0 ∷ []) (key_from (top - (at + 1)) (at + 1) lists) c.requires.size later c.put_bytes-next.ensures;

@@ -4,15 +4,13 @@ use Rattle.uca_model.specs.LevelWeights.{level_list}
 use Rattle.uca_model.specs.DecidingLevel.{key_from}
 use Rattle.uca_model.specs.SortKey.{sort_key}
 use Rattle.uca_key.specs.Pieces.{HoldsElements}
-use Rattle.uca_key.proofs.PlacingLemmas.{IsPutting}
+use Rattle.uca_key.specs.Placing.{IsPutting}
 use Rattle.uca_key.proofs.placing.put_levels.Given as goal
 
 abbrev pub invariant-each : goal.invariant-each
 invariant-each l = record {
   first : 1 ≤ l.level;
   last : l.level ≤ levels l.s.strength;
-  table : l.reading.table.now ≡ l.t;
-  text : l.reading.text.now ≡ l.text;
   holds : HoldsElements l.reading l.room;
   size : length l.room ≡ length l.fn.room;
   putting : IsPutting l.fn.at l.fn.out l.next l.out (sort_key l.t l.s (chars l.text))

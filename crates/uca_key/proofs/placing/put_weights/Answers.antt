@@ -1,29 +1,4 @@
-use Rattle.std.proofs.Common.{List, flat_map, refl, sym, ap, ◌∙◌}
-use Rattle.uca_weights.specs.declared.element.Element.{Element}
-use Rattle.uca_model.specs.LevelWeights.{level_weights}
-use Rattle.uca_model.specs.SortKey.{weight_bytes}
-use Rattle.uca_levels.specs.Streams.{weights_from}
-use Rattle.uca_key.specs.Pieces.{pieces_left}
-use Rattle.uca_key.proofs.PlacingLemmas.{IsPutting-start, IsPutting-more}
 use Rattle.uca_key.proofs.placing.put_weights.Goals as goal
 
-pub each-init : goal.each-init
-each-init c = record {
-  option = ap (λ w. w.weighting) c.new-weigher.ensures.value;
-  size = refl;
-  holds = c.requires.holds;
-  same = (refl, refl);
-  putting = IsPutting-start _ _ _ _ c.requires.place (ap (λ ws. flat_map weight_bytes (level_weights c.args.level ws)) (c.new-weigher.ensures.list (pieces_left c.args.reading.now c.args.room.now)));
-}
-
-pub each-preserved : goal.each-preserved
-each-preserved c =
-    let later : List Element = pieces_left c.next-from.new.self c.next-from.new.room in
-    let split = ap (λ es. flat_map weight_bytes (weights_from c.each.weigher c.args.level es)) c.next-from.ensures.parts ∙ sym (c.put_level-size.ensures.front later) in
-    record {
-      option = c.put_level-size.ensures.option;
-      size = c.next-from.ensures.size ∙ c.each.invariant.size;
-      holds = c.next-from.ensures.holds;
-      same = (c.next-from.ensures.same.0 ∙ c.each.invariant.same.0, c.next-from.ensures.same.1 ∙ c.each.invariant.same.1);
-      putting = IsPutting-more _ _ _ _ _ _ c.each.invariant.putting _ _ _ _ c.requires.size split c.put_bytes-next.ensures;
-    }
+pub slice_bounds-put_level-end : goal.slice_bounds-put_level-end
+slice_bounds-put_level-end c = (c.requires.holds c.in-Some.held c.in-Some.is).0

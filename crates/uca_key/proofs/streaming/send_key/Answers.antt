@@ -11,8 +11,6 @@ each-init g c =
     record {
       first = omega arith;
       last = (levels-within c.args.s.strength).0;
-      table = c.new-reading.ensures.table;
-      text = c.new-reading.ensures.text;
       holds = c.new-reading.ensures.holds;
       size = c.new-reading.ensures.size;
       sending = IsSending-start _ _ _ _ (sym (sort_key-levels c.args.t.now c.args.s (chars c.args.text.now)));
@@ -24,8 +22,8 @@ send_level-requires-clause-count g c =
     let lists : ℕ → List ℕ = level_list c.args.t.now c.args.s.weighting text in
     let at : ℕ = c.each.level in
     let top : ℕ = levels c.args.s.strength in
-    let own : List ℕ = level_list c.each.reading.table.now c.args.s.weighting (chars c.each.reading.text.now) at in
-    let split = key_from-split (top - at) at lists own (sym (ap₂ (λ t x. level_list t c.args.s.weighting (chars x) at) c.each.invariant.table c.each.invariant.text)) in
+    let own : List ℕ = level_list c.new-reading.result.table.now c.args.s.weighting (chars c.new-reading.result.text.now) at in
+    let split = key_from-split (top - at) at lists own (sym (ap₂ (λ t x. level_list t c.args.s.weighting (chars x) at) c.new-reading.ensures.table c.new-reading.ensures.text)) in
     IsSending-room _ _ _ _ _ _ c.each.invariant.sending (bytes_at at own) (tail_of (top - at) at lists) (2 ^ 128) split c.requires.room
 
 pub returns-in-Err : goal.returns-in-Err
@@ -34,8 +32,8 @@ returns-in-Err g c =
     let lists : ℕ → List ℕ = level_list c.args.t.now c.args.s.weighting text in
     let at : ℕ = c.each.level in
     let top : ℕ = levels c.args.s.strength in
-    let own : List ℕ = level_list c.each.reading.table.now c.args.s.weighting (chars c.each.reading.text.now) at in
-    let split = key_from-split (top - at) at lists own (sym (ap₂ (λ t x. level_list t c.args.s.weighting (chars x) at) c.each.invariant.table c.each.invariant.text)) in
+    let own : List ℕ = level_list c.new-reading.result.table.now c.args.s.weighting (chars c.new-reading.result.text.now) at in
+    let split = key_from-split (top - at) at lists own (sym (ap₂ (λ t x. level_list t c.args.s.weighting (chars x) at) c.new-reading.ensures.table c.new-reading.ensures.text)) in
     IsSending-stops _ _ _ _ _ _ c.each.invariant.sending _ (bytes_at at own) (tail_of (top - at) at lists) _ split c.in-Err.ensures.bytes
 
 pub returns-then-level-last : goal.returns-then-level-last
@@ -44,8 +42,8 @@ returns-then-level-last g c =
     let lists : ℕ → List ℕ = level_list c.args.t.now c.args.s.weighting text in
     let at : ℕ = c.each.level in
     let top : ℕ = levels c.args.s.strength in
-    let own : List ℕ = level_list c.each.reading.table.now c.args.s.weighting (chars c.each.reading.text.now) at in
-    let split = key_from-split (top - at) at lists own (sym (ap₂ (λ t x. level_list t c.args.s.weighting (chars x) at) c.each.invariant.table c.each.invariant.text)) in
+    let own : List ℕ = level_list c.new-reading.result.table.now c.args.s.weighting (chars c.new-reading.result.text.now) at in
+    let split = key_from-split (top - at) at lists own (sym (ap₂ (λ t x. level_list t c.args.s.weighting (chars x) at) c.new-reading.ensures.table c.new-reading.ensures.text)) in
     let one = IsSending-more _ _ _ _ _ _ c.each.invariant.sending _ _ (bytes_at at own) (tail_of (top - at) at lists) split c.in-Ok.ensures.bytes in
     let none : top - at ≡ 0 = omega (arith, c.levels-last.ensures, c.if-level-last.true) in
     IsSending-ends _ _ _ _ _ _ one (ap (λ n. tail_of n at lists) none)
@@ -56,8 +54,8 @@ send_separator-requires g c =
     let lists : ℕ → List ℕ = level_list c.args.t.now c.args.s.weighting text in
     let at : ℕ = c.each.level in
     let top : ℕ = levels c.args.s.strength in
-    let own : List ℕ = level_list c.each.reading.table.now c.args.s.weighting (chars c.each.reading.text.now) at in
-    let split = key_from-split (top - at) at lists own (sym (ap₂ (λ t x. level_list t c.args.s.weighting (chars x) at) c.each.invariant.table c.each.invariant.text)) in
+    let own : List ℕ = level_list c.new-reading.result.table.now c.args.s.weighting (chars c.new-reading.result.text.now) at in
+    let split = key_from-split (top - at) at lists own (sym (ap₂ (λ t x. level_list t c.args.s.weighting (chars x) at) c.new-reading.ensures.table c.new-reading.ensures.text)) in
     let one = IsSending-more _ _ _ _ _ _ c.each.invariant.sending _ _ (bytes_at at own) (tail_of (top - at) at lists) split c.in-Ok.ensures.bytes in
     let some : top - at ≡ suc (top - (at + 1)) = omega (arith, c.each.invariant.last, c.levels-last.ensures, c.if-level-last.false) in
     let later : tail_of (top - at) at lists ≡ (0 ∷ 0 ∷ []) ++ key_from (top - (at + 1)) (at + 1) lists = ap (λ n. tail_of n at lists) some in
@@ -69,8 +67,8 @@ returns-in-Err-send_separator g c =
     let lists : ℕ → List ℕ = level_list c.args.t.now c.args.s.weighting text in
     let at : ℕ = c.each.level in
     let top : ℕ = levels c.args.s.strength in
-    let own : List ℕ = level_list c.each.reading.table.now c.args.s.weighting (chars c.each.reading.text.now) at in
-    let split = key_from-split (top - at) at lists own (sym (ap₂ (λ t x. level_list t c.args.s.weighting (chars x) at) c.each.invariant.table c.each.invariant.text)) in
+    let own : List ℕ = level_list c.new-reading.result.table.now c.args.s.weighting (chars c.new-reading.result.text.now) at in
+    let split = key_from-split (top - at) at lists own (sym (ap₂ (λ t x. level_list t c.args.s.weighting (chars x) at) c.new-reading.ensures.table c.new-reading.ensures.text)) in
     let one = IsSending-more _ _ _ _ _ _ c.each.invariant.sending _ _ (bytes_at at own) (tail_of (top - at) at lists) split c.in-Ok.ensures.bytes in
     let some : top - at ≡ suc (top - (at + 1)) = omega (arith, c.each.invariant.last, c.levels-last.ensures, c.if-level-last.false) in
     let later : tail_of (top - at) at lists ≡ (0 ∷ 0 ∷ []) ++ key_from (top - (at + 1)) (at + 1) lists = ap (λ n. tail_of n at lists) some in
@@ -82,16 +80,14 @@ each-preserved g c =
     let lists : ℕ → List ℕ = level_list c.args.t.now c.args.s.weighting text in
     let at : ℕ = c.each.level in
     let top : ℕ = levels c.args.s.strength in
-    let own : List ℕ = level_list c.each.reading.table.now c.args.s.weighting (chars c.each.reading.text.now) at in
-    let split = key_from-split (top - at) at lists own (sym (ap₂ (λ t x. level_list t c.args.s.weighting (chars x) at) c.each.invariant.table c.each.invariant.text)) in
+    let own : List ℕ = level_list c.new-reading.result.table.now c.args.s.weighting (chars c.new-reading.result.text.now) at in
+    let split = key_from-split (top - at) at lists own (sym (ap₂ (λ t x. level_list t c.args.s.weighting (chars x) at) c.new-reading.ensures.table c.new-reading.ensures.text)) in
     let one = IsSending-more _ _ _ _ _ _ c.each.invariant.sending _ _ (bytes_at at own) (tail_of (top - at) at lists) split c.in-Ok.ensures.bytes in
     let some : top - at ≡ suc (top - (at + 1)) = omega (arith, c.each.invariant.last, c.levels-last.ensures, c.if-level-last.false) in
     let later : tail_of (top - at) at lists ≡ (0 ∷ 0 ∷ []) ++ key_from (top - (at + 1)) (at + 1) lists = ap (λ n. tail_of n at lists) some in
     record {
       first = omega arith;
       last = omega (arith, c.each.invariant.last, c.levels-last.ensures, c.if-level-last.false);
-      table = c.send_level.ensures.same.0 ∙ c.each.invariant.table;
-      text = c.send_level.ensures.same.1 ∙ c.each.invariant.text;
       holds = c.send_level.ensures.holds;
       size = c.send_level.ensures.room ∙ c.each.invariant.size;
       sending = IsSending-more _ _ _ _ _ _ one _ _ (0 ∷ 0 ∷ []) (key_from (top - (at + 1)) (at + 1) lists) later c.in-Ok-send_separator.ensures;

@@ -11,8 +11,6 @@ abbrev pub invariant-each : goal.invariant-each
 invariant-each g l = record {
   first : 1 ≤ l.level;
   last : l.level ≤ levels l.s.strength;
-  table : l.reading.table.now ≡ l.t;
-  text : l.reading.text.now ≡ l.text;
   holds : HoldsElements l.reading l.room;
   size : length l.room ≡ 128;
   sending : IsSending (g.W.Writer.state l.fn.w) l.fn.out (g.W.Writer.state l.w) l.out (sort_key l.t l.s (chars l.text))

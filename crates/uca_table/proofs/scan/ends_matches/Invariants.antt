@@ -1,7 +1,7 @@
 use Rattle.std.proofs.Common.{◌≡◌, not, drop}
 use Rattle.std.specs.List.{list_all}
 use Rattle.std.specs.FinMap.{entries}
-use Rattle.uca_model.specs.Prefix.{is_before_last}
+use Rattle.uca_model.specs.StandAlone.{is_before_last}
 use Rattle.uca_table.proofs.scan.ends_matches.Given as goal
 
 abbrev pub invariant-loop-key : goal.invariant-loop-key

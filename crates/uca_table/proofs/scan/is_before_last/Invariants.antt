@@ -1,5 +1,5 @@
 use Rattle.std.proofs.Common.{◌≡◌, ◌-◌, length, drop}
-use Rattle.uca_model.specs.Prefix.{is_before_last}
+use Rattle.uca_model.specs.StandAlone.{is_before_last}
 use Rattle.uca_table.proofs.scan.is_before_last.Given as goal
 
 abbrev pub invariant-loop-at : goal.invariant-loop-at

@@ -6,10 +6,10 @@ use Rattle.uca_model.specs.Lines.{line_feed}
 use Rattle.uca_commands.proofs.SendingLemmas.{accepted-after}
 use Rattle.uca_commands.proofs.commands.order.send_line.Goals as goal
 
-pub write-requires-clause-room : goal.write-requires-clause-room
-write-requires-clause-room g c =
+pub write-requires : goal.write-requires
+write-requires g c =
     let size : accepted c.send_bytes.new.out ≡ accepted c.args.out.now + length c.args.line.now = accepted-Accepts _ _ _ _ c.args.line.now c.in_ok-send_bytes.ensures in
-    omega (arith, size)
+    (omega arith, (omega arith, omega (arith, size)))
 
 pub returns-clause-sends : goal.returns-clause-sends
 returns-clause-sends g c = both_sent _ _ _ _ _ _ c.args.line.now (line_feed ∷ []) c.write.result c.in_ok-send_bytes.ensures c.write.ensures.all

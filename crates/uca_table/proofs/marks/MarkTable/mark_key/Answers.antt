@@ -3,7 +3,7 @@ use Rattle.std.proofs.lemmas.Bool.{eqb-false}
 use Rattle.std.proofs.lemmas.List.{take_rest}
 use Rattle.std.proofs.lemmas.Result.{on_ok_weaker}
 use Rattle.std.specs.List.{list_any}
-use Rattle.uca_model.specs.Prefix.{is_before_last}
+use Rattle.uca_model.specs.StandAlone.{is_before_last}
 use Rattle.uca_table.proofs.MarkLemmas.{with-key}
 use Rattle.uca_table.specs.Marks.{between_marks, inside_marks, marks_of}
 use Rattle.uca_table.proofs.marks.MarkTable.mark_key.Goals as goal

@@ -1,6 +1,6 @@
 use Rattle.std.proofs.Common.{◌≡◌, ℕ, ◌+◌, ◌<◌, min, List, ◌∷◌, length, take, drop, get_or, sym, ap, subst, ◌∙◌, arith, rules}
 use Rattle.std.proofs.lemmas.List.{drop_more, length-take, length-drop, get_or_read}
-use Rattle.uca_model.specs.Room.{weight_with_room}
+use Rattle.uca_model.specs.Gap.{weight_with_gap}
 use Rattle.uca_tailor.specs.Shifts.{moved, moved_at_once, AreBlocks}
 use Rattle.uca_tailor.proofs.ShiftLemmas.{moved-cut}
 use Rattle.uca_tailor.proofs.BlockLemmas.{block-end}
@@ -41,7 +41,7 @@ loop-at-preserved c =
     let read : w ≡ get_or ws at 0 = get_or_read made at w inside c.index.ensures 0 ∙ ap (λ (xs : List ℕ). get_or xs at 0) c.self.view_is in
     let first : drop at ws ≡ w ∷ drop (at + 1) ws = drop_more ws at 0 (omega (arith, inside, whole)) ∙ ap (λ (x : ℕ). x ∷ drop (at + 1) ws) (sym read) in
     record {
-      same = moved-cut level (drop (at + 1) ws) (weight_with_room level w c.loop-at.moved) c.with_room-by_room.result c.with_room-by_room.ensures ∙ sym (ap (λ (xs : List ℕ). min (moved level xs c.loop-at.moved) 65535) first) ∙ c.loop-at.invariant.same;
-      fits = omega (arith, c.with_room-by_room.ensures);
+      same = moved-cut level (drop (at + 1) ws) (weight_with_gap level w c.loop-at.moved) c.weight_with_gap-by_gap.result c.weight_with_gap-by_gap.ensures.value ∙ sym (ap (λ (xs : List ℕ). min (moved level xs c.loop-at.moved) 65535) first) ∙ c.loop-at.invariant.same;
+      fits = omega (arith, c.weight_with_gap-by_gap.ensures.value);
       within = omega (arith, inside, whole);
     }

@@ -1,0 +1,69 @@
+-- Slots are in the order of the weights, and two weights of one slot are neither common nor have two high bytes.
+use Rattle.std.proofs.Common.{◌≡◌, ℕ, zero, suc, ◌+◌, ◌/◌, ◌%◌, ◌≤◌, ◌<◌, Bool, true, false, cond, ◌==◌, ◌||◌, refl, sym, ap, subst, ◌∙◌, arith, inl, inr}
+use Rattle.std.proofs.lemmas.Bool.{cases_lt, eqb-false}
+use Rattle.uca_key.specs.PrimaryCode.{PrimaryCode, begins_slot, is_common, slot}
+
+pub slot-zero : (k : PrimaryCode) → slot k 0 ≡ 0
+unfolding slot
+slot-zero k = refl
+
+pub slot-suc : (k : PrimaryCode) (w : ℕ) → slot k (suc w) ≡ slot k w + cond (begins_slot k w) 1 0
+unfolding slot
+slot-suc k w = refl
+
+-- at most by one
+step-most : (b : Bool) → cond b 1 0 ≤ 1
+step-most true = omega arith
+step-most false = omega arith
+
+pub slot-next : (k : PrimaryCode) (w : ℕ) → slot k (w + 1) ≡ slot k w + cond (begins_slot k w) 1 0
+slot-next k w = (let one : w + 1 ≡ suc w = omega arith in ap (slot k) one) ∙ slot-suc k w
+
+pub slot-within : (k : PrimaryCode) (w : ℕ) → slot k w ≤ w
+slot-within k zero = let e = slot-zero k in omega arith
+slot-within k (suc w) = let e = slot-suc k w in let most = step-most (begins_slot k w) in let before = slot-within k w in omega arith
+
+pub slot-grows : (k : PrimaryCode) (x y : ℕ) → x ≤ y → slot k x ≤ slot k y
+slot-grows k x zero h = let same : 0 ≡ x = omega arith in subst (λ z. slot k z ≤ slot k 0) same (omega arith)
+slot-grows k x (suc y) h = elim (cases_lt x (suc y)) [
+  | inl before ↦ let grown = slot-grows k x y (omega arith) in let e = slot-suc k y in omega arith
+  | inr after ↦ let same : suc y ≡ x = omega arith in subst (λ z. slot k z ≤ slot k (suc y)) same (omega arith)
+]
+
+-- a weight with a lower slot is lower
+pub slot-lower : (k : PrimaryCode) (x y : ℕ) → slot k x < slot k y → x < y
+slot-lower k x y h = elim (cases_lt x y) [ inl lower ↦ lower | inr not_lower ↦ let grown = slot-grows k y x not_lower in absurd (omega arith) ]
+
+or-none : (a b : Bool) → (a || b) ≡ false → (a ≡ false) × (b ≡ false)
+or-none true b h = absurd (cc)
+or-none false b h = (refl, h)
+
+no-step : (b : Bool) (m n : ℕ) → m ≤ n → n + cond b 1 0 ≡ m → (b ≡ false) × (n ≡ m)
+no-step true m n h e = absurd (omega arith)
+no-step false m n h e = (refl, omega arith)
+
+-- two weights of one slot
+pub record InOneSlot (k : PrimaryCode) (x y : ℕ) : Type 0 where
+  pub page : x / 256 ≡ y / 256
+  pub first : is_common k x ≡ false
+  pub second : is_common k y ≡ false
+
+-- neighbours
+neighbours : (k : PrimaryCode) (y : ℕ) → begins_slot k y ≡ false → InOneSlot k y (suc y)
+neighbours k y h =
+    let parts = or-none ((y + 1) % 256 == 0 || is_common k y) (is_common k (y + 1)) h in
+    let firsts = or-none ((y + 1) % 256 == 0) (is_common k y) parts.0 in
+    let inside : (y + 1) % 256 ≡ 0 → ⊥ = eqb-false ((y + 1) % 256) 0 firsts.0 in
+    let one : y + 1 ≡ suc y = omega arith in
+    record { page = omega arith; first = firsts.1; second = subst (λ z. is_common k z ≡ false) one parts.1 }
+
+pub one-slot : (k : PrimaryCode) (x y : ℕ) → x < y → slot k x ≡ slot k y → InOneSlot k x y
+one-slot k x zero h e = absurd (omega arith)
+one-slot k x (suc y) h e =
+    let grown = slot-grows k x y (omega arith) in
+    let still = no-step (begins_slot k y) (slot k x) (slot k y) grown (sym (slot-suc k y) ∙ sym e) in
+    let last = neighbours k y still.0 in
+    elim (cases_lt x y) [
+      | inl before ↦ let rest = one-slot k x y before (sym still.1) in record { page = rest.page ∙ last.page; first = rest.first; second = last.second }
+      | inr at ↦ let same : y ≡ x = omega arith in subst (λ z. InOneSlot k z (suc y)) same last
+    ]

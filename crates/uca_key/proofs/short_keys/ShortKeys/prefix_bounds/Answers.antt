@@ -1,0 +1,19 @@
+use Rattle.std.proofs.Common.{All, chars, sym, ap, subst, ◌∙◌}
+use Rattle.std.specs.Char.{IsScalar}
+use Rattle.uca_levels.proofs.WithoutFront.{scalars-text}
+use Rattle.uca_model.specs.Prefix.{end_of_prefix, is_complete}
+use Rattle.uca_model.specs.Table.{ElementTable, IsTable}
+use Rattle.uca_window.specs.Passage.{text_of}
+use Rattle.uca_key.proofs.ShortBounds.{short_exactly, short_longer}
+use Rattle.uca_key.proofs.short_keys.ShortKeys.prefix_bounds.Goals as goal
+
+pub returns-clause-exactly : goal.returns-clause-exactly
+returns-clause-exactly c =
+    let scalars : All IsScalar (text_of c.args.p.now) = subst (λ bytes. All IsScalar (chars bytes)) c.as_str-text.ensures.text (scalars-text c.as_str-text.result.now c.as_str-text.utf8) in
+    let valid : IsTable c.args.self.now = subst IsTable c.self.view_is c.longest-longest.ensures.valid in
+    short_exactly c.args.self.now c.args.v (text_of c.args.p.now) c.in_ok-lower.lower.items _ valid scalars c.in_ok-lower.ensures (c.in_ok-upper.ensures ∙ ap end_of_prefix c.as_slice.ensures.value)
+
+pub returns-clause-longer : goal.returns-clause-longer
+returns-clause-longer c = λ s x complete.
+    short_longer c.args.self.now c.args.v (text_of c.args.p.now) c.in_ok-lower.lower.items _
+    (sym (ap (λ (t : ElementTable). is_complete t (text_of c.args.p.now)) c.self.view_is) ∙ sym c.is_complete-complete.ensures ∙ complete) c.in_ok-lower.ensures (c.in_ok-upper.ensures ∙ ap end_of_prefix c.as_slice.ensures.value) s x

@@ -1,3 +1,0 @@
-pub mod HexLanes
-pub mod LinesLemmas
-pub mod HexLemmas
