@@ -4,7 +4,7 @@ use Rattle.std.proofs.lemmas.Bool.{le-leb, cases_eq, cases_lt, or_parts}
 use Rattle.std.specs.List.{list_any}
 use Rattle.std.specs.FinMap.{entries}
 use Rattle.std.proofs.lemmas.List.{get_or-set_same, get_or-set_other, take-append-le, drop-append-le, length-drop, take-append-drop, drop_more, drop-drop, drop_all, drop_at, take_all}
-use Rattle.std.specs.Prelude.{Result, Ok, Err}
+use Rattle.std.specs.Prelude.{Result, Ok, Err, Option, Some, None, IfSome}
 use Rattle.std.specs.Result.{OnOk, is_ok}
 use Rattle.unicode_normalization.specs.Decompose.{decompose_canonical}
 use Rattle.unicode_normalization.specs.Forms.{nfd}
@@ -51,6 +51,7 @@ IsCell-grown t es more c cell grows h =
           ap (λ l. take cell.count (drop cell.start l)) grows
           ∙ ap (take cell.count) (drop-append-le cell.start es (drop (length es) more) (omega (arith, h.within)))
           ∙ take-append-le cell.count (drop cell.start es) (drop (length es) more) (few h.within) ∙ h.elements some;
+      one = h.one;
     } where
       few : cell.start + cell.count ≤ length es → cell.count ≤ length (drop cell.start es)
       few within = let n : length (drop cell.start es) ≡ length es - cell.start = length-drop cell.start es in omega arith
@@ -67,6 +68,7 @@ unknown-cell t es c cell is = subst (IsCell t es c) (sym is) (record {
   cut = λ e. absurd (cc);
   within = omega arith;
   elements = λ some. absurd (omega arith);
+  one = λ just. absurd (omega (arith, just));
 })
 
 -- cells without one of a character are sound
@@ -135,25 +137,30 @@ implicit-alone t c after es none own starter is =
 
 -- ---- texts
 
-pub alone-cell : (t : ElementTable) (text : List ℕ) (es : List Element) (cell : Cell) → 0 < length text → IsCell t es (get_or text 0 0) cell → 0 < cell.count → (1 < length text → joining t (get_or text 1 0) ≤ cell.bearing)
-    → take cell.count (drop cell.start es) ++ elements t (nfd (drop 1 text)) ≡ elements t (nfd text)
-alone-cell t [] es cell some is known bears = absurd (omega arith)
-alone-cell t (c ∷ []) es cell some is known bears = ap (λ l. l ++ elements t (nfd [])) (is.elements known) ∙ sym (apart-alone t c [] refl)
-alone-cell t (c ∷ n ∷ x) es cell some is known bears =
-    let fits : joining t n ≤ bearing t c = omega (arith, bears (omega arith), is.bearing) in
-    ap (λ l. l ++ elements t (nfd (n ∷ x))) (is.elements known) ∙ sym (apart-alone t c (n ∷ x) (le-leb (joining t n) (bearing t c) fits))
-
--- the same of a character and the text after it
-pub alone-before : (t : ElementTable) (c : ℕ) (after : List ℕ) (es : List Element) (cell : Cell) → IsCell t es c cell → 0 < cell.count → ((n : ℕ) (x : List ℕ) → after ≡ n ∷ x → joining t n ≤ cell.bearing)
-    → take cell.count (drop cell.start es) ++ elements t (nfd after) ≡ elements t (nfd (c ∷ after))
-alone-before t c [] es cell is known bears = alone-cell t (c ∷ []) es cell (omega arith) is known (λ more. absurd (omega arith))
-alone-before t c (n ∷ x) es cell is known bears = alone-cell t (c ∷ n ∷ x) es cell (omega arith) is known (λ more. bears n x refl)
+-- what holds of a value that was given, where more follows from it
+pub given-more : {T : Type 0} {P Q : T → Type 0} (given : Option T) → IfSome given P → ((x : T) → P x → Q x) → IfSome given Q
+given-more None holds more = tt
+given-more (Some x) holds more = more x holds
 
 pub first-same : (x y : ℕ) (xs ys : List ℕ) → x ∷ xs ≡ y ∷ ys → x ≡ y
 first-same x y xs ys e = ap (λ l. get_or l 0 x) e
 
 pub none-same : (xs : List ℕ) (y : ℕ) (ys : List ℕ) → xs ≡ [] → xs ≡ y ∷ ys → ⊥
 none-same xs y ys none e = absurd (omega (arith, ap length (sym none ∙ e)))
+
+-- elements of a character, where the text after it joins no more than it bears
+pub alone-before : (t : ElementTable) (c : ℕ) (after : List ℕ) (es : List Element) (most : ℕ) → es ≡ elements t (nfd (c ∷ [])) → most ≤ bearing t c → ((n : ℕ) (x : List ℕ) → after ≡ n ∷ x → joining t n ≤ most) → es ++ elements t (nfd after) ≡ elements t (nfd (c ∷ after))
+alone-before t c [] es most are bears joins = ap (λ l. l ++ elements t (nfd [])) are ∙ sym (apart-alone t c [] refl)
+alone-before t c (n ∷ x) es most are bears joins =
+    let fits : joining t n ≤ bearing t c = omega (arith, joins n x refl, bears) in
+    ap (λ l. l ++ elements t (nfd (n ∷ x))) are ∙ sym (apart-alone t c (n ∷ x) (le-leb (joining t n) (bearing t c) fits))
+
+-- the same of the first character of a text
+pub alone-first : (t : ElementTable) (text : List ℕ) (es : List Element) (most : ℕ) → 0 < length text → es ≡ elements t (nfd (get_or text 0 0 ∷ [])) → most ≤ bearing t (get_or text 0 0) → (1 < length text → joining t (get_or text 1 0) ≤ most)
+    → es ++ elements t (nfd (drop 1 text)) ≡ elements t (nfd text)
+alone-first t [] es most some are bears joins = absurd (omega (arith, some))
+alone-first t (c ∷ []) es most some are bears joins = alone-before t c [] es most are bears (λ n x e. absurd (omega (arith, ap length e)))
+alone-first t (c ∷ n ∷ x) es most some are bears joins = alone-before t c (n ∷ x) es most are bears (λ m y e. subst (λ z. joining t z ≤ most) (first-same n m x y e) (joins (omega arith)))
 
 pub run-apart : (t : ElementTable) (text : List ℕ) (n : ℕ) → n ≤ length text → (n < length text → joining t (get_or text n 0) ≤ 0) → elements t (nfd (take n text)) ++ elements t (nfd (drop n text)) ≡ elements t (nfd text)
 run-apart t text n within fresh = elim (cases_lt n (length text)) [

@@ -16,11 +16,12 @@ pub record IsCell (t : ElementTable) (es : List Element) (c : ℕ) (cell : Cell)
   pub bearing : cell.bearing ≤ bearing t c
   pub cut : cell.cut ≡ true → is_cut t c ≡ true
   pub within : cell.start + cell.count ≤ length es
+  pub one : cell.count ≡ 1 → cell.element ≡ elements t (nfd (c ∷ []))
   pub elements : 0 < cell.count → take cell.count (drop cell.start es) ≡ elements t (nfd (c ∷ []))
 
 -- a cell that says nothing
 abbrev pub unknown : Cell
-unknown = record { start = 0; count = 0; joining = 2; bearing = 0; cut = false }
+unknown = record { element = record { starred = false; l1 = 0; l2 = 0; l3 = 0 } ∷ []; start = 0; count = 0; joining = 2; bearing = 0; cut = false }
 
 -- the cells at the places of code points are sound
 pub record AreCells (t : ElementTable) (es : List Element) (blocks : List ℕ) (cells : List Cell) : Type 0 where

@@ -32,10 +32,12 @@ const FEW_BLOCKS: usize = 64;
 /// A table may have one more block of cells for this many nodes of its keys.
 const NODES_OF_A_BLOCK: usize = 8;
 
-/// The elements of a character by itself, and whether it keeps them within a text. Eight bytes, since each character of a text is
+/// The elements of a character by itself, and whether it keeps them within a text. Sixteen bytes, since each character of a text is
 /// looked up.
 #[derive(Clone, Copy)]
 pub(crate) struct Cell {
+    // Its element, where it has just one: most characters of a text are read without a look at the elements of all cells.
+    element: [Element; 1],
     // Where its elements begin among those of all cells.
     start: u32,
     // How many there are, or 0 where they are not known.
@@ -50,11 +52,20 @@ pub(crate) struct Cell {
 
 /// The cell of a character about which nothing is known.
 const UNKNOWN: Cell = Cell {
+    element: [NO_ELEMENT],
     start: 0,
     count: 0,
     joining: 2,
     bearing: 0,
     cut: false,
+};
+
+// What a cell has in place of its element where it does not have just one.
+const NO_ELEMENT: Element = Element {
+    starred: false,
+    l1: 0,
+    l2: 0,
+    l3: 0,
 };
 
 // The marks of a code point of which nothing is known.
@@ -310,6 +321,18 @@ impl Cells {
         self.elements.extend_from_slice(&buffers.elements)
     }
 
+    // The element of a cell that has one, and otherwise any.
+    fn first_of(&self, start: u32, count: u8) -> [Element; 1]
+        requires { start + count ≤ length self.now.elements.items }
+        ensures one { count ≡ 1 → result ≡ take count (drop start self.now.elements.items) }
+    {
+        if count == 1 {
+            [self.elements[start as usize]]
+        } else {
+            [NO_ELEMENT]
+        }
+    }
+
     // The cell of a character, whose elements are appended to the others.
     fn cell_of(
         &mut self,
@@ -331,7 +354,9 @@ impl Cells {
         let before = self.elements.len();
         self.push_elements(alloc, t, c, points, buffers)?;
         let (start, count) = extent(before, self.elements.len());
+        let element = self.first_of(start, count);
         Ok(Cell {
+            element,
             start,
             count,
             joining: joins.joining,
@@ -463,28 +488,45 @@ impl Cells {
     pub(crate) fn is_cut(&self, c: char) -> bool
         ensures { (t : _) → HoldsCells t self.now → IsTrue result → is_cut t c ≡ true }
     {
-        self.cell(c).cut
-    }
-
-    #[inline(always)]
-    fn cell(&self, c: char) -> Cell
-        ensures { (t : _) → HoldsCells t self.now → IsCell t self.now.elements.items c result }
-    {
-        let Some(at) = self.marks.place(c) else {
-            return UNKNOWN;
-        };
-        match self.cells.get(at) {
-            Some(cell) => *cell,
-            None => UNKNOWN,
+        match self.cell(c) {
+            Some(cell) => cell.cut,
+            None => false,
         }
     }
 
-    fn elements_of(&self, cell: Cell) -> &[Element]
-        requires { cell.start + cell.count ≤ length self.now.elements.items }
-        ensures { result.now ≡ take cell.count (drop cell.start self.now.elements.items) }
+    // The cell of a character. `None`: nothing is known of it.
+    #[inline(always)]
+    fn cell(&self, c: char) -> Option<&Cell>
+        ensures { (t : _) → HoldsCells t self.now → IfSome result (λ cell. IsCell t self.now.elements.items c cell.now) }
     {
+        self.cells.get(self.marks.place(c)?)
+    }
+
+    // The elements of a character by itself. `None`: they are not known.
+    #[inline(always)]
+    fn elements_of<'a>(&'a self, cell: &'a Cell) -> Option<&'a [Element]>
+        requires { cell.now.start + cell.now.count ≤ length self.now.elements.items }
+        ensures { IfSome result (λ es. (t : _) (c : ℕ) → IsCell t self.now.elements.items c cell.now → es.now ≡ elements t (nfd (c ∷ []))) }
+    {
+        if cell.count == 1 {
+            return Some(&cell.element);
+        }
+        if cell.count == 0 {
+            return None;
+        }
         let start = cell.start as usize;
-        &self.elements[start..start + cell.count as usize]
+        Some(&self.elements[start..start + cell.count as usize])
+    }
+
+    // How a character joins what comes before it, at most.
+    #[inline(always)]
+    fn joining(&self, c: char) -> u8
+        ensures { (t : _) → HoldsCells t self.now → joining t c ≤ result }
+    {
+        match self.cell(c) {
+            Some(cell) => cell.joining,
+            None => 2,
+        }
     }
 
     // How the character at a place joins what comes before it, at most; not at all at the end of the text.
@@ -492,7 +534,7 @@ impl Cells {
         ensures { (t : _) → HoldsCells t self.now → at < length text.now → joining t (slice_index text.now at) ≤ result }
     {
         match text.get(at) {
-            Some(c) => self.cell(*c).joining,
+            Some(c) => self.joining(*c),
             None => 0,
         }
     }
@@ -503,14 +545,11 @@ impl Cells {
         requires cells { HoldsCells t.now self.now }
         ensures { IfSome result (λ es. es.now ++ elements t.now (nfd (drop 1 text.now)) ≡ elements t.now (nfd text.now)) }
     {
-        let cell = self.cell(text[0]);
-        if cell.count == 0 {
-            return None;
-        }
+        let cell = self.cell(text[0])?;
         if cell.bearing < 2 && self.joining_at(text, 1) > cell.bearing {
             return None;
         }
-        Some(self.elements_of(cell))
+        self.elements_of(cell)
     }
 
     // How a text joins what comes before it, at most; not at all where it is empty.
@@ -518,7 +557,7 @@ impl Cells {
         ensures { (t : _) → HoldsCells t self.now → (c : ℕ) (later : List ℕ) → chars text.now ≡ c ∷ later → joining t c ≤ result }
     {
         match text.chars().next() {
-            Some(c) => self.cell(c).joining,
+            Some(c) => self.joining(c),
             None => 0,
         }
     }
@@ -529,7 +568,10 @@ impl Cells {
         requires cells { HoldsCells t.now self.now }
         ensures { IsTrue result → 3 ≤ bearing t.now c }
     {
-        self.cell(c).bearing == 3
+        match self.cell(c) {
+            Some(cell) => cell.bearing == 3,
+            None => false,
+        }
     }
 
     /// Whether a character joins nothing before it.
@@ -538,7 +580,7 @@ impl Cells {
         requires cells { HoldsCells t.now self.now }
         ensures { IsTrue result → joining t.now c ≡ 0 }
     {
-        self.cell(c).joining == 0
+        self.joining(c) == 0
     }
 
     /// The elements of a character before other text, where they stand alone. That text is looked at only where they may depend on it.
@@ -547,14 +589,11 @@ impl Cells {
         requires cells { HoldsCells t.now self.now }
         ensures { IfSome result (λ es. es.now ++ elements t.now (nfd (chars after.now)) ≡ elements t.now (nfd (c ∷ chars after.now))) }
     {
-        let cell = self.cell(c);
-        if cell.count == 0 {
-            return None;
-        }
+        let cell = self.cell(c)?;
         if cell.bearing < 2 && self.joining_of_text(after) > cell.bearing {
             return None;
         }
-        Some(self.elements_of(cell))
+        self.elements_of(cell)
     }
 
     /// The elements of a character, where they stand alone before every text.
@@ -562,14 +601,11 @@ impl Cells {
         requires cells { HoldsCells t.now self.now }
         ensures { IfSome result (λ es. (after : List ℕ) → es.now ++ elements t.now (nfd after) ≡ elements t.now (nfd (c ∷ after))) }
     {
-        let cell = self.cell(c);
-        if cell.count == 0 {
-            return None;
-        }
+        let cell = self.cell(c)?;
         if cell.bearing < 2 {
             return None;
         }
-        Some(self.elements_of(cell))
+        self.elements_of(cell)
     }
 
     // The implicit elements of a character with which no key begins and that is a starter and its own NFD.

@@ -1,20 +1,15 @@
-use Rattle.std.proofs.Common.{◌≡◌, ℕ, ◌<◌, ◌≤◌, ◌++◌, length, drop, get_or, ap, ◌∙◌, subst, arith}
+use Rattle.std.proofs.Common.{◌≡◌, ◌<◌, ◌≤◌, length, get_or, subst, arith}
 use Rattle.std.proofs.lemmas.List.{get_or_read}
 use Rattle.unicode_normalization.specs.Decompose.{decompose_canonical}
-use Rattle.unicode_normalization.specs.Forms.{nfd}
-use Rattle.uca_model.specs.CollationElements.{elements}
 use Rattle.uca_model.specs.StandAlone.{joining}
 use Rattle.uca_model.proofs.StandAloneLemmas.{joining-most}
 use Rattle.uca_table.specs.Cells.{IsCell}
-use Rattle.uca_table.proofs.CellLemmas.{alone-cell}
+use Rattle.uca_table.proofs.CellLemmas.{alone-first, given-more}
 use Rattle.uca_table.proofs.cells.Cells.alone.Goals as goal
 use Rattle.uca_table.proofs.cells.Cells.alone.Goals.{After-elements_of, else-cell-lt2-via-then-cell-lt2+else-joining_at-cell, else-cell-lt2-via-else-cell-lt2}
 
-pub elements_of-requires : goal.elements_of-requires
-elements_of-requires c = (c.cell-cell.ensures c.args.t.now c.requires.cells).within
-
 -- the next character joins no more than the cell bears
-bears : (c : After-elements_of) → 1 < length c.args.text.now → joining c.args.t.now (get_or c.args.text.now 1 0) ≤ c.cell-cell.result.bearing
+bears : (c : After-elements_of) → 1 < length c.args.text.now → joining c.args.t.now (get_or c.args.text.now 1 0) ≤ c.in_ok-cell.cell.now.bearing
 bears c more = elim c.else-cell-lt2.branch [
   | else-cell-lt2-via-then-cell-lt2+else-joining_at-cell w ↦ let joins : joining c.args.t.now (get_or c.args.text.now 1 0) ≤ w.joining_at.result = w.joining_at.ensures c.args.t.now c.requires.cells more in omega (arith, joins, w.if-joining_at-cell.false)
   | else-cell-lt2-via-else-cell-lt2 w ↦ let most : joining c.args.t.now (get_or c.args.text.now 1 0) ≤ 2 = joining-most c.args.t.now (decompose_canonical (get_or c.args.text.now 1 0)) in omega (arith, most, w.if-cell-lt2.false)
@@ -22,8 +17,7 @@ bears c more = elim c.else-cell-lt2.branch [
 
 pub returns : goal.returns
 returns c =
+    let t = c.args.t.now in
     let first : c.index-text-0.result ≡ get_or c.args.text.now 0 0 = get_or_read c.args.text.now 0 c.index-text-0.result c.requires.some c.index-text-0.is 0 in
-    let P : ℕ → Type 0 = λ x. IsCell c.args.t.now c.args.self.now.elements.items x c.cell-cell.result in
-    let cell : IsCell c.args.t.now c.args.self.now.elements.items (get_or c.args.text.now 0 0) c.cell-cell.result = subst P first (c.cell-cell.ensures c.args.t.now c.requires.cells) in
-    ap (λ es. es ++ elements c.args.t.now (nfd (drop 1 c.args.text.now))) c.elements_of.ensures
-    ∙ alone-cell c.args.t.now c.args.text.now c.args.self.now.elements.items c.cell-cell.result c.requires.some cell (omega (arith, c.if-cell-eq0.false)) (bears c)
+    let cell : IsCell t c.args.self.now.elements.items (get_or c.args.text.now 0 0) c.in_ok-cell.cell.now = subst (λ x. IsCell t c.args.self.now.elements.items x c.in_ok-cell.cell.now) first (c.in_ok-cell.ensures t c.requires.cells) in
+    given-more c.elements_of.result c.elements_of.ensures (λ es own. alone-first t c.args.text.now es.now c.in_ok-cell.cell.now.bearing c.requires.some (own t (get_or c.args.text.now 0 0) cell) cell.bearing (bears c))

@@ -1,18 +1,14 @@
-use Rattle.std.proofs.Common.{◌≡◌, ℕ, List, ◌∷◌, ◌++◌, ◌≤◌, chars, ap, ◌∙◌, arith}
+use Rattle.std.proofs.Common.{◌≡◌, ℕ, List, ◌∷◌, ◌≤◌, chars, arith}
 use Rattle.unicode_normalization.specs.Decompose.{decompose_canonical}
-use Rattle.unicode_normalization.specs.Forms.{nfd}
-use Rattle.uca_model.specs.CollationElements.{elements}
 use Rattle.uca_model.specs.StandAlone.{joining}
 use Rattle.uca_model.proofs.StandAloneLemmas.{joining-most}
-use Rattle.uca_table.proofs.CellLemmas.{alone-before}
+use Rattle.uca_table.specs.Cells.{IsCell}
+use Rattle.uca_table.proofs.CellLemmas.{alone-before, given-more}
 use Rattle.uca_table.proofs.cells.Cells.alone_before.Goals as goal
 use Rattle.uca_table.proofs.cells.Cells.alone_before.Goals.{After-elements_of, else-cell-lt2-via-then-cell-lt2+else-joining_of_text-cell, else-cell-lt2-via-else-cell-lt2}
 
-pub elements_of-requires : goal.elements_of-requires
-elements_of-requires c = (c.cell-cell.ensures c.args.t.now c.requires.cells).within
-
 -- the text after it joins no more than the cell bears
-bears : (c : After-elements_of) (n : ℕ) (x : List ℕ) → chars c.args.after.now ≡ n ∷ x → joining c.args.t.now n ≤ c.cell-cell.result.bearing
+bears : (c : After-elements_of) (n : ℕ) (x : List ℕ) → chars c.args.after.now ≡ n ∷ x → joining c.args.t.now n ≤ c.in_ok-cell.cell.now.bearing
 bears c n x e = elim c.else-cell-lt2.branch [
   | else-cell-lt2-via-then-cell-lt2+else-joining_of_text-cell w ↦ let joins : joining c.args.t.now n ≤ w.joining_of_text.result = w.joining_of_text.ensures c.args.t.now c.requires.cells n x e in omega (arith, joins, w.if-joining_of_text-cell.false)
   | else-cell-lt2-via-else-cell-lt2 w ↦ let most : joining c.args.t.now n ≤ 2 = joining-most c.args.t.now (decompose_canonical n) in omega (arith, most, w.if-cell-lt2.false)
@@ -21,5 +17,5 @@ bears c n x e = elim c.else-cell-lt2.branch [
 pub returns : goal.returns
 returns c =
     let t = c.args.t.now in
-    ap (λ es. es ++ elements t (nfd (chars c.args.after.now))) c.elements_of.ensures
-    ∙ alone-before t c.args.c (chars c.args.after.now) c.args.self.now.elements.items c.cell-cell.result (c.cell-cell.ensures t c.requires.cells) (omega (arith, c.if-cell-eq0.false)) (bears c)
+    let cell : IsCell t c.args.self.now.elements.items c.args.c c.in_ok-cell.cell.now = c.in_ok-cell.ensures t c.requires.cells in
+    given-more c.elements_of.result c.elements_of.ensures (λ es own. alone-before t c.args.c (chars c.args.after.now) es.now c.in_ok-cell.cell.now.bearing (own t c.args.c cell) cell.bearing (bears c))

@@ -9,7 +9,7 @@ use Rattle.uca_table.proofs.cells.Cells.joining_of_text.Goals as goal
 pub returns-in-Some : goal.returns-in-Some
 returns-in-Some c = λ t cells n later text.
     let here : chars c.args.text.now ≡ c.in-Some.c ∷ chars (chars_rest c.next.new.self) = chars_past_char _ _ _ c.utf8.text (sym c.chars.ensures.rest ∙ c.in-Some.ensures.steps.0) in
-    subst (λ x. joining t x ≤ c.cell.result.joining) (first-same _ _ _ _ (sym here ∙ text)) (c.cell.ensures t cells).joining
+    subst (λ x. joining t x ≤ c.joining.result) (first-same _ _ _ _ (sym here ∙ text)) (c.joining.ensures t cells)
 
 pub returns-in-None : goal.returns-in-None
 returns-in-None c = λ t cells n later text. absurd (none-same _ _ _ (ap chars (sym c.chars.ensures.rest ∙ nil_from_length _ c.in-None.ensures.steps.0.0) ∙ chars-nil) text)
