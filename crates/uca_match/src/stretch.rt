@@ -60,7 +60,7 @@ fn read_stretch<'t>(t: &Table, text: &'t str, points: &mut ArrayVec<char, ROOM>)
     None
 }
 
-/// Puts elements into room at a place, and returns the place after them. Most characters have one.
+/// Puts elements into room at a place, and returns the place after them. Most characters have one, and letters with a mark two.
 #[inline(always)]
 pub(crate) fn put_elements(elements: &[Element], room: &mut [Element], at: usize) -> usize
     requires { at + length elements.now ≤ length room.old }
@@ -71,6 +71,11 @@ pub(crate) fn put_elements(elements: &[Element], room: &mut [Element], at: usize
     if let [element] = elements {
         room[at] = *element;
         return at + 1;
+    }
+    if let [first, second] = elements {
+        room[at] = *first;
+        room[at + 1] = *second;
+        return at + 2;
     }
     let end = at + elements.len();
     room[at..end].copy_from_slice(elements);
