@@ -11,7 +11,7 @@ use uca_match::put_stretch;
 use uca_weights::Element;
 
 /// How many elements characters that join each other may have.
-const HELD: usize = 32;
+const HELD: usize = 64;
 
 /// The weights of one level of a safe text in memory that are not zero, one by one (UTS #10, section 7.3, step S3). A character that
 /// stands alone has the elements of its cell; others are matched together, as far as they are few. It does not allocate, and holds at
@@ -27,7 +27,7 @@ pub(crate) struct JoinedWeights<'t> {
     pub(crate) at: usize,
     pub(crate) end: usize,
     ghost order: { at ≤ end },
-    ghost within: { end ≤ 32 },
+    ghost within: { end ≤ 64 },
     ghost weight: { ForSome given (λ w. (0 < w) × (w < 2 ^ 16)) },
 }
 

@@ -41,6 +41,7 @@ pub(crate) struct Undecided {
 
 /// The order of two streams of weights of one level, if both can tell them up to where they differ. If not, both have given the same
 /// weights, and the first may have given one more.
+#[inline(always)]
 pub(crate) fn order_of<L: WeightStream, R: WeightStream>(
     left: &mut L,
     right: &mut R,

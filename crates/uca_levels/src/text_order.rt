@@ -34,8 +34,10 @@ fn order_of_joined(left: CellWeights, right: CellWeights, given: Option<u16>) ->
     }
 }
 
-// The order of two texts at a level of weights. `None`: many characters join each other.
-fn order_of_weights(t: &Table, v: Variable, level: u8, a: &str, b: &str) -> Option<Ordering>
+// The order of two texts at a level of weights, as far as their characters stand alone, and then as they are joined. `None`: many
+// characters join each other.
+#[inline(always)]
+fn order_of_cells(t: &Table, v: Variable, level: u8, a: &str, b: &str) -> Option<Ordering>
     requires first { 1 ≤ level }
     requires last { level ≤ 4 }
     requires safe_a { IsSafe (chars a.now) }
@@ -47,6 +49,21 @@ fn order_of_weights(t: &Table, v: Variable, level: u8, a: &str, b: &str) -> Opti
     match order_of(&mut left, &mut right) {
         Ok(order) => Some(order),
         Err(undecided) => order_of_joined(left, right, undecided.given),
+    }
+}
+
+// The order of two texts at a level of weights. `None`: many characters join each other. The first level of elements that keep their
+// weights has a loop of its own, which asks for neither: there most comparisons end.
+fn order_of_weights(t: &Table, v: Variable, level: u8, a: &str, b: &str) -> Option<Ordering>
+    requires first { 1 ≤ level }
+    requires last { level ≤ 4 }
+    requires safe_a { IsSafe (chars a.now) }
+    requires safe_b { IsSafe (chars b.now) }
+    ensures { IfSome result (OrdersLevel level (level_list t.now v (chars a.now) level) (level_list t.now v (chars b.now) level)) }
+{
+    match (v, level) {
+        (Variable::NonIgnorable, 1) => order_of_cells(t, Variable::NonIgnorable, 1, a, b),
+        _ => order_of_cells(t, v, level, a, b),
     }
 }
 

@@ -6,7 +6,7 @@ use Rattle.uca_model.specs.DecidingLevel.{OrdersLevel}
 use Rattle.uca_levels.specs.CellWeights.{cell_weights_left}
 use Rattle.uca_levels.specs.Streams.{given_before}
 use Rattle.uca_levels.proofs.ReadsLemmas.{InStep-orders}
-use Rattle.uca_levels.proofs.text_order.order_of_weights.Goals as goal
+use Rattle.uca_levels.proofs.text_order.order_of_cells.Goals as goal
 
 if_some : (o : Option Ordering) (P Q : Ordering → Type 0) → ((x : Ordering) → P x → Q x) → IfSome o P → IfSome o Q
 if_some None P Q more h = h
