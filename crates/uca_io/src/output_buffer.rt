@@ -1,8 +1,7 @@
-ghost use Rattle.std.specs.Prelude.{◌≡◌, ◌+◌, ◌^◌, ◌<◌, ◌≤◌, [], length, MatchResult, OnErr};
+ghost use Rattle.std.specs.Prelude.{◌≡◌, ◌+◌, ◌^◌, ◌<◌, ◌≤◌, ◌++◌, [], length, take, MatchResult, OnErr};
 
 use crate::writer::{WriteFault, Writer};
 use crate::writing::write_whole;
-use arrayvec::ArrayVec;
 use std::marker::Model;
 
 /// How many bytes an [`OutputBuffer`] holds.
@@ -16,7 +15,9 @@ pub const BLOCK: usize = 65_536;
 /// greatest length of a piece.
 #[derive(Drop)]
 pub struct Buffer<const SIZE: usize> {
-    waiting: ArrayVec<u8, SIZE>,
+    // What waits is at the front. What is behind it is left over, and an `ArrayVec` would clear it at each flush.
+    bytes: [u8; SIZE],
+    waiting: usize,
     written: u128,
 }
 
@@ -27,11 +28,14 @@ pub type OutputBuffer = Buffer<ROOM>;
 pub type OutputBlock = Buffer<BLOCK>;
 
 impl<const SIZE: usize> Model for Buffer<SIZE> {
+    ghost use Rattle.std.specs.Prelude.{◌≤◌, length, take};
     ghost use Rattle.uca_io.specs.BufferState.{BufferState};
 
     ghost Value = { BufferState };
 
-    ghost view = { λ o. record { waiting = o.waiting.items; written = o.written } };
+    ghost view = { λ o. record { waiting = take o.waiting o.bytes; written = o.written } };
+
+    ghost invariant = { λ o. o.waiting ≤ length o.bytes };
 }
 
 impl<const SIZE: usize> Buffer<SIZE> {
@@ -43,7 +47,8 @@ impl<const SIZE: usize> Buffer<SIZE> {
         ensures waiting { result.waiting ≡ [] }
     {
         Buffer {
-            waiting: ArrayVec::new(),
+            bytes: [0; SIZE],
+            waiting: 0,
             written: 0,
         }
     }
@@ -64,10 +69,10 @@ impl<const SIZE: usize> Buffer<SIZE> {
         ensures empty { MatchResult result (λ _. self.new.waiting ≡ []) (λ _. Unit {0}) }
         ensures err { OnErr result (self.new ≡ self.old) }
     {
-        match write_whole(w, self.waiting.as_slice()) {
+        match write_whole(w, &self.bytes[..self.waiting]) {
             Ok(()) => {
-                self.written += self.waiting.len() as u128;
-                self.waiting.clear();
+                self.written += self.waiting as u128;
+                self.waiting = 0;
                 Ok(())
             }
             Err(fault) => Err(WriteFault {
@@ -75,6 +80,18 @@ impl<const SIZE: usize> Buffer<SIZE> {
                 cause: fault.cause,
             }),
         }
+    }
+
+    // Puts a piece behind what waits.
+    fn push(&mut self, piece: &[u8])
+        requires { length self.old.waiting + length piece.now ≤ SIZE }
+        ensures waiting { self.new.waiting ≡ self.old.waiting ++ piece.now }
+        ensures written { self.new.written ≡ self.old.written }
+    {
+        let end = self.waiting + piece.len();
+        let room = &mut self.bytes[..];
+        room[self.waiting..end].copy_from_slice(piece);
+        self.waiting = end;
     }
 
     /// Writes a piece, now or later. On a fault the buffer stays as it was, without the piece, and only the fault
@@ -87,11 +104,10 @@ impl<const SIZE: usize> Buffer<SIZE> {
             (λ f. FailsPartway (W.state w.old) self.old (W.state w.new) piece.now f) }
         ensures err { OnErr result (self.new ≡ self.old) }
     {
-        if self.waiting.try_extend_from_slice(piece).is_ok() {
-            return Ok(());
+        if piece.len() > SIZE - self.waiting {
+            self.flush(w)?;
         }
-        self.flush(w)?;
-        self.waiting.try_extend_from_slice(piece).unwrap();
+        self.push(piece);
         Ok(())
     }
 }
