@@ -6,6 +6,7 @@ ghost use Rattle.uca_model.specs.SortKey.{weight_bytes, level_bytes};
 ghost use Rattle.uca_levels.specs.Streams.{weights_from};
 ghost use Rattle.uca_key.specs.Placing.{PutsAt};
 
+use crate::packed::common_weight;
 use crate::placing::put_bytes;
 use uca_weights::{Element, Variable, Weigher};
 
@@ -88,6 +89,57 @@ fn put_some_level(elements: &[Element], level: u8, at: usize, out: &mut [u8]) ->
     next
 }
 
+// Puts the bytes of one level, from 1 to 3, of elements that keep their weights, where they fit.
+#[inline(always)]
+fn put_each(elements: &[Element], level: u8, at: usize, out: &mut [u8]) -> usize
+    requires first { 1 ≤ level }
+    requires last { level ≤ 3 }
+    requires room { at + 2 * length elements.now ≤ length out.old }
+    requires size { length out.old < 2 ^ 64 }
+    ensures puts { PutsAt at (level_bytes (weighted NonIgnorable elements.now) level) out.old out.new result }
+    ensures within { result ≤ at + 2 * length elements.now }
+{
+    let mut next = at;
+    for element in elements {
+        next = put_unchanged(element, level, next, out);
+    }
+    next
+}
+
+// Puts eight bytes at a place of a key, where they fit.
+#[inline(always)]
+fn put_eight(bytes: [u8; 8], at: usize, out: &mut [u8]) -> usize
+    requires { at + 8 ≤ length out.old }
+    ensures puts { PutsAt at bytes out.old out.new result }
+    ensures within { result ≤ at + 8 }
+{
+    out[at..at + 8].copy_from_slice(&bytes);
+    at + 8
+}
+
+// Puts the bytes of a level 2 or 3 of at most four elements that keep their weights, where they fit. Four common weights, as most
+// are, are put together.
+#[inline(always)]
+fn put_few(elements: &[Element], level: u8, at: usize, out: &mut [u8]) -> usize
+    requires first { 2 ≤ level }
+    requires last { level ≤ 3 }
+    requires room { at + 2 * length elements.now ≤ length out.old }
+    requires size { length out.old < 2 ^ 64 }
+    ensures puts { PutsAt at (level_bytes (weighted NonIgnorable elements.now) level) out.old out.new result }
+    ensures within { result ≤ at + 2 * length elements.now }
+{
+    if let [a, b, c, d] = elements {
+        let common = common_weight(level);
+        let (first, second) = (a.weight(level), b.weight(level));
+        let (third, fourth) = (c.weight(level), d.weight(level));
+        if first == common && second == common && third == common && fourth == common {
+            let [high, low] = common.to_be_bytes();
+            return put_eight([high, low, high, low, high, low, high, low], at, out);
+        }
+    }
+    put_each(elements, level, at, out)
+}
+
 // Puts the bytes of one level, from 1 to 3, of elements that keep their weights. It is a loop of its own, since most texts
 // come this way.
 #[inline(always)]
@@ -100,11 +152,17 @@ fn put_unchanged_level(elements: &[Element], level: u8, at: usize, out: &mut [u8
     if !has_room(elements.len(), at, out.len()) {
         return put_some_level(elements, level, at, out);
     }
-    let mut next = at;
-    for element in elements {
-        next = put_unchanged(element, level, next, out);
+    if level == 1 {
+        return put_each(elements, level, at, out);
     }
-    next
+    let mut next = at;
+    let mut left = elements;
+    'fours: while left.len() >= 4 {
+        let (four, rest) = left.split_at(4);
+        next = put_few(four, level, next, out);
+        left = rest;
+    }
+    put_each(left, level, next, out)
 }
 
 // Puts the bytes of one level, from 1 to 4, of elements by their variable weighting, where they may not fit.
