@@ -590,6 +590,9 @@ impl Cells {
         ensures { IfSome result (λ es. es.now ++ elements t.now (nfd (chars after.now)) ≡ elements t.now (nfd (c ∷ chars after.now))) }
     {
         let cell = self.cell(c)?;
+        if cell.bearing >= 2 && cell.count == 1 {
+            return Some(&cell.element);
+        }
         if cell.bearing < 2 && self.joining_of_text(after) > cell.bearing {
             return None;
         }

@@ -19,3 +19,10 @@ returns c =
     let t = c.args.t.now in
     let cell : IsCell t c.args.self.now.elements.items c.args.c c.in_ok-cell.cell.now = c.in_ok-cell.ensures t c.requires.cells in
     given-more c.elements_of.result c.elements_of.ensures (λ es own. alone-before t c.args.c (chars c.args.after.now) es.now c.in_ok-cell.cell.now.bearing (own t c.args.c cell) cell.bearing (bears c))
+
+pub returns-then-cell-eq1 : goal.returns-then-cell-eq1
+returns-then-cell-eq1 c =
+    let t = c.args.t.now in
+    let cell : IsCell t c.args.self.now.elements.items c.args.c c.in_ok-cell.cell.now = c.in_ok-cell.ensures t c.requires.cells in
+    alone-before t c.args.c (chars c.args.after.now) c.in_ok-cell.cell.now.element c.in_ok-cell.cell.now.bearing (cell.one c.if-cell-eq1.true) cell.bearing
+    (λ n x e. let most : joining t n ≤ 2 = joining-most t (decompose_canonical n) in omega (arith, most, c.if-cell-ge2.true))
