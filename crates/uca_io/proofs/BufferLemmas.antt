@@ -22,6 +22,15 @@ Accepts-none s o = record {
   all = append-nil o.waiting;
 }
 
+-- bytes that were put behind what waits, after there was room for them
+pub Accepts-pushed : (s t : WriterState) (o room after : BufferState) (bytes : List ℕ) → Accepts s o t room [] → after.waiting ≡ room.waiting ++ bytes → after.written ≡ room.written → Accepts s o t after bytes
+Accepts-pushed s t o room after bytes made waits same = record {
+  went = made.went;
+  writes = made.writes;
+  counted = same ∙ made.counted;
+  all = ap (λ l. l ++ bytes) (sym (append-nil o.waiting) ∙ made.all) ∙ append_assoc made.went room.waiting bytes ∙ ap (λ l. made.went ++ l) (sym waits);
+}
+
 pub WritesAll-more : (a b c : WriterState) (xs ys : List ℕ) → WritesAll a b xs → WritesAll b c ys → WritesAll a c (xs ++ ys)
 WritesAll-more a b c xs ys p q = record {
   out = Appends-trans a.taken b.taken c.taken xs ys p.out q.out;

@@ -1,7 +1,7 @@
 -- Bytes as pairs of digits, piece by piece.
-use Rattle.std.proofs.Common.{◌≡◌, ℕ, zero, suc, ◌+◌, ◌-◌, ◌*◌, ◌/◌, ◌%◌, ◌<◌, ◌≤◌, List, [], ◌∷◌, ◌++◌, length, take, drop, refl, sym, ap, subst, ◌∙◌, arith, append_assoc, append-nil}
+use Rattle.std.proofs.Common.{◌≡◌, ℕ, slice_index_or, ap₂, zero, suc, ◌+◌, ◌-◌, ◌*◌, ◌/◌, ◌%◌, ◌<◌, ◌≤◌, List, [], ◌∷◌, ◌++◌, length, take, drop, refl, sym, ap, subst, ◌∙◌, arith, append_assoc, append-nil}
 use Rattle.std.proofs.lemmas.Grind.{flat_map-append}
-use Rattle.std.proofs.lemmas.List.{take_all, take-take, drop-take}
+use Rattle.std.proofs.lemmas.List.{take_all, take-take}
 use Rattle.std.proofs.Math.Seq.{take-add}
 use Rattle.std.specs.Simd.Lanes.{chunk}
 use Rattle.uca_io.specs.Digits.{hex_digit, hex_pair}
@@ -38,15 +38,12 @@ hex_text-parts (b ∷ first) others some =
     ∙ sym (append_assoc (hex_pair b) (spaced_pairs first) (spaced_pairs others))
     ∙ ap (λ l. l ++ spaced_pairs others) (sym (hex_text-first b first))
 
--- the pairs of a first piece without their first blank
-without_blank : (bytes : List ℕ) → 0 < length bytes → drop 1 (spaced_pairs bytes) ≡ hex_text bytes
-without_blank [] some = absurd (omega arith)
-without_blank (b ∷ bytes) some = sym (hex_text-first b bytes)
-
-pub first_piece : (n : ℕ) (room bytes : List ℕ) → 0 < length bytes → 0 < n → take n room ≡ spaced_pairs bytes → take (n - 1) (drop 1 room) ≡ hex_text bytes
-first_piece n room bytes some more is =
-    let whole : 1 + (n - 1) ≡ n = omega arith in
-    sym (drop-take 1 (n - 1) room) ∙ ap (λ m. drop 1 (take m room)) whole ∙ ap (drop 1) is ∙ without_blank bytes some
+-- the digits of the first byte, and the pairs of the others
+pub hex_text-pushed : (bytes : List ℕ) (d e : ℕ) → 0 < length bytes → d ≡ hex_digit (slice_index_or bytes 0 0 / 16) → e ≡ hex_digit (slice_index_or bytes 0 0 % 16) → hex_text bytes ≡ (d ∷ e ∷ []) ++ spaced_pairs (take (length bytes - 1) (drop 1 bytes))
+hex_text-pushed [] d e some high low = absurd (omega arith)
+hex_text-pushed (b ∷ bytes) d e some high low =
+    hex_text-first b bytes ∙ ap₂ (λ x y. (x ∷ y ∷ []) ++ spaced_pairs bytes) (sym high) (sym low)
+    ∙ ap (λ l. (d ∷ e ∷ []) ++ spaced_pairs l) (sym (take_all (length (b ∷ bytes) - 1) bytes (omega arith)))
 
 -- nothing is left
 pub all_sent : (sent left bytes : List ℕ) → length left ≡ 0 → sent ++ spaced_pairs left ≡ spaced_pairs bytes → sent ≡ spaced_pairs bytes

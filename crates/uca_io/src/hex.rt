@@ -15,8 +15,8 @@ const PIECE: usize = 256;
 /// How many bytes of a piece become digits together.
 const LANES: usize = 16;
 
-/// A buffer for the digits of a piece, with a blank before each pair. Digits are put there 32 bytes at a time, of which 24 count.
-const ROOM: usize = 3 * PIECE + 8;
+/// How many bytes after the digits are overwritten: digits are put 32 bytes at a time, of which 24 count.
+const SPARE: usize = 8;
 
 /// The digits.
 const DIGITS: [u8; 16] = *b"0123456789ABCDEF";
@@ -82,8 +82,8 @@ fn put_each(bytes: &[u8], room: &mut [u8])
     }
 }
 
-/// Puts bytes at the front of `room` as pairs of digits, with a blank before each.
-fn put_pairs(bytes: &[u8], room: &mut [u8])
+/// Puts bytes at the front of `room` as pairs of digits, with a blank before each. It overwrites the eight bytes after them.
+pub(crate) fn put_pairs(bytes: &[u8], room: &mut [u8])
     requires { 3 * length bytes.now + 8 ≤ length room.old }
     ensures { take (3 * length bytes.now) room.new ≡ spaced_pairs bytes.now }
 {
@@ -110,9 +110,11 @@ fn send_first<W: Writer>(w: &mut W, out: &mut OutputBlock, bytes: &[u8]) -> Resu
         (λ _. Accepts (W.state w.old) out.old (W.state w.new) out.new (hex_text bytes.now))
         (λ f. FailsPartway (W.state w.old) out.old (W.state w.new) (hex_text bytes.now) f) }
 {
-    let mut room = [0; ROOM];
-    put_pairs(bytes, &mut room);
-    out.write(w, &room[1..3 * bytes.len()])
+    out.make_room(w, 3 * bytes.len() + SPARE)?;
+    let first = bytes[0];
+    out.push(&[hex_digit(first / 16), hex_digit(first % 16)]);
+    out.push_pairs(&bytes[1..]);
+    Ok(())
 }
 
 /// Writes a piece to a buffer as pairs of digits, with a blank before each.
@@ -123,9 +125,9 @@ fn send_pairs<W: Writer>(w: &mut W, out: &mut OutputBlock, bytes: &[u8]) -> Resu
         (λ _. Accepts (W.state w.old) out.old (W.state w.new) out.new (spaced_pairs bytes.now))
         (λ f. FailsPartway (W.state w.old) out.old (W.state w.new) (spaced_pairs bytes.now) f) }
 {
-    let mut room = [0; ROOM];
-    put_pairs(bytes, &mut room);
-    out.write(w, &room[..3 * bytes.len()])
+    out.make_room(w, 3 * bytes.len() + SPARE)?;
+    out.push_pairs(bytes);
+    Ok(())
 }
 
 /// Writes bytes to a buffer as pairs of digits, with a blank before each.

@@ -1,5 +1,6 @@
-ghost use Rattle.std.specs.Prelude.{◌≡◌, ◌+◌, ◌^◌, ◌<◌, ◌≤◌, ◌++◌, [], length, take, MatchResult, OnErr};
+ghost use Rattle.std.specs.Prelude.{◌≡◌, ◌+◌, ◌*◌, ◌^◌, ◌<◌, ◌≤◌, ◌++◌, [], length, take, MatchResult, OnErr, OnOk};
 
+use crate::hex::put_pairs;
 use crate::writer::{WriteFault, Writer};
 use crate::writing::write_whole;
 use std::marker::Model;
@@ -39,6 +40,7 @@ impl<const SIZE: usize> Model for Buffer<SIZE> {
 }
 
 impl<const SIZE: usize> Buffer<SIZE> {
+    ghost use Rattle.uca_io.specs.Hex.{spaced_pairs};
     ghost use Rattle.uca_io.specs.OutputBuffer.{accepted, Accepts, FailsPartway};
 
     /// Nothing waits, and nothing was written.
@@ -82,8 +84,25 @@ impl<const SIZE: usize> Buffer<SIZE> {
         }
     }
 
-    // Puts a piece behind what waits.
-    fn push(&mut self, piece: &[u8])
+    /// Writes what waits if there is not room behind it for so many bytes. On a fault the buffer stays as it was.
+    pub(crate) fn make_room<W: Writer>(&mut self, w: &mut W, bytes: usize) -> Result<(), WriteFault>
+        requires few { bytes ≤ SIZE }
+        requires room { accepted self.old < 2 ^ 128 }
+        ensures all { MatchResult result
+            (λ _. Accepts (W.state w.old) self.old (W.state w.new) self.new [])
+            (λ f. FailsPartway (W.state w.old) self.old (W.state w.new) [] f) }
+        ensures room { OnOk result (length self.new.waiting + bytes ≤ SIZE) }
+        ensures err { OnErr result (self.new ≡ self.old) }
+    {
+        if bytes > SIZE - self.waiting {
+            return self.flush(w);
+        }
+        Ok(())
+    }
+
+    /// Puts a piece behind what waits.
+    #[inline(always)]
+    pub(crate) fn push(&mut self, piece: &[u8])
         requires { length self.old.waiting + length piece.now ≤ SIZE }
         ensures waiting { self.new.waiting ≡ self.old.waiting ++ piece.now }
         ensures written { self.new.written ≡ self.old.written }
@@ -92,6 +111,17 @@ impl<const SIZE: usize> Buffer<SIZE> {
         let room = &mut self.bytes[..];
         room[self.waiting..end].copy_from_slice(piece);
         self.waiting = end;
+    }
+
+    /// Puts bytes behind what waits, as pairs of digits with a blank before each. It overwrites the eight bytes after them.
+    pub(crate) fn push_pairs(&mut self, bytes: &[u8])
+        requires { length self.old.waiting + (3 * length bytes.now + 8) ≤ SIZE }
+        ensures waiting { self.new.waiting ≡ self.old.waiting ++ spaced_pairs bytes.now }
+        ensures written { self.new.written ≡ self.old.written }
+    {
+        let room = &mut self.bytes[..];
+        put_pairs(bytes, &mut room[self.waiting..]);
+        self.waiting += 3 * bytes.len();
     }
 
     /// Writes a piece, now or later. On a fault the buffer stays as it was, without the piece, and only the fault
@@ -104,9 +134,7 @@ impl<const SIZE: usize> Buffer<SIZE> {
             (λ f. FailsPartway (W.state w.old) self.old (W.state w.new) piece.now f) }
         ensures err { OnErr result (self.new ≡ self.old) }
     {
-        if piece.len() > SIZE - self.waiting {
-            self.flush(w)?;
-        }
+        self.make_room(w, piece.len())?;
         self.push(piece);
         Ok(())
     }
