@@ -1,8 +1,8 @@
 // The code of primary weights in short keys: what a table says of common characters, with a slot for each weight.
-ghost use Rattle.std.specs.Prelude.{◌≡◌, ◌<◌, ◌≤◌, ◌+◌, ◌-◌, ◌++◌, [], ◌==◌, ℕ, false, get_or, fold, if◌then◌else◌, length, map, max, nat_le, IsTrue, slice_index, sum_by, OnOk, IfOk};
+ghost use Rattle.std.specs.Prelude.{◌≡◌, ◌<◌, ◌≤◌, ◌+◌, ◌-◌, ◌/◌, ◌++◌, [], ◌==◌, ◌&&◌, not, ℕ, false, get_or, fold, if◌then◌else◌, length, map, max, nat_le, IsTrue, slice_index, sum_by, OnOk, IfOk};
 ghost use Rattle.std.specs.List.{list_all, list_any, range_with_len};
 ghost use Rattle.uca_key.specs.PrimaryCode.{PrimaryCode, anchor_of, begins_slot, code_of, first_primary, is_common, is_single, lead, page_of, past, points_of_ranges, primary_of, slot};
-ghost use Rattle.uca_key.specs.SlotTables.{bare_code, is_range};
+ghost use Rattle.uca_key.specs.SlotTables.{IsSlotOf, bare_code, is_range};
 
 use crate::common_characters::{COMMON_RANGES, FIRST_LETTERS, SINGLE_CHARACTERS};
 use std::alloc::{AllocError, Global};
@@ -133,20 +133,32 @@ fn slot_after(flags: &[bool], w: usize, number: u16) -> u16
     }
 }
 
+// What the code has of a weight in this slot.
+fn slot_of(flags: &[bool], w: usize, number: u16) -> Slot
+    requires { w < length flags.now }
+    ensures { (k : PrimaryCode) → ((x : ℕ) → x < length flags.now → get_or flags.now x false ≡ is_common k x) → number ≡ slot k w → IsSlotOf k w result }
+{
+    Slot {
+        number,
+        common: flags[w],
+        letter: flags[w] && w / 256 != 0xFB,
+    }
+}
+
 // The slot of each weight.
-fn slots_of(alloc: Global, commons: &[u16], flags: &[bool]) -> Result<Vec<u16>, AllocError>
+fn slots_of(alloc: Global, commons: &[u16], flags: &[bool]) -> Result<Vec<Slot>, AllocError>
     requires size { length flags.now ≡ 65536 }
     requires flags { (w : ℕ) → w < length flags.now → get_or flags.now w false ≡ is_common (bare_code commons.now) w }
     ensures size { IfOk result (λ v. length v.items ≡ 65536) }
-    ensures slots { IfOk result (λ v. (w : ℕ) → w < 65536 → get_or v.items w 0 ≡ slot (bare_code commons.now) w) }
+    ensures slots { IfOk result (λ v. (w : ℕ) (d : Slot) → w < 65536 → IsSlotOf (bare_code commons.now) w (get_or v.items w d)) }
 {
     let _commons = commons.len();
-    let mut slots = Vec::new(alloc);
+    let mut slots = Vec::with_capacity(alloc, WEIGHTS)?;
     let mut number = 0;
-    slots.push(number)?;
+    slots.push(slot_of(flags, 0, number))?;
     for w in 0..WEIGHTS - 1 {
         number = slot_after(flags, w, number);
-        slots.push(number)?;
+        slots.push(slot_of(flags, w + 1, number))?;
     }
     Ok(slots)
 }
@@ -218,15 +230,25 @@ fn greater_up_to(best: u16, weight: u16, w: u16) -> u16
     if weight <= w { best.max(weight) } else { best }
 }
 
+/// What the code has of a weight.
+#[derive(Clone, Copy)]
+struct Slot {
+    // The number of its slot.
+    number: u16,
+    // Whether it is common, and so alone there.
+    common: bool,
+    // Whether it is common and begins no implicit pair.
+    letter: bool,
+}
+
 /// The code of primary weights under a table.
 #[derive(Drop)]
 pub struct ShortCode {
     commons: Vec<u16>,
     singles: Vec<u16>,
     anchors: Vec<u16>,
-    // Of each weight whether it is common, and its slot.
-    flags: Vec<bool>,
-    slots: Vec<u16>,
+    // Of each weight.
+    slots: Vec<Slot>,
 }
 
 impl Model for ShortCode {
@@ -239,7 +261,7 @@ impl Model for ShortCode {
 
     ghost view = { λ c. record { commons = c.commons.items; singles = c.singles.items; anchors = c.anchors.items } };
 
-    ghost invariant = { λ c. HoldsSlots (record { commons = c.commons.items; singles = c.singles.items; anchors = c.anchors.items }) c.flags.items c.slots.items };
+    ghost invariant = { λ c. HoldsSlots (record { commons = c.commons.items; singles = c.singles.items; anchors = c.anchors.items }) c.slots.items };
 }
 
 impl ShortCode {
@@ -256,23 +278,32 @@ impl ShortCode {
             commons,
             singles,
             anchors,
-            flags,
             slots,
         })
     }
 
     /// The slot of a weight.
+    #[inline(always)]
     pub(crate) fn slot(&self, w: u16) -> u16
         ensures { result ≡ slot self.now w }
     {
-        self.slots[w as usize]
+        self.slots[w as usize].number
     }
 
     /// Whether a weight is common.
+    #[inline(always)]
     pub(crate) fn is_common(&self, w: u16) -> bool
         ensures { result ≡ is_common self.now w }
     {
-        self.flags[w as usize]
+        self.slots[w as usize].common
+    }
+
+    /// Whether a weight is common and begins no implicit pair.
+    #[inline(always)]
+    pub(crate) fn is_letter(&self, w: u16) -> bool
+        ensures { result ≡ is_common self.now w && not (w / 256 == 251) }
+    {
+        self.slots[w as usize].letter
     }
 
     /// Whether a weight has a byte of its own everywhere.

@@ -1,5 +1,5 @@
 // The first level of a short key, put into a buffer piece by piece.
-ghost use Rattle.std.specs.Prelude.{◌≡◌, ◌==◌, ◌||◌, ◌≤◌, ◌<◌, ◌+◌, ◌*◌, ◌-◌, ◌^◌, ◌%◌, ◌++◌, ◌∷◌, [], ℕ, List, if◌then◌else◌, nat_lt, not, filter, length, take, true, false};
+ghost use Rattle.std.specs.Prelude.{◌≡◌, ◌==◌, ◌≤◌, ◌<◌, ◌+◌, ◌*◌, ◌-◌, ◌^◌, ◌/◌, ◌%◌, ◌++◌, ◌∷◌, [], ℕ, List, if◌then◌else◌, nat_lt, not, filter, length, take, drop, true, false, IsTrue};
 ghost use Rattle.uca_weights.specs.declared.element.Element.{Element};
 ghost use Rattle.uca_weights.specs.declared.settings.Variable.TheVariants.{NonIgnorable};
 ghost use Rattle.uca_weights.specs.VariableWeighting.{weighted};
@@ -9,7 +9,7 @@ ghost use Rattle.uca_levels.specs.Streams.{weights_from};
 ghost use Rattle.uca_key.specs.Reach.{first_left, state_of};
 ghost use Rattle.uca_key.specs.Pieces.{HoldsElements, elements_of};
 ghost use Rattle.uca_key.specs.Placing.{IsPutting, PutsAt};
-ghost use Rattle.uca_key.specs.PrimaryCode.{after_lead, after_slot, base_after, has_page, is_in_window, is_single, lead, letter_bytes, primary_bytes, primary_level, second_bytes, slot, start, state_after};
+ghost use Rattle.uca_key.specs.PrimaryCode.{after_lead, after_slot, base_after, has_page, is_common, is_in_window, lead, letter_bytes, primary_bytes, primary_level, second_bytes, slot, start, state_after};
 
 use crate::pieces::{PIECE, TextReading};
 use crate::placing::put_bytes;
@@ -222,13 +222,11 @@ struct Placed {
     reach: Reach,
 }
 
-// Puts a weight that the window does not have, or the second one of an implicit pair.
-#[inline(never)]
-fn put_rare(code: &ShortCode, before: Placed, w: u16, key: &mut [u8]) -> Placed
+// Puts a weight.
+fn put_weight(code: &ShortCode, before: Placed, w: u16, key: &mut [u8]) -> Placed
     requires slot { before.reach.window.slot ≡ slot code.now before.reach.window.base }
     requires lead { before.reach.window.lead ≡ lead code.now before.reach.window.base }
     requires most { before.reach.window.lead ≤ 135 }
-    requires rare { before.reach.second ≡ false → is_in_window code.now before.reach.window.base w ≡ false }
     requires room { before.at + 3 ≤ length key.old }
     ensures bytes { take result.at key.new ≡ take before.at key.old ++ primary_bytes code.now (state_of before.reach) w }
     ensures after { state_of result.reach ≡ state_after code.now (state_of before.reach) w }
@@ -248,45 +246,24 @@ fn put_rare(code: &ShortCode, before: Placed, w: u16, key: &mut [u8]) -> Placed
             },
         };
     }
+    let second = w / 256 == 0xFB;
+    if is_in_window(code, window, w) {
+        return Placed {
+            at: put_inside(code, window, w, key, before.at),
+            reach: Reach { window, second },
+        };
+    }
     Placed {
         at: put_outside(code, window, w, key, before.at),
         reach: Reach {
             window: window_after(code, window, w),
-            second: w / 256 == 0xFB,
-        },
-    }
-}
-
-// Puts a weight.
-#[inline(always)]
-fn put_weight(code: &ShortCode, before: Placed, w: u16, key: &mut [u8]) -> Placed
-    requires slot { before.reach.window.slot ≡ slot code.now before.reach.window.base }
-    requires lead { before.reach.window.lead ≡ lead code.now before.reach.window.base }
-    requires most { before.reach.window.lead ≤ 135 }
-    requires room { before.at + 3 ≤ length key.old }
-    ensures bytes { take result.at key.new ≡ take before.at key.old ++ primary_bytes code.now (state_of before.reach) w }
-    ensures after { state_of result.reach ≡ state_after code.now (state_of before.reach) w }
-    ensures slot { result.reach.window.slot ≡ slot code.now result.reach.window.base }
-    ensures lead { result.reach.window.lead ≡ lead code.now result.reach.window.base }
-    ensures most { result.reach.window.lead ≤ 135 }
-    ensures within { result.at ≤ before.at + 3 }
-    ensures size { length key.new ≡ length key.old }
-{
-    let window = before.reach.window;
-    if before.reach.second || !is_in_window(code, window, w) {
-        return put_rare(code, before, w, key);
-    }
-    Placed {
-        at: put_inside(code, window, w, key, before.at),
-        reach: Reach {
-            window,
-            second: w / 256 == 0xFB,
+            second,
         },
     }
 }
 
 // The same of a weight that may be zero, which is left out.
-#[inline(always)]
+#[inline(never)]
 fn put_some(code: &ShortCode, before: Placed, w: u16, key: &mut [u8]) -> Placed
     requires slot { before.reach.window.slot ≡ slot code.now before.reach.window.base }
     requires lead { before.reach.window.lead ≡ lead code.now before.reach.window.base }
@@ -305,7 +282,96 @@ fn put_some(code: &ShortCode, before: Placed, w: u16, key: &mut [u8]) -> Placed
     put_weight(code, before, w, key)
 }
 
-// Puts the weights of elements that keep them. It is a loop of its own, since most texts come this way.
+// Whether a weight is one byte in the window, and the window stays.
+#[inline(always)]
+fn is_letter(code: &ShortCode, window: Window, w: u16) -> bool
+    requires { window.slot ≡ slot code.now window.base }
+    ensures inside { IsTrue result → is_in_window code.now window.base w ≡ true }
+    ensures common { IsTrue result → is_common code.now w ≡ true }
+    ensures one { IsTrue result → (w / 256 == 251) ≡ false }
+{
+    is_in_window(code, window, w) && code.is_letter(w)
+}
+
+// Puts a letter.
+#[inline(always)]
+fn put_letter(code: &ShortCode, reach: Reach, w: u16, key: &mut [u8], at: usize) -> usize
+    requires slot { reach.window.slot ≡ slot code.now reach.window.base }
+    requires lead { reach.window.lead ≡ lead code.now reach.window.base }
+    requires most { reach.window.lead ≤ 135 }
+    requires first { reach.second ≡ false }
+    requires some { 0 < w }
+    requires inside { is_in_window code.now reach.window.base w ≡ true }
+    requires common { is_common code.now w ≡ true }
+    requires one { (w / 256 == 251) ≡ false }
+    requires room { at + 1 ≤ length key.old }
+    ensures bytes { (ws : List ℕ) → take result key.new ++ primary_level code.now (state_of reach) ws ≡ take at key.old ++ primary_level code.now (state_of reach) (filter (λ x. not (x == 0)) (w ∷ []) ++ ws) }
+    ensures within { result ≤ at + 1 }
+    ensures size { length key.new ≡ length key.old }
+{
+    key[at] = slot_byte(code, reach.window, w);
+    at + 1
+}
+
+// How far letters are put: the place after their bytes, and how many elements are done.
+#[derive(Clone, Copy)]
+struct Letters {
+    at: usize,
+    done: usize,
+}
+
+// Puts the weights of elements that keep them as long as they are letters or zero. Most of a text is put here, so it asks little.
+#[inline(always)]
+fn put_letters(code: &ShortCode, before: Placed, elements: &[Element], key: &mut [u8]) -> Letters
+    requires slot { before.reach.window.slot ≡ slot code.now before.reach.window.base }
+    requires lead { before.reach.window.lead ≡ lead code.now before.reach.window.base }
+    requires most { before.reach.window.lead ≤ 135 }
+    requires room { before.at + length elements.now ≤ length key.old }
+    ensures bytes { (ws : List ℕ) → take result.at key.new ++ primary_level code.now (state_of before.reach) (level_weights 1 (weighted NonIgnorable (drop result.done elements.now)) ++ ws) ≡ take before.at key.old ++ primary_level code.now (state_of before.reach) (level_weights 1 (weighted NonIgnorable elements.now) ++ ws) }
+    ensures within { result.at ≤ before.at + result.done }
+    ensures some { result.done ≤ length elements.now }
+    ensures size { length key.new ≡ length key.old }
+{
+    let mut next = before.at;
+    let mut done = 0;
+    if before.reach.second {
+        return Letters { at: next, done };
+    }
+    'each: while done < elements.len() {
+        let w = elements[done].weight(1);
+        if w == 0 {
+            done += 1;
+            continue;
+        }
+        if !is_letter(code, before.reach.window, w) {
+            return Letters { at: next, done };
+        }
+        next = put_letter(code, before.reach, w, key, next);
+        done += 1;
+    }
+    Letters { at: next, done }
+}
+
+// Puts the weight of the first of some elements that keep them, if there is one.
+fn put_next(code: &ShortCode, before: Placed, elements: &[Element], key: &mut [u8]) -> Placed
+    requires slot { before.reach.window.slot ≡ slot code.now before.reach.window.base }
+    requires lead { before.reach.window.lead ≡ lead code.now before.reach.window.base }
+    requires most { before.reach.window.lead ≤ 135 }
+    requires room { before.at + 3 * length elements.now ≤ length key.old }
+    ensures bytes { (ws : List ℕ) → take result.at key.new ++ primary_level code.now (state_of result.reach) (level_weights 1 (weighted NonIgnorable (drop 1 elements.now)) ++ ws) ≡ take before.at key.old ++ primary_level code.now (state_of before.reach) (level_weights 1 (weighted NonIgnorable elements.now) ++ ws) }
+    ensures slot { result.reach.window.slot ≡ slot code.now result.reach.window.base }
+    ensures lead { result.reach.window.lead ≡ lead code.now result.reach.window.base }
+    ensures most { result.reach.window.lead ≤ 135 }
+    ensures within { result.at + 3 * length (drop 1 elements.now) ≤ before.at + 3 * length elements.now }
+    ensures size { length key.new ≡ length key.old }
+{
+    match elements {
+        [first, ..] => put_some(code, before, first.weight(1), key),
+        [] => before,
+    }
+}
+
+// Puts the weights of elements that keep them, letters together and others one by one.
 fn put_kept(code: &ShortCode, before: Placed, elements: &[Element], key: &mut [u8]) -> Placed
     requires slot { before.reach.window.slot ≡ slot code.now before.reach.window.base }
     requires lead { before.reach.window.lead ≡ lead code.now before.reach.window.base }
@@ -319,8 +385,17 @@ fn put_kept(code: &ShortCode, before: Placed, elements: &[Element], key: &mut [u
     ensures size { length key.new ≡ length key.old }
 {
     let mut placed = before;
-    for element in elements {
-        placed = put_some(code, placed, element.weight(1), key);
+    let mut left = elements;
+    'each: while !left.is_empty() {
+        let letters = put_letters(code, placed, left, key);
+        let (_, after) = left.split_at(letters.done);
+        let here = Placed {
+            at: letters.at,
+            reach: placed.reach,
+        };
+        placed = put_next(code, here, after, key);
+        let (_, rest) = after.split_at(after.len().min(1));
+        left = rest;
     }
     placed
 }

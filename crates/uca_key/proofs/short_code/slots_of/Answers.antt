@@ -1,17 +1,28 @@
-use Rattle.std.proofs.Common.{◌≡◌, ◌∙◌, ◌∷◌, ◌++◌, [], ap, sym, arith, get_or, length, subst}
-use Rattle.uca_key.specs.PrimaryCode.{slot}
+use Rattle.std.proofs.Common.{◌≡◌, ◌∙◌, ◌∷◌, ◌++◌, [], ap, sym, arith, length, length-append}
 use Rattle.uca_key.specs.SlotTables.{bare_code}
 use Rattle.uca_key.proofs.ShortSlots.{slot-zero}
+use Rattle.uca_key.proofs.SlotSteps.{slots-first, slots-more}
 use Rattle.uca_key.proofs.short_code.slots_of.Goals as goal
 
 pub loop-w-init : goal.loop-w-init
 loop-w-init c =
-    let items : c.push.new.self.items ≡ 0 ∷ [] = c.in_ok-push.ensures.items ∙ ap (λ l. l ++ 0 ∷ []) c.new-slots.ensures.items in
-    let at : get_or c.push.new.self.items 0 0 ≡ 0 = ap (λ l. get_or l 0 0) items in
-    let none = slot-zero (bare_code c.args.commons.now) in
+    let k = bare_code c.args.commons.now in
+    let items : c.push.new.self.items ≡ c.slot_of.result ∷ [] = c.in_ok-push.ensures.items ∙ ap (λ l. l ++ c.slot_of.result ∷ []) c.in_ok-slots.ensures.items in
     record {
       size = ap length items;
       most = omega arith;
-      here = sym none;
-      each = λ x h. let zero_is : 0 ≡ x = omega arith in subst (λ z. get_or c.push.new.self.items z 0 ≡ slot (bare_code c.args.commons.now) z) zero_is (at ∙ sym none);
+      here = sym (slot-zero k);
+      each = slots-first k c.slot_of.result c.push.new.self.items items (c.slot_of.ensures k c.requires.flags (sym (slot-zero k)));
+    }
+
+pub loop-w-preserved : goal.loop-w-preserved
+loop-w-preserved c =
+    let k = bare_code c.args.commons.now in
+    let here = c.slot_after-number.ensures.next k c.requires.flags c.loop-w.invariant.here in
+    let items = c.in_ok-push-2.ensures.items in
+    record {
+      size = omega (arith, ap length items, length-append c.loop-w.slots.items (c.slot_of-in-loop-w.result ∷ []), c.loop-w.invariant.size);
+      most = c.slot_after-number.ensures.most;
+      here = here;
+      each = slots-more k c.loop-w.w c.slot_of-in-loop-w.result c.loop-w.slots.items _ c.loop-w.invariant.size items c.loop-w.invariant.each (c.slot_of-in-loop-w.ensures k c.requires.flags here);
     }
