@@ -13,6 +13,11 @@ use uca_weights::Element;
 // How many weights there are.
 const WEIGHTS: usize = 0x1_0000;
 
+// How many weights have a lead of their own, and at how many windows begin.
+const SINGLES: usize = SINGLE_CHARACTERS.len();
+
+const ANCHORS: usize = FIRST_LETTERS.len();
+
 // The primary weight of the first element.
 fn first_primary(elements: &[Element]) -> u16
     ensures { result ≡ first_primary elements.now }
@@ -141,7 +146,7 @@ fn slot_of(flags: &[bool], w: usize, number: u16) -> Slot
     Slot {
         number,
         common: flags[w],
-        letter: flags[w] && w / 256 != 0xFB,
+        letter: flags[w] && w / 256 != 0xFB && w != 0,
     }
 }
 
@@ -163,16 +168,16 @@ fn slots_of(alloc: Global, commons: &[u16], flags: &[bool]) -> Result<Vec<Slot>,
     Ok(slots)
 }
 
-// Whether a weight is one of these.
+// Whether a weight is one of these. It looks at each of them, since they are few.
+#[inline(always)]
 fn has_weight(weights: &[u16], w: u16) -> bool
     ensures { result ≡ list_any (λ c. c == w) weights.now }
 {
+    let mut found = false;
     for weight in weights {
-        if *weight == w {
-            return true;
-        }
+        found = found || *weight == w;
     }
-    false
+    found
 }
 
 // The number of the lead of a weight, if no weight had one of its own.
@@ -189,6 +194,7 @@ fn page_of(w: u16) -> u8
 }
 
 // By how much a weight with a lead of its own raises the lead of a weight.
+#[inline(always)]
 fn past(w: u16, single: u16) -> u8
     ensures value { result ≡ past w single }
     ensures most { result ≤ 2 }
@@ -200,6 +206,7 @@ fn past(w: u16, single: u16) -> u8
 }
 
 // The lead of a weight, with these weights that have leads of their own.
+#[inline(always)]
 fn lead_over(singles: &[u16], w: u16) -> u8
     requires { length singles.now ≤ 10 }
     ensures value { result ≡ 1 + page_of w + sum_by (past w) singles.now }
@@ -213,6 +220,7 @@ fn lead_over(singles: &[u16], w: u16) -> u8
 }
 
 // The greatest of these weights up to one, or 0.
+#[inline(always)]
 fn greatest_up_to(weights: &[u16], w: u16) -> u16
     ensures { result ≡ fold (λ best a. if nat_le a w then max best a else best) 0 weights.now }
 {
@@ -224,31 +232,58 @@ fn greatest_up_to(weights: &[u16], w: u16) -> u16
 }
 
 // The greater of two weights, if the second is up to another.
+#[inline(always)]
 fn greater_up_to(best: u16, weight: u16, w: u16) -> u16
     ensures { result ≡ (if nat_le weight w then max best weight else best) }
 {
     if weight <= w { best.max(weight) } else { best }
 }
 
-/// What the code has of a weight.
+// What the code has of a weight.
 #[derive(Clone, Copy)]
 struct Slot {
     // The number of its slot.
     number: u16,
     // Whether it is common, and so alone there.
     common: bool,
-    // Whether it is common and begins no implicit pair.
+    // Whether it is common, is not zero and begins no implicit pair.
     letter: bool,
+}
+
+/// A window: the weight at which it begins, with its slot and its lead.
+#[derive(Clone, Copy)]
+pub(crate) struct Window {
+    pub(crate) base: u16,
+    pub(crate) slot: u16,
+    pub(crate) lead: u8,
+}
+
+// The window that begins at a weight, with these slots, and these weights that have leads of their own.
+fn window_of(slots: &[Slot], singles: &[u16], base: u16) -> Window
+    requires size { length slots.now ≡ 65536 }
+    requires few { length singles.now ≤ 10 }
+    ensures base { result.base ≡ base }
+    ensures slot { (k : PrimaryCode) → ((w : ℕ) (d : Slot) → w < 65536 → IsSlotOf k w (get_or slots.now w d)) → result.slot ≡ slot k base }
+    ensures lead { (k : PrimaryCode) → k.singles ≡ singles.now → result.lead ≡ lead k base }
+    ensures most { result.lead ≤ 135 }
+{
+    Window {
+        base,
+        slot: slots[base as usize].number,
+        lead: lead_over(singles, base),
+    }
 }
 
 /// The code of primary weights under a table.
 #[derive(Drop)]
 pub struct ShortCode {
     commons: Vec<u16>,
-    singles: Vec<u16>,
-    anchors: Vec<u16>,
+    singles: [u16; SINGLES],
+    anchors: [u16; ANCHORS],
     // Of each weight.
     slots: Vec<Slot>,
+    // Of each text.
+    first: Window,
 }
 
 impl Model for ShortCode {
@@ -259,9 +294,9 @@ impl Model for ShortCode {
 
     ghost coded = { coded_code };
 
-    ghost view = { λ c. record { commons = c.commons.items; singles = c.singles.items; anchors = c.anchors.items } };
+    ghost view = { λ c. record { commons = c.commons.items; singles = c.singles; anchors = c.anchors } };
 
-    ghost invariant = { λ c. HoldsSlots (record { commons = c.commons.items; singles = c.singles.items; anchors = c.anchors.items }) c.slots.items };
+    ghost invariant = { λ c. HoldsSlots (record { commons = c.commons.items; singles = c.singles; anchors = c.anchors }) c.slots.items c.first };
 }
 
 impl ShortCode {
@@ -270,15 +305,19 @@ impl ShortCode {
         ensures { IfOk result (λ k. k ≡ code_of t.now) }
     {
         let commons = weights_of_ranges(alloc, t, &COMMON_RANGES)?;
-        let singles = weights_of(alloc, t, &SINGLE_CHARACTERS)?;
-        let anchors = weights_of(alloc, t, &FIRST_LETTERS)?;
         let flags = flags_of(alloc, &commons)?;
         let slots = slots_of(alloc, &commons, &flags)?;
+        let mut singles = [0; SINGLES];
+        singles.copy_from_slice(weights_of(alloc, t, &SINGLE_CHARACTERS)?.as_slice());
+        let mut anchors = [0; ANCHORS];
+        anchors.copy_from_slice(weights_of(alloc, t, &FIRST_LETTERS)?.as_slice());
+        let first = window_of(&slots, &singles, anchors[0]);
         Ok(ShortCode {
             commons,
             singles,
             anchors,
             slots,
+            first,
         })
     }
 
@@ -298,10 +337,10 @@ impl ShortCode {
         self.slots[w as usize].common
     }
 
-    /// Whether a weight is common and begins no implicit pair.
+    /// Whether a weight is common, is not zero and begins no implicit pair.
     #[inline(always)]
     pub(crate) fn is_letter(&self, w: u16) -> bool
-        ensures { result ≡ is_common self.now w && not (w / 256 == 251) }
+        ensures { result ≡ is_common self.now w && not (w / 256 == 251) && not (w == 0) }
     {
         self.slots[w as usize].letter
     }
@@ -310,7 +349,7 @@ impl ShortCode {
     pub(crate) fn is_single(&self, w: u16) -> bool
         ensures { result ≡ is_single self.now w }
     {
-        has_weight(self.singles.as_slice(), w)
+        has_weight(&self.singles, w)
     }
 
     /// The lead of a weight.
@@ -318,23 +357,38 @@ impl ShortCode {
         ensures value { result ≡ lead self.now w }
         ensures most { result ≤ 135 }
     {
-        lead_over(self.singles.as_slice(), w)
+        lead_over(&self.singles, w)
     }
 
     /// Where the window begins after a weight, outside it.
     pub(crate) fn anchor(&self, w: u16) -> u16
         ensures { result ≡ anchor_of self.now w }
     {
-        greatest_up_to(self.anchors.as_slice(), w)
+        greatest_up_to(&self.anchors, w)
     }
 
-    /// The weight at which the first window begins.
-    pub(crate) fn first_anchor(&self) -> u16
-        ensures { result ≡ slice_index self.now.anchors 0 }
+    /// The window that begins at a weight.
+    pub(crate) fn window_at(&self, base: u16) -> Window
+        ensures base { result.base ≡ base }
+        ensures slot { result.slot ≡ slot self.now base }
+        ensures lead { result.lead ≡ lead self.now base }
+        ensures most { result.lead ≤ 135 }
     {
-        match self.anchors.as_slice() {
-            [first, ..] => *first,
-            [] => 0,
+        Window {
+            base,
+            slot: self.slot(base),
+            lead: self.lead(base),
         }
+    }
+
+    /// The first window.
+    #[inline(always)]
+    pub(crate) fn first_window(&self) -> Window
+        ensures base { result.base ≡ slice_index self.now.anchors 0 }
+        ensures slot { result.slot ≡ slot self.now result.base }
+        ensures lead { result.lead ≡ lead self.now result.base }
+        ensures most { result.lead ≤ 135 }
+    {
+        self.first
     }
 }

@@ -13,7 +13,7 @@ ghost use Rattle.uca_key.specs.PrimaryCode.{after_lead, after_slot, base_after, 
 
 use crate::pieces::{PIECE, TextReading};
 use crate::placing::put_bytes;
-use crate::short_code::ShortCode;
+use crate::short_code::{ShortCode, Window};
 use uca_weights::{Element, Variable, Weigher};
 
 // How many slots a window has.
@@ -84,28 +84,6 @@ fn put_after_slot(code: &ShortCode, w: u16, key: &mut [u8], at: usize) -> usize
     put_low(w, key, at)
 }
 
-// A window: the weight at which it begins, with its slot and its lead.
-#[derive(Clone, Copy)]
-struct Window {
-    base: u16,
-    slot: u16,
-    lead: u8,
-}
-
-// The window that begins at a weight.
-fn window_at(code: &ShortCode, base: u16) -> Window
-    ensures base { result.base ≡ base }
-    ensures slot { result.slot ≡ slot code.now base }
-    ensures lead { result.lead ≡ lead code.now base }
-    ensures most { result.lead ≤ 135 }
-{
-    Window {
-        base,
-        slot: code.slot(base),
-        lead: code.lead(base),
-    }
-}
-
 // Whether a window has the slot of a weight.
 #[inline(always)]
 fn is_in_window(code: &ShortCode, window: Window, w: u16) -> bool
@@ -114,7 +92,7 @@ fn is_in_window(code: &ShortCode, window: Window, w: u16) -> bool
 {
     let from = window.slot as u32;
     let at = code.slot(w) as u32;
-    from <= at && at < from + WINDOW as u32
+    at.wrapping_sub(from) < WINDOW as u32
 }
 
 // The first byte of a weight in the window.
@@ -204,7 +182,7 @@ fn window_after(code: &ShortCode, window: Window, w: u16) -> Window
     if anchor == 0 {
         window
     } else {
-        window_at(code, anchor)
+        code.window_at(anchor)
     }
 }
 
@@ -289,6 +267,7 @@ fn is_letter(code: &ShortCode, window: Window, w: u16) -> bool
     ensures inside { IsTrue result → is_in_window code.now window.base w ≡ true }
     ensures common { IsTrue result → is_common code.now w ≡ true }
     ensures one { IsTrue result → (w / 256 == 251) ≡ false }
+    ensures some { IsTrue result → 0 < w }
 {
     is_in_window(code, window, w) && code.is_letter(w)
 }
@@ -339,14 +318,14 @@ fn put_letters(code: &ShortCode, before: Placed, elements: &[Element], key: &mut
     }
     'each: while done < elements.len() {
         let w = elements[done].weight(1);
-        if w == 0 {
+        if is_letter(code, before.reach.window, w) {
+            next = put_letter(code, before.reach, w, key, next);
             done += 1;
             continue;
         }
-        if !is_letter(code, before.reach.window, w) {
+        if w > 0 {
             return Letters { at: next, done };
         }
-        next = put_letter(code, before.reach, w, key, next);
         done += 1;
     }
     Letters { at: next, done }
@@ -476,7 +455,7 @@ impl FirstLevel {
         FirstLevel {
             next: at,
             reach: Reach {
-                window: window_at(code, code.first_anchor()),
+                window: code.first_window(),
                 second: false,
             },
             weigher: Weigher::new(v),
