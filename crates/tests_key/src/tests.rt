@@ -3,6 +3,7 @@ mod bounds;
 mod long_stretches;
 mod packed;
 mod short;
+mod short_buffers;
 mod texts;
 mod written;
 

@@ -48,7 +48,7 @@ given_few t key table = of_answer (elements_at t key) refl
     of_answer None e = implicit_few t.ranges t.ideographs (slice_index key 0)
     of_answer (Some es) e = (IsEntry-elements_at t key es table e).few_elements
 
-elements_few : (n : ℕ) (t : ElementTable) (xs : List ℕ) → length xs ≤ n → IsTable t → length (elements t xs) ≤ 64 * length xs
+pub elements_few : (n : ℕ) (t : ElementTable) (xs : List ℕ) → length xs ≤ n → IsTable t → length (elements t xs) ≤ 64 * length xs
 elements_few n t [] few table = omega (arith, ap length (elements_nil t))
 elements_few zero t (x ∷ xs) few table = absurd (omega arith)
 elements_few (suc n) t (x ∷ xs) few table =
@@ -58,7 +58,7 @@ elements_few (suc n) t (x ∷ xs) few table =
     let whole : length (elements t (x ∷ xs)) ≡ length (elements_or_implicit t key) + length (elements t rest) = ap length (elements_step t (x ∷ xs) (omega arith)) ∙ length-append (elements_or_implicit t key) (elements t rest) in
     omega (arith, whole, given_few t key table, elements_few n t rest (omega arith) table)
 
-length-weighted_after : (v : Variable) (before es : List Element) → length (weighted_after v before es) ≡ length es
+pub length-weighted_after : (v : Variable) (before es : List Element) → length (weighted_after v before es) ≡ length es
 length-weighted_after v before [] = refl
 length-weighted_after v before (e ∷ es) = ap suc (length-weighted_after v (before ++ e ∷ []) es)
 
@@ -69,17 +69,17 @@ passed_few p (x ∷ xs) = elim (cases_Bool (p x)) [
   | inr fails ↦ omega (arith, ap length (cond-false (p x) (x ∷ filter p xs) (filter p xs) fails), passed_few p xs)
 ]
 
-bytes_few : (f : ℕ → List ℕ) → ((x : ℕ) → length (f x) ≤ 3) → (xs : List ℕ) → length (flat_map f xs) ≤ 3 * length xs
+pub bytes_few : (f : ℕ → List ℕ) → ((x : ℕ) → length (f x) ≤ 3) → (xs : List ℕ) → length (flat_map f xs) ≤ 3 * length xs
 bytes_few f h [] = omega arith
 bytes_few f h (x ∷ xs) = omega (arith, length-append (f x) (flat_map f xs), h x, bytes_few f h xs)
 
 weight_few : (w : ℕ) → length (weight_bytes w) ≤ 3
 weight_few w = omega arith
 
-point_few : (c : ℕ) → length (code_point_bytes c) ≤ 3
+pub point_few : (c : ℕ) → length (code_point_bytes c) ≤ 3
 point_few c = omega arith
 
-weights_few : (level : ℕ) (ws : List (List ℕ)) → length (level_weights level ws) ≤ length ws
+pub weights_few : (level : ℕ) (ws : List (List ℕ)) → length (level_weights level ws) ≤ length ws
 weights_few level ws =
     omega (arith, passed_few (λ w. not (w == 0)) (map (λ w. slice_index w (level - 1)) ws), length-map ws (λ w. slice_index w (level - 1)))
 
@@ -112,7 +112,7 @@ length-sort_key t s bytes table utf8 few =
     let short : length (nfd text) ≤ 2 ^ 70 = omega (arith, length-normalize Nfd text, ap length (encodes-chars bytes utf8)) in
     omega (arith, ap length (sort_key-levels t s text), key_few (levels s.strength - 1) 1 (level_list t s.weighting text) (λ k. omega (arith, level_few t s.weighting text k table, short)), (levels-within s.strength).0, (levels-within s.strength).1)
 
-short_text : (bytes : List ℕ) → IsUtf8 bytes → length bytes ≤ 65536 → length (nfd (chars bytes)) ≤ 2 ^ 24
+pub short_text : (bytes : List ℕ) → IsUtf8 bytes → length bytes ≤ 65536 → length (nfd (chars bytes)) ≤ 2 ^ 24
 short_text bytes utf8 few = omega (arith, length-normalize Nfd (chars bytes), ap length (encodes-chars bytes utf8))
 
 -- those of a key of a short text
@@ -125,7 +125,7 @@ run_few : (full : Bool) (xs ys : List ℕ) (n : ℕ) → length xs ≤ n → len
 run_few true xs ys n few_x few_y = omega (arith, few_x)
 run_few false xs ys n few_x few_y = omega (arith, few_y)
 
-other_few : (small : Bool) (w : ℕ) → length (cond small (w ∷ []) (0xFE ∷ weight_bytes w)) ≤ 3
+pub other_few : (small : Bool) (w : ℕ) → length (cond small (w ∷ []) (0xFE ∷ weight_bytes w)) ≤ 3
 other_few true w = omega arith
 other_few false w = omega arith
 

@@ -12,12 +12,14 @@ pub mod PackedPrefixes
 pub mod PackedTexts
 pub mod ShortSlots
 pub mod ShortLevels
-pub mod ShortCode
+pub mod ShortLetters
 pub mod ShortRuns
 pub mod ShortOrder
 pub mod ShortBytes
 pub mod ShortPrefixes
 pub mod SlotSteps
+pub mod RunsLemmas
 pub mod ShortPieces
 pub mod ShortBounds
 pub mod ShortTexts
+pub mod ShortSize

@@ -21,11 +21,11 @@ use Rattle.uca_model.proofs.OrderLemmas.{then_equal}
 use Rattle.uca_model.proofs.WeightLemmas.{HasWeights, HasWeights-IsTable}
 use Rattle.uca_key.specs.PackedKey.{common_weight}
 use Rattle.uca_key.specs.PrimaryCode.{PrimaryCode, code_of, primary_level, start}
-use Rattle.uca_key.specs.ShortKey.{runs_after, short_key, short_levels}
+use Rattle.uca_key.specs.ShortKey.{runs_after, short_key, short_key_by, short_levels}
 use Rattle.uca_key.specs.ShortLaws.{EquivalentTextsHaveOneShortKey, ShortKeysFollowKeys, ShortKeysGrowByLevels, ShortKeysTellTextsApart}
 use Rattle.uca_key.proofs.PackedOrder.{ordered_from, same_order, sort_key-ordered}
 use Rattle.uca_key.proofs.PackedPrefixes.{begins-take}
-use Rattle.uca_key.proofs.ShortCode.{is-code}
+use Rattle.uca_key.proofs.ShortLetters.{is-code}
 use Rattle.uca_key.proofs.ShortLevels.{primary_order}
 use Rattle.uca_key.proofs.ShortRuns.{runs_order}
 
@@ -67,7 +67,7 @@ short_levels-ordered k t s a b p q = by_strength
 -- the order of short keys
 short_key-ordered : (t : ElementTable) (s : Settings) (a b : List ℕ) → HasWeights t s a → HasWeights t s b
     → key_order (short_key t s a) (short_key t s b) ≡ ordered_from (levels s.strength - 1) 1 (level_list t s.weighting a) (level_list t s.weighting b)
-unfolding short_key
+unfolding short_key short_key_by
 short_key-ordered t s a b p q = short_levels-ordered (code_of t) t s a b p q s.strength
 
 pub short-follow : ShortKeysFollowKeys
@@ -83,9 +83,9 @@ short-apart t s a b table of_a of_b =
     )
 
 pub short-grow : ShortKeysGrowByLevels
-unfolding short_key
+unfolding short_key short_key_by
 short-grow t v low high text fewer = begins-take (levels low) (levels high) (short_levels (code_of t) (weighted v (elements t (nfd text))) (nfd text)) fewer
 
 pub short-equivalent : EquivalentTextsHaveOneShortKey
-unfolding short_key
+unfolding short_key short_key_by
 short-equivalent t s a b same = ap (λ (xs : List ℕ). concat (take (levels s.strength) (short_levels (code_of t) (weighted s.weighting (elements t xs)) xs))) same

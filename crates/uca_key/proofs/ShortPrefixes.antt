@@ -19,9 +19,9 @@ use Rattle.uca_model.specs.SortKey.{key_order}
 use Rattle.uca_model.proofs.PrefixLemmas.{complete-begins}
 use Rattle.uca_model.proofs.WeightLemmas.{HasWeights-IsTable}
 use Rattle.uca_key.specs.PrimaryCode.{CodeState, PrimaryCode, code_of, primary_bytes, primary_front, primary_level, start, state_after}
-use Rattle.uca_key.specs.ShortKey.{short_key, short_levels, short_prefix}
+use Rattle.uca_key.specs.ShortKey.{short_key, short_key_by, short_levels, short_prefix}
 use Rattle.uca_key.specs.ShortLaws.{ShortKeysBeginWithCompleteTexts, ShortKeysBeginWithPrimaryWeights, ShortKeysOfBeginnings}
-use Rattle.uca_key.proofs.ShortCode.{is-code}
+use Rattle.uca_key.proofs.ShortLetters.{is-code}
 use Rattle.uca_key.proofs.PackedOrder.{is_equal, is_greater, is_less, kind_of, same_order}
 use Rattle.uca_key.proofs.ShortLevels.{IsCode, end_less}
 
@@ -72,7 +72,7 @@ record After (whole front : List ℕ) : Type 0 where
 
 -- a short key after its first level
 first-level : (t : ElementTable) (s : Settings) (text : List ℕ) → After (short_key t s text) (primary_level (code_of t) (start (code_of t)) (level_list t s.weighting text 1))
-unfolding short_key
+unfolding short_key short_key_by
 first-level t s text = of_strength s.strength
   where
     ws : List (List ℕ)

@@ -10,7 +10,7 @@ use Rattle.uca_model.specs.Table.{ElementTable}
 use Rattle.uca_model.proofs.AgreeingTables.{elements-same}
 use Rattle.uca_key.specs.declared.common_characters.TheConstants.{COMMON_RANGES, FIRST_LETTERS, SINGLE_CHARACTERS}
 use Rattle.uca_key.specs.PrimaryCode.{PrimaryCode, code_of, code_points, first_primary, points_of_ranges, primary_of}
-use Rattle.uca_key.specs.ShortKey.{short_key, short_levels}
+use Rattle.uca_key.specs.ShortKey.{short_key, short_key_by, short_levels}
 use Rattle.uca_key.specs.ShortLaws.{ShortKeysOutliveTables}
 use Rattle.uca_key.proofs.SlotSteps.{the_code}
 
@@ -42,7 +42,7 @@ unfolding code_of
 code-same t u h = same-code (λ c. primary_of t c) (λ c. primary_of u c) (points_of_ranges COMMON_RANGES) SINGLE_CHARACTERS FIRST_LETTERS h
 
 pub short-outlive : ShortKeysOutliveTables
-unfolding short_key
+unfolding short_key short_key_by
 short-outlive changed t u s text agree of_code without =
     let code : code_of t ≡ code_of u = code-same t u (λ c there. ap first_primary (elements-same changed t u agree (nfd (c ∷ [])) (of_code c there))) in
     ap₂ (λ (k : PrimaryCode) (es : List Element). concat (take (levels s.strength) (short_levels k (weighted s.weighting es) (nfd text)))) code (elements-same changed t u agree (nfd text) without)

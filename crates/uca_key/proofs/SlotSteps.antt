@@ -1,12 +1,14 @@
 -- Steps of the loops that make a code of primary weights.
-use Rattle.std.proofs.Common.{◌≡◌, ℕ, zero, suc, ◌+◌, ◌-◌, ◌≤◌, ◌<◌, Bool, true, cond, nat_le, nat_lt, List, [], ◌∷◌, ◌++◌, length, map, take, get_or, sym, ap, ap₂, ◌∙◌, arith, append_assoc, append-nil}
-use Rattle.std.proofs.lemmas.Bool.{and_parts, leb-true, ltb-true}
+use Rattle.std.proofs.Common.{◌≡◌, ℕ, zero, suc, ◌+◌, ◌-◌, ◌≤◌, ◌<◌, Bool, true, cond, nat_le, nat_lt, List, [], ◌∷◌, ◌++◌, length, map, take, get_or, sym, ap, ap₂, subst, ◌∙◌, arith, inl, inr, append_assoc, append-nil}
+use Rattle.std.proofs.lemmas.Bool.{and_parts, cases_lt, leb-true, ltb-true}
+use Rattle.std.proofs.lemmas.Grind.{common_steps}
 use Rattle.std.proofs.lemmas.List.{map-append}
 use Rattle.std.specs.List.{list_all, range_with_len}
 use Rattle.uca_model.specs.Table.{ElementTable}
 use Rattle.uca_key.specs.PrimaryCode.{PrimaryCode, begins_slot, code_of, points_of_ranges, primary_of, slot}
 use Rattle.uca_key.specs.declared.common_characters.TheConstants.{COMMON_RANGES, FIRST_LETTERS, SINGLE_CHARACTERS}
-use Rattle.uca_key.specs.SlotTables.{bare_code, is_range}
+use Rattle.uca_key.specs.SlotTables.{IsSlotOf, bare_code, is_range}
+use Rattle.uca_key.specs.declared.short_code.Slot.{Slot}
 use Rattle.uca_key.proofs.ShortSlots.{slot-next, slot-suc, slot-zero}
 
 -- one number more
@@ -76,3 +78,25 @@ pub code-made : (t : ElementTable) (commons singles anchors : List ℕ) → comm
 unfolding code_of
 code-made t commons singles anchors e f g =
     ap₂ (λ c s. the_code c s anchors) e f ∙ ap (the_code (map (primary_of t) (points_of_ranges COMMON_RANGES)) (map (primary_of t) SINGLE_CHARACTERS)) g
+
+-- what a code has of a weight is told by its common weights
+pub slot-of-bare : (k : PrimaryCode) (w : ℕ) (s : Slot) → IsSlotOf (bare_code k.commons) w s → IsSlotOf k w s
+slot-of-bare k w s is = record { number = is.number ∙ slot-bare k w; common = is.common; letter = is.letter }
+
+-- the first slot
+pub slots-first : (k : PrimaryCode) (s : Slot) (items : List Slot) → items ≡ s ∷ [] → IsSlotOf k 0 s → (x : ℕ) (d : Slot) → x ≤ 0 → IsSlotOf k x (get_or items x d)
+slots-first k s items made is zero d within = subst (λ (l : List Slot). IsSlotOf k 0 (get_or l 0 d)) (sym made) is
+slots-first k s items made is (suc x) d within = absurd (omega arith)
+
+-- a slot more
+pub slots-more : (k : PrimaryCode) (w : ℕ) (s : Slot) (items after : List Slot) → length items ≡ w + 1 → after ≡ items ++ s ∷ [] → ((x : ℕ) (d : Slot) → x ≤ w → IsSlotOf k x (get_or items x d)) → IsSlotOf k (w + 1) s
+    → (x : ℕ) (d : Slot) → x ≤ w + 1 → IsSlotOf k x (get_or after x d)
+slots-more k w s items after size made each last x d within = elim (cases_lt x (w + 1)) [
+  | inl before ↦
+      let same : get_or after x d ≡ get_or items x d = grind (arith, common_steps) in
+      subst (IsSlotOf k x) (sym same) (each x d (omega arith))
+  | inr at ↦
+      let here : x ≡ w + 1 = omega arith in
+      let same : get_or after x d ≡ s = grind (arith, common_steps) in
+      subst (IsSlotOf k x) (sym same) (subst (λ n. IsSlotOf k n s) (sym here) last)
+]

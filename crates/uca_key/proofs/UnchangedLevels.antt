@@ -1,5 +1,6 @@
 -- The weights and the bytes of a level of elements that keep their weights: of two lists, one after the other.
-use Rattle.std.proofs.Common.{◌≡◌, ℕ, ◌-◌, ◌==◌, not, List, [], ◌∷◌, ◌++◌, map, filter, flat_map, slice_index, refl, sym, ap, ap₂, ◌∙◌}
+use Rattle.std.proofs.Common.{◌≡◌, ℕ, suc, ◌+◌, ◌-◌, ◌<◌, ◌==◌, not, List, [], ◌∷◌, ◌++◌, map, filter, flat_map, slice_index, length, drop, get_or, refl, sym, ap, ap₂, ◌∙◌, arith, append_assoc}
+use Rattle.std.proofs.Math.Seq.{drop-cons}
 use Rattle.std.proofs.lemmas.Grind.{flat_map-append}
 use Rattle.std.proofs.lemmas.List.{map-append}
 use Rattle.std.proofs.lemmas.List.Elements.{filter-append}
@@ -27,6 +28,22 @@ level_weights-both level xs ys =
     let f : Element → List ℕ = λ e. unchanged e 0 in
     ap (level_weights level) (weighted-unchanged [] (xs ++ ys) ∙ map-append f xs ys ∙ sym (ap₂ (λ v w. v ++ w) (weighted-unchanged [] xs) (weighted-unchanged [] ys)))
     ∙ level_weights-append level (weighted NonIgnorable xs) (weighted NonIgnorable ys)
+
+-- the weights from one element on: its own, and those after it
+pub kept-one : (level i : ℕ) (es : List Element) (d : Element) (ws : List ℕ) → i < length es
+    → level_weights level (weighted NonIgnorable (drop i es)) ++ ws ≡ level_weights level (unchanged (get_or es i d) 0 ∷ []) ++ (level_weights level (weighted NonIgnorable (drop (i + 1) es)) ++ ws)
+kept-one level i es d ws within =
+    let next : i + 1 ≡ suc i = omega arith in
+    let first : drop i es ≡ get_or es i d ∷ drop (i + 1) es = drop-cons es i d within ∙ ap (λ n. get_or es i d ∷ drop n es) (sym next) in
+    ap (λ l. level_weights level (weighted NonIgnorable l) ++ ws) first
+    ∙ ap (λ l. l ++ ws) (level_weights-both level (get_or es i d ∷ []) (drop (i + 1) es))
+    ∙ append_assoc (level_weights level (unchanged (get_or es i d) 0 ∷ [])) (level_weights level (weighted NonIgnorable (drop (i + 1) es))) ws
+
+-- the same of its first weight
+pub kept-first : (i w : ℕ) (es : List Element) (d : Element) (ws : List ℕ) → i < length es → w ≡ slice_index (unchanged (get_or es i d) 0) 0
+    → level_weights 1 (weighted NonIgnorable (drop i es)) ++ ws ≡ filter (λ x. not (x == 0)) (w ∷ []) ++ (level_weights 1 (weighted NonIgnorable (drop (i + 1) es)) ++ ws)
+kept-first i w es d ws within is =
+    kept-one 1 i es d ws within ∙ ap (λ (x : ℕ). filter (λ (y : ℕ). not (y == 0)) (x ∷ []) ++ (level_weights 1 (weighted NonIgnorable (drop (i + 1) es)) ++ ws)) (sym is)
 
 -- ---- elements that a weigher sees later
 

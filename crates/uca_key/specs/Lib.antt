@@ -2,7 +2,7 @@ pub mod Faults
 pub mod Form
 pub mod PackedKey
 pub mod PackedLaws
-pub mod PackedLevel
+pub mod Runs
 pub mod Pieces
 pub mod Placing
 pub mod PrimaryCode

@@ -44,9 +44,13 @@ abbrev pub short_levels : PrimaryCode → List (List ℕ) → List ℕ → List 
 short_levels k ws decomposed =
     primary_level k (start k) (level_weights 1 ws) ∷ short_later ws decomposed 2 ∷ short_later ws decomposed 3 ∷ short_later ws decomposed 4 ∷ short_later ws decomposed 5 ∷ []
 
+-- the short sort key of a text, by a code of primary weights
+unfoldable pub short_key_by : PrimaryCode → ElementTable → Settings → List ℕ → List ℕ
+short_key_by k t s text = concat (take (levels s.strength) (short_levels k (weighted s.weighting (elements t (nfd text))) (nfd text)))
+
 -- the short sort key of a text
 unfoldable pub short_key : ElementTable → Settings → List ℕ → List ℕ
-short_key t s text = concat (take (levels s.strength) (short_levels (code_of t) (weighted s.weighting (elements t (nfd text))) (nfd text)))
+short_key t s text = short_key_by (code_of t) t s text
 
 -- the bytes with which the short keys of just those texts begin whose primary weights begin with those of a text: its weights, without an end
 unfoldable pub short_prefix : ElementTable → Variable → List ℕ → List ℕ

@@ -1,7 +1,9 @@
 -- What the vectors of a code of primary weights hold.
-use Rattle.std.specs.Prelude.{◌≡◌, ℕ, ◌<◌, ◌≤◌, ◌&&◌, Bool, false, nat_le, nat_lt, List, [], length, get_or, refl}
+use Rattle.std.specs.Prelude.{◌≡◌, ℕ, ◌<◌, ◌≤◌, ◌/◌, ◌==◌, ◌&&◌, not, Bool, nat_le, nat_lt, List, [], length, get_or, slice_index, refl}
 use Rattle.std.specs.Coded.{Coded, code_by, coded×, coded_list, coded_ℕ}
-use Rattle.uca_key.specs.PrimaryCode.{PrimaryCode, is_common, slot}
+use Rattle.uca_key.specs.PrimaryCode.{PrimaryCode, is_common, lead, slot}
+use Rattle.uca_key.specs.declared.short_code.Slot.{Slot}
+use Rattle.uca_key.specs.declared.short_code.Window.{Window}
 
 -- ranges from a first code point to a last one, below the surrogates
 abbrev pub is_range : ℕ × ℕ → Bool
@@ -11,13 +13,21 @@ is_range r = nat_le r.0 r.1 && nat_lt r.1 0xD800
 abbrev pub bare_code : List ℕ → PrimaryCode
 bare_code commons = record { commons = commons; singles = []; anchors = [] }
 
--- of each weight whether it is common, and its slot
-pub record HoldsSlots (k : PrimaryCode) (marked : List Bool) (numbers : List ℕ) : Type 0 where
-  pub flags_size : length marked ≡ 65536
-  pub slots_size : length numbers ≡ 65536
-  pub flags : (w : ℕ) → w < 65536 → get_or marked w false ≡ is_common k w
-  pub slots : (w : ℕ) → w < 65536 → get_or numbers w 0 ≡ slot k w
+-- what a code has of a weight: its slot, whether it is common, and whether it is common, is not zero and begins no implicit pair
+pub record IsSlotOf (k : PrimaryCode) (w : ℕ) (s : Slot) : Type 0 where
+  pub number : s.number ≡ slot k w
+  pub common : s.common ≡ is_common k w
+  pub letter : s.letter ≡ (is_common k w && not (w / 256 == 251) && not (w == 0))
+
+-- the same of each weight, and the first window
+pub record HoldsSlots (k : PrimaryCode) (slots : List Slot) (first : Window) : Type 0 where
+  pub size : length slots ≡ 65536
+  pub each : (w : ℕ) (d : Slot) → w < 65536 → IsSlotOf k w (get_or slots w d)
   pub few : length k.singles ≤ 10
+  pub begins : first.base ≡ slice_index k.anchors 0
+  pub numbered : first.slot ≡ slot k first.base
+  pub led : first.lead ≡ lead k first.base
+  pub most : first.lead ≤ 135
 
 -- a code as its lists
 abbrev pub coded_code : Coded PrimaryCode

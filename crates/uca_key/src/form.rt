@@ -1,4 +1,4 @@
-// Keys in either form, appended to others.
+// Keys in each form, appended to others.
 ghost use Rattle.std.specs.Prelude.{◌≡◌, ◌<◌, ◌≤◌, ◌+◌, ◌-◌, ◌^◌, ◌++◌, chars, length, min, take, IfOk, OnOk};
 ghost use Rattle.uca_model.specs.SafeText.{IsSafe};
 ghost use Rattle.uca_window.specs.Passage.{text_of};
@@ -7,25 +7,33 @@ ghost use Rattle.uca_key.specs.Placing.{PutsAt};
 
 use crate::packed::put_packed_levels;
 use crate::placing::put_levels;
+use crate::short_code::ShortCode;
+use crate::short_levels::put_short_levels;
 use std::alloc::AllocError;
 use uca_table::Table;
 use uca_weights::{Element, Settings};
 use uca_window::Passage;
 
-/// The two forms of a key.
+/// The forms of a key.
 #[derive(Clone, Copy)]
-pub(crate) enum Form {
+pub(crate) enum Form<'c> {
     /// As the standard has it.
     Plain,
     /// With runs of common weights packed.
     Packed,
+    /// With a code of primary weights, too.
+    Short(&'c ShortCode),
 }
 
-// How many bytes a key has at most, where its text has no more elements than bytes. Others have more.
-fn expected_bytes(s: Settings, bytes: usize) -> usize {
-    bytes
-        .saturating_mul(2 * s.levels() as usize + 1)
-        .saturating_add(8)
+// How many bytes the keys of most texts have at most: a plain or packed key of a text that has no more elements than bytes, and a short
+// key of letters with some marks. Others have more.
+fn expected_bytes(form: Form, s: Settings, bytes: usize) -> usize {
+    let levels = s.levels() as usize;
+    let each = match form {
+        Form::Short(_) => levels + 1,
+        _ => 2 * levels + 1,
+    };
+    bytes.saturating_mul(each).saturating_add(8)
 }
 
 // Puts a key at a place of a buffer. Its elements are read into room.
@@ -41,12 +49,13 @@ fn put(
     requires safe { IsSafe (chars text.now) }
     requires some { 0 < length room.old }
     requires size { length out.old < 2 ^ 64 }
-    ensures bytes { PutsAt at (key_in form t.now s (chars text.now)) out.old out.new result }
+    ensures bytes { PutsAt at (key_in form.entry t.now s (chars text.now)) out.old out.new result }
     ensures room { length room.new ≡ length room.old }
 {
     match form {
         Form::Plain => put_levels(t, s, text, room, at, out),
         Form::Packed => put_packed_levels(t, s, text, room, at, out),
+        Form::Short(code) => put_short_levels(code, t, s, text, room, at, out),
     }
 }
 
@@ -65,8 +74,8 @@ fn put_into(
     requires some { 0 < length room.old }
     requires place { at ≤ length keys.old.items }
     requires size { at ≤ size }
-    ensures end { IfOk result (λ end. end ≡ min (at + length (key_in form t.now s (chars text.now))) (2 ^ 64 - 1)) }
-    ensures key { IfOk result (λ end. end ≤ length keys.new.items → take end keys.new.items ≡ take at keys.old.items ++ key_in form t.now s (chars text.now)) }
+    ensures end { IfOk result (λ end. end ≡ min (at + length (key_in form.entry t.now s (chars text.now))) (2 ^ 64 - 1)) }
+    ensures key { IfOk result (λ end. end ≤ length keys.new.items → take end keys.new.items ≡ take at keys.old.items ++ key_in form.entry t.now s (chars text.now)) }
     ensures front { OnOk result (take at keys.new.items ≡ take at keys.old.items) }
     ensures size { OnOk result (length keys.new.items ≡ size) }
     ensures room { length room.new ≡ length room.old }
@@ -85,11 +94,11 @@ pub(crate) fn push(
     keys: &mut Vec<u8>,
 ) -> Result<(), AllocError>
     requires { 0 < length room.old }
-    ensures { OnOk result (keys.new.items ≡ keys.old.items ++ key_in form t.now s (text_of p.now)) }
+    ensures { OnOk result (keys.new.items ≡ keys.old.items ++ key_in form.entry t.now s (text_of p.now)) }
 {
     let text = p.as_str();
     let start = keys.len();
-    let expected = expected_bytes(s, text.len());
+    let expected = expected_bytes(form, s, text.len());
     let size = start.saturating_add(expected);
     let end = put_into(form, t, s, text, room, start, size, keys)?;
     if end > size {

@@ -26,15 +26,15 @@ pub fn key_of(alloc: Global, t: &Table, s: Settings, p: &Passage) -> Result<Vec<
     key_in(alloc, Form::Plain, t, s, p)
 }
 
-// The key of a text in either form. The elements of a short text are held without an allocation.
-fn key_in(
+/// The key of a text in each form. The elements of a short text are held without an allocation.
+pub(crate) fn key_in(
     alloc: Global,
     form: Form,
     t: &Table,
     s: Settings,
     p: &Passage,
 ) -> Result<Vec<u8>, AllocError>
-    ensures { IfOk result (λ v. v.items ≡ key_in form t.now s (text_of p.now)) }
+    ensures { IfOk result (λ v. v.items ≡ key_in form.entry t.now s (text_of p.now)) }
 {
     let mut key = Vec::new(alloc);
     let bytes = p.as_str().len();

@@ -1,69 +1,34 @@
 //! Short sort keys: for indexes, as short as those of ICU.
-ghost use Rattle.std.specs.Prelude.{◌≡◌, ◌↔◌, ◌≤◌, ◌++◌, ℕ, List, true, All, flat_map, IfOk, OnOk};
-ghost use Rattle.unicode_normalization.specs.Forms.{nfd};
-ghost use Rattle.uca_weights.specs.VariableWeighting.{weighted};
+ghost use Rattle.std.specs.Prelude.{◌≡◌, ◌↔◌, ◌-◌, ◌^◌, ◌≤◌, ◌++◌, ℕ, List, true, All, length, min, IfOk};
 ghost use Rattle.std.specs.Char.{IsScalar};
 ghost use Rattle.std.specs.Option.{option_map};
 ghost use Rattle.uca_weights.specs.declared.settings.Settings.{Settings};
 ghost use Rattle.uca_model.specs.Laws.{AreBytes, BeginsWith};
 ghost use Rattle.uca_model.specs.LevelWeights.{level_list};
 ghost use Rattle.uca_model.specs.Prefix.{IsBetween, end_of_prefix, is_complete};
-ghost use Rattle.uca_model.specs.SortKey.{code_point_bytes};
-ghost use Rattle.uca_window.specs.Passage.{text_of};
-ghost use Rattle.uca_key.specs.ShortKey.{short_key, short_later, short_prefix};
+ghost use Rattle.uca_window.specs.Passage.{bytes_of, text_of};
+ghost use Rattle.uca_key.specs.Placing.{with_front};
+ghost use Rattle.uca_key.specs.PrimaryCode.{code_of};
+ghost use Rattle.uca_key.specs.ShortKey.{short_key, short_prefix};
 
 use crate::bounds::{PrefixBounds, end_of_prefix};
-use crate::short_runs::push_runs;
-use crate::weight_bytes::{push_front, push_level};
-use crate::weight_code::WeightCode;
+use crate::form::Form;
+use crate::keys::key_in;
+use crate::placing::ROOM;
+use crate::short_code::ShortCode;
+use crate::short_levels::put_short_levels;
 use std::alloc::{AllocError, Global};
 use std::marker::Model;
-use uca_match::{elements_of, is_complete};
+use uca_match::is_complete;
 use uca_table::Table;
-use uca_weights::{Element, Settings, Variable};
-use uca_window::{Passage, nfd_of};
-
-// How many bytes a key of letters with some marks has besides a byte a letter.
-const SPARE: usize = 12;
-
-// Appends code points, three bytes each.
-fn push_points(points: &[char], key: &mut Vec<u8>) -> Result<(), AllocError>
-    ensures { OnOk result (key.new.items ≡ key.old.items ++ flat_map code_point_bytes points.now) }
-{
-    for point in points {
-        let [_, high, middle, low] = u32::from(*point).to_be_bytes();
-        key.push(high)?;
-        key.push(middle)?;
-        key.push(low)?;
-    }
-    Ok(())
-}
-
-// Appends a level from 2 to 5.
-fn push_later(
-    alloc: Global,
-    v: Variable,
-    elements: &[Element],
-    p: &Passage,
-    level: u8,
-    key: &mut Vec<u8>,
-) -> Result<(), AllocError>
-    requires first { 2 ≤ level }
-    requires last { level ≤ 5 }
-    ensures { OnOk result (key.new.items ≡ key.old.items ++ short_later (weighted v elements.now) (nfd (text_of p.now)) level) }
-{
-    if level == 5 {
-        let points = nfd_of(alloc, p)?;
-        return push_points(points.as_slice(), key);
-    }
-    push_runs(v, elements, level, key)
-}
+use uca_weights::{Element, Settings, Strength, Variable};
+use uca_window::Passage;
 
 /// Makes the short sort keys of texts by one table. The code of primary weights under the table is made once.
 #[derive(Drop)]
 pub struct ShortKeys<'t> {
     table: &'t Table,
-    code: WeightCode,
+    code: ShortCode,
 }
 
 impl<'t> Model for ShortKeys<'t> {
@@ -86,7 +51,7 @@ impl<'t> ShortKeys<'t> {
     pub fn new(alloc: Global, t: &'t Table) -> Result<ShortKeys<'t>, AllocError>
         ensures { IfOk result (λ k. k ≡ t.now) }
     {
-        let code = WeightCode::of(alloc, t)?;
+        let code = ShortCode::new(alloc, t)?;
         Ok(ShortKeys { table: t, code })
     }
 
@@ -96,31 +61,21 @@ impl<'t> ShortKeys<'t> {
     pub fn key_of(&self, alloc: Global, s: Settings, p: &Passage) -> Result<Vec<u8>, AllocError>
         ensures { IfOk result (λ v. v.items ≡ short_key self.now s (text_of p.now)) }
     {
-        let elements = elements_of(alloc, self.table, p)?;
-        let mut key = Vec::with_capacity(alloc, elements.len().saturating_add(SPARE))?;
-        push_level(&self.code, s.weighting, elements.as_slice(), &mut key)?;
-        let last = s.levels();
-        let mut level = 1;
-        'each: while level < last {
-            level += 1;
-            push_later(alloc, s.weighting, elements.as_slice(), p, level, &mut key)?;
-        }
-        Ok(key)
+        short_key_by(alloc, self.table, &self.code, s, p)
     }
 
-    /// The bytes with which the short keys of just those texts begin whose primary weights begin with the primary weights of a text.
-    fn prefix_of(&self, alloc: Global, v: Variable, p: &Passage) -> Result<Vec<u8>, AllocError>
-        ensures { IfOk result (λ b. b.items ≡ short_prefix self.now v (text_of p.now)) }
+    /// Puts the short sort key of a text into the front of a buffer, or as many of its bytes as fit, and returns how many it has, or
+    /// `usize::MAX` where it has more than that. It does not allocate.
+    pub fn put_key(&self, s: Settings, p: &Passage, out: &mut [u8]) -> usize
+        ensures size { result ≡ min (length (short_key self.now s (text_of p.now))) (2 ^ 64 - 1) }
+        ensures exact { length (bytes_of p.now) ≤ 65536 → result ≡ length (short_key self.now s (text_of p.now)) }
+        ensures front { out.new ≡ with_front (short_key self.now s (text_of p.now)) out.old }
     {
-        let elements = elements_of(alloc, self.table, p)?;
-        let mut prefix = Vec::new(alloc);
-        push_front(&self.code, v, elements.as_slice(), &mut prefix)?;
-        Ok(prefix)
+        put_short_key(self.table, &self.code, s, p, out)
     }
 
     /// The ends of the short keys of all texts whose primary weights begin with those of a text, under an option of variable
     /// weighting, as [`crate::prefix_bounds`] gives those of sort keys. It fails only where memory is refused.
-    #[tactic(auto, using(crate::proofs::ShortBounds::short_longer, crate::proofs::BoundLemmas::begins_lower))]
     pub fn prefix_bounds(
         &self,
         alloc: Global,
@@ -133,18 +88,87 @@ impl<'t> ShortKeys<'t> {
         ensures longer { IfOk result (λ b. (s : Settings) (x : List ℕ) → b.complete ≡ true → s.weighting ≡ v → IsBetween b.lower.items (option_map (λ (end : _). end.items) b.upper) (short_key self.now s (text_of p.now ++ x))) }
         ensures no_others { IfOk result (λ b. (bytes : List ℕ) → AreBytes bytes → IsBetween b.lower.items (option_map (λ (end : _). end.items) b.upper) bytes → BeginsWith bytes b.lower.items) }
     {
-        // Both are only for the proof: the table is within its limits, and the text has scalar values.
-        let _longest = self.table.longest();
-        let _text = p.as_str();
-        let complete = is_complete(self.table, p);
-        let lower = self.prefix_of(alloc, v, p)?;
-        let upper = end_of_prefix(alloc, lower.as_slice())?;
-        Ok(PrefixBounds {
-            lower,
-            upper,
-            complete,
-        })
+        short_prefix_bounds(alloc, self.table, &self.code, v, p)
     }
+}
+
+/// The short sort key of a text, as [`ShortKeys`] makes it, by the code of its table, which was made before.
+pub fn short_key_by(
+    alloc: Global,
+    t: &Table,
+    code: &ShortCode,
+    s: Settings,
+    p: &Passage,
+) -> Result<Vec<u8>, AllocError>
+    requires { code.now ≡ code_of t.now }
+    ensures { IfOk result (λ v. v.items ≡ short_key t.now s (text_of p.now)) }
+{
+    key_in(alloc, Form::Short(code), t, s, p)
+}
+
+/// Puts the short sort key of a text into the front of a buffer, as [`ShortKeys::put_key`] does, by the code of its table.
+pub fn put_short_key(t: &Table, code: &ShortCode, s: Settings, p: &Passage, out: &mut [u8]) -> usize
+    requires { code.now ≡ code_of t.now }
+    ensures size { result ≡ min (length (short_key t.now s (text_of p.now))) (2 ^ 64 - 1) }
+    ensures exact { length (bytes_of p.now) ≤ 65536 → result ≡ length (short_key t.now s (text_of p.now)) }
+    ensures front { out.new ≡ with_front (short_key t.now s (text_of p.now)) out.old }
+{
+    let _room = out.len();
+    // Shows that the table is one.
+    let _longest = t.longest();
+    let mut room = [Element::default(); ROOM];
+    put_short_levels(code, t, s, p.as_str(), &mut room, 0, out)
+}
+
+// The bytes with which the short keys of just those texts begin whose primary weights begin with the primary weights of a text.
+fn short_prefix_of(
+    alloc: Global,
+    t: &Table,
+    code: &ShortCode,
+    v: Variable,
+    p: &Passage,
+) -> Result<Vec<u8>, AllocError>
+    requires { code.now ≡ code_of t.now }
+    ensures { IfOk result (λ b. b.items ≡ short_prefix t.now v (text_of p.now)) }
+{
+    let primary = Settings {
+        strength: Strength::Primary,
+        weighting: v,
+    };
+    let mut key = short_key_by(alloc, t, code, primary, p)?;
+    // Its last byte ends the level.
+    key.truncate(key.len().saturating_sub(1));
+    Ok(key)
+}
+
+/// The ends of the short keys of all texts whose primary weights begin with those of a text, as [`ShortKeys::prefix_bounds`] gives
+/// them, by the code of their table.
+#[tactic(auto, using(crate::proofs::ShortBounds::short_longer, crate::proofs::BoundLemmas::begins_lower))]
+pub fn short_prefix_bounds(
+    alloc: Global,
+    t: &Table,
+    code: &ShortCode,
+    v: Variable,
+    p: &Passage,
+) -> Result<PrefixBounds, AllocError>
+    requires { code.now ≡ code_of t.now }
+    ensures ends { IfOk result (λ b. (b.lower.items ≡ short_prefix t.now v (text_of p.now)) × (option_map (λ (end : _). end.items) b.upper ≡ end_of_prefix b.lower.items)) }
+    ensures exactly { IfOk result (λ b. (s : Settings) (x : List ℕ) → s.weighting ≡ v → All IsScalar x → IsBetween b.lower.items (option_map (λ (end : _). end.items) b.upper) (short_key t.now s x) ↔ BeginsWith (level_list t.now v x 1) (level_list t.now v (text_of p.now) 1)) }
+    ensures complete { IfOk result (λ b. b.complete ≡ is_complete t.now (text_of p.now)) }
+    ensures longer { IfOk result (λ b. (s : Settings) (x : List ℕ) → b.complete ≡ true → s.weighting ≡ v → IsBetween b.lower.items (option_map (λ (end : _). end.items) b.upper) (short_key t.now s (text_of p.now ++ x))) }
+    ensures no_others { IfOk result (λ b. (bytes : List ℕ) → AreBytes bytes → IsBetween b.lower.items (option_map (λ (end : _). end.items) b.upper) bytes → BeginsWith bytes b.lower.items) }
+{
+    // Both are only for the proof: the table is within its limits, and the text has scalar values.
+    let _longest = t.longest();
+    let _text = p.as_str();
+    let complete = is_complete(t, p);
+    let lower = short_prefix_of(alloc, t, code, v, p)?;
+    let upper = end_of_prefix(alloc, lower.as_slice())?;
+    Ok(PrefixBounds {
+        lower,
+        upper,
+        complete,
+    })
 }
 
 /// The short sort key of a text, as [`ShortKeys`] makes it. Each call makes the code of primary weights anew.

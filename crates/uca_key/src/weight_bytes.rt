@@ -1,34 +1,50 @@
-// The bytes of the first level of a short key.
-ghost use Rattle.std.specs.Prelude.{◌≡◌, ◌==◌, ◌||◌, ◌≤◌, ◌<◌, ◌+◌, ◌-◌, ◌%◌, ◌++◌, ◌∷◌, [], ℕ, List, if◌then◌else◌, nat_lt, not, filter, IfOk, OnOk};
+// The first level of a short key, put into a buffer piece by piece.
+ghost use Rattle.std.specs.Prelude.{◌≡◌, ◌==◌, ◌≤◌, ◌<◌, ◌+◌, ◌*◌, ◌-◌, ◌^◌, ◌/◌, ◌%◌, ◌++◌, ◌∷◌, [], ℕ, List, if◌then◌else◌, nat_lt, not, filter, length, take, drop, true, false, IsTrue};
+ghost use Rattle.uca_weights.specs.declared.element.Element.{Element};
+ghost use Rattle.uca_weights.specs.declared.settings.Variable.TheVariants.{NonIgnorable};
 ghost use Rattle.uca_weights.specs.VariableWeighting.{weighted};
 ghost use Rattle.uca_model.specs.LevelWeights.{level_weights};
 ghost use Rattle.uca_model.specs.SortKey.{weight_bytes};
-ghost use Rattle.uca_key.specs.Reach.{state_of};
-ghost use Rattle.uca_key.specs.PrimaryCode.{after_lead, after_slot, base_after, has_page, is_in_window, is_single, lead, letter_bytes, primary_bytes, primary_front, primary_level, second_bytes, slot, start, state_after};
+ghost use Rattle.uca_levels.specs.Streams.{weights_from};
+ghost use Rattle.uca_key.specs.Reach.{first_left, state_of};
+ghost use Rattle.uca_key.specs.Pieces.{HoldsElements, elements_of};
+ghost use Rattle.uca_key.specs.Placing.{IsPutting, PutsAt};
+ghost use Rattle.uca_key.specs.PrimaryCode.{after_lead, after_slot, base_after, has_page, is_common, is_in_window, lead, letter_bytes, primary_bytes, primary_level, second_bytes, slot, start, state_after};
 
-use crate::weight_code::WeightCode;
-use std::alloc::AllocError;
+use crate::pieces::{PIECE, TextReading};
+use crate::placing::put_bytes;
+use crate::short_code::{ShortCode, Window};
 use uca_weights::{Element, Variable, Weigher};
 
 // How many slots a window has.
 const WINDOW: u8 = 119;
 
-// Appends the low byte of a weight.
-fn push_low(w: u16, key: &mut Vec<u8>) -> Result<(), AllocError>
-    ensures { OnOk result (key.new.items ≡ key.old.items ++ (w % 256) ∷ []) }
+// The most bytes that one weight takes.
+const LETTER: usize = 3;
+
+// Puts the low byte of a weight.
+#[inline(always)]
+fn put_low(w: u16, key: &mut [u8], at: usize) -> usize
+    requires { at + 1 ≤ length key.old }
+    ensures bytes { take result key.new ≡ take at key.old ++ (w % 256) ∷ [] }
+    ensures within { result ≤ at + 1 }
+    ensures size { length key.new ≡ length key.old }
 {
-    key.push((w % 256) as u8)?;
-    Ok(())
+    key[at] = (w % 256) as u8;
+    at + 1
 }
 
-// Appends both bytes of a weight, the high one first.
-fn push_pair(w: u16, key: &mut Vec<u8>) -> Result<(), AllocError>
-    ensures { OnOk result (key.new.items ≡ key.old.items ++ weight_bytes w) }
+// Puts both bytes of a weight, the high one first.
+fn put_pair(w: u16, key: &mut [u8], at: usize) -> usize
+    requires { at + 2 ≤ length key.old }
+    ensures bytes { take result key.new ≡ take at key.old ++ weight_bytes w }
+    ensures within { result ≤ at + 2 }
+    ensures size { length key.new ≡ length key.old }
 {
     let [high, low] = w.to_be_bytes();
-    key.push(high)?;
-    key.push(low)?;
-    Ok(())
+    key[at] = high;
+    key[at + 1] = low;
+    at + 2
 }
 
 // Whether the high byte of a weight has a lead.
@@ -38,65 +54,50 @@ fn has_page(w: u16) -> bool
     w < 0x7000 || w / 256 == 0xFB
 }
 
-// Appends what follows the lead of a weight.
-fn push_after_lead(code: &WeightCode, w: u16, key: &mut Vec<u8>) -> Result<(), AllocError>
-    ensures { OnOk result (key.new.items ≡ key.old.items ++ after_lead code.now w) }
+// Puts what follows the lead of a weight.
+fn put_after_lead(code: &ShortCode, w: u16, key: &mut [u8], at: usize) -> usize
+    requires { at + 2 ≤ length key.old }
+    ensures bytes { take result key.new ≡ take at key.old ++ after_lead code.now w }
+    ensures within { result ≤ at + 2 }
+    ensures size { length key.new ≡ length key.old }
 {
     if code.is_single(w) {
-        return Ok(());
+        return at;
     }
     if has_page(w) {
-        return push_low(w, key);
+        return put_low(w, key, at);
     }
-    push_pair(w, key)
+    put_pair(w, key, at)
 }
 
-// Appends what follows the byte of a slot.
-fn push_after_slot(code: &WeightCode, w: u16, key: &mut Vec<u8>) -> Result<(), AllocError>
-    ensures { OnOk result (key.new.items ≡ key.old.items ++ after_slot code.now w) }
+// Puts what follows the byte of a slot.
+#[inline(always)]
+fn put_after_slot(code: &ShortCode, w: u16, key: &mut [u8], at: usize) -> usize
+    requires { at + 1 ≤ length key.old }
+    ensures bytes { take result key.new ≡ take at key.old ++ after_slot code.now w }
+    ensures within { result ≤ at + 1 }
+    ensures size { length key.new ≡ length key.old }
 {
     if code.is_common(w) {
-        return Ok(());
+        return at;
     }
-    push_low(w, key)
-}
-
-// A window: the weight at which it begins, with its slot and its lead.
-#[derive(Clone, Copy)]
-struct Window {
-    base: u16,
-    slot: u16,
-    lead: u8,
-}
-
-// The window that begins at a weight.
-fn window_at(code: &WeightCode, base: u16) -> Window
-    ensures base { result.base ≡ base }
-    ensures slot { result.slot ≡ slot code.now base }
-    ensures lead { result.lead ≡ lead code.now base }
-    ensures most { result.lead ≤ 135 }
-{
-    Window {
-        base,
-        slot: code.slot(base),
-        lead: code.lead(base),
-    }
+    put_low(w, key, at)
 }
 
 // Whether a window has the slot of a weight.
 #[inline(always)]
-fn is_in_window(code: &WeightCode, window: Window, w: u16) -> bool
+fn is_in_window(code: &ShortCode, window: Window, w: u16) -> bool
     requires { window.slot ≡ slot code.now window.base }
     ensures { result ≡ is_in_window code.now window.base w }
 {
     let from = window.slot as u32;
     let at = code.slot(w) as u32;
-    from <= at && at < from + WINDOW as u32
+    at.wrapping_sub(from) < WINDOW as u32
 }
 
 // The first byte of a weight in the window.
 #[inline(always)]
-fn slot_byte(code: &WeightCode, window: Window, w: u16) -> u8
+fn slot_byte(code: &ShortCode, window: Window, w: u16) -> u8
     requires slot { window.slot ≡ slot code.now window.base }
     requires lead { window.lead ≡ lead code.now window.base }
     requires most { window.lead ≤ 135 }
@@ -108,7 +109,7 @@ fn slot_byte(code: &WeightCode, window: Window, w: u16) -> u8
 }
 
 // The first byte of a weight outside the window.
-fn lead_byte(code: &WeightCode, window: Window, w: u16) -> u8
+fn lead_byte(code: &ShortCode, window: Window, w: u16) -> u8
     requires { window.slot ≡ slot code.now window.base }
     ensures { result ≡ (if nat_lt (slot code.now w) (slot code.now window.base) then lead code.now w else lead code.now w + 119 + 1) }
 {
@@ -120,57 +121,68 @@ fn lead_byte(code: &WeightCode, window: Window, w: u16) -> u8
     }
 }
 
-// Appends a weight that is not the second one of an implicit pair.
+// Puts a weight that the window has.
 #[inline(always)]
-fn push_letter(
-    code: &WeightCode,
-    window: Window,
-    w: u16,
-    key: &mut Vec<u8>,
-) -> Result<(), AllocError>
+fn put_inside(code: &ShortCode, window: Window, w: u16, key: &mut [u8], at: usize) -> usize
     requires slot { window.slot ≡ slot code.now window.base }
     requires lead { window.lead ≡ lead code.now window.base }
     requires most { window.lead ≤ 135 }
-    ensures { OnOk result (key.new.items ≡ key.old.items ++ letter_bytes code.now window.base w) }
+    requires inside { is_in_window code.now window.base w ≡ true }
+    requires room { at + 2 ≤ length key.old }
+    ensures bytes { take result key.new ≡ take at key.old ++ letter_bytes code.now window.base w }
+    ensures within { result ≤ at + 2 }
+    ensures size { length key.new ≡ length key.old }
 {
-    if is_in_window(code, window, w) {
-        key.push(slot_byte(code, window, w))?;
-        return push_after_slot(code, w, key);
-    }
-    key.push(lead_byte(code, window, w))?;
-    push_after_lead(code, w, key)
+    key[at] = slot_byte(code, window, w);
+    put_after_slot(code, w, key, at + 1)
 }
 
-// Appends a weight after the first one of an implicit pair.
-fn push_second(w: u16, key: &mut Vec<u8>) -> Result<(), AllocError>
-    ensures { OnOk result (key.new.items ≡ key.old.items ++ second_bytes w) }
+// Puts a weight that the window does not have.
+fn put_outside(code: &ShortCode, window: Window, w: u16, key: &mut [u8], at: usize) -> usize
+    requires slot { window.slot ≡ slot code.now window.base }
+    requires outside { is_in_window code.now window.base w ≡ false }
+    requires room { at + 3 ≤ length key.old }
+    ensures bytes { take result key.new ≡ take at key.old ++ letter_bytes code.now window.base w }
+    ensures within { result ≤ at + 3 }
+    ensures size { length key.new ≡ length key.old }
+{
+    key[at] = lead_byte(code, window, w);
+    put_after_lead(code, w, key, at + 1)
+}
+
+// Puts a weight after the first one of an implicit pair.
+fn put_second(w: u16, key: &mut [u8], at: usize) -> usize
+    requires { at + 3 ≤ length key.old }
+    ensures bytes { take result key.new ≡ take at key.old ++ second_bytes w }
+    ensures within { result ≤ at + 3 }
+    ensures size { length key.new ≡ length key.old }
 {
     if w < 0x8000 {
-        key.push(1)?;
-        return push_pair(w, key);
+        key[at] = 1;
+        return put_pair(w, key, at + 1);
     }
-    push_pair(w, key)
+    put_pair(w, key, at)
 }
 
-// Where the window begins after a weight.
-#[inline(always)]
-fn window_after(code: &WeightCode, window: Window, w: u16) -> Window
+// Where the window begins after a weight that it does not have.
+fn window_after(code: &ShortCode, window: Window, w: u16) -> Window
     requires slot { window.slot ≡ slot code.now window.base }
     requires lead { window.lead ≡ lead code.now window.base }
     requires most { window.lead ≤ 135 }
+    requires outside { is_in_window code.now window.base w ≡ false }
     ensures base { result.base ≡ base_after code.now window.base w }
     ensures slot { result.slot ≡ slot code.now result.base }
     ensures lead { result.lead ≡ lead code.now result.base }
     ensures most { result.lead ≤ 135 }
 {
-    if is_in_window(code, window, w) || code.is_single(w) {
+    if code.is_single(w) {
         return window;
     }
     let anchor = code.anchor(w);
     if anchor == 0 {
         window
     } else {
-        window_at(code, anchor)
+        code.window_at(anchor)
     }
 }
 
@@ -181,90 +193,353 @@ struct Reach {
     second: bool,
 }
 
-// Appends a weight.
-#[inline(always)]
-fn push_weight(
-    code: &WeightCode,
+// How far a first level is put into a piece: the place after its bytes, and what its weights leave to the next one.
+#[derive(Clone, Copy)]
+struct Placed {
+    at: usize,
     reach: Reach,
-    w: u16,
-    key: &mut Vec<u8>,
-) -> Result<Reach, AllocError>
-    requires slot { reach.window.slot ≡ slot code.now reach.window.base }
-    requires lead { reach.window.lead ≡ lead code.now reach.window.base }
-    requires most { reach.window.lead ≤ 135 }
-    ensures bytes { OnOk result (key.new.items ≡ key.old.items ++ primary_bytes code.now (state_of reach) w) }
-    ensures after { IfOk result (λ r. state_of r ≡ state_after code.now (state_of reach) w) }
-    ensures slot { IfOk result (λ r. r.window.slot ≡ slot code.now r.window.base) }
-    ensures lead { IfOk result (λ r. r.window.lead ≡ lead code.now r.window.base) }
-    ensures most { IfOk result (λ r. r.window.lead ≤ 135) }
+}
+
+// Puts a weight.
+fn put_weight(code: &ShortCode, before: Placed, w: u16, key: &mut [u8]) -> Placed
+    requires slot { before.reach.window.slot ≡ slot code.now before.reach.window.base }
+    requires lead { before.reach.window.lead ≡ lead code.now before.reach.window.base }
+    requires most { before.reach.window.lead ≤ 135 }
+    requires room { before.at + 3 ≤ length key.old }
+    ensures bytes { take result.at key.new ≡ take before.at key.old ++ primary_bytes code.now (state_of before.reach) w }
+    ensures after { state_of result.reach ≡ state_after code.now (state_of before.reach) w }
+    ensures slot { result.reach.window.slot ≡ slot code.now result.reach.window.base }
+    ensures lead { result.reach.window.lead ≡ lead code.now result.reach.window.base }
+    ensures most { result.reach.window.lead ≤ 135 }
+    ensures within { result.at ≤ before.at + 3 }
+    ensures size { length key.new ≡ length key.old }
 {
-    let window = reach.window;
-    if reach.second {
-        push_second(w, key)?;
-        return Ok(Reach {
-            window,
-            second: false,
-        });
+    let window = before.reach.window;
+    if before.reach.second {
+        return Placed {
+            at: put_second(w, key, before.at),
+            reach: Reach {
+                window,
+                second: false,
+            },
+        };
     }
-    push_letter(code, window, w, key)?;
-    Ok(Reach {
-        window: window_after(code, window, w),
-        second: w / 256 == 0xFB,
-    })
+    let second = w / 256 == 0xFB;
+    if is_in_window(code, window, w) {
+        return Placed {
+            at: put_inside(code, window, w, key, before.at),
+            reach: Reach { window, second },
+        };
+    }
+    Placed {
+        at: put_outside(code, window, w, key, before.at),
+        reach: Reach {
+            window: window_after(code, window, w),
+            second,
+        },
+    }
 }
 
 // The same of a weight that may be zero, which is left out.
+#[inline(never)]
+fn put_some(code: &ShortCode, before: Placed, w: u16, key: &mut [u8]) -> Placed
+    requires slot { before.reach.window.slot ≡ slot code.now before.reach.window.base }
+    requires lead { before.reach.window.lead ≡ lead code.now before.reach.window.base }
+    requires most { before.reach.window.lead ≤ 135 }
+    requires room { before.at + 3 ≤ length key.old }
+    ensures bytes { (ws : List ℕ) → take result.at key.new ++ primary_level code.now (state_of result.reach) ws ≡ take before.at key.old ++ primary_level code.now (state_of before.reach) (filter (λ x. not (x == 0)) (w ∷ []) ++ ws) }
+    ensures slot { result.reach.window.slot ≡ slot code.now result.reach.window.base }
+    ensures lead { result.reach.window.lead ≡ lead code.now result.reach.window.base }
+    ensures most { result.reach.window.lead ≤ 135 }
+    ensures within { result.at ≤ before.at + 3 }
+    ensures size { length key.new ≡ length key.old }
+{
+    if w == 0 {
+        return before;
+    }
+    put_weight(code, before, w, key)
+}
+
+// Whether a weight is one byte in the window, and the window stays.
 #[inline(always)]
-fn push_some(
-    code: &WeightCode,
-    reach: Reach,
-    w: u16,
-    key: &mut Vec<u8>,
-) -> Result<Reach, AllocError>
+fn is_letter(code: &ShortCode, window: Window, w: u16) -> bool
+    requires { window.slot ≡ slot code.now window.base }
+    ensures inside { IsTrue result → is_in_window code.now window.base w ≡ true }
+    ensures common { IsTrue result → is_common code.now w ≡ true }
+    ensures one { IsTrue result → (w / 256 == 251) ≡ false }
+    ensures some { IsTrue result → 0 < w }
+{
+    is_in_window(code, window, w) && code.is_letter(w)
+}
+
+// Puts a letter.
+#[inline(always)]
+fn put_letter(code: &ShortCode, reach: Reach, w: u16, key: &mut [u8], at: usize) -> usize
     requires slot { reach.window.slot ≡ slot code.now reach.window.base }
     requires lead { reach.window.lead ≡ lead code.now reach.window.base }
     requires most { reach.window.lead ≤ 135 }
-    ensures bytes { IfOk result (λ r. (ws : List ℕ) → key.new.items ++ primary_front code.now (state_of r) ws ≡ key.old.items ++ primary_front code.now (state_of reach) (filter (λ x. not (x == 0)) (w ∷ []) ++ ws)) }
-    ensures slot { IfOk result (λ r. r.window.slot ≡ slot code.now r.window.base) }
-    ensures lead { IfOk result (λ r. r.window.lead ≡ lead code.now r.window.base) }
-    ensures most { IfOk result (λ r. r.window.lead ≤ 135) }
+    requires first { reach.second ≡ false }
+    requires some { 0 < w }
+    requires inside { is_in_window code.now reach.window.base w ≡ true }
+    requires common { is_common code.now w ≡ true }
+    requires one { (w / 256 == 251) ≡ false }
+    requires room { at + 1 ≤ length key.old }
+    ensures bytes { (ws : List ℕ) → take result key.new ++ primary_level code.now (state_of reach) ws ≡ take at key.old ++ primary_level code.now (state_of reach) (filter (λ x. not (x == 0)) (w ∷ []) ++ ws) }
+    ensures within { result ≤ at + 1 }
+    ensures size { length key.new ≡ length key.old }
 {
-    if w == 0 {
-        return Ok(reach);
-    }
-    push_weight(code, reach, w, key)
+    key[at] = slot_byte(code, reach.window, w);
+    at + 1
 }
 
-/// Appends the bytes of the primary weights of elements, without an end.
-pub(crate) fn push_front(
-    code: &WeightCode,
-    v: Variable,
-    elements: &[Element],
-    key: &mut Vec<u8>,
-) -> Result<(), AllocError>
-    ensures { OnOk result (key.new.items ≡ key.old.items ++ primary_front code.now (start code.now) (level_weights 1 (weighted v elements.now))) }
+// How far letters are put: the place after their bytes, and how many elements are done.
+#[derive(Clone, Copy)]
+struct Letters {
+    at: usize,
+    done: usize,
+}
+
+// Puts the weights of elements that keep them as long as they are letters or zero. Most of a text is put here, so it asks little.
+#[inline(always)]
+fn put_letters(code: &ShortCode, before: Placed, elements: &[Element], key: &mut [u8]) -> Letters
+    requires slot { before.reach.window.slot ≡ slot code.now before.reach.window.base }
+    requires lead { before.reach.window.lead ≡ lead code.now before.reach.window.base }
+    requires most { before.reach.window.lead ≤ 135 }
+    requires room { before.at + length elements.now ≤ length key.old }
+    ensures bytes { (ws : List ℕ) → take result.at key.new ++ primary_level code.now (state_of before.reach) (level_weights 1 (weighted NonIgnorable (drop result.done elements.now)) ++ ws) ≡ take before.at key.old ++ primary_level code.now (state_of before.reach) (level_weights 1 (weighted NonIgnorable elements.now) ++ ws) }
+    ensures within { result.at ≤ before.at + result.done }
+    ensures some { result.done ≤ length elements.now }
+    ensures size { length key.new ≡ length key.old }
 {
-    let mut weigher = Weigher::new(v);
-    let mut reach = Reach {
-        window: window_at(code, code.first_anchor()),
-        second: false,
-    };
+    let mut next = before.at;
+    let mut done = 0;
+    if before.reach.second {
+        return Letters { at: next, done };
+    }
+    'each: while done < elements.len() {
+        let w = elements[done].weight(1);
+        if is_letter(code, before.reach.window, w) {
+            next = put_letter(code, before.reach, w, key, next);
+            done += 1;
+            continue;
+        }
+        if w > 0 {
+            return Letters { at: next, done };
+        }
+        done += 1;
+    }
+    Letters { at: next, done }
+}
+
+// Puts the weight of the first of some elements that keep them, if there is one.
+fn put_next(code: &ShortCode, before: Placed, elements: &[Element], key: &mut [u8]) -> Placed
+    requires slot { before.reach.window.slot ≡ slot code.now before.reach.window.base }
+    requires lead { before.reach.window.lead ≡ lead code.now before.reach.window.base }
+    requires most { before.reach.window.lead ≤ 135 }
+    requires room { before.at + 3 * length elements.now ≤ length key.old }
+    ensures bytes { (ws : List ℕ) → take result.at key.new ++ primary_level code.now (state_of result.reach) (level_weights 1 (weighted NonIgnorable (drop 1 elements.now)) ++ ws) ≡ take before.at key.old ++ primary_level code.now (state_of before.reach) (level_weights 1 (weighted NonIgnorable elements.now) ++ ws) }
+    ensures slot { result.reach.window.slot ≡ slot code.now result.reach.window.base }
+    ensures lead { result.reach.window.lead ≡ lead code.now result.reach.window.base }
+    ensures most { result.reach.window.lead ≤ 135 }
+    ensures within { result.at + 3 * length (drop 1 elements.now) ≤ before.at + 3 * length elements.now }
+    ensures size { length key.new ≡ length key.old }
+{
+    match elements {
+        [first, ..] => put_some(code, before, first.weight(1), key),
+        [] => before,
+    }
+}
+
+// Puts the weights of elements that keep them, letters together and others one by one.
+fn put_kept(code: &ShortCode, before: Placed, elements: &[Element], key: &mut [u8]) -> Placed
+    requires slot { before.reach.window.slot ≡ slot code.now before.reach.window.base }
+    requires lead { before.reach.window.lead ≡ lead code.now before.reach.window.base }
+    requires most { before.reach.window.lead ≤ 135 }
+    requires room { before.at + 3 * length elements.now ≤ length key.old }
+    ensures bytes { (ws : List ℕ) → take result.at key.new ++ primary_level code.now (state_of result.reach) ws ≡ take before.at key.old ++ primary_level code.now (state_of before.reach) (level_weights 1 (weighted NonIgnorable elements.now) ++ ws) }
+    ensures slot { result.reach.window.slot ≡ slot code.now result.reach.window.base }
+    ensures lead { result.reach.window.lead ≡ lead code.now result.reach.window.base }
+    ensures most { result.reach.window.lead ≤ 135 }
+    ensures within { result.at ≤ before.at + 3 * length elements.now }
+    ensures size { length key.new ≡ length key.old }
+{
+    let mut placed = before;
+    let mut left = elements;
+    'each: while !left.is_empty() {
+        let letters = put_letters(code, placed, left, key);
+        let (_, after) = left.split_at(letters.done);
+        let here = Placed {
+            at: letters.at,
+            reach: placed.reach,
+        };
+        placed = put_next(code, here, after, key);
+        let (_, rest) = after.split_at(after.len().min(1));
+        left = rest;
+    }
+    placed
+}
+
+// Puts the weights of some elements by their variable weighting. The weigher has seen those before them.
+fn put_weighted(
+    code: &ShortCode,
+    before: Placed,
+    weigher: &mut Weigher,
+    elements: &[Element],
+    key: &mut [u8],
+) -> Placed
+    requires slot { before.reach.window.slot ≡ slot code.now before.reach.window.base }
+    requires lead { before.reach.window.lead ≡ lead code.now before.reach.window.base }
+    requires most { before.reach.window.lead ≤ 135 }
+    requires room { before.at + 3 * length elements.now ≤ length key.old }
+    ensures bytes { (es : List Element) → take result.at key.new ++ primary_level code.now (state_of result.reach) (weights_from weigher.new 1 es) ≡ take before.at key.old ++ primary_level code.now (state_of before.reach) (weights_from weigher.old 1 (elements.now ++ es)) }
+    ensures slot { result.reach.window.slot ≡ slot code.now result.reach.window.base }
+    ensures lead { result.reach.window.lead ≡ lead code.now result.reach.window.base }
+    ensures most { result.reach.window.lead ≤ 135 }
+    ensures within { result.at ≤ before.at + 3 * length elements.now }
+    ensures option { weigher.new.weighting ≡ weigher.old.weighting }
+{
+    let mut placed = before;
     for element in elements {
-        reach = push_some(code, reach, weigher.weigh_at(*element, 1), key)?;
+        placed = put_some(code, placed, weigher.weigh_at(*element, 1), key);
     }
-    Ok(())
+    placed
 }
 
-/// Appends a first level, which ends itself.
-pub(crate) fn push_level(
-    code: &WeightCode,
+// Puts the weights of some elements into the front of a piece.
+fn put_piece(
+    code: &ShortCode,
+    reach: Reach,
     v: Variable,
+    weigher: &mut Weigher,
     elements: &[Element],
-    key: &mut Vec<u8>,
-) -> Result<(), AllocError>
-    ensures { OnOk result (key.new.items ≡ key.old.items ++ primary_level code.now (start code.now) (level_weights 1 (weighted v elements.now))) }
+    key: &mut [u8],
+) -> Placed
+    requires slot { reach.window.slot ≡ slot code.now reach.window.base }
+    requires lead { reach.window.lead ≡ lead code.now reach.window.base }
+    requires most { reach.window.lead ≤ 135 }
+    requires option { weigher.old.weighting ≡ v }
+    requires room { 3 * length elements.now ≤ length key.old }
+    ensures bytes { (es : List Element) → take result.at key.new ++ primary_level code.now (state_of result.reach) (weights_from weigher.new 1 es) ≡ primary_level code.now (state_of reach) (weights_from weigher.old 1 (elements.now ++ es)) }
+    ensures slot { result.reach.window.slot ≡ slot code.now result.reach.window.base }
+    ensures lead { result.reach.window.lead ≡ lead code.now result.reach.window.base }
+    ensures most { result.reach.window.lead ≤ 135 }
+    ensures within { result.at ≤ 3 * length elements.now }
+    ensures option { weigher.new.weighting ≡ v }
 {
-    push_front(code, v, elements, key)?;
-    key.push(0)?;
-    Ok(())
+    let before = Placed { at: 0, reach };
+    match v {
+        Variable::NonIgnorable => put_kept(code, before, elements, key),
+        _ => put_weighted(code, before, weigher, elements, key),
+    }
+}
+
+// How far a first level is put: the place after its bytes, what its weights leave to the next one, and the weigher of the elements
+// that follow.
+#[derive(Drop)]
+struct FirstLevel {
+    next: usize,
+    reach: Reach,
+    weigher: Weigher,
+}
+
+impl FirstLevel {
+    // A level that begins at a place.
+    fn new(code: &ShortCode, v: Variable, at: usize) -> FirstLevel
+        ensures next { result.next ≡ at }
+        ensures slot { result.reach.window.slot ≡ slot code.now result.reach.window.base }
+        ensures lead { result.reach.window.lead ≡ lead code.now result.reach.window.base }
+        ensures most { result.reach.window.lead ≤ 135 }
+        ensures option { result.weigher.weighting ≡ v }
+        ensures left { (es : List Element) → first_left code.now result es ≡ primary_level code.now (start code.now) (level_weights 1 (weighted v es)) }
+    {
+        FirstLevel {
+            next: at,
+            reach: Reach {
+                window: code.first_window(),
+                second: false,
+            },
+            weigher: Weigher::new(v),
+        }
+    }
+}
+
+// Puts the weights of some elements, a piece at a time.
+fn put_elements(
+    code: &ShortCode,
+    v: Variable,
+    state: &mut FirstLevel,
+    elements: &[Element],
+    out: &mut [u8],
+)
+    requires slot { state.old.reach.window.slot ≡ slot code.now state.old.reach.window.base }
+    requires lead { state.old.reach.window.lead ≡ lead code.now state.old.reach.window.base }
+    requires most { state.old.reach.window.lead ≤ 135 }
+    requires option { state.old.weigher.weighting ≡ v }
+    requires size { length out.old < 2 ^ 64 }
+    ensures bytes { (at : ℕ) (before whole : List ℕ) (es : List Element) → IsPutting at before state.old.next out.old whole (first_left code.now state.old (elements.now ++ es)) → IsPutting at before state.new.next out.new whole (first_left code.now state.new es) }
+    ensures slot { state.new.reach.window.slot ≡ slot code.now state.new.reach.window.base }
+    ensures lead { state.new.reach.window.lead ≡ lead code.now state.new.reach.window.base }
+    ensures most { state.new.reach.window.lead ≤ 135 }
+    ensures option { state.new.weigher.weighting ≡ v }
+    ensures size { length out.new ≡ length out.old }
+{
+    let mut bytes = [0; LETTER * PIECE];
+    let mut left = elements;
+    'pieces: while !left.is_empty() {
+        let (piece, rest) = left.split_at(left.len().min(PIECE));
+        let placed = put_piece(code, state.reach, v, &mut state.weigher, piece, &mut bytes);
+        state.next = put_bytes(&bytes[..placed.at], state.next, out);
+        state.reach = placed.reach;
+        left = rest;
+    }
+}
+
+// Puts a first level of a text that the room does not hold, as it is read once more.
+#[inline(never)]
+fn put_first_again(
+    code: &ShortCode,
+    v: Variable,
+    reading: &TextReading,
+    room: &mut [Element],
+    at: usize,
+    out: &mut [u8],
+) -> usize
+    requires some { 0 < length room.old }
+    requires size { length out.old < 2 ^ 64 }
+    ensures bytes { PutsAt at (primary_level code.now (start code.now) (level_weights 1 (weighted v (elements_of reading.now)))) out.old out.new result }
+    ensures room { length room.new ≡ length room.old }
+{
+    let mut state = FirstLevel::new(code, v, at);
+    let mut left = reading.again();
+    'each: loop {
+        let n = left.read(room);
+        if n == 0 {
+            return put_bytes(&[0], state.next, out);
+        }
+        put_elements(code, v, &mut state, &room[..n], out);
+    }
+}
+
+/// Puts the first level of a text that was read into room. It ends itself.
+pub(crate) fn put_first(
+    code: &ShortCode,
+    v: Variable,
+    reading: &TextReading,
+    room: &mut [Element],
+    at: usize,
+    out: &mut [u8],
+) -> usize
+    requires some { 0 < length room.old }
+    requires holds { HoldsElements reading.now room.old }
+    requires size { length out.old < 2 ^ 64 }
+    ensures bytes { PutsAt at (primary_level code.now (start code.now) (level_weights 1 (weighted v (elements_of reading.now)))) out.old out.new result }
+    ensures holds { HoldsElements reading.now room.new }
+    ensures room { length room.new ≡ length room.old }
+{
+    if let Some(held) = reading.held {
+        let mut state = FirstLevel::new(code, v, at);
+        put_elements(code, v, &mut state, &room[..held], out);
+        return put_bytes(&[0], state.next, out);
+    }
+    put_first_again(code, v, reading, room, at, out)
 }

@@ -1,0 +1,22 @@
+use Rattle.std.proofs.Common.{◌≡◌, ◌+◌, ◌-◌, ◌≤◌, chars, length}
+use Rattle.unicode_normalization.specs.Forms.{nfd}
+use Rattle.uca_weights.specs.Settings.{levels}
+use Rattle.uca_weights.specs.VariableWeighting.{weighted}
+use Rattle.uca_model.specs.CollationElements.{elements}
+use Rattle.uca_key.specs.Pieces.{HoldsElements}
+use Rattle.uca_key.specs.Placing.{IsPutting}
+use Rattle.uca_key.specs.ShortKey.{short_key_by}
+use Rattle.uca_key.proofs.ShortPieces.{later_levels}
+use Rattle.uca_key.proofs.short_levels.put_short_levels.Given as goal
+
+abbrev pub invariant-each : goal.invariant-each
+invariant-each l = record {
+  first : 1 ≤ l.level;
+  last : l.level ≤ levels l.s.strength;
+  holds : HoldsElements l.reading l.room;
+  size : length l.room ≡ length l.fn.room;
+  putting : IsPutting l.fn.at l.fn.out l.next l.out (short_key_by l.code l.t l.s (chars l.text)) (later_levels (levels l.s.strength - l.level) (l.level + 1) (weighted l.s.weighting (elements l.t (nfd (chars l.text)))) (nfd (chars l.text)));
+}
+
+abbrev pub decreases-each : goal.decreases-each
+decreases-each l = levels l.s.strength - l.level

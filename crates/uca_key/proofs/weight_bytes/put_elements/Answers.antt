@@ -1,0 +1,25 @@
+use Rattle.std.proofs.Common.{ap₂, ◌≡◌, ◌^◌, ◌<◌, ◌++◌, List, length, sym, ap, ◌∙◌, arith, append_assoc, take-append-drop}
+use Rattle.uca_weights.specs.declared.element.Element.{Element}
+use Rattle.uca_key.specs.Reach.{first_left}
+use Rattle.uca_key.proofs.PlacingLemmas.{IsPutting-more, IsPutting-size}
+use Rattle.uca_key.proofs.weight_bytes.put_elements.Goals as goal
+
+pub pieces-preserved : goal.pieces-preserved
+pieces-preserved c =
+    let i = c.pieces.invariant in
+    let left : List Element = c.pieces.left.now in
+    let piece : List Element = c.split_at.result.0.now in let rest : List Element = c.split_at.result.1.now in
+    let parts : left ≡ piece ++ rest = sym (ap₂ (λ a b. a ++ b) c.split_at.ensures.front c.split_at.ensures.back ∙ take-append-drop c.min.result left) in
+    record {
+      slot = c.put_piece-placed.ensures.slot;
+      lead = c.put_piece-placed.ensures.lead;
+      most = c.put_piece-placed.ensures.most;
+      option = c.put_piece-placed.ensures.option;
+      size = c.put_bytes-state.auto.out ∙ i.size;
+      bytes = c.put_piece-placed.auto.key ∙ i.bytes;
+      putting = λ at before whole es h.
+          let now = i.putting at before whole es h in
+          let small : length before < 2 ^ 64 = omega (arith, IsPutting-size _ _ _ _ _ _ h, c.requires.size) in
+          let split = ap (first_left c.args.code.now c.pieces.state) (ap (λ l. l ++ es) parts ∙ append_assoc piece rest es) ∙ sym (c.put_piece-placed.ensures.bytes (rest ++ es)) in
+          IsPutting-more _ _ _ _ _ _ now _ _ _ _ small split c.put_bytes-state.ensures;
+    }

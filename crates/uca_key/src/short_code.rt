@@ -1,0 +1,394 @@
+// The code of primary weights in short keys: what a table says of common characters, with a slot for each weight.
+ghost use Rattle.std.specs.Prelude.{◌≡◌, ◌<◌, ◌≤◌, ◌+◌, ◌-◌, ◌/◌, ◌++◌, [], ◌==◌, ◌&&◌, not, ℕ, false, get_or, fold, if◌then◌else◌, length, map, max, nat_le, IsTrue, slice_index, sum_by, OnOk, IfOk};
+ghost use Rattle.std.specs.List.{list_all, list_any, range_with_len};
+ghost use Rattle.uca_key.specs.PrimaryCode.{PrimaryCode, anchor_of, begins_slot, code_of, first_primary, is_common, is_single, lead, page_of, past, points_of_ranges, primary_of, slot};
+ghost use Rattle.uca_key.specs.SlotTables.{IsSlotOf, bare_code, is_range};
+
+use crate::common_characters::{COMMON_RANGES, FIRST_LETTERS, SINGLE_CHARACTERS};
+use std::alloc::{AllocError, Global};
+use std::marker::Model;
+use uca_table::Table;
+use uca_weights::Element;
+
+// How many weights there are.
+const WEIGHTS: usize = 0x1_0000;
+
+// How many weights have a lead of their own, and at how many windows begin.
+const SINGLES: usize = SINGLE_CHARACTERS.len();
+
+const ANCHORS: usize = FIRST_LETTERS.len();
+
+// The primary weight of the first element.
+fn first_primary(elements: &[Element]) -> u16
+    ensures { result ≡ first_primary elements.now }
+{
+    match elements {
+        [first, ..] => first.l1,
+        [] => 0,
+    }
+}
+
+// The first primary weight of the text of one character.
+fn primary_of(alloc: Global, t: &Table, c: char) -> Result<u16, AllocError>
+    ensures { IfOk result (λ w. w ≡ primary_of t.now c) }
+{
+    let mut elements = Vec::new(alloc);
+    t.push_elements(alloc, &mut elements, &[c])?;
+    Ok(first_primary(elements.as_slice()))
+}
+
+// The character of a code point below the surrogates.
+fn character(point: u32) -> char
+    requires { point < 0xD800 }
+    ensures { result ≡ point }
+{
+    match char::from_u32(point) {
+        Some(c) => c,
+        None => unreachable!(),
+    }
+}
+
+// Appends the first primary weights of a range of characters.
+fn push_range(
+    alloc: Global,
+    t: &Table,
+    first: u32,
+    last: u32,
+    weights: &mut Vec<u16>,
+) -> Result<(), AllocError>
+    requires ordered { first ≤ last }
+    requires scalars { last < 0xD800 }
+    ensures { OnOk result (weights.new.items ≡ weights.old.items ++ map (primary_of t.now) (range_with_len first (last + 1 - first))) }
+{
+    for point in first..last + 1 {
+        let weight = primary_of(alloc, t, character(point))?;
+        weights.push(weight)?;
+    }
+    Ok(())
+}
+
+// The first primary weights of ranges of characters.
+fn weights_of_ranges(
+    alloc: Global,
+    t: &Table,
+    ranges: &[(u32, u32)],
+) -> Result<Vec<u16>, AllocError>
+    requires { IsTrue (list_all is_range ranges.now) }
+    ensures { IfOk result (λ v. v.items ≡ map (primary_of t.now) (points_of_ranges ranges.now)) }
+{
+    let mut weights = Vec::new(alloc);
+    for (first, last) in ranges {
+        push_range(alloc, t, *first, *last, &mut weights)?;
+    }
+    Ok(weights)
+}
+
+// The first primary weights of characters.
+fn weights_of(alloc: Global, t: &Table, characters: &[char]) -> Result<Vec<u16>, AllocError>
+    ensures { IfOk result (λ v. v.items ≡ map (primary_of t.now) characters.now) }
+{
+    let mut weights = Vec::new(alloc);
+    for c in characters {
+        let weight = primary_of(alloc, t, *c)?;
+        weights.push(weight)?;
+    }
+    Ok(weights)
+}
+
+// As many flags, none of them set.
+fn unset(alloc: Global, n: usize) -> Result<Vec<bool>, AllocError>
+    ensures size { IfOk result (λ v. length v.items ≡ n) }
+    ensures flags { IfOk result (λ v. (w : ℕ) → get_or v.items w false ≡ false) }
+{
+    vec![in alloc; false; n]
+}
+
+// Of each weight whether it is one of these.
+fn flags_of(alloc: Global, weights: &[u16]) -> Result<Vec<bool>, AllocError>
+    ensures size { IfOk result (λ v. length v.items ≡ 65536) }
+    ensures flags { IfOk result (λ v. (w : ℕ) → w < 65536 → get_or v.items w false ≡ list_any (λ c. c == w) weights.now) }
+{
+    let mut flags = unset(alloc, WEIGHTS)?;
+    for weight in weights {
+        flags[*weight as usize] = true;
+    }
+    Ok(flags)
+}
+
+// Whether a slot begins at the weight after this one.
+fn begins_slot(flags: &[bool], w: usize) -> bool
+    requires { w + 1 < length flags.now }
+    ensures { (k : PrimaryCode) → ((x : ℕ) → x < length flags.now → get_or flags.now x false ≡ is_common k x) → result ≡ begins_slot k w }
+{
+    (w + 1) % 256 == 0 || flags[w] || flags[w + 1]
+}
+
+// The slot of the weight after this one.
+fn slot_after(flags: &[bool], w: usize, number: u16) -> u16
+    requires within { w + 1 < length flags.now }
+    requires most { number ≤ w }
+    requires fits { w < 65535 }
+    ensures next { (k : PrimaryCode) → ((x : ℕ) → x < length flags.now → get_or flags.now x false ≡ is_common k x) → number ≡ slot k w → result ≡ slot k (w + 1) }
+    ensures most { result ≤ w + 1 }
+{
+    if begins_slot(flags, w) {
+        number + 1
+    } else {
+        number
+    }
+}
+
+// What the code has of a weight in this slot.
+fn slot_of(flags: &[bool], w: usize, number: u16) -> Slot
+    requires { w < length flags.now }
+    ensures { (k : PrimaryCode) → ((x : ℕ) → x < length flags.now → get_or flags.now x false ≡ is_common k x) → number ≡ slot k w → IsSlotOf k w result }
+{
+    Slot {
+        number,
+        common: flags[w],
+        letter: flags[w] && w / 256 != 0xFB && w != 0,
+    }
+}
+
+// The slot of each weight.
+fn slots_of(alloc: Global, commons: &[u16], flags: &[bool]) -> Result<Vec<Slot>, AllocError>
+    requires size { length flags.now ≡ 65536 }
+    requires flags { (w : ℕ) → w < length flags.now → get_or flags.now w false ≡ is_common (bare_code commons.now) w }
+    ensures size { IfOk result (λ v. length v.items ≡ 65536) }
+    ensures slots { IfOk result (λ v. (w : ℕ) (d : Slot) → w < 65536 → IsSlotOf (bare_code commons.now) w (get_or v.items w d)) }
+{
+    let _commons = commons.len();
+    let mut slots = Vec::with_capacity(alloc, WEIGHTS)?;
+    let mut number = 0;
+    slots.push(slot_of(flags, 0, number))?;
+    for w in 0..WEIGHTS - 1 {
+        number = slot_after(flags, w, number);
+        slots.push(slot_of(flags, w + 1, number))?;
+    }
+    Ok(slots)
+}
+
+// Whether a weight is one of these. It looks at each of them, since they are few.
+#[inline(always)]
+fn has_weight(weights: &[u16], w: u16) -> bool
+    ensures { result ≡ list_any (λ c. c == w) weights.now }
+{
+    let mut found = false;
+    for weight in weights {
+        found = found || *weight == w;
+    }
+    found
+}
+
+// The number of the lead of a weight, if no weight had one of its own.
+fn page_of(w: u16) -> u8
+    ensures { result ≡ page_of w }
+{
+    if w < 0x7000 {
+        return (w / 256) as u8;
+    }
+    if w < 0xFB00 {
+        return 0x70;
+    }
+    if w < 0xFC00 { 0x71 } else { 0x72 }
+}
+
+// By how much a weight with a lead of its own raises the lead of a weight.
+#[inline(always)]
+fn past(w: u16, single: u16) -> u8
+    ensures value { result ≡ past w single }
+    ensures most { result ≤ 2 }
+{
+    if w < single {
+        return 0;
+    }
+    if w == single { 1 } else { 2 }
+}
+
+// The lead of a weight, with these weights that have leads of their own.
+#[inline(always)]
+fn lead_over(singles: &[u16], w: u16) -> u8
+    requires { length singles.now ≤ 10 }
+    ensures value { result ≡ 1 + page_of w + sum_by (past w) singles.now }
+    ensures most { result ≤ 135 }
+{
+    let mut lead = 1 + page_of(w);
+    for single in singles {
+        lead += past(w, *single);
+    }
+    lead
+}
+
+// The greatest of these weights up to one, or 0.
+#[inline(always)]
+fn greatest_up_to(weights: &[u16], w: u16) -> u16
+    ensures { result ≡ fold (λ best a. if nat_le a w then max best a else best) 0 weights.now }
+{
+    let mut best = 0;
+    for weight in weights {
+        best = greater_up_to(best, *weight, w);
+    }
+    best
+}
+
+// The greater of two weights, if the second is up to another.
+#[inline(always)]
+fn greater_up_to(best: u16, weight: u16, w: u16) -> u16
+    ensures { result ≡ (if nat_le weight w then max best weight else best) }
+{
+    if weight <= w { best.max(weight) } else { best }
+}
+
+// What the code has of a weight.
+#[derive(Clone, Copy)]
+struct Slot {
+    // The number of its slot.
+    number: u16,
+    // Whether it is common, and so alone there.
+    common: bool,
+    // Whether it is common, is not zero and begins no implicit pair.
+    letter: bool,
+}
+
+/// A window: the weight at which it begins, with its slot and its lead.
+#[derive(Clone, Copy)]
+pub(crate) struct Window {
+    pub(crate) base: u16,
+    pub(crate) slot: u16,
+    pub(crate) lead: u8,
+}
+
+// The window that begins at a weight, with these slots, and these weights that have leads of their own.
+fn window_of(slots: &[Slot], singles: &[u16], base: u16) -> Window
+    requires size { length slots.now ≡ 65536 }
+    requires few { length singles.now ≤ 10 }
+    ensures base { result.base ≡ base }
+    ensures slot { (k : PrimaryCode) → ((w : ℕ) (d : Slot) → w < 65536 → IsSlotOf k w (get_or slots.now w d)) → result.slot ≡ slot k base }
+    ensures lead { (k : PrimaryCode) → k.singles ≡ singles.now → result.lead ≡ lead k base }
+    ensures most { result.lead ≤ 135 }
+{
+    Window {
+        base,
+        slot: slots[base as usize].number,
+        lead: lead_over(singles, base),
+    }
+}
+
+/// The code of primary weights under a table.
+#[derive(Drop)]
+pub struct ShortCode {
+    commons: Vec<u16>,
+    singles: [u16; SINGLES],
+    anchors: [u16; ANCHORS],
+    // Of each weight.
+    slots: Vec<Slot>,
+    // Of each text.
+    first: Window,
+}
+
+impl Model for ShortCode {
+    ghost use Rattle.uca_key.specs.PrimaryCode.{PrimaryCode};
+    ghost use Rattle.uca_key.specs.SlotTables.{HoldsSlots, coded_code};
+
+    ghost Value = { PrimaryCode };
+
+    ghost coded = { coded_code };
+
+    ghost view = { λ c. record { commons = c.commons.items; singles = c.singles; anchors = c.anchors } };
+
+    ghost invariant = { λ c. HoldsSlots (record { commons = c.commons.items; singles = c.singles; anchors = c.anchors }) c.slots.items c.first };
+}
+
+impl ShortCode {
+    /// Makes the code under a table. `AllocError`: an allocation was refused.
+    pub fn new(alloc: Global, t: &Table) -> Result<ShortCode, AllocError>
+        ensures { IfOk result (λ k. k ≡ code_of t.now) }
+    {
+        let commons = weights_of_ranges(alloc, t, &COMMON_RANGES)?;
+        let flags = flags_of(alloc, &commons)?;
+        let slots = slots_of(alloc, &commons, &flags)?;
+        let mut singles = [0; SINGLES];
+        singles.copy_from_slice(weights_of(alloc, t, &SINGLE_CHARACTERS)?.as_slice());
+        let mut anchors = [0; ANCHORS];
+        anchors.copy_from_slice(weights_of(alloc, t, &FIRST_LETTERS)?.as_slice());
+        let first = window_of(&slots, &singles, anchors[0]);
+        Ok(ShortCode {
+            commons,
+            singles,
+            anchors,
+            slots,
+            first,
+        })
+    }
+
+    /// The slot of a weight.
+    #[inline(always)]
+    pub(crate) fn slot(&self, w: u16) -> u16
+        ensures { result ≡ slot self.now w }
+    {
+        self.slots[w as usize].number
+    }
+
+    /// Whether a weight is common.
+    #[inline(always)]
+    pub(crate) fn is_common(&self, w: u16) -> bool
+        ensures { result ≡ is_common self.now w }
+    {
+        self.slots[w as usize].common
+    }
+
+    /// Whether a weight is common, is not zero and begins no implicit pair.
+    #[inline(always)]
+    pub(crate) fn is_letter(&self, w: u16) -> bool
+        ensures { result ≡ is_common self.now w && not (w / 256 == 251) && not (w == 0) }
+    {
+        self.slots[w as usize].letter
+    }
+
+    /// Whether a weight has a byte of its own everywhere.
+    pub(crate) fn is_single(&self, w: u16) -> bool
+        ensures { result ≡ is_single self.now w }
+    {
+        has_weight(&self.singles, w)
+    }
+
+    /// The lead of a weight.
+    pub(crate) fn lead(&self, w: u16) -> u8
+        ensures value { result ≡ lead self.now w }
+        ensures most { result ≤ 135 }
+    {
+        lead_over(&self.singles, w)
+    }
+
+    /// Where the window begins after a weight, outside it.
+    pub(crate) fn anchor(&self, w: u16) -> u16
+        ensures { result ≡ anchor_of self.now w }
+    {
+        greatest_up_to(&self.anchors, w)
+    }
+
+    /// The window that begins at a weight.
+    pub(crate) fn window_at(&self, base: u16) -> Window
+        ensures base { result.base ≡ base }
+        ensures slot { result.slot ≡ slot self.now base }
+        ensures lead { result.lead ≡ lead self.now base }
+        ensures most { result.lead ≤ 135 }
+    {
+        Window {
+            base,
+            slot: self.slot(base),
+            lead: self.lead(base),
+        }
+    }
+
+    /// The first window.
+    #[inline(always)]
+    pub(crate) fn first_window(&self) -> Window
+        ensures base { result.base ≡ slice_index self.now.anchors 0 }
+        ensures slot { result.slot ≡ slot self.now result.base }
+        ensures lead { result.lead ≡ lead self.now result.base }
+        ensures most { result.lead ≤ 135 }
+    {
+        self.first
+    }
+}
