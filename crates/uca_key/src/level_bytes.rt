@@ -6,7 +6,7 @@ ghost use Rattle.uca_model.specs.SortKey.{weight_bytes, level_bytes};
 ghost use Rattle.uca_levels.specs.Streams.{weights_from};
 ghost use Rattle.uca_key.specs.Placing.{PutsAt};
 
-use crate::packed::common_weight;
+use crate::runs::common_weight;
 use crate::placing::put_bytes;
 use uca_weights::{Element, Variable, Weigher};
 

@@ -59,7 +59,7 @@ fn full_run(coding: Coding) -> u8
 
 // The weight that most characters have at a level from 2 to 4.
 #[inline(always)]
-fn common_weight(level: u8) -> u16
+pub(crate) fn common_weight(level: u8) -> u16
     ensures { result ≡ common_weight level }
 {
     match level {
