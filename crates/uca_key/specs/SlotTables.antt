@@ -1,7 +1,8 @@
 -- What the vectors of a code of primary weights hold.
-use Rattle.std.specs.Prelude.{◌≡◌, ℕ, ◌<◌, ◌≤◌, ◌/◌, ◌==◌, ◌&&◌, not, Bool, nat_le, nat_lt, List, [], length, get_or, slice_index, refl}
+use Rattle.std.specs.Prelude.{◌≡◌, ℕ, ◌<◌, ◌≤◌, ◌/◌, ◌==◌, ◌&&◌, not, Bool, true, nat_le, nat_lt, List, [], length, get_or, slice_index, refl}
 use Rattle.std.specs.Coded.{Coded, code_by, coded×, coded_list, coded_ℕ}
-use Rattle.uca_key.specs.PrimaryCode.{PrimaryCode, is_common, lead, slot}
+use Rattle.uca_key.specs.PrimaryCode.{PrimaryCode, is_common, is_single, lead, slot}
+use Rattle.uca_key.specs.declared.short_code.Single.{Single}
 use Rattle.uca_key.specs.declared.short_code.Slot.{Slot}
 use Rattle.uca_key.specs.declared.short_code.Window.{Window}
 
@@ -19,8 +20,8 @@ pub record IsSlotOf (k : PrimaryCode) (w : ℕ) (s : Slot) : Type 0 where
   pub common : s.common ≡ is_common k w
   pub letter : s.letter ≡ (is_common k w && not (w / 256 == 251) && not (w == 0))
 
--- the same of each weight, and the first window
-pub record HoldsSlots (k : PrimaryCode) (slots : List Slot) (first : Window) : Type 0 where
+-- the same of each weight, the first window, and the space
+pub record HoldsSlots (k : PrimaryCode) (slots : List Slot) (first : Window) (space : Single) : Type 0 where
   pub size : length slots ≡ 65536
   pub each : (w : ℕ) (d : Slot) → w < 65536 → IsSlotOf k w (get_or slots w d)
   pub few : length k.singles ≤ 10
@@ -28,6 +29,9 @@ pub record HoldsSlots (k : PrimaryCode) (slots : List Slot) (first : Window) : T
   pub numbered : first.slot ≡ slot k first.base
   pub led : first.lead ≡ lead k first.base
   pub most : first.lead ≤ 135
+  pub single : is_single k space.weight ≡ true
+  pub space_led : space.lead ≡ lead k space.weight
+  pub space_most : space.lead ≤ 135
 
 -- a code as its lists
 abbrev pub coded_code : Coded PrimaryCode

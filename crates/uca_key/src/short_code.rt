@@ -1,5 +1,5 @@
 // The code of primary weights in short keys: what a table says of common characters, with a slot for each weight.
-ghost use Rattle.std.specs.Prelude.{◌≡◌, ◌<◌, ◌≤◌, ◌+◌, ◌-◌, ◌/◌, ◌++◌, [], ◌==◌, ◌&&◌, not, ℕ, false, get_or, fold, if◌then◌else◌, length, map, max, nat_le, IsTrue, slice_index, sum_by, OnOk, IfOk};
+ghost use Rattle.std.specs.Prelude.{◌≡◌, ◌<◌, ◌≤◌, ◌+◌, ◌-◌, ◌/◌, ◌++◌, [], ◌==◌, ◌&&◌, not, ℕ, true, false, get_or, fold, if◌then◌else◌, length, map, max, nat_le, IsTrue, slice_index, sum_by, OnOk, IfOk};
 ghost use Rattle.std.specs.List.{list_all, list_any, range_with_len};
 ghost use Rattle.uca_key.specs.PrimaryCode.{PrimaryCode, anchor_of, begins_slot, code_of, first_primary, is_common, is_single, lead, page_of, past, points_of_ranges, primary_of, slot};
 ghost use Rattle.uca_key.specs.SlotTables.{IsSlotOf, bare_code, is_range};
@@ -250,12 +250,33 @@ struct Slot {
     letter: bool,
 }
 
+/// A weight that has a lead of its own, and its lead.
+#[derive(Clone, Copy)]
+pub(crate) struct Single {
+    pub(crate) weight: u16,
+    pub(crate) lead: u8,
+}
+
 /// A window: the weight at which it begins, with its slot and its lead.
 #[derive(Clone, Copy)]
 pub(crate) struct Window {
     pub(crate) base: u16,
     pub(crate) slot: u16,
     pub(crate) lead: u8,
+}
+
+// One of these weights that have leads of their own.
+fn single_of(singles: &[u16], n: usize) -> Single
+    requires within { n < length singles.now }
+    requires few { length singles.now ≤ 10 }
+    ensures single { IsTrue (list_any (λ c. c == result.weight) singles.now) }
+    ensures lead { (k : PrimaryCode) → k.singles ≡ singles.now → result.lead ≡ lead k result.weight }
+    ensures most { result.lead ≤ 135 }
+{
+    Single {
+        weight: singles[n],
+        lead: lead_over(singles, singles[n]),
+    }
 }
 
 // The window that begins at a weight, with these slots, and these weights that have leads of their own.
@@ -284,6 +305,7 @@ pub struct ShortCode {
     slots: Vec<Slot>,
     // Of each text.
     first: Window,
+    space: Single,
 }
 
 impl Model for ShortCode {
@@ -296,7 +318,7 @@ impl Model for ShortCode {
 
     ghost view = { λ c. record { commons = c.commons.items; singles = c.singles; anchors = c.anchors } };
 
-    ghost invariant = { λ c. HoldsSlots (record { commons = c.commons.items; singles = c.singles; anchors = c.anchors }) c.slots.items c.first };
+    ghost invariant = { λ c. HoldsSlots (record { commons = c.commons.items; singles = c.singles; anchors = c.anchors }) c.slots.items c.first c.space };
 }
 
 impl ShortCode {
@@ -312,12 +334,14 @@ impl ShortCode {
         let mut anchors = [0; ANCHORS];
         anchors.copy_from_slice(weights_of(alloc, t, &FIRST_LETTERS)?.as_slice());
         let first = window_of(&slots, &singles, anchors[0]);
+        let space = single_of(&singles, 0);
         Ok(ShortCode {
             commons,
             singles,
             anchors,
             slots,
             first,
+            space,
         })
     }
 
@@ -379,6 +403,16 @@ impl ShortCode {
             slot: self.slot(base),
             lead: self.lead(base),
         }
+    }
+
+    /// The weight of the space, which most texts have between their words.
+    #[inline(always)]
+    pub(crate) fn space(&self) -> Single
+        ensures single { is_single self.now result.weight ≡ true }
+        ensures lead { result.lead ≡ lead self.now result.weight }
+        ensures most { result.lead ≤ 135 }
+    {
+        self.space
     }
 
     /// The first window.

@@ -9,11 +9,11 @@ ghost use Rattle.uca_levels.specs.Streams.{weights_from};
 ghost use Rattle.uca_key.specs.Reach.{first_left, state_of};
 ghost use Rattle.uca_key.specs.Pieces.{HoldsElements, elements_of};
 ghost use Rattle.uca_key.specs.Placing.{IsPutting, PutsAt};
-ghost use Rattle.uca_key.specs.PrimaryCode.{after_lead, after_slot, base_after, has_page, is_common, is_in_window, lead, letter_bytes, primary_bytes, primary_level, second_bytes, slot, start, state_after};
+ghost use Rattle.uca_key.specs.PrimaryCode.{after_lead, after_slot, base_after, has_page, is_common, is_in_window, is_single, lead, letter_bytes, primary_bytes, primary_level, second_bytes, slot, start, state_after};
 
 use crate::pieces::{PIECE, TextReading};
 use crate::placing::put_bytes;
-use crate::short_code::{ShortCode, Window};
+use crate::short_code::{ShortCode, Single, Window};
 use uca_weights::{Element, Variable, Weigher};
 
 // How many slots a window has.
@@ -108,16 +108,18 @@ fn slot_byte(code: &ShortCode, window: Window, w: u16) -> u8
     window.lead + 1 + (code.slot(w) - window.slot) as u8
 }
 
-// The first byte of a weight outside the window.
-fn lead_byte(code: &ShortCode, window: Window, w: u16) -> u8
-    requires { window.slot ≡ slot code.now window.base }
+// The first byte of a weight outside the window, which has this lead.
+#[inline(always)]
+fn lead_byte(code: &ShortCode, window: Window, w: u16, own: u8) -> u8
+    requires slot { window.slot ≡ slot code.now window.base }
+    requires lead { own ≡ lead code.now w }
+    requires most { own ≤ 135 }
     ensures { result ≡ (if nat_lt (slot code.now w) (slot code.now window.base) then lead code.now w else lead code.now w + 119 + 1) }
 {
-    let lead = code.lead(w);
     if code.slot(w) < window.slot {
-        lead
+        own
     } else {
-        lead + WINDOW + 1
+        own + WINDOW + 1
     }
 }
 
@@ -146,7 +148,7 @@ fn put_outside(code: &ShortCode, window: Window, w: u16, key: &mut [u8], at: usi
     ensures within { result ≤ at + 3 }
     ensures size { length key.new ≡ length key.old }
 {
-    key[at] = lead_byte(code, window, w);
+    key[at] = lead_byte(code, window, w, code.lead(w));
     put_after_lead(code, w, key, at + 1)
 }
 
@@ -292,6 +294,39 @@ fn put_letter(code: &ShortCode, reach: Reach, w: u16, key: &mut [u8], at: usize)
     at + 1
 }
 
+// Whether a weight is that of the space, outside the window, and the window stays.
+#[inline(always)]
+fn is_gap(code: &ShortCode, window: Window, space: Single, w: u16) -> bool
+    requires slot { window.slot ≡ slot code.now window.base }
+    requires single { is_single code.now space.weight ≡ true }
+    ensures same { IsTrue result → w ≡ space.weight }
+    ensures single { IsTrue result → is_single code.now w ≡ true }
+    ensures outside { IsTrue result → is_in_window code.now window.base w ≡ false }
+    ensures one { IsTrue result → (w / 256 == 251) ≡ false }
+{
+    w == space.weight && w / 256 != 0xFB && !is_in_window(code, window, w)
+}
+
+// Puts a weight that has a byte of its own, outside the window.
+#[inline(always)]
+fn put_single(code: &ShortCode, reach: Reach, w: u16, own: u8, key: &mut [u8], at: usize) -> usize
+    requires slot { reach.window.slot ≡ slot code.now reach.window.base }
+    requires first { reach.second ≡ false }
+    requires some { 0 < w }
+    requires single { is_single code.now w ≡ true }
+    requires outside { is_in_window code.now reach.window.base w ≡ false }
+    requires one { (w / 256 == 251) ≡ false }
+    requires lead { own ≡ lead code.now w }
+    requires most { own ≤ 135 }
+    requires room { at + 1 ≤ length key.old }
+    ensures bytes { (ws : List ℕ) → take result key.new ++ primary_level code.now (state_of reach) ws ≡ take at key.old ++ primary_level code.now (state_of reach) (filter (λ x. not (x == 0)) (w ∷ []) ++ ws) }
+    ensures within { result ≤ at + 1 }
+    ensures size { length key.new ≡ length key.old }
+{
+    key[at] = lead_byte(code, reach.window, w, own);
+    at + 1
+}
+
 // How far letters are put: the place after their bytes, and how many elements are done.
 #[derive(Clone, Copy)]
 struct Letters {
@@ -299,7 +334,7 @@ struct Letters {
     done: usize,
 }
 
-// Puts the weights of elements that keep them as long as they are letters or zero. Most of a text is put here, so it asks little.
+// Puts the weights of elements that keep them as long as they are letters, spaces or zero. Most of a text is put here, so it asks little.
 #[inline(always)]
 fn put_letters(code: &ShortCode, before: Placed, elements: &[Element], key: &mut [u8]) -> Letters
     requires slot { before.reach.window.slot ≡ slot code.now before.reach.window.base }
@@ -311,6 +346,7 @@ fn put_letters(code: &ShortCode, before: Placed, elements: &[Element], key: &mut
     ensures some { result.done ≤ length elements.now }
     ensures size { length key.new ≡ length key.old }
 {
+    let space = code.space();
     let mut next = before.at;
     let mut done = 0;
     if before.reach.second {
@@ -323,9 +359,14 @@ fn put_letters(code: &ShortCode, before: Placed, elements: &[Element], key: &mut
             done += 1;
             continue;
         }
-        if w > 0 {
+        if w == 0 {
+            done += 1;
+            continue;
+        }
+        if !is_gap(code, before.reach.window, space, w) {
             return Letters { at: next, done };
         }
+        next = put_single(code, before.reach, w, space.lead, key, next);
         done += 1;
     }
     Letters { at: next, done }

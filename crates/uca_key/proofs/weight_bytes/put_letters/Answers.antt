@@ -1,4 +1,4 @@
-use Rattle.std.proofs.Common.{◌≡◌, ◌+◌, ◌==◌, ◌∷◌, ◌++◌, [], ◌∙◌, List, ℕ, not, ap, sym, take, drop, filter, arith}
+use Rattle.std.proofs.Common.{◌+◌, ◌==◌, ◌∷◌, ◌++◌, [], ◌∙◌, List, ℕ, not, ap, sym, take, drop, filter, arith}
 use Rattle.uca_weights.specs.declared.settings.Variable.TheVariants.{NonIgnorable}
 use Rattle.uca_weights.specs.VariableWeighting.{weighted}
 use Rattle.uca_model.specs.LevelWeights.{level_weights}
@@ -20,10 +20,9 @@ each-preserved-then-is_letter c =
           c.put_letter-next.ensures.bytes rest ∙ ap put (sym (kept-first c.each.done c.weight-w.result c.args.elements.now _ ws c.each-test.true c.weight-w.ensures)) ∙ i.same ws;
     }
 
-pub each-preserved : goal.each-preserved
-each-preserved c =
+pub each-preserved-then-w-eq0 : goal.each-preserved-then-w-eq0
+each-preserved-then-w-eq0 c =
     let i = c.each.invariant in
-    let none : c.weight-w.result ≡ 0 = omega (arith, c.if-w-gt0.false) in
     let put : List ℕ → List ℕ = λ l. take c.each.next c.each.key ++ primary_level c.args.code.now (state_of c.args.before.reach) l in
     record {
       some = omega arith;
@@ -31,5 +30,18 @@ each-preserved c =
       size = i.size;
       same = λ ws.
           let rest : List ℕ = level_weights 1 (weighted NonIgnorable (drop (c.each.done + 1) c.args.elements.now)) ++ ws in
-          ap put (sym (kept-first c.each.done c.weight-w.result c.args.elements.now _ ws c.each-test.true c.weight-w.ensures ∙ ap (λ (x : ℕ). filter (λ (y : ℕ). not (y == 0)) (x ∷ []) ++ rest) none)) ∙ i.same ws;
+          ap put (sym (kept-first c.each.done c.weight-w.result c.args.elements.now _ ws c.each-test.true c.weight-w.ensures ∙ ap (λ (x : ℕ). filter (λ (y : ℕ). not (y == 0)) (x ∷ []) ++ rest) c.if-w-eq0.true)) ∙ i.same ws;
+    }
+
+pub each-preserved : goal.each-preserved
+each-preserved c =
+    let i = c.each.invariant in
+    let put : List ℕ → List ℕ = λ l. take c.each.next c.each.key ++ primary_level c.args.code.now (state_of c.args.before.reach) l in
+    record {
+      some = omega arith;
+      within = omega (arith, i.within, c.put_single-next.ensures.within);
+      size = c.put_single-next.ensures.size ∙ i.size;
+      same = λ ws.
+          let rest : List ℕ = level_weights 1 (weighted NonIgnorable (drop (c.each.done + 1) c.args.elements.now)) ++ ws in
+          c.put_single-next.ensures.bytes rest ∙ ap put (sym (kept-first c.each.done c.weight-w.result c.args.elements.now _ ws c.each-test.true c.weight-w.ensures)) ∙ i.same ws;
     }

@@ -27,6 +27,9 @@ invariant_of-result c =
       numbered = c.window_of-first.ensures.slot k (λ w d h. subst (λ (l : List Slot). IsSlotOf k w (get_or l w d)) (sym c.deref-4.ensures.value) (each w d h)) ∙ ap (slot k) (sym c.window_of-first.ensures.base);
       led = c.window_of-first.ensures.lead k refl ∙ ap (lead k) (sym c.window_of-first.ensures.base);
       most = c.window_of-first.ensures.most;
+      single = c.single_of-space.ensures.single;
+      space_led = c.single_of-space.ensures.lead k refl;
+      space_most = c.single_of-space.ensures.most;
     }
 
 pub returns : goal.returns
