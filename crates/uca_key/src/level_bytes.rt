@@ -6,8 +6,8 @@ ghost use Rattle.uca_model.specs.SortKey.{weight_bytes, level_bytes};
 ghost use Rattle.uca_levels.specs.Streams.{weights_from};
 ghost use Rattle.uca_key.specs.Placing.{PutsAt};
 
-use crate::runs::common_weight;
 use crate::placing::put_bytes;
+use crate::runs::common_weight;
 use uca_weights::{Element, Variable, Weigher};
 
 // Whether a weight of each of so many elements fits between a place of a buffer and its end.
