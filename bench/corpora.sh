@@ -13,33 +13,6 @@ before=${2:-}
 gcc -O2 -DWITH_ICU -o "$work/peer" bench/peer.c -licui18n -licuuc || refuses "ICU is not available: it needs libicu-dev"
 fetched || exit 1
 
-# named NAME: the lists of a corpus
-named() {
-    case $1 in
-    Vietnamese) grep 'hunspell-vi' <<<"$lists" ;;
-    Latin) grep '^Latin' <<<"$lists" | grep -v 'hunspell-vi' ;;
-    Han) grep '^Chinese' <<<"$lists" ;;
-    Kana) grep '^Japanese' <<<"$lists" ;;
-    Indic) grep -E '^(Thai|Devanagari)' <<<"$lists" ;;
-    Mixed*) echo "$lists" ;;
-    *) grep "^$1" <<<"$lists" ;;
-    esac
-}
-
-# corpus NAME: its lines, in $work/lines
-corpus() {
-    local from=$work/drawn
-    named "$1" | perl bench/corpus.pl "$work/lists" "$bytes" >"$from" 2>/dev/null || return 1
-    case $1 in
-    Mixed-NFD) perl -MUnicode::Normalize -CSD -ne 'print NFD($_)' "$from" >"$work/lines" ;;
-    Mixed-long) paste -d' ' -s "$from" | perl -ne '
-        my @words = split " "; print join(" ", splice @words, 0, 40), "\n" while @words' >"$work/lines" ;;
-    Kana) perl -CSD -ne 'print if /[\p{Hiragana}\p{Katakana}]/ and !/\p{Han}/' "$from" >"$work/lines" ;;
-    *) mv "$from" "$work/lines" ;;
-    esac
-    [ -s "$work/lines" ]
-}
-
 # each INPUT COMMAND..: nanoseconds per line, without loading
 each() {
     local input=$1 load loaded lines
@@ -64,7 +37,7 @@ echo "ICU $(echo U_ICU_VERSION | gcc -E -include unicode/uvernum.h - | tail -n 1
 echo
 echo '| Corpus | Lines | Characters a line | Key: ICU, ns | Ratio | Compare: ICU, ns | Ratio | Order: ICU, ns | Ratio | Key, shifted: ICU, ns | Ratio | Compare, shifted: ICU, ns | Ratio |'
 echo '|---|---|---|---|---|---|---|---|---|---|---|---|---|'
-for name in Latin Vietnamese Greek Cyrillic Arabic Hebrew Thai Devanagari Indic Hangul Han Kana Mixed Mixed-NFD Mixed-long; do
+for name in $corpora; do
     corpus "$name" || { echo "| $name | not available |"; continue; }
     "$uca" order --table "$published" <"$work/lines" >"$work/sorted" || refuses "uca order could not be run"
     printf '| %s | %d | %.1f |' "$name" "$(wc -l <"$work/lines")" "$(perl -CSD -ne '$n += length; END { print $n / $. - 1 }' "$work/lines")"
@@ -75,22 +48,6 @@ for name in Latin Vietnamese Greek Cyrillic Arabic Hebrew Thai Devanagari Indic 
     beside "$work/sorted" compare shifted
     echo
 done
-
-# worst NAME LINES: one of the worst texts, as this many lines
-worst() {
-    perl -CS -e '
-        my ($name, $lines) = @ARGV;
-        my %line = (
-            "sixty marks" => "a" . "\x{301}" x 60,
-            "sixty marks, two classes" => "a" . "\x{301}\x{323}" x 30,
-            "contractions" => "\x{FB2}\x{F71}\x{F80}" x 20,
-            "U+FDFA" => "\x{FDFA}" x 20,
-            "Hangul parts" => "\x{1100}\x{1161}\x{11A8}" x 20,
-            "variable" => "- " x 30,
-            "ideographs" => "\x{4E00}\x{20000}\x{9FFF}" x 20,
-        );
-        print "$line{$name}$_\n" for 1 .. $lines' "$1" "$2"
-}
 
 programs=("$uca")
 [ -z "$before" ] || programs+=("$before")

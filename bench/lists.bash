@@ -38,3 +38,49 @@ fetched() {
             echo "$script: package $package is not available"
     done
 }
+
+# The corpora, of which a table has a row each.
+corpora='Latin Vietnamese Greek Cyrillic Arabic Hebrew Thai Devanagari Indic Hangul Han Kana Mixed Mixed-NFD Mixed-long'
+
+# named NAME: the lists of a corpus
+named() {
+    case $1 in
+    Vietnamese) grep 'hunspell-vi' <<<"$lists" ;;
+    Latin) grep '^Latin' <<<"$lists" | grep -v 'hunspell-vi' ;;
+    Han) grep '^Chinese' <<<"$lists" ;;
+    Kana) grep '^Japanese' <<<"$lists" ;;
+    Indic) grep -E '^(Thai|Devanagari)' <<<"$lists" ;;
+    Mixed*) echo "$lists" ;;
+    *) grep "^$1" <<<"$lists" ;;
+    esac
+}
+
+# corpus NAME: its lines, in $work/lines
+corpus() {
+    local from=$work/drawn
+    named "$1" | perl bench/corpus.pl "$work/lists" "$bytes" >"$from" 2>/dev/null || return 1
+    case $1 in
+    Mixed-NFD) perl -MUnicode::Normalize -CSD -ne 'print NFD($_)' "$from" >"$work/lines" ;;
+    Mixed-long) paste -d' ' -s "$from" | perl -ne '
+        my @words = split " "; print join(" ", splice @words, 0, 40), "\n" while @words' >"$work/lines" ;;
+    Kana) perl -CSD -ne 'print if /[\p{Hiragana}\p{Katakana}]/ and !/\p{Han}/' "$from" >"$work/lines" ;;
+    *) mv "$from" "$work/lines" ;;
+    esac
+    [ -s "$work/lines" ]
+}
+
+# worst NAME LINES: one of the worst texts, as this many lines
+worst() {
+    perl -CS -e '
+        my ($name, $lines) = @ARGV;
+        my %line = (
+            "sixty marks" => "a" . "\x{301}" x 60,
+            "sixty marks, two classes" => "a" . "\x{301}\x{323}" x 30,
+            "contractions" => "\x{FB2}\x{F71}\x{F80}" x 20,
+            "U+FDFA" => "\x{FDFA}" x 20,
+            "Hangul parts" => "\x{1100}\x{1161}\x{11A8}" x 20,
+            "variable" => "- " x 30,
+            "ideographs" => "\x{4E00}\x{20000}\x{9FFF}" x 20,
+        );
+        print "$line{$name}$_\n" for 1 .. $lines' "$1" "$2"
+}
