@@ -17,8 +17,8 @@ invariant_of-result c =
     let k : PrimaryCode = record { commons = c.in_ok-commons.commons.items; singles = c.copy_from_slice.new.self; anchors = c.copy_from_slice-2.new.self } in
     let singles = c.copy_from_slice.ensures.after ∙ c.as_slice.ensures.value ∙ c.in_ok-weights_of.ensures in
     let each : (w : ℕ) (d : Slot) → w < 65536 → IsSlotOf k w (get_or c.in_ok-slots.slots.items w d) = λ w d h.
-        let bare = c.in_ok-slots.ensures.slots w d h in let same = ap (λ (l : List ℕ). bare_code l) c.deref-2.ensures.value in
-        let own = get_or c.in_ok-slots.slots.items w d in slot-of-bare k w own (subst (λ b. IsSlotOf b w own) same bare) in
+    let bare = c.in_ok-slots.ensures.slots w d h in let same = ap (λ (l : List ℕ). bare_code l) c.deref-2.ensures.value in
+    let own = get_or c.in_ok-slots.slots.items w d in slot-of-bare k w own (subst (λ b. IsSlotOf b w own) same bare) in
     record {
       size = c.in_ok-slots.ensures.size;
       each = each;
