@@ -105,7 +105,9 @@ fn slot_byte(code: &ShortCode, window: Window, w: u16) -> u8
     requires inside { slot code.now w < slot code.now window.base + 119 }
     ensures { result ≡ lead code.now window.base + 1 + (slot code.now w - slot code.now window.base) }
 {
-    window.lead + 1 + (code.slot(w) - window.slot) as u8
+    let from = window.slot as u32;
+    let at = code.slot(w) as u32;
+    window.lead + 1 + (at - from) as u8
 }
 
 // The first byte of a weight outside the window, which has this lead.
