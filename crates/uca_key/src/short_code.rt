@@ -1,4 +1,4 @@
-// The code of primary weights in short keys: what a table says of common characters, with a slot for each weight.
+//! The code of primary weights in short keys: what a table says of common characters, with a slot for each weight.
 ghost use Rattle.std.specs.Prelude.{◌≡◌, ◌<◌, ◌≤◌, ◌+◌, ◌-◌, ◌/◌, ◌++◌, [], ◌==◌, ◌&&◌, not, ℕ, true, false, get_or, fold, if◌then◌else◌, length, map, max, nat_le, IsTrue, slice_index, sum_by, OnOk, IfOk};
 ghost use Rattle.std.specs.List.{list_all, list_any, range_with_len};
 ghost use Rattle.uca_key.specs.PrimaryCode.{PrimaryCode, anchor_of, begins_slot, code_of, first_primary, is_common, is_single, lead, page_of, past, points_of_ranges, primary_of, slot};
@@ -295,7 +295,8 @@ fn window_of(slots: &[Slot], singles: &[u16], base: u16) -> Window
     }
 }
 
-/// The code of primary weights under a table.
+/// The code of primary weights under a table. It takes some 260 KiB, and more time to make than many keys, so who makes keys by one
+/// table keeps its code beside it.
 #[derive(Drop)]
 pub struct ShortCode {
     commons: Vec<u16>,

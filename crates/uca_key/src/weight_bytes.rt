@@ -9,7 +9,7 @@ ghost use Rattle.uca_levels.specs.Streams.{weights_from};
 ghost use Rattle.uca_key.specs.Reach.{first_left, state_of};
 ghost use Rattle.uca_key.specs.Pieces.{HoldsElements, elements_of};
 ghost use Rattle.uca_key.specs.Placing.{IsPutting, PutsAt};
-ghost use Rattle.uca_key.specs.PrimaryCode.{after_lead, after_slot, base_after, has_page, is_common, is_in_window, is_single, lead, letter_bytes, primary_bytes, primary_level, second_bytes, slot, start, state_after};
+ghost use Rattle.uca_key.specs.PrimaryCode.{after_slot, base_after, has_page, is_common, is_in_window, is_single, lead, letter_bytes, primary_bytes, primary_level, second_bytes, slot, start, state_after};
 
 use crate::pieces::{PIECE, TextReading};
 use crate::placing::put_bytes;
@@ -54,16 +54,13 @@ fn has_page(w: u16) -> bool
     w < 0x7000 || w / 256 == 0xFB
 }
 
-// Puts what follows the lead of a weight.
-fn put_after_lead(code: &ShortCode, w: u16, key: &mut [u8], at: usize) -> usize
+// Puts what follows the lead of a weight that has no byte of its own.
+fn put_after_lead(w: u16, key: &mut [u8], at: usize) -> usize
     requires { at + 2 ≤ length key.old }
-    ensures bytes { take result key.new ≡ take at key.old ++ after_lead code.now w }
+    ensures bytes { take result key.new ≡ take at key.old ++ (if has_page w then (w % 256) ∷ [] else weight_bytes w) }
     ensures within { result ≤ at + 2 }
     ensures size { length key.new ≡ length key.old }
 {
-    if code.is_single(w) {
-        return at;
-    }
     if has_page(w) {
         return put_low(w, key, at);
     }
@@ -105,7 +102,9 @@ fn slot_byte(code: &ShortCode, window: Window, w: u16) -> u8
     requires inside { slot code.now w < slot code.now window.base + 119 }
     ensures { result ≡ lead code.now window.base + 1 + (slot code.now w - slot code.now window.base) }
 {
-    window.lead + 1 + (code.slot(w) - window.slot) as u8
+    let from = window.slot as u32;
+    let at = code.slot(w) as u32;
+    window.lead + 1 + (at - from) as u8
 }
 
 // The first byte of a weight outside the window, which has this lead.
@@ -139,17 +138,28 @@ fn put_inside(code: &ShortCode, window: Window, w: u16, key: &mut [u8], at: usiz
     put_after_slot(code, w, key, at + 1)
 }
 
-// Puts a weight that the window does not have.
-fn put_outside(code: &ShortCode, window: Window, w: u16, key: &mut [u8], at: usize) -> usize
+// Puts a weight that the window does not have, and that may have a byte of its own.
+fn put_outside(
+    code: &ShortCode,
+    window: Window,
+    w: u16,
+    single: bool,
+    key: &mut [u8],
+    at: usize,
+) -> usize
     requires slot { window.slot ≡ slot code.now window.base }
     requires outside { is_in_window code.now window.base w ≡ false }
+    requires single { single ≡ is_single code.now w }
     requires room { at + 3 ≤ length key.old }
     ensures bytes { take result key.new ≡ take at key.old ++ letter_bytes code.now window.base w }
     ensures within { result ≤ at + 3 }
     ensures size { length key.new ≡ length key.old }
 {
     key[at] = lead_byte(code, window, w, code.lead(w));
-    put_after_lead(code, w, key, at + 1)
+    if single {
+        return at + 1;
+    }
+    put_after_lead(w, key, at + 1)
 }
 
 // Puts a weight after the first one of an implicit pair.
@@ -166,18 +176,19 @@ fn put_second(w: u16, key: &mut [u8], at: usize) -> usize
     put_pair(w, key, at)
 }
 
-// Where the window begins after a weight that it does not have.
-fn window_after(code: &ShortCode, window: Window, w: u16) -> Window
+// Where the window begins after a weight that it does not have, and that may have a byte of its own.
+fn window_after(code: &ShortCode, window: Window, w: u16, single: bool) -> Window
     requires slot { window.slot ≡ slot code.now window.base }
     requires lead { window.lead ≡ lead code.now window.base }
     requires most { window.lead ≤ 135 }
     requires outside { is_in_window code.now window.base w ≡ false }
+    requires single { single ≡ is_single code.now w }
     ensures base { result.base ≡ base_after code.now window.base w }
     ensures slot { result.slot ≡ slot code.now result.base }
     ensures lead { result.lead ≡ lead code.now result.base }
     ensures most { result.lead ≤ 135 }
 {
-    if code.is_single(w) {
+    if single {
         return window;
     }
     let anchor = code.anchor(w);
@@ -233,10 +244,11 @@ fn put_weight(code: &ShortCode, before: Placed, w: u16, key: &mut [u8]) -> Place
             reach: Reach { window, second },
         };
     }
+    let single = code.is_single(w);
     Placed {
-        at: put_outside(code, window, w, key, before.at),
+        at: put_outside(code, window, w, single, key, before.at),
         reach: Reach {
-            window: window_after(code, window, w),
+            window: window_after(code, window, w, single),
             second,
         },
     }
