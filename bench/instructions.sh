@@ -21,14 +21,15 @@ counted() {
     valgrind --tool=callgrind --callgrind-out-file=/dev/null "$@" <"$input" 2>&1 >/dev/null | awk '/Collected/ { print $4 }'
 }
 
-# of_line INPUT COMMAND..: the instructions of a line, without loading
+# of_line INPUT COMMAND..: the instructions of a line, without loading, which is counted once for each command
 of_line() {
     local input=$1 load whole
     shift
-    load=$(counted "$work/nothing" "$@")
+    load=$work/load-$(md5sum <<<"$*" | cut -d' ' -f1)
+    [ -s "$load" ] || counted "$work/nothing" "$@" >"$load"
     whole=$(counted "$input" "$@")
     [ -n "$whole" ] || refuses "$* could not be run"
-    awk -v a="$load" -v b="$whole" -v n="$(wc -l <"$input")" 'BEGIN { printf "%.0f", (b - a) / n }'
+    awk -v a="$(cat "$load")" -v b="$whole" -v n="$(wc -l <"$input")" 'BEGIN { printf "%.0f", (b - a) / n }'
 }
 
 # other INPUT JOB [shifted]: the instructions of a line of what is counted beside uca
