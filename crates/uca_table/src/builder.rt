@@ -103,20 +103,13 @@ impl TableBuilder {
         let Ok(keys) = entries.finish(self.alloc) else {
             return Err(FinishFault { builder: self });
         };
-        let TableBuilder {
-            entries: added,
-            ranges,
-            alloc,
-        } = self;
-        // The cells take as much memory as the entries that were added, which nobody needs any longer.
-        drop(added);
         let stored = Stored {
             keys,
-            ranges: ranges.finish(range_room),
-            ideographs: Vec::new(alloc),
+            ranges: self.ranges.finish(range_room),
+            ideographs: Vec::new(self.alloc),
             longest_key,
         };
-        Ok(Table::of(alloc, stored))
+        Ok(Table::of(self.alloc, stored))
     }
 }
 
