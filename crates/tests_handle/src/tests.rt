@@ -88,18 +88,18 @@ fn a_key_is_written_as_far_as_it_fits(rt: HostRuntime) {
 fn a_packed_key_is_written_as_far_as_it_fits(rt: HostRuntime) {
     let alloc = rt.alloc();
     let mut collator = opened(&rt, alloc, b"");
-    let wanted = [0x10, 0, 0, 0, 3, 3, 9, 9];
-    for room in [8, 6, 3, 0] {
-        let mut key = [9; 8];
+    let wanted = [0x11, 0, 0, 2, 2, 9, 9];
+    for room in [7, 5, 3, 0] {
+        let mut key = [9; 7];
         let written = match collator.packed_key(alloc, TERTIARY, b"a", &mut key[..room]) {
             Err(KeyFault::OutOfMemory) => {
                 collator.packed_key(alloc, TERTIARY, b"a", &mut key[..room])
             }
             answer => answer,
         };
-        assert!(rt; written == Ok(6));
+        assert!(rt; written == Ok(5));
         assert!(rt; key[..room] == wanted[..room]);
-        assert!(rt; key[room..] == [9; 8][room..]);
+        assert!(rt; key[room..] == [9; 7][room..]);
     }
 }
 
@@ -139,6 +139,23 @@ fn bounds(
     }
 }
 
+/// The bounds of the packed keys of a text, likewise.
+fn packed_bounds(
+    alloc: Global,
+    collator: &mut Collator,
+    text: &[u8],
+    lower: &mut [u8; 8],
+    upper: &mut [u8; 8],
+) -> Result<BoundsSize, BoundsFault> {
+    let v = Variable::NonIgnorable;
+    match collator.packed_prefix_bounds(alloc, v, text, lower, upper) {
+        Err(BoundsFault::OutOfMemory) => {
+            collator.packed_prefix_bounds(alloc, v, text, lower, upper)
+        }
+        answer => answer,
+    }
+}
+
 #[test]
 fn a_complete_text_has_two_ends(rt: HostRuntime) {
     let alloc = rt.alloc();
@@ -153,12 +170,18 @@ fn a_complete_text_has_two_ends(rt: HostRuntime) {
     assert!(rt; found == Ok(both));
     assert!(rt; lower == [0x10, 7, 0x10, 3, 9, 9, 9, 9]);
     assert!(rt; upper == [0x10, 7, 0x10, 4, 9, 9, 9, 9]);
-    let found = bounds(alloc, &mut collator, b"", &mut lower, &mut upper);
+    let found = packed_bounds(alloc, &mut collator, b"zch", &mut lower, &mut upper);
+    assert!(rt; found == Ok(both));
+    assert!(rt; lower == [0x11, 7, 0x11, 3, 9, 9, 9, 9]);
+    assert!(rt; upper == [0x11, 7, 0x11, 4, 9, 9, 9, 9]);
     let none = BoundsSize {
         lower: 0,
         upper: None,
         complete: true,
     };
+    let found = bounds(alloc, &mut collator, b"", &mut lower, &mut upper);
+    assert!(rt; found == Ok(none));
+    let found = packed_bounds(alloc, &mut collator, b"", &mut lower, &mut upper);
     assert!(rt; found == Ok(none));
 }
 
@@ -185,8 +208,12 @@ fn a_faulty_text_has_no_bounds(rt: HostRuntime) {
     let (mut lower, mut upper) = ([9; 8], [9; 8]);
     let found = bounds(alloc, &mut collator, b"a\xFF", &mut lower, &mut upper);
     assert!(rt; found == Err(BoundsFault::Text(TextFault::NotUtf8(1))));
+    let found = packed_bounds(alloc, &mut collator, b"a\xFF", &mut lower, &mut upper);
+    assert!(rt; found == Err(BoundsFault::Text(TextFault::NotUtf8(1))));
     collator.close(alloc);
     let found = bounds(alloc, &mut collator, b"a", &mut lower, &mut upper);
+    assert!(rt; found == Err(BoundsFault::Closed));
+    let found = packed_bounds(alloc, &mut collator, b"a", &mut lower, &mut upper);
     assert!(rt; found == Err(BoundsFault::Closed));
     assert!(rt; (lower, upper) == ([9; 8], [9; 8]));
 }

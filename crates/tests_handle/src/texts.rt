@@ -40,8 +40,8 @@ fn checked_texts_have_an_order_and_keys(rt: HostRuntime) {
         Err(KeyFault::OutOfMemory) => collator.packed_key_of(alloc, TERTIARY, &second, &mut packed),
         answer => answer,
     };
-    assert!(rt; size == Ok(6));
-    assert!(rt; packed == [0x10, 3, 0, 0, 3, 3, 9, 9, 9]);
+    assert!(rt; size == Ok(5));
+    assert!(rt; packed == [0x11, 3, 0, 2, 2, 9, 9, 9, 9]);
 }
 
 #[test]

@@ -4,7 +4,7 @@
 
 ghost use Rattle.std.specs.Prelude.{◌≡◌, ◌+◌, ◌*◌, None, MatchOption};
 ghost use Rattle.ucd_table.specs.declared.version.TheConstants.{UNICODE_VERSION};
-ghost use Rattle.uca_handle.specs.Calls.{Checks, Compares, Fingerprints, MakesKey, MakesPackedKey, Opens, PutsBounds, Shares, WritesKey};
+ghost use Rattle.uca_handle.specs.Calls.{Checks, Compares, Fingerprints, MakesKey, MakesPackedKey, Opens, PutsBounds, PutsPackedBounds, Shares, WritesKey};
 ghost use Rattle.uca_handle.specs.Collator.{held};
 ghost use Rattle.uca_handle.specs.Completeness.{TellsComplete};
 ghost use Rattle.uca_handle.specs.Places.{place_of};
@@ -21,8 +21,8 @@ pub use looks::MatchesNeeded;
 use numbers::BAD_SETTINGS;
 pub use reports::{Digest, Fault};
 use reports::{
-    NO_FAULT, of_bounds, of_check, of_comparison, of_completeness, of_fingerprint, of_opening,
-    of_sharing, order_number, report_key,
+    NO_FAULT, of_check, of_comparison, of_completeness, of_fingerprint, of_opening, of_sharing,
+    order_number, report_bounds, report_key,
 };
 pub use settings::RawSettings;
 use settings::settings_of;
@@ -214,17 +214,46 @@ pub extern "C" fn uca_prefix_bounds(
         *fault = NO_FAULT;
         return BAD_SETTINGS;
     };
-    let outcome = collator.prefix_bounds(alloc, s.weighting, text, lower, upper);
-    if let Ok(size) = outcome {
-        *lower_needed = size.lower;
-        *upper_needed = size.upper.unwrap_or(0);
-    }
-    let report = of_bounds(outcome);
-    *fault = report.fault;
-    report.status
+    report_bounds(
+        collator.prefix_bounds(alloc, s.weighting, text, lower, upper),
+        lower_needed,
+        upper_needed,
+        fault,
+    )
 }
 
-/// Tells whether a text is complete: 1 if it is, else 0. Then every text that begins with it has its keys between the two ends.
+/// The same of packed keys, as `uca_packed_key` makes them.
+#[unsafe(no_mangle)]
+pub extern "C" fn uca_packed_prefix_bounds(
+    alloc: Global,
+    collator: &mut Collator,
+    settings: &RawSettings,
+    text: &[u8],
+    lower: &mut [u8],
+    upper: &mut [u8],
+    lower_needed: &mut usize,
+    upper_needed: &mut usize,
+    fault: &mut Fault,
+) -> u32
+    ensures bounds { MatchOption (settings_named settings.now)
+        (IsRefused result fault.new × (lower.new ≡ lower.old) × (upper.new ≡ upper.old) × (lower_needed.new ≡ lower_needed.old) × (upper_needed.new ≡ upper_needed.old))
+        (λ s. Reports bounds_report result fault.new (λ outcome. PutsPackedBounds (held collator.old) s.weighting text.now lower.old lower.new upper.old upper.new outcome × (lower_needed.new ≡ lower_size_after lower_needed.old outcome) × (upper_needed.new ≡ upper_size_after upper_needed.old outcome))) }
+    ensures same { held collator.new ≡ held collator.old }
+{
+    let Some(s) = settings_of(settings) else {
+        *fault = NO_FAULT;
+        return BAD_SETTINGS;
+    };
+    report_bounds(
+        collator.packed_prefix_bounds(alloc, s.weighting, text, lower, upper),
+        lower_needed,
+        upper_needed,
+        fault,
+    )
+}
+
+/// Tells whether a text is complete: 1 if it is, else 0. Then every text that begins with it has its keys between the two ends, and
+/// its packed keys between theirs.
 #[unsafe(no_mangle)]
 pub extern "C" fn uca_is_complete(
     collator: &mut Collator,

@@ -222,8 +222,8 @@ pub(crate) fn report_key(
     report.status
 }
 
-/// What `uca_prefix_bounds` reports.
-pub(crate) fn of_bounds(outcome: Result<BoundsSize, BoundsFault>) -> Report
+/// What `uca_prefix_bounds` and `uca_packed_prefix_bounds` report.
+fn of_bounds(outcome: Result<BoundsSize, BoundsFault>) -> Report
     ensures { result ≡ bounds_report outcome }
 {
     match outcome {
@@ -232,6 +232,26 @@ pub(crate) fn of_bounds(outcome: Result<BoundsSize, BoundsFault>) -> Report
         Err(BoundsFault::Text(fault)) => Report::of_text(1, fault),
         Err(BoundsFault::OutOfMemory) => Report::plain(NO_MEMORY),
     }
+}
+
+/// Reports the lengths of the two ends of a range, 0 for one that is not there, or else the fault.
+pub(crate) fn report_bounds(
+    outcome: Result<BoundsSize, BoundsFault>,
+    lower_needed: &mut usize,
+    upper_needed: &mut usize,
+    fault: &mut Fault,
+) -> u32
+    ensures lower { lower_needed.new ≡ lower_size_after lower_needed.old outcome }
+    ensures upper { upper_needed.new ≡ upper_size_after upper_needed.old outcome }
+    ensures report { bounds_report outcome ≡ record { status = result; fault = fault.new } }
+{
+    if let Ok(size) = outcome {
+        *lower_needed = size.lower;
+        *upper_needed = size.upper.unwrap_or(0);
+    }
+    let report = of_bounds(outcome);
+    *fault = report.fault;
+    report.status
 }
 
 /// What `uca_is_complete` reports.

@@ -1,5 +1,5 @@
 -- What the calls of a collator answer, by its table.
-use Rattle.std.specs.Prelude.{◌≡◌, ◌≢◌, ℕ, ◌-◌, ◌^◌, min, List, [], length, Option, Some, None, Result, Ok, Err, chars}
+use Rattle.std.specs.Prelude.{◌≡◌, ◌≢◌, ℕ, Bool, ◌-◌, ◌^◌, min, List, [], length, Option, Some, None, Result, Ok, Err, chars}
 use Rattle.std.specs.Option.{option_map, option_map_or}
 use Rattle.std.specs.declared.cmp.Ordering.{Ordering}
 use Rattle.sha2.specs.Sha256.{sha256}
@@ -9,7 +9,7 @@ use Rattle.uca_model.specs.SortKey.{key_order, sort_key}
 use Rattle.uca_model.specs.Table.{ElementTable}
 use Rattle.uca_weights.specs.declared.settings.Settings.{Settings}
 use Rattle.uca_weights.specs.declared.settings.Variable.{Variable}
-use Rattle.uca_key.specs.PackedKey.{packed_key}
+use Rattle.uca_key.specs.ShortKey.{short_key, short_prefix}
 use Rattle.uca_handle.specs.Fingerprint.{fingerprinted}
 use Rattle.uca_handle.specs.Opening.{SaysTable, RefusesTable}
 use Rattle.uca_key.specs.Placing.{with_front}
@@ -92,7 +92,7 @@ MakesKey (Some t) s text before after result = MakesKeyBy (sort_key t s (chars t
 -- the same of the packed sort key
 abbrev pub MakesPackedKey : Option ElementTable → Settings → List ℕ → List ℕ → List ℕ → Result ℕ KeyFault → Type 0
 MakesPackedKey None s text before after result = (result ≡ Err key.Closed) × (after ≡ before)
-MakesPackedKey (Some t) s text before after result = MakesKeyBy (packed_key t s (chars text)) text before after result
+MakesPackedKey (Some t) s text before after result = MakesKeyBy (short_key t s (chars text)) text before after result
 
 -- the key of a text under a table is in the front of a buffer, and this is its length, which stops at 2^64 - 1
 pub record IsKeyWritten (t : ElementTable) (s : Settings) (text before after : List ℕ) (size : ℕ) : Type 0 where
@@ -116,31 +116,39 @@ WritesKey (Some t) s text before after result = WritesKeyBy t s text before afte
 abbrev pub end_bytes : Option (List ℕ) → List ℕ
 end_bytes end = option_map_or (λ bytes. bytes) end []
 
--- the first byte string after all that begin with the primary key of a text
-abbrev pub upper_end : ElementTable → Variable → List ℕ → Option (List ℕ)
-upper_end t v text = end_of_prefix (primary_key t v text)
-
--- the two ends of the keys of all texts whose primary weights begin with those of a text are in the fronts of two buffers, these are their lengths, and whether the text is complete
-pub record AreBoundsIn (t : ElementTable) (v : Variable) (text lower_before lower_after upper_before upper_after : List ℕ) (size : BoundsSize) : Type 0 where
-  pub safe : IsTextLine text
-  pub complete : size.complete ≡ is_complete t (chars text)
-  pub lower_is : size.lower ≡ length (primary_key t v (chars text))
-  pub lower_written : lower_after ≡ with_front (primary_key t v (chars text)) lower_before
-  pub upper_is : size.upper ≡ option_map length (upper_end t v (chars text))
+-- the two ends of the range of byte strings that begin with these bytes are in the fronts of two buffers, these are their lengths, and this is whether a text is complete
+pub record AreEndsIn (prefix : List ℕ) (complete : Bool) (lower_before lower_after upper_before upper_after : List ℕ) (size : BoundsSize) : Type 0 where
+  pub complete : size.complete ≡ complete
+  pub lower_is : size.lower ≡ length prefix
+  pub lower_written : lower_after ≡ with_front prefix lower_before
+  pub upper_is : size.upper ≡ option_map length (end_of_prefix prefix)
   pub upper_some : size.upper ≢ Some 0
-  pub upper_written : upper_after ≡ with_front (end_bytes (upper_end t v (chars text))) upper_before
+  pub upper_written : upper_after ≡ with_front (end_bytes (end_of_prefix prefix)) upper_before
 
--- the bounds are found, or both buffers stay as they were
+-- the two ends are found with whether a text is complete, or both buffers stay as they were
+abbrev pub PutsEndsBy : List ℕ → Bool → List ℕ → List ℕ → List ℕ → List ℕ → List ℕ → Result BoundsSize BoundsFault → Type 0
+PutsEndsBy prefix complete text lower lower_after upper upper_after (Ok size) = IsTextLine text × AreEndsIn prefix complete lower lower_after upper upper_after size
+PutsEndsBy prefix complete text lower lower_after upper upper_after (Err bounds.Closed) = ⊥
+PutsEndsBy prefix complete text lower lower_after upper upper_after (Err (bounds.Text f)) = IsFault text f × (lower_after ≡ lower) × (upper_after ≡ upper)
+PutsEndsBy prefix complete text lower lower_after upper upper_after (Err bounds.OutOfMemory) = IsTextLine text × (lower_after ≡ lower) × (upper_after ≡ upper)
+
+-- the bounds of the keys of all texts whose primary weights begin with those of a text: they begin with its key at the strength Primary
 abbrev pub PutsBoundsBy : ElementTable → Variable → List ℕ → List ℕ → List ℕ → List ℕ → List ℕ → Result BoundsSize BoundsFault → Type 0
-PutsBoundsBy t v text lower lower_after upper upper_after (Ok size) = AreBoundsIn t v text lower lower_after upper upper_after size
-PutsBoundsBy t v text lower lower_after upper upper_after (Err bounds.Closed) = ⊥
-PutsBoundsBy t v text lower lower_after upper upper_after (Err (bounds.Text f)) = IsFault text f × (lower_after ≡ lower) × (upper_after ≡ upper)
-PutsBoundsBy t v text lower lower_after upper upper_after (Err bounds.OutOfMemory) = IsTextLine text × (lower_after ≡ lower) × (upper_after ≡ upper)
+PutsBoundsBy t v text lower lower_after upper upper_after result = PutsEndsBy (primary_key t v (chars text)) (is_complete t (chars text)) text lower lower_after upper upper_after result
+
+-- the same of the packed keys: they begin with the first level of its packed key, without the end of the level
+abbrev pub PutsPackedBoundsBy : ElementTable → Variable → List ℕ → List ℕ → List ℕ → List ℕ → List ℕ → Result BoundsSize BoundsFault → Type 0
+PutsPackedBoundsBy t v text lower lower_after upper upper_after result = PutsEndsBy (short_prefix t v (chars text)) (is_complete t (chars text)) text lower lower_after upper upper_after result
 
 -- the same by a collator, which may have no table
 abbrev pub PutsBounds : Option ElementTable → Variable → List ℕ → List ℕ → List ℕ → List ℕ → List ℕ → Result BoundsSize BoundsFault → Type 0
 PutsBounds None v text lower lower_after upper upper_after result = (result ≡ Err bounds.Closed) × (lower_after ≡ lower) × (upper_after ≡ upper)
 PutsBounds (Some t) v text lower lower_after upper upper_after result = PutsBoundsBy t v text lower lower_after upper upper_after result
+
+-- the same of packed keys
+abbrev pub PutsPackedBounds : Option ElementTable → Variable → List ℕ → List ℕ → List ℕ → List ℕ → List ℕ → Result BoundsSize BoundsFault → Type 0
+PutsPackedBounds None v text lower lower_after upper upper_after result = (result ≡ Err bounds.Closed) × (lower_after ≡ lower) × (upper_after ≡ upper)
+PutsPackedBounds (Some t) v text lower lower_after upper upper_after result = PutsPackedBoundsBy t v text lower lower_after upper upper_after result
 
 -- the fingerprint of a table and settings
 abbrev pub FingerprintsBy : ElementTable → Settings → Result (List ℕ) FingerprintFault → Type 0

@@ -1,9 +1,13 @@
-ghost use Rattle.std.specs.Prelude.{◌≡◌};
-ghost use Rattle.uca_handle.specs.Calls.{PutsBoundsBy};
+ghost use Rattle.std.specs.Prelude.{◌≡◌, chars, length};
+ghost use Rattle.std.specs.Option.{option_map};
+ghost use Rattle.uca_model.specs.Lines.{IsTextLine};
+ghost use Rattle.uca_model.specs.Prefix.{end_of_prefix};
+ghost use Rattle.uca_handle.specs.Calls.{AreEndsIn, PutsBoundsBy, PutsPackedBoundsBy};
 
 use crate::faults::BoundsFault;
+use crate::opened::Opened;
 use std::alloc::Global;
-use uca_key::{copy_front, prefix_bounds};
+use uca_key::{PrefixBounds, copy_front, prefix_bounds, short_prefix_bounds};
 use uca_table::Table;
 use uca_weights::Variable;
 use uca_window::Passage;
@@ -19,9 +23,29 @@ pub struct BoundsSize {
     pub complete: bool,
 }
 
+/// Copies the two ends of a range into the fronts of two buffers, or as many of their bytes as fit.
+#[tactic(auto, using(crate::proofs::UpperEndLemmas::end_has_a_byte))]
+fn put_ends(bounds: &PrefixBounds, lower: &mut [u8], upper: &mut [u8]) -> BoundsSize
+    requires { option_map (λ (end : _). end.items) bounds.now.upper ≡ end_of_prefix bounds.now.lower.items }
+    ensures { AreEndsIn bounds.now.lower.items bounds.now.complete lower.old lower.new upper.old upper.new result }
+{
+    copy_front(bounds.lower.as_slice(), lower);
+    let upper_size = match &bounds.upper {
+        Some(end) => {
+            copy_front(end.as_slice(), upper);
+            Some(end.len())
+        }
+        None => None,
+    };
+    BoundsSize {
+        lower: bounds.lower.len(),
+        upper: upper_size,
+        complete: bounds.complete,
+    }
+}
+
 /// Puts the two ends of the keys of all texts whose primary weights begin with those of a text into the fronts of two buffers, or
 /// as many of their bytes as fit.
-#[tactic(auto, using(crate::proofs::UpperEndLemmas::end_has_a_byte))]
 pub(crate) fn put_bounds(
     alloc: Global,
     t: &Table,
@@ -36,25 +60,29 @@ pub(crate) fn put_bounds(
         Ok(passage) => passage,
         Err(fault) => return Err(BoundsFault::Text(fault)),
     };
-    let Ok(bounds) = prefix_bounds(alloc, t, v, &passage) else {
-        return Err(BoundsFault::OutOfMemory);
+    match prefix_bounds(alloc, t, v, &passage) {
+        Ok(bounds) => Ok(put_ends(&bounds, lower, upper)),
+        Err(_) => Err(BoundsFault::OutOfMemory),
+    }
+}
+
+/// The same of packed keys.
+pub(crate) fn put_packed_bounds(
+    alloc: Global,
+    opened: &Opened,
+    v: Variable,
+    text: &[u8],
+    lower: &mut [u8],
+    upper: &mut [u8],
+) -> Result<BoundsSize, BoundsFault>
+    ensures { PutsPackedBoundsBy opened.now v text.now lower.old lower.new upper.old upper.new result }
+{
+    let passage = match Passage::of_bytes(text) {
+        Ok(passage) => passage,
+        Err(fault) => return Err(BoundsFault::Text(fault)),
     };
-    let complete = bounds.complete;
-    copy_front(bounds.lower.as_slice(), lower);
-    let lower_size = bounds.lower.len();
-    match &bounds.upper {
-        Some(end) => {
-            copy_front(end.as_slice(), upper);
-            Ok(BoundsSize {
-                lower: lower_size,
-                upper: Some(end.len()),
-                complete,
-            })
-        }
-        None => Ok(BoundsSize {
-            lower: lower_size,
-            upper: None,
-            complete,
-        }),
+    match short_prefix_bounds(alloc, opened.table(), opened.code(), v, &passage) {
+        Ok(bounds) => Ok(put_ends(&bounds, lower, upper)),
+        Err(_) => Err(BoundsFault::OutOfMemory),
     }
 }

@@ -2,7 +2,7 @@ ghost use Rattle.std.specs.Prelude.{◌≡◌, None, Some, IfOk, is_some, option
 ghost use Rattle.std.specs.Arc.{arc_value};
 ghost use Rattle.std.specs.Box.{box_value};
 
-use crate::bounds::{BoundsSize, put_bounds};
+use crate::bounds::{BoundsSize, put_bounds, put_packed_bounds};
 use crate::completeness::completeness_of;
 use crate::digest::digest_of;
 use crate::faults::{BoundsFault, CompareFault, FingerprintFault, KeyFault, OpenFault, ShareFault};
@@ -11,6 +11,7 @@ use crate::keys::{put_key, put_packed_key, put_packed_text_key, put_text_key, wr
 use crate::levels::{Decision, decision_of};
 use crate::loose::Loose;
 use crate::matches::{ElementForm, MatchForm, MatchesSize, put_matches};
+use crate::opened::Opened;
 use crate::opening::table_of;
 use crate::texts::order_of;
 use std::alloc::{AllocError, Global};
@@ -23,7 +24,7 @@ use uca_weights::{Settings, Variable};
 use uca_window::Passage;
 
 /// A table that several collators own together.
-type Shared = Box<Arc<Table, Global>, Global>;
+type Shared = Box<Arc<Opened, Global>, Global>;
 
 /// A share of a table, or none. It is laid out as C lays out a pointer and a `bool`, and zeros are a collator without a
 /// table.
@@ -42,7 +43,7 @@ impl Drop for Collator {
 
 impl Collator {
     ghost use Rattle.uca_window.specs.Passage.{bytes_of, text_of};
-    ghost use Rattle.uca_handle.specs.Calls.{Compares, Fingerprints, MakesKey, MakesPackedKey, Opens, PutsBounds, Shares, WritesKey};
+    ghost use Rattle.uca_handle.specs.Calls.{Compares, Fingerprints, MakesKey, MakesPackedKey, Opens, PutsBounds, PutsPackedBounds, Shares, WritesKey};
     ghost use Rattle.uca_handle.specs.Collator.{held};
     ghost use Rattle.uca_handle.specs.Completeness.{TellsComplete};
     ghost use Rattle.uca_handle.specs.Levels.{ComparesLevels};
@@ -133,7 +134,7 @@ impl Collator {
         if !self.is_open {
             return Err(CompareFault::Closed);
         }
-        order_of(table_in(self.handle.get_mut()), s, a, b)
+        order_of(opened_in(self.handle.get_mut()).table(), s, a, b)
     }
 
     /// The order of the sort keys of two texts that were checked before, or `None` where the collator has no table. It does not
@@ -145,7 +146,7 @@ impl Collator {
         if !self.is_open {
             return None;
         }
-        Some(compare(table_in(self.handle.get_mut()), s, a, b))
+        Some(compare(opened_in(self.handle.get_mut()).table(), s, a, b))
     }
 
     /// Puts the sort key of a text into the front of a buffer, or as many of its bytes as fit, and returns how many bytes it
@@ -163,12 +164,18 @@ impl Collator {
         if !self.is_open {
             return Err(KeyFault::Closed);
         }
-        put_key(alloc, table_in(self.handle.get_mut()), s, text, out)
+        put_key(
+            alloc,
+            opened_in(self.handle.get_mut()).table(),
+            s,
+            text,
+            out,
+        )
     }
 
     /// Puts the packed sort key of a text into the front of a buffer, or as many of its bytes as fit, and returns how many bytes
-    /// it has. Packed keys are in the order of the sort keys, and most are shorter by half. A packed key cannot be compared
-    /// with a sort key.
+    /// it has. Packed keys are in the order of the sort keys, and most have less than half the bytes. A packed key cannot be
+    /// compared with a sort key. That of a text of at most 127 bytes is made without an allocation.
     pub fn packed_key(
         &mut self,
         alloc: Global,
@@ -182,7 +189,7 @@ impl Collator {
         if !self.is_open {
             return Err(KeyFault::Closed);
         }
-        put_packed_key(alloc, table_in(self.handle.get_mut()), s, text, out)
+        put_packed_key(alloc, opened_in(self.handle.get_mut()), s, text, out)
     }
 
     /// Puts the sort key of a text that was checked before into the front of a buffer, as [`Collator::sort_key`] does.
@@ -199,7 +206,13 @@ impl Collator {
         if !self.is_open {
             return Err(KeyFault::Closed);
         }
-        put_text_key(alloc, table_in(self.handle.get_mut()), s, text, out)
+        put_text_key(
+            alloc,
+            opened_in(self.handle.get_mut()).table(),
+            s,
+            text,
+            out,
+        )
     }
 
     /// Puts the packed sort key of a text that was checked before into the front of a buffer, as [`Collator::packed_key`] does.
@@ -216,7 +229,7 @@ impl Collator {
         if !self.is_open {
             return Err(KeyFault::Closed);
         }
-        put_packed_text_key(alloc, table_in(self.handle.get_mut()), s, text, out)
+        put_packed_text_key(alloc, opened_in(self.handle.get_mut()), s, text, out)
     }
 
     /// Writes the sort key of a text into the front of a buffer, or as many of its bytes as fit, and returns how many bytes it
@@ -228,7 +241,7 @@ impl Collator {
         if !self.is_open {
             return Err(KeyFault::Closed);
         }
-        write_key_of(table_in(self.handle.get_mut()), s, text, out)
+        write_key_of(opened_in(self.handle.get_mut()).table(), s, text, out)
     }
 
     /// Puts the two ends of the keys of all texts whose primary weights begin with those of a text into the fronts of two buffers,
@@ -250,7 +263,33 @@ impl Collator {
         }
         put_bounds(
             alloc,
-            table_in(self.handle.get_mut()),
+            opened_in(self.handle.get_mut()).table(),
+            v,
+            text,
+            lower,
+            upper,
+        )
+    }
+
+    /// The same of packed keys: the packed keys of all texts whose primary weights begin with those of the text, of whatever
+    /// strength, are from the lower end up to the upper one.
+    pub fn packed_prefix_bounds(
+        &mut self,
+        alloc: Global,
+        v: Variable,
+        text: &[u8],
+        lower: &mut [u8],
+        upper: &mut [u8],
+    ) -> Result<BoundsSize, BoundsFault>
+        ensures bounds { PutsPackedBounds (held self.old) v text.now lower.old lower.new upper.old upper.new result }
+        ensures same { held self.new ≡ held self.old }
+    {
+        if !self.is_open {
+            return Err(BoundsFault::Closed);
+        }
+        put_packed_bounds(
+            alloc,
+            opened_in(self.handle.get_mut()),
             v,
             text,
             lower,
@@ -259,7 +298,7 @@ impl Collator {
     }
 
     /// Whether a text is complete: then every text that begins with it has its keys between the ends that
-    /// [`Collator::prefix_bounds`] puts. It does not allocate.
+    /// [`Collator::prefix_bounds`] puts, and its packed keys between those of [`Collator::packed_prefix_bounds`]. It does not allocate.
     pub fn is_complete(&mut self, text: &[u8]) -> Result<bool, KeyFault>
         ensures complete { TellsComplete (held self.old) text.now result }
         ensures same { held self.new ≡ held self.old }
@@ -267,7 +306,7 @@ impl Collator {
         if !self.is_open {
             return Err(KeyFault::Closed);
         }
-        completeness_of(table_in(self.handle.get_mut()), text)
+        completeness_of(opened_in(self.handle.get_mut()).table(), text)
     }
 
     /// The SHA-256 digest of what sort keys depend on: the canonical text of the table, the settings, and the version of
@@ -279,7 +318,7 @@ impl Collator {
         if !self.is_open {
             return Err(FingerprintFault::Closed);
         }
-        digest_of(alloc, table_in(self.handle.get_mut()), s)
+        digest_of(alloc, opened_in(self.handle.get_mut()).table(), s)
     }
 
     /// The order of the sort keys of two texts, with the level that decides it, or the fault of the first of them that has one. It
@@ -296,7 +335,7 @@ impl Collator {
         if !self.is_open {
             return Err(CompareFault::Closed);
         }
-        decision_of(table_in(self.handle.get_mut()), s, a, b)
+        decision_of(opened_in(self.handle.get_mut()).table(), s, a, b)
     }
 
     /// Puts the matches of a text into the fronts of three arrays, or as many of them as fit, and returns how much it is: the
@@ -318,7 +357,7 @@ impl Collator {
         }
         put_matches(
             alloc,
-            table_in(self.handle.get_mut()),
+            opened_in(self.handle.get_mut()).table(),
             text,
             matches,
             points,
@@ -327,24 +366,24 @@ impl Collator {
     }
 }
 
-/// Counts the owners of a table.
+/// Makes of a table what collators share, with a count of its owners.
 fn shared(alloc: Global, t: Table) -> Result<Shared, AllocError>
     ensures { IfOk result (λ b. arc_value b.value ≡ t) }
 {
-    let counted = Arc::new(alloc, t)?;
+    let counted = Arc::new(alloc, Opened::new(alloc, t)?)?;
     Ok(Box::new(alloc, counted)?)
 }
 
 /// One more owner of a table.
-fn copy_of(alloc: Global, counted: &Arc<Table, Global>) -> Result<Shared, AllocError>
+fn copy_of(alloc: Global, counted: &Arc<Opened, Global>) -> Result<Shared, AllocError>
     ensures { IfOk result (λ b. arc_value b.value ≡ arc_value counted.now) }
 {
     let copy = Arc::try_clone(counted)?;
     Ok(Box::new(alloc, copy)?)
 }
 
-/// The table that an owner has.
-fn table_in(counted: &Arc<Table, Global>) -> &Table
+/// What an owner has.
+fn opened_in(counted: &Arc<Opened, Global>) -> &Opened
     ensures { result.now ≡ arc_value counted.now }
 {
     counted

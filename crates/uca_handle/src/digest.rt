@@ -11,8 +11,8 @@ use uca_table::Table;
 use uca_weights::{Settings, Variable, Writing};
 use unicode_normalization::UNICODE_VERSION;
 
-/// The form of sort keys. It changes if the same weights ever make another key.
-const KEY_FORM: u8 = 1;
+/// The form of keys. It changes if the same weights ever make another sort key or packed key. Number 1 was that of longer packed keys.
+const KEY_FORM: u8 = 2;
 
 fn variable_number(weighting: Variable) -> u8
     ensures { result ≡ variable_number weighting }

@@ -7,11 +7,11 @@ ghost use Rattle.uca_handle.specs.Held.{arc_coded};
 ghost use types.Logic.{sem};
 
 use crate::loose::Loose;
+use crate::opened::Opened;
 use std::alloc::Global;
 use std::marker::Model;
 use std::ptr::null_mut;
 use std::sync::Arc;
-use uca_table::Table;
 
 /// A table on the heap, with a count of its owners, behind a pointer without a type; or none. Letting a handle go does not free the table: a collator does that first.
 #[repr(C)]
@@ -41,7 +41,7 @@ impl Handle {
         }
     }
 
-    pub(crate) fn of(loose: Loose<Arc<Table, Global>, Global>) -> Handle
+    pub(crate) fn of(loose: Loose<Arc<Opened, Global>, Global>) -> Handle
         ensures { result.table ≡ Some loose.value }
     {
         let Loose { at, alloc } = loose;
@@ -52,22 +52,22 @@ impl Handle {
     }
 
     /// The table, where there is one. The handle is not written.
-    pub(crate) fn get_mut(&mut self) -> &mut Arc<Table, Global>
+    pub(crate) fn get_mut(&mut self) -> &mut Arc<Opened, Global>
         requires { IsTrue (is_some self.old.table) }
         ensures* writes_back { sem 𝓛 (LendsTable self.entry result) }
         ensures value { Some result.now ≡ self.old.table }
     {
-        let at = self.at as *mut Arc<Table, Global>;
+        let at = self.at as *mut Arc<Opened, Global>;
         unsafe { &mut *at }
     }
 
-    pub(crate) fn into_loose(self) -> Loose<Arc<Table, Global>, Global>
+    pub(crate) fn into_loose(self) -> Loose<Arc<Opened, Global>, Global>
         requires { IsTrue (is_some self.table) }
         ensures { Some result.value ≡ self.table }
     {
         let Handle { at, alloc } = self;
         Loose {
-            at: at as *mut Arc<Table, Global>,
+            at: at as *mut Arc<Opened, Global>,
             alloc,
         }
     }

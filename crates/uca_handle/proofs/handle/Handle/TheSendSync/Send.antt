@@ -11,12 +11,12 @@ use denote.Param.Send.{IsSend, AllSend, owning_send, struct_send, sendable}
 use Rattle.std.proofs.Crossing as heap
 use Rattle.std_alloc.proofs.SendSync.{quiet, lies}
 use Rattle.std_heap.proofs.Global.TheSendSync as handle
-use Rattle.uca_table.specs.contracts.table.Table as Table
-use Rattle.uca_table.proofs.table.Table.TheSendSync.{the_send, the_sync}
+use Rattle.uca_handle.specs.contracts.opened.Opened as Opened
+use Rattle.uca_handle.proofs.opened.Opened.TheSendSync.{the_send, the_sync}
 use Rattle.uca_handle.specs.contracts.handle.Handle.{the_row, the_type}
 
 counted_send : IsSend counted
-counted_send = heap.Arc-send Table.the_row the_send the_sync
+counted_send = heap.Arc-send Opened.the_row the_send the_sync
 
 holds_keyless : (a : Heap.the_row.Denot) (p : Ptr) (m : Option counted.Denot) → Keyless (holds a p m)
 holds_keyless a p None = tt
