@@ -1,9 +1,9 @@
 mod all_pairs;
 mod bounds;
 mod long_stretches;
-mod packed;
 mod short;
 mod short_buffers;
+mod short_runs;
 mod texts;
 mod written;
 

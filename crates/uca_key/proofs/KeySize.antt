@@ -1,5 +1,5 @@
 -- A key has few bytes for each byte of its text.
-use Rattle.std.proofs.Common.{◌≡◌, ℕ, zero, suc, ◌+◌, ◌-◌, ◌*◌, ◌^◌, ◌≤◌, ◌<◌, Bool, true, false, cond, not, ◌==◌, nat_lt, List, [], ◌∷◌, ◌++◌, length, map, filter, flat_map, slice_index, unwrap_or, Option, Some, None, refl, ap, ◌∙◌, arith, inl, inr, length-append}
+use Rattle.std.proofs.Common.{◌≡◌, ℕ, zero, suc, ◌+◌, ◌-◌, ◌*◌, ◌^◌, ◌≤◌, ◌<◌, Bool, true, false, cond, not, ◌==◌, List, [], ◌∷◌, ◌++◌, length, map, filter, flat_map, slice_index, unwrap_or, Option, Some, None, refl, ap, ◌∙◌, arith, inl, inr, length-append}
 use Rattle.std.proofs.lemmas.Bool.{cases_Bool, cond-true, cond-false}
 use Rattle.std.proofs.lemmas.List.{length-map}
 use Rattle.std.proofs.lemmas.Str.{encodes-chars}
@@ -19,12 +19,10 @@ use Rattle.uca_model.specs.ImplicitWeights.{implicit, implicit_over, is_assigned
 use Rattle.uca_model.specs.CollationElements.{step, elements, elements_or_implicit}
 use Rattle.uca_model.specs.LevelWeights.{level_weights, level_list}
 use Rattle.uca_model.specs.DecidingLevel.{bytes_at, key_from}
-use Rattle.uca_model.specs.SortKey.{sort_key, weight_bytes, level_bytes, code_point_bytes}
+use Rattle.uca_model.specs.SortKey.{sort_key, weight_bytes, code_point_bytes}
 use Rattle.uca_model.proofs.LevelLemmas.{sort_key-levels, levels-within}
 use Rattle.uca_model.proofs.RewritingLemmas.{elements_nil, elements_step, step_shorter}
 use Rattle.uca_model.proofs.TableLemmas.{IsEntry-elements_at}
-use Rattle.uca_key.specs.PackedKey.{common_weight, later_bytes, other_bytes, packed_after, packed_key, packed_level}
-use Rattle.uca_key.proofs.PackedBytes.{after_first, later_levels, packed-levels}
 
 either_few : (b : Bool) (x y : List Element) → length x ≤ 64 → length y ≤ 64 → length (cond b x y) ≤ 64
 either_few true x y h k = h
@@ -120,57 +118,3 @@ pub length-short_key : (t : ElementTable) (s : Settings) (bytes : List ℕ) → 
 length-short_key t s bytes table utf8 few =
     let text : List ℕ = chars bytes in
     omega (arith, ap length (sort_key-levels t s text), short_key_few (levels s.strength - 1) 1 (level_list t s.weighting text) (λ k. omega (arith, level_few t s.weighting text k table, short_text bytes utf8 few)), (levels-within s.strength).0, (levels-within s.strength).1)
-
-run_few : (full : Bool) (xs ys : List ℕ) (n : ℕ) → length xs ≤ n → length ys ≤ n → length (cond full (0xA9 ∷ xs) ys) ≤ n + 1
-run_few true xs ys n few_x few_y = omega (arith, few_x)
-run_few false xs ys n few_x few_y = omega (arith, few_y)
-
-pub other_few : (small : Bool) (w : ℕ) → length (cond small (w ∷ []) (0xFE ∷ weight_bytes w)) ≤ 3
-other_few true w = omega arith
-other_few false w = omega arith
-
--- four bytes a weight, and one for the end
-packed_after_few : (common run : ℕ) (ws : List ℕ) → length (packed_after common run ws) ≤ 4 * length ws + 1
-packed_after_few common run [] = omega arith
-packed_after_few common run (w ∷ ws) =
-    let counted : List ℕ = cond (run + 1 == 84) (0xA9 ∷ packed_after common 0 ws) (packed_after common (run + 1) ws) in
-    let put : List ℕ = cond (nat_lt w common) (2 * run + 2) (0xFF - run) ∷ other_bytes w ++ packed_after common 0 ws in
-    elim (cases_Bool (w == common)) [
-      | inl same ↦ omega (arith, ap length (cond-true (w == common) counted put same), run_few (run + 1 == 84) (packed_after common 0 ws) (packed_after common (run + 1) ws) (4 * length ws + 1) (packed_after_few common 0 ws) (packed_after_few common (run + 1) ws))
-      | inr other ↦ omega (arith, ap length (cond-false (w == common) counted put other), length-append (other_bytes w) (packed_after common 0 ws), other_few (nat_lt w 0xFE) w, packed_after_few common 0 ws)
-    ]
-
-later_few : (t : ElementTable) (v : Variable) (text : List ℕ) (level : ℕ) → IsTable t → length (later_bytes t v text level) ≤ 256 * length (nfd text) + 1
-later_few t v text level table =
-    let ws : List (List ℕ) = weighted v (elements t (nfd text)) in
-    elim (cases_Bool (level == 5)) [
-      | inl five ↦ omega (arith, ap length (cond-true (level == 5) (flat_map code_point_bytes (nfd text)) (packed_level ws level) five), bytes_few code_point_bytes point_few (nfd text))
-      | inr other ↦
-          omega (arith, ap length (cond-false (level == 5) (flat_map code_point_bytes (nfd text)) (packed_level ws level) other), packed_after_few (common_weight level) 0 (level_weights level ws), weights_few level ws, length-weighted_after v [] (elements t (nfd text)), elements_few (length (nfd text)) t (nfd text) (omega arith) table)
-    ]
-
-later_levels_few : (n level : ℕ) (t : ElementTable) (v : Variable) (text : List ℕ) → IsTable t → length (nfd text) ≤ 2 ^ 24 → length (later_levels n level t v text) ≤ n * 2 ^ 33
-later_levels_few zero level t v text table few = omega arith
-later_levels_few (suc n) level t v text table few =
-    omega (arith, length-append (later_bytes t v text level) (later_levels n (level + 1) t v text), later_few t v text level table, later_levels_few n (level + 1) t v text table few)
-
-after_first_few : (n : ℕ) (t : ElementTable) (v : Variable) (text : List ℕ) → n ≤ 4 → IsTable t → length (nfd text) ≤ 2 ^ 24 → length (after_first n t v text) ≤ 2 ^ 36
-after_first_few zero t v text four table few = omega arith
-after_first_few (suc n) t v text four table few = omega (arith, later_levels_few (suc n) 2 t v text table few)
-
--- those of a packed key of a short text
-pub length-short_packed_key : (t : ElementTable) (s : Settings) (bytes : List ℕ) → IsTable t → IsUtf8 bytes → length bytes ≤ 65536 → length (packed_key t s (chars bytes)) < 2 ^ 60
-length-short_packed_key t s bytes table utf8 few =
-    let text : List ℕ = chars bytes in let es : List Element = elements t (nfd text) in
-    let ws : List (List ℕ) = weighted s.weighting es in
-    omega (
-      arith,
-      ap length (packed-levels t s text),
-      length-append (level_bytes ws 1) (after_first (levels s.strength - 1) t s.weighting text),
-      bytes_few weight_bytes weight_few (level_weights 1 ws),
-      weights_few 1 ws,
-      length-weighted_after s.weighting [] es,
-      elements_few (length (nfd text)) t (nfd text) (omega arith) table,
-      short_text bytes utf8 few,
-      after_first_few (levels s.strength - 1) t s.weighting text (omega (arith, (levels-within s.strength).1)) table (short_text bytes utf8 few),
-    )

@@ -6,10 +6,7 @@ pub mod PieceLemmas
 pub mod PlacingLemmas
 pub mod UnchangedLevels
 pub mod WeightPieces
-pub mod PackedBytes
-pub mod PackedOrder
-pub mod PackedPrefixes
-pub mod PackedTexts
+pub mod KeyOrder
 pub mod ShortSlots
 pub mod ShortLevels
 pub mod ShortLetters

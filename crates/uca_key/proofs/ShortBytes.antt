@@ -13,12 +13,11 @@ use Rattle.uca_model.specs.CollationElements.{elements}
 use Rattle.uca_model.specs.Laws.{AreBytes}
 use Rattle.uca_model.specs.LevelWeights.{level_weights}
 use Rattle.uca_model.specs.SortKey.{weight_bytes}
-use Rattle.uca_key.specs.PackedKey.{other_bytes}
 use Rattle.uca_key.specs.PrimaryCode.{CodeState, PrimaryCode, after_lead, after_slot, code_of, has_page, is_common, is_single, lead, letter_bytes, page_of, past, primary_bytes, primary_level, second_bytes, start, state_after}
-use Rattle.uca_key.specs.ShortKey.{above_bytes, below_bytes, runs_after, short_key, short_key_by, short_levels}
+use Rattle.uca_key.specs.ShortKey.{above_bytes, below_bytes, other_bytes, runs_after, short_key, short_key_by, short_levels}
 use Rattle.uca_key.proofs.BoundLemmas.{bytes-append, points-bytes, take-bytes}
 use Rattle.uca_key.proofs.ShortLetters.{at_above, at_below, at_inside, place_of}
-use Rattle.uca_key.proofs.PackedOrder.{kind_of}
+use Rattle.uca_key.proofs.KeyOrder.{kind_of}
 
 -- ---- leads
 

@@ -9,7 +9,7 @@ use Rattle.std.specs.List.{list_any, sum_by}
 use Rattle.uca_model.specs.SortKey.{key_order, weight_bytes}
 use Rattle.uca_model.proofs.LevelLemmas.{weight_first}
 use Rattle.uca_key.specs.PrimaryCode.{CodeState, PrimaryCode, after_lead, after_slot, has_page, lead, letter_bytes, page_of, past, primary_bytes, second_bytes, slot}
-use Rattle.uca_key.proofs.PackedOrder.{is_equal, is_greater, is_less, kind_of}
+use Rattle.uca_key.proofs.KeyOrder.{is_equal, is_greater, is_less, kind_of}
 use Rattle.uca_key.proofs.ShortLevels.{IsCode, IsSome}
 use Rattle.uca_key.proofs.ShortSlots.{one-slot, slot-grows, slot-lower}
 

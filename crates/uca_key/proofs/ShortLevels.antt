@@ -5,7 +5,7 @@ use Rattle.std.specs.Ordering.{nat_cmp, ordering_then}
 use Rattle.uca_model.specs.Laws.{AreWeights}
 use Rattle.uca_model.specs.SortKey.{key_order}
 use Rattle.uca_model.proofs.OrderLemmas.{then_assoc}
-use Rattle.uca_key.proofs.PackedOrder.{is_equal, is_greater, is_less, kind_of}
+use Rattle.uca_key.proofs.KeyOrder.{is_equal, is_greater, is_less, kind_of}
 use Rattle.uca_key.specs.PrimaryCode.{CodeState, PrimaryCode, primary_bytes, primary_front, primary_level, state_after}
 
 -- the bytes of a weight begin with a byte that is not 0

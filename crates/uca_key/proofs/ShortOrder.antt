@@ -1,5 +1,5 @@
 -- The byte order of short keys is the order of their levels, as that of sort keys is.
-use Rattle.std.proofs.Common.{◌≡◌, ℕ, ◌-◌, ◌≤◌, ◌<◌, List, [], ◌++◌, flat_map, take, sym, ap, ap₂, ◌∙◌, arith, append-nil}
+use Rattle.std.proofs.Common.{◌≡◌, ℕ, zero, suc, ◌-◌, ◌≤◌, ◌<◌, List, [], ◌∷◌, ◌++◌, flat_map, take, refl, sym, ap, ap₂, ◌∙◌, arith, append_assoc, append-nil}
 use Rattle.std.proofs.lemmas.Map.Lookups.{exact_bytes}
 use Rattle.std.specs.declared.cmp.Ordering.{Ordering}
 use Rattle.std.specs.List.{concat}
@@ -14,17 +14,16 @@ use Rattle.uca_weights.specs.VariableWeighting.{weighted}
 use Rattle.uca_model.specs.Table.{ElementTable}
 use Rattle.uca_model.specs.CollationElements.{elements}
 use Rattle.uca_model.specs.DecidingLevel.{list_order}
+use Rattle.uca_model.specs.Laws.{BeginsWith}
 use Rattle.uca_model.specs.LevelWeights.{level_list}
 use Rattle.uca_model.specs.SortKey.{code_point_bytes, key_order, sort_key}
 use Rattle.uca_model.proofs.LevelLemmas.{OrdersLevel-points}
 use Rattle.uca_model.proofs.OrderLemmas.{then_equal}
 use Rattle.uca_model.proofs.WeightLemmas.{HasWeights, HasWeights-IsTable}
-use Rattle.uca_key.specs.PackedKey.{common_weight}
 use Rattle.uca_key.specs.PrimaryCode.{PrimaryCode, code_of, primary_level, start}
-use Rattle.uca_key.specs.ShortKey.{runs_after, short_key, short_key_by, short_levels}
+use Rattle.uca_key.specs.ShortKey.{common_weight, runs_after, short_key, short_key_by, short_levels}
 use Rattle.uca_key.specs.ShortLaws.{EquivalentTextsHaveOneShortKey, ShortKeysFollowKeys, ShortKeysGrowByLevels, ShortKeysTellTextsApart}
-use Rattle.uca_key.proofs.PackedOrder.{ordered_from, same_order, sort_key-ordered}
-use Rattle.uca_key.proofs.PackedPrefixes.{begins-take}
+use Rattle.uca_key.proofs.KeyOrder.{ordered_from, same_order, sort_key-ordered}
 use Rattle.uca_key.proofs.ShortLetters.{is-code}
 use Rattle.uca_key.proofs.ShortLevels.{primary_order}
 use Rattle.uca_key.proofs.ShortRuns.{runs_order}
@@ -81,6 +80,15 @@ short-apart t s a b table of_a of_b =
       λ e. exact_bytes (sort_key t s a) (sort_key t s b) (sym same ∙ same_order (short_key t s a) (short_key t s b) e),
       λ e. exact_bytes (short_key t s a) (short_key t s b) (same ∙ same_order (sort_key t s a) (sort_key t s b) e),
     )
+
+-- the first pieces, one after the other, begin with fewer of them
+begins-take : (m n : ℕ) (ls : List (List ℕ)) → m ≤ n → BeginsWith (concat (take n ls)) (concat (take m ls))
+begins-take zero n ls few = record { rest = concat (take n ls); parts = refl }
+begins-take (suc m) zero ls few = absurd (omega arith)
+begins-take (suc m) (suc n) [] few = record { rest = []; parts = refl }
+begins-take (suc m) (suc n) (x ∷ xs) few =
+    let below = begins-take m n xs (omega arith) in
+    record { rest = below.rest; parts = ap (λ l. x ++ l) below.parts ∙ sym (append_assoc x (concat (take m xs)) below.rest) }
 
 pub short-grow : ShortKeysGrowByLevels
 unfolding short_key short_key_by

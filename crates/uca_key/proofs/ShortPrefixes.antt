@@ -22,7 +22,7 @@ use Rattle.uca_key.specs.PrimaryCode.{CodeState, PrimaryCode, code_of, primary_b
 use Rattle.uca_key.specs.ShortKey.{short_key, short_key_by, short_levels, short_prefix}
 use Rattle.uca_key.specs.ShortLaws.{ShortKeysBeginWithCompleteTexts, ShortKeysBeginWithPrimaryWeights, ShortKeysOfBeginnings}
 use Rattle.uca_key.proofs.ShortLetters.{is-code}
-use Rattle.uca_key.proofs.PackedOrder.{is_equal, is_greater, is_less, kind_of, same_order}
+use Rattle.uca_key.proofs.KeyOrder.{is_equal, is_greater, is_less, kind_of, same_order}
 use Rattle.uca_key.proofs.ShortLevels.{IsCode, end_less}
 
 -- a level of weights that begin with others begins with the bytes of the others

@@ -6,9 +6,8 @@ use Rattle.std.specs.Ordering.{nat_cmp, ordering_then}
 use Rattle.uca_model.specs.Laws.{AreWeights}
 use Rattle.uca_model.specs.SortKey.{key_order}
 use Rattle.uca_model.proofs.OrderLemmas.{then_assoc}
-use Rattle.uca_key.specs.PackedKey.{other_bytes}
-use Rattle.uca_key.specs.ShortKey.{above_bytes, below_bytes, runs_after}
-use Rattle.uca_key.proofs.PackedOrder.{Begins, heads_greater, heads_less, is_equal, is_greater, is_less, kind_of, lists_greater, lists_less, lists_same, other_first}
+use Rattle.uca_key.specs.ShortKey.{above_bytes, below_bytes, other_bytes, runs_after}
+use Rattle.uca_key.proofs.KeyOrder.{Begins, heads_greater, heads_less, is_equal, is_greater, is_less, kind_of, lists_greater, lists_less, lists_same, other_first}
 
 -- ---- first bytes
 

@@ -10,10 +10,9 @@ use Rattle.uca_model.specs.CollationElements.{elements}
 use Rattle.uca_model.specs.LevelWeights.{level_weights}
 use Rattle.uca_model.specs.SortKey.{weight_bytes, code_point_bytes}
 use Rattle.uca_model.proofs.LevelLemmas.{levels-within}
-use Rattle.uca_key.specs.PackedKey.{common_weight}
 use Rattle.uca_key.specs.PrimaryCode.{CodeState, PrimaryCode, after_lead, after_slot, has_page, is_common, is_in_window, is_single, letter_bytes, primary_bytes, primary_level, second_bytes, start, state_after}
-use Rattle.uca_key.specs.ShortKey.{above_bytes, below_bytes, runs_after, short_key_by, short_later}
-use Rattle.uca_key.proofs.KeySize.{bytes_few, elements_few, length-weighted_after, other_few, point_few, short_text, weights_few}
+use Rattle.uca_key.specs.ShortKey.{above_bytes, below_bytes, common_weight, runs_after, short_key_by, short_later}
+use Rattle.uca_key.proofs.KeySize.{bytes_few, elements_few, length-weighted_after, point_few, short_text, weights_few}
 use Rattle.uca_key.proofs.ShortPieces.{later_levels, short-levels}
 
 cond_few : (b : Bool) (xs ys : List ℕ) (n : ℕ) → length xs ≤ n → length ys ≤ n → length (cond b xs ys) ≤ n
@@ -38,6 +37,10 @@ primary_few k p [] = omega arith
 primary_few k p (w ∷ ws) =
     let one : length (primary_bytes k p w) ≤ 3 = cond_few p.second (second_bytes w) (letter_bytes k p.base w) 3 (second_few w) (letter_few k p.base w) in
     omega (arith, one, length-append (primary_bytes k p w) (primary_level k (state_after k p w) ws), primary_few k (state_after k p w) ws)
+
+other_few : (small : Bool) (w : ℕ) → length (cond small (w ∷ []) (0xFE ∷ weight_bytes w)) ≤ 3
+other_few true w = omega arith
+other_few false w = omega arith
 
 below_few : (run w : ℕ) → length (below_bytes run w) ≤ 4
 below_few run w = omega (arith, other_few (nat_lt w 0xFE) w)

@@ -1,7 +1,5 @@
 pub mod Faults
 pub mod Form
-pub mod PackedKey
-pub mod PackedLaws
 pub mod Runs
 pub mod Pieces
 pub mod Placing

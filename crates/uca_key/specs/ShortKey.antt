@@ -9,9 +9,16 @@ use Rattle.uca_weights.specs.VariableWeighting.{weighted}
 use Rattle.uca_model.specs.Table.{ElementTable}
 use Rattle.uca_model.specs.CollationElements.{elements}
 use Rattle.uca_model.specs.LevelWeights.{level_list, level_weights}
-use Rattle.uca_model.specs.SortKey.{code_point_bytes}
-use Rattle.uca_key.specs.PackedKey.{common_weight, other_bytes}
+use Rattle.uca_model.specs.SortKey.{code_point_bytes, weight_bytes}
 use Rattle.uca_key.specs.PrimaryCode.{PrimaryCode, code_of, primary_front, primary_level, start}
+
+-- the weight that most characters have at a level from 2 to 4: in published tables at levels 2 and 3, and by the option Shifted at level 4 (UTS #10, 4)
+abbrev pub common_weight : ℕ → ℕ
+common_weight level = if level == 2 then 0x20 else if level == 3 then 2 else 0xFFFF
+
+-- another weight: one byte up to FD, and else FE and two bytes, high byte first
+abbrev pub other_bytes : ℕ → List ℕ
+other_bytes w = if nat_lt w 0xFE then w ∷ [] else 0xFE ∷ weight_bytes w
 
 -- a weight above the common one, after a run of so many common ones: after none or one the next 34 weights have a byte each
 abbrev pub above_bytes : ℕ → ℕ → ℕ → List ℕ

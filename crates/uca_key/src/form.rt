@@ -5,7 +5,6 @@ ghost use Rattle.uca_window.specs.Passage.{text_of};
 ghost use Rattle.uca_key.specs.Form.{key_in};
 ghost use Rattle.uca_key.specs.Placing.{PutsAt};
 
-use crate::packed::put_packed_levels;
 use crate::placing::put_levels;
 use crate::short_code::ShortCode;
 use crate::short_levels::put_short_levels;
@@ -19,19 +18,17 @@ use uca_window::Passage;
 pub(crate) enum Form<'c> {
     /// As the standard has it.
     Plain,
-    /// With runs of common weights packed.
-    Packed,
-    /// With a code of primary weights, too.
+    /// With a code of primary weights, and with runs of common weights.
     Short(&'c ShortCode),
 }
 
-// How many bytes the keys of most texts have at most: a plain or packed key of a text that has no more elements than bytes, and a short
-// key of letters with some marks. Others have more.
+// How many bytes the keys of most texts have at most: a plain key of a text that has no more elements than bytes, and a short key
+// of letters with some marks. Others have more.
 fn expected_bytes(form: Form, s: Settings, bytes: usize) -> usize {
     let levels = s.levels() as usize;
     let each = match form {
         Form::Short(_) => levels + 1,
-        _ => 2 * levels + 1,
+        Form::Plain => 2 * levels + 1,
     };
     bytes.saturating_mul(each).saturating_add(8)
 }
@@ -54,7 +51,6 @@ fn put(
 {
     match form {
         Form::Plain => put_levels(t, s, text, room, at, out),
-        Form::Packed => put_packed_levels(t, s, text, room, at, out),
         Form::Short(code) => put_short_levels(code, t, s, text, room, at, out),
     }
 }

@@ -1,7 +1,6 @@
 ghost use Rattle.std.specs.Prelude.{◌≡◌, ◌<◌, ◌++◌, length, OnOk};
 ghost use Rattle.uca_model.specs.SortKey.{sort_key};
 ghost use Rattle.uca_window.specs.Passage.{text_of};
-ghost use Rattle.uca_key.specs.PackedKey.{packed_key};
 
 use crate::form::{Form, push};
 use std::alloc::{AllocError, Global};
@@ -48,20 +47,5 @@ impl KeyMaker {
     {
         self.make_room(p.as_str().len())?;
         push(Form::Plain, t, s, p, self.elements.as_mut_slice(), keys)
-    }
-
-    /// Appends the packed sort key of a text to others.
-    pub fn push_packed_key(
-        &mut self,
-        _alloc: Global,
-        t: &Table,
-        s: Settings,
-        p: &Passage,
-        keys: &mut Vec<u8>,
-    ) -> Result<(), AllocError>
-        ensures { OnOk result (keys.new.items ≡ keys.old.items ++ packed_key t.now s (text_of p.now)) }
-    {
-        self.make_room(p.as_str().len())?;
-        push(Form::Packed, t, s, p, self.elements.as_mut_slice(), keys)
     }
 }

@@ -3,7 +3,6 @@ ghost use Rattle.uca_weights.specs.Settings.{levels};
 ghost use Rattle.uca_model.specs.SortKey.{sort_key};
 ghost use Rattle.uca_window.specs.Passage.{bytes_of, text_of};
 ghost use Rattle.uca_key.specs.Form.{key_in};
-ghost use Rattle.uca_key.specs.PackedKey.{packed_key};
 
 use crate::form::{Form, push};
 use crate::placing::{ROOM, SHORT};
@@ -47,18 +46,4 @@ pub(crate) fn key_in(
     elements.resize(bytes.saturating_add(1), Element::default())?;
     push(form, t, s, p, elements.as_mut_slice(), &mut key)?;
     Ok(key)
-}
-
-/// The packed sort key of a text. Packed keys are in the order of the sort keys (`laws`), and most of them are shorter by half: the
-/// first level is as there, and a run of the weight that most characters have at a later level is one byte. A packed key
-/// cannot be compared with a sort key. `AllocError`: an allocation was refused.
-pub fn packed_key_of(
-    alloc: Global,
-    t: &Table,
-    s: Settings,
-    p: &Passage,
-) -> Result<Vec<u8>, AllocError>
-    ensures { IfOk result (λ v. v.items ≡ packed_key t.now s (text_of p.now)) }
-{
-    key_in(alloc, Form::Packed, t, s, p)
 }

@@ -1,14 +1,14 @@
-// Levels with runs of common weights, put into a buffer piece by piece, in the codes of packed and of short keys.
+// The later levels of a short key, with runs of common weights, put into a buffer piece by piece.
 ghost use Rattle.std.specs.Prelude.{◌≡◌, ◌≢◌, ◌==◌, ◌+◌, ◌*◌, ◌-◌, ◌^◌, ◌<◌, ◌≤◌, ◌++◌, ◌∷◌, [], ℕ, List, not, chars, filter, length, take};
+ghost use Rattle.unicode_normalization.specs.Forms.{nfd};
 ghost use Rattle.uca_weights.specs.declared.element.Element.{Element};
 ghost use Rattle.uca_weights.specs.declared.settings.Variable.TheVariants.{NonIgnorable};
 ghost use Rattle.uca_weights.specs.VariableWeighting.{weighted};
 ghost use Rattle.uca_model.specs.LevelWeights.{level_weights};
 ghost use Rattle.uca_model.specs.SafeText.{IsSafe};
 ghost use Rattle.uca_levels.specs.Streams.{weights_from};
-ghost use Rattle.uca_key.specs.PackedKey.{common_weight, other_bytes, packed_after};
-ghost use Rattle.uca_key.specs.ShortKey.{runs_after};
-ghost use Rattle.uca_key.specs.Runs.{bytes_left, full_run, later_in, level_in, runs_in};
+ghost use Rattle.uca_key.specs.ShortKey.{common_weight, other_bytes, runs_after, short_later, short_level};
+ghost use Rattle.uca_key.specs.Runs.{bytes_left};
 ghost use Rattle.uca_key.specs.Pieces.{HoldsElements, elements_of};
 ghost use Rattle.uca_key.specs.Placing.{IsPutting, PutsAt};
 
@@ -16,24 +16,10 @@ use crate::pieces::{PIECE, TextReading};
 use crate::placing::{put_bytes, put_text};
 use uca_weights::{Element, Variable, Weigher};
 
-/// How runs are coded.
-#[derive(Clone, Copy)]
-pub(crate) enum Coding {
-    /// As in a packed key.
-    Packed,
-    /// As in a short key.
-    Short,
-}
+// How many common weights one byte counts, and that byte.
+const FULL_RUN: u8 = 62;
 
-// How many common weights one byte counts in a packed key, and that byte.
-const PACKED_RUN: u8 = 84;
-
-const PACKED_RUN_BYTE: u8 = 0xA9;
-
-// The same in a short key.
-const SHORT_RUN: u8 = 62;
-
-const SHORT_RUN_BYTE: u8 = 124;
+const FULL_RUN_BYTE: u8 = 124;
 
 /// The most bytes that one weight takes.
 const OTHER: usize = 4;
@@ -43,18 +29,6 @@ const OTHER: usize = 4;
 struct Counted {
     at: usize,
     run: u8,
-}
-
-// How many common weights one byte counts.
-#[inline(always)]
-fn full_run(coding: Coding) -> u8
-    ensures value { result ≡ full_run coding }
-    ensures most { result ≤ 84 }
-{
-    match coding {
-        Coding::Packed => PACKED_RUN,
-        Coding::Short => SHORT_RUN,
-    }
 }
 
 // The weight that most characters have at a level from 2 to 4.
@@ -87,30 +61,8 @@ fn put_other(key: &mut [u8], at: usize, weight: u16) -> usize
     at + 3
 }
 
-// Puts a weight that ends a run of common ones in a packed key, after the byte that says how long the run was.
-fn put_after_packed_run(key: &mut [u8], before: Counted, common: u16, weight: u16) -> Counted
-    requires few { before.run < 84 }
-    requires other { weight ≢ common }
-    requires room { before.at + 4 ≤ length key.old }
-    ensures bytes { (ws : List ℕ) → take result.at key.new ++ packed_after common result.run ws ≡ take before.at key.old ++ packed_after common before.run (weight ∷ ws) }
-    ensures few { result.run < 84 }
-    ensures within { result.at ≤ before.at + 4 }
-    ensures size { length key.new ≡ length key.old }
-{
-    let first = if weight < common {
-        2 * before.run + 2
-    } else {
-        0xFF - before.run
-    };
-    key[before.at] = first;
-    Counted {
-        at: put_other(key, before.at + 1, weight),
-        run: 0,
-    }
-}
-
-// The byte in a short key that ends a run before a weight that takes more bytes.
-fn short_run_end(run: u8, common: u16, weight: u16) -> u8
+// The byte that ends a run before a weight that takes more bytes.
+fn run_end(run: u8, common: u16, weight: u16) -> u8
     requires few { run < 62 }
     ensures below { weight < common → result ≡ 2 * run + 1 }
     ensures early { common ≤ weight → run < 2 → result ≡ 255 - 35 * run }
@@ -122,8 +74,8 @@ fn short_run_end(run: u8, common: u16, weight: u16) -> u8
     if run < 2 { 255 - 35 * run } else { 187 - run }
 }
 
-// Puts a weight that ends a run of common ones in a short key, after or in the byte that says how long the run was.
-fn put_after_short_run(key: &mut [u8], before: Counted, common: u16, weight: u16) -> Counted
+// Puts a weight that ends a run of common ones, after or in the byte that says how long the run was.
+fn put_after_run(key: &mut [u8], before: Counted, common: u16, weight: u16) -> Counted
     requires few { before.run < 62 }
     requires other { weight ≢ common }
     requires room { before.at + 4 ≤ length key.old }
@@ -139,46 +91,16 @@ fn put_after_short_run(key: &mut [u8], before: Counted, common: u16, weight: u16
             run: 0,
         };
     }
-    key[before.at] = short_run_end(before.run, common, weight);
+    key[before.at] = run_end(before.run, common, weight);
     Counted {
         at: put_other(key, before.at + 1, weight),
         run: 0,
     }
 }
 
-// Counts a weight where it is the common one, and puts it where it is another one, in a packed key; a zero is left out.
+// Counts a weight where it is the common one, and puts it where it is another one; a zero is left out.
 #[inline(always)]
-fn pack_packed_weight(key: &mut [u8], before: Counted, common: u16, weight: u16) -> Counted
-    requires few { before.run < 84 }
-    requires some { 0 < common }
-    requires room { before.at + 4 ≤ length key.old }
-    ensures bytes { (ws : List ℕ) → take result.at key.new ++ packed_after common result.run ws ≡ take before.at key.old ++ packed_after common before.run (filter (λ w. not (w == 0)) (weight ∷ []) ++ ws) }
-    ensures few { result.run < 84 }
-    ensures within { result.at ≤ before.at + 4 }
-    ensures size { length key.new ≡ length key.old }
-{
-    if weight == common {
-        if before.run + 1 < PACKED_RUN {
-            return Counted {
-                at: before.at,
-                run: before.run + 1,
-            };
-        }
-        key[before.at] = PACKED_RUN_BYTE;
-        return Counted {
-            at: before.at + 1,
-            run: 0,
-        };
-    }
-    if weight == 0 {
-        return before;
-    }
-    put_after_packed_run(key, before, common, weight)
-}
-
-// The same in a short key.
-#[inline(always)]
-fn pack_short_weight(key: &mut [u8], before: Counted, common: u16, weight: u16) -> Counted
+fn pack_weight(key: &mut [u8], before: Counted, common: u16, weight: u16) -> Counted
     requires few { before.run < 62 }
     requires some { 0 < common }
     requires room { before.at + 4 ≤ length key.old }
@@ -188,13 +110,13 @@ fn pack_short_weight(key: &mut [u8], before: Counted, common: u16, weight: u16) 
     ensures size { length key.new ≡ length key.old }
 {
     if weight == common {
-        if before.run + 1 < SHORT_RUN {
+        if before.run + 1 < FULL_RUN {
             return Counted {
                 at: before.at,
                 run: before.run + 1,
             };
         }
-        key[before.at] = SHORT_RUN_BYTE;
+        key[before.at] = FULL_RUN_BYTE;
         return Counted {
             at: before.at + 1,
             run: 0,
@@ -203,67 +125,38 @@ fn pack_short_weight(key: &mut [u8], before: Counted, common: u16, weight: u16) 
     if weight == 0 {
         return before;
     }
-    put_after_short_run(key, before, common, weight)
-}
-
-// The same in either key.
-#[inline(always)]
-fn pack_weight(coding: Coding, key: &mut [u8], before: Counted, common: u16, weight: u16) -> Counted
-    requires few { before.run < full_run coding }
-    requires some { 0 < common }
-    requires room { before.at + 4 ≤ length key.old }
-    ensures bytes { (ws : List ℕ) → take result.at key.new ++ runs_in coding common result.run ws ≡ take before.at key.old ++ runs_in coding common before.run (filter (λ w. not (w == 0)) (weight ∷ []) ++ ws) }
-    ensures few { result.run < full_run coding }
-    ensures within { result.at ≤ before.at + 4 }
-    ensures size { length key.new ≡ length key.old }
-{
-    match coding {
-        Coding::Packed => pack_packed_weight(key, before, common, weight),
-        Coding::Short => pack_short_weight(key, before, common, weight),
-    }
+    put_after_run(key, before, common, weight)
 }
 
 // Packs the weights of elements that keep them, at a level 2 or 3, one after the other.
 #[inline(always)]
-fn pack_each(
-    coding: Coding,
-    key: &mut [u8],
-    before: Counted,
-    elements: &[Element],
-    level: u8,
-) -> Counted
-    requires few { before.run < full_run coding }
+fn pack_each(key: &mut [u8], before: Counted, elements: &[Element], level: u8) -> Counted
+    requires few { before.run < 62 }
     requires first { 2 ≤ level }
     requires last { level ≤ 3 }
     requires room { before.at + 4 * length elements.now ≤ length key.old }
-    ensures bytes { (ws : List ℕ) → take result.at key.new ++ runs_in coding (common_weight level) result.run ws ≡ take before.at key.old ++ runs_in coding (common_weight level) before.run (level_weights level (weighted NonIgnorable elements.now) ++ ws) }
-    ensures few { result.run < full_run coding }
+    ensures bytes { (ws : List ℕ) → take result.at key.new ++ runs_after (common_weight level) result.run ws ≡ take before.at key.old ++ runs_after (common_weight level) before.run (level_weights level (weighted NonIgnorable elements.now) ++ ws) }
+    ensures few { result.run < 62 }
     ensures within { result.at ≤ before.at + 4 * length elements.now }
     ensures size { length key.new ≡ length key.old }
 {
     let common = common_weight(level);
     let mut packed = before;
     for element in elements {
-        packed = pack_weight(coding, key, packed, common, element.weight(level));
+        packed = pack_weight(key, packed, common, element.weight(level));
     }
     packed
 }
 
 // The same of four elements at most. Four common weights, as most are, are counted together.
 #[inline(always)]
-fn pack_few(
-    coding: Coding,
-    key: &mut [u8],
-    before: Counted,
-    elements: &[Element],
-    level: u8,
-) -> Counted
-    requires few { before.run < full_run coding }
+fn pack_few(key: &mut [u8], before: Counted, elements: &[Element], level: u8) -> Counted
+    requires few { before.run < 62 }
     requires first { 2 ≤ level }
     requires last { level ≤ 3 }
     requires room { before.at + 4 * length elements.now ≤ length key.old }
-    ensures bytes { (ws : List ℕ) → take result.at key.new ++ runs_in coding (common_weight level) result.run ws ≡ take before.at key.old ++ runs_in coding (common_weight level) before.run (level_weights level (weighted NonIgnorable elements.now) ++ ws) }
-    ensures few { result.run < full_run coding }
+    ensures bytes { (ws : List ℕ) → take result.at key.new ++ runs_after (common_weight level) result.run ws ≡ take before.at key.old ++ runs_after (common_weight level) before.run (level_weights level (weighted NonIgnorable elements.now) ++ ws) }
+    ensures few { result.run < 62 }
     ensures within { result.at ≤ before.at + 4 * length elements.now }
     ensures size { length key.new ≡ length key.old }
 {
@@ -272,31 +165,25 @@ fn pack_few(
         let (first, second) = (a.weight(level), b.weight(level));
         let (third, fourth) = (c.weight(level), d.weight(level));
         let are_common = first == common && second == common && third == common && fourth == common;
-        if are_common && before.run + 4 < full_run(coding) {
+        if are_common && before.run + 4 < FULL_RUN {
             return Counted {
                 at: before.at,
                 run: before.run + 4,
             };
         }
     }
-    pack_each(coding, key, before, elements, level)
+    pack_each(key, before, elements, level)
 }
 
 // Packs the weights of elements that keep them, at a level 2 or 3. It is a loop of its own, since most texts come this way.
 #[inline(always)]
-fn pack_unchanged(
-    coding: Coding,
-    key: &mut [u8],
-    before: Counted,
-    elements: &[Element],
-    level: u8,
-) -> Counted
-    requires few { before.run < full_run coding }
+fn pack_unchanged(key: &mut [u8], before: Counted, elements: &[Element], level: u8) -> Counted
+    requires few { before.run < 62 }
     requires first { 2 ≤ level }
     requires last { level ≤ 3 }
     requires room { before.at + 4 * length elements.now ≤ length key.old }
-    ensures bytes { (ws : List ℕ) → take result.at key.new ++ runs_in coding (common_weight level) result.run ws ≡ take before.at key.old ++ runs_in coding (common_weight level) before.run (level_weights level (weighted NonIgnorable elements.now) ++ ws) }
-    ensures few { result.run < full_run coding }
+    ensures bytes { (ws : List ℕ) → take result.at key.new ++ runs_after (common_weight level) result.run ws ≡ take before.at key.old ++ runs_after (common_weight level) before.run (level_weights level (weighted NonIgnorable elements.now) ++ ws) }
+    ensures few { result.run < 62 }
     ensures within { result.at ≤ before.at + 4 * length elements.now }
     ensures size { length key.new ≡ length key.old }
 {
@@ -304,47 +191,39 @@ fn pack_unchanged(
     let mut left = elements;
     while left.len() >= 4 {
         let (four, rest) = left.split_at(4);
-        packed = pack_few(coding, key, packed, four, level);
+        packed = pack_few(key, packed, four, level);
         left = rest;
     }
-    pack_each(coding, key, packed, left, level)
+    pack_each(key, packed, left, level)
 }
 
 // Packs the weights of some elements, at a level from 2 to 4, by their variable weighting. The weigher has seen those before them.
 fn pack_weighted(
-    coding: Coding,
     key: &mut [u8],
     before: Counted,
     weigher: &mut Weigher,
     elements: &[Element],
     level: u8,
 ) -> Counted
-    requires few { before.run < full_run coding }
+    requires few { before.run < 62 }
     requires first { 2 ≤ level }
     requires last { level ≤ 4 }
     requires room { before.at + 4 * length elements.now ≤ length key.old }
-    ensures bytes { (es : List Element) → take result.at key.new ++ runs_in coding (common_weight level) result.run (weights_from weigher.new level es) ≡ take before.at key.old ++ runs_in coding (common_weight level) before.run (weights_from weigher.old level (elements.now ++ es)) }
-    ensures few { result.run < full_run coding }
+    ensures bytes { (es : List Element) → take result.at key.new ++ runs_after (common_weight level) result.run (weights_from weigher.new level es) ≡ take before.at key.old ++ runs_after (common_weight level) before.run (weights_from weigher.old level (elements.now ++ es)) }
+    ensures few { result.run < 62 }
     ensures within { result.at ≤ before.at + 4 * length elements.now }
     ensures option { weigher.new.weighting ≡ weigher.old.weighting }
 {
     let common = common_weight(level);
     let mut packed = before;
     for element in elements {
-        packed = pack_weight(
-            coding,
-            key,
-            packed,
-            common,
-            weigher.weigh_at(*element, level),
-        );
+        packed = pack_weight(key, packed, common, weigher.weigh_at(*element, level));
     }
     packed
 }
 
 // Packs the weights of some elements into the front of a piece, at a level from 2 to 4, after a run of common weights.
 fn pack(
-    coding: Coding,
     key: &mut [u8],
     run: u8,
     v: Variable,
@@ -352,21 +231,21 @@ fn pack(
     elements: &[Element],
     level: u8,
 ) -> Counted
-    requires few { run < full_run coding }
+    requires few { run < 62 }
     requires first { 2 ≤ level }
     requires last { level ≤ 4 }
     requires option { weigher.old.weighting ≡ v }
     requires room { 4 * length elements.now ≤ length key.old }
-    ensures bytes { (es : List Element) → take result.at key.new ++ runs_in coding (common_weight level) result.run (weights_from weigher.new level es) ≡ runs_in coding (common_weight level) run (weights_from weigher.old level (elements.now ++ es)) }
-    ensures few { result.run < full_run coding }
+    ensures bytes { (es : List Element) → take result.at key.new ++ runs_after (common_weight level) result.run (weights_from weigher.new level es) ≡ runs_after (common_weight level) run (weights_from weigher.old level (elements.now ++ es)) }
+    ensures few { result.run < 62 }
     ensures within { result.at ≤ 4 * length elements.now }
     ensures option { weigher.new.weighting ≡ v }
 {
     let before = Counted { at: 0, run };
     match (v, level) {
-        (Variable::NonIgnorable, 2) => pack_unchanged(coding, key, before, elements, 2),
-        (Variable::NonIgnorable, 3) => pack_unchanged(coding, key, before, elements, 3),
-        _ => pack_weighted(coding, key, before, weigher, elements, level),
+        (Variable::NonIgnorable, 2) => pack_unchanged(key, before, elements, 2),
+        (Variable::NonIgnorable, 3) => pack_unchanged(key, before, elements, 3),
+        _ => pack_weighted(key, before, weigher, elements, level),
     }
 }
 
@@ -383,9 +262,9 @@ impl RunsLevel {
     // A level that begins at a place.
     fn new(v: Variable, at: usize) -> RunsLevel
         ensures next { result.next ≡ at }
-        ensures few { (coding : Coding) → result.run < full_run coding }
+        ensures few { result.run < 62 }
         ensures option { result.weigher.weighting ≡ v }
-        ensures left { (coding : Coding) (level : ℕ) (es : List Element) → bytes_left coding level result es ≡ level_in coding (weighted v es) level }
+        ensures left { (level : ℕ) (es : List Element) → bytes_left level result es ≡ short_level (weighted v es) level }
     {
         RunsLevel {
             next: at,
@@ -396,21 +275,14 @@ impl RunsLevel {
 }
 
 // Packs the weights of some elements at a level from 2 to 4, a piece at a time.
-fn put_elements(
-    coding: Coding,
-    v: Variable,
-    level: u8,
-    state: &mut RunsLevel,
-    elements: &[Element],
-    out: &mut [u8],
-)
-    requires few { state.old.run < full_run coding }
+fn put_elements(v: Variable, level: u8, state: &mut RunsLevel, elements: &[Element], out: &mut [u8])
+    requires few { state.old.run < 62 }
     requires first { 2 ≤ level }
     requires last { level ≤ 4 }
     requires option { state.old.weigher.weighting ≡ v }
     requires size { length out.old < 2 ^ 64 }
-    ensures bytes { (at : ℕ) (before whole : List ℕ) (es : List Element) → IsPutting at before state.old.next out.old whole (bytes_left coding level state.old (elements.now ++ es)) → IsPutting at before state.new.next out.new whole (bytes_left coding level state.new es) }
-    ensures few { state.new.run < full_run coding }
+    ensures bytes { (at : ℕ) (before whole : List ℕ) (es : List Element) → IsPutting at before state.old.next out.old whole (bytes_left level state.old (elements.now ++ es)) → IsPutting at before state.new.next out.new whole (bytes_left level state.new es) }
+    ensures few { state.new.run < 62 }
     ensures option { state.new.weigher.weighting ≡ v }
     ensures size { length out.new ≡ length out.old }
 {
@@ -418,44 +290,24 @@ fn put_elements(
     let mut left = elements;
     'pieces: while !left.is_empty() {
         let (piece, rest) = left.split_at(left.len().min(PIECE));
-        let packed = pack(
-            coding,
-            &mut bytes,
-            state.run,
-            v,
-            &mut state.weigher,
-            piece,
-            level,
-        );
+        let packed = pack(&mut bytes, state.run, v, &mut state.weigher, piece, level);
         state.next = put_bytes(&bytes[..packed.at], state.next, out);
         state.run = packed.run;
         left = rest;
     }
 }
 
-// The byte that ends a level after a run of common weights.
-fn end_byte(coding: Coding, run: u8) -> u8
-    requires few { run < full_run coding }
-    ensures { (common : ℕ) → result ∷ [] ≡ runs_in coding common run [] }
-{
-    match coding {
-        Coding::Packed => 2 * run + 1,
-        Coding::Short => 2 * run,
-    }
-}
-
 // Puts the end of a level.
-fn put_end(coding: Coding, state: &RunsLevel, out: &mut [u8]) -> usize
-    requires few { state.now.run < full_run coding }
-    ensures { (level : ℕ) → PutsAt state.now.next (bytes_left coding level state.now []) out.old out.new result }
+fn put_end(state: &RunsLevel, out: &mut [u8]) -> usize
+    requires few { state.now.run < 62 }
+    ensures { (level : ℕ) → PutsAt state.now.next (bytes_left level state.now []) out.old out.new result }
 {
-    put_bytes(&[end_byte(coding, state.run)], state.next, out)
+    put_bytes(&[2 * state.run], state.next, out)
 }
 
 // Puts a level, from 2 to 4, of a text that the room does not hold, as it is read once more.
 #[inline(never)]
 fn put_level_again(
-    coding: Coding,
     v: Variable,
     level: u8,
     reading: &TextReading,
@@ -467,7 +319,7 @@ fn put_level_again(
     requires last { level ≤ 4 }
     requires some { 0 < length room.old }
     requires size { length out.old < 2 ^ 64 }
-    ensures bytes { PutsAt at (level_in coding (weighted v (elements_of reading.now)) level) out.old out.new result }
+    ensures bytes { PutsAt at (short_level (weighted v (elements_of reading.now)) level) out.old out.new result }
     ensures room { length room.new ≡ length room.old }
 {
     let mut state = RunsLevel::new(v, at);
@@ -475,15 +327,14 @@ fn put_level_again(
     'each: loop {
         let n = left.read(room);
         if n == 0 {
-            return put_end(coding, &state, out);
+            return put_end(&state, out);
         }
-        put_elements(coding, v, level, &mut state, &room[..n], out);
+        put_elements(v, level, &mut state, &room[..n], out);
     }
 }
 
 // Puts a level, from 2 to 4, of a text that was read into room.
 fn put_level(
-    coding: Coding,
     v: Variable,
     level: u8,
     reading: &TextReading,
@@ -496,21 +347,20 @@ fn put_level(
     requires some { 0 < length room.old }
     requires holds { HoldsElements reading.now room.old }
     requires size { length out.old < 2 ^ 64 }
-    ensures bytes { PutsAt at (level_in coding (weighted v (elements_of reading.now)) level) out.old out.new result }
+    ensures bytes { PutsAt at (short_level (weighted v (elements_of reading.now)) level) out.old out.new result }
     ensures holds { HoldsElements reading.now room.new }
     ensures room { length room.new ≡ length room.old }
 {
     if let Some(held) = reading.held {
         let mut state = RunsLevel::new(v, at);
-        put_elements(coding, v, level, &mut state, &room[..held], out);
-        return put_end(coding, &state, out);
+        put_elements(v, level, &mut state, &room[..held], out);
+        return put_end(&state, out);
     }
-    put_level_again(coding, v, level, reading, room, at, out)
+    put_level_again(v, level, reading, room, at, out)
 }
 
 /// Puts a later level of a text that was read into room, from 2 to 5.
 pub(crate) fn put_later(
-    coding: Coding,
     reading: &TextReading,
     v: Variable,
     level: u8,
@@ -523,12 +373,12 @@ pub(crate) fn put_later(
     requires some { 0 < length room.old }
     requires holds { HoldsElements reading.now room.old }
     requires size { length out.old < 2 ^ 64 }
-    ensures bytes { PutsAt at (later_in coding reading.now.table.now v (chars reading.now.text.now) level) out.old out.new result }
+    ensures bytes { PutsAt at (short_later (weighted v (elements_of reading.now)) (nfd (chars reading.now.text.now)) level) out.old out.new result }
     ensures holds { HoldsElements reading.now room.new }
     ensures room { length room.new ≡ length room.old }
 {
     if level == 5 {
         return put_text(reading.table, v, reading.text, at, out);
     }
-    put_level(coding, v, level, reading, room, at, out)
+    put_level(v, level, reading, room, at, out)
 }

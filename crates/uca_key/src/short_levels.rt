@@ -5,7 +5,7 @@ ghost use Rattle.uca_key.specs.Placing.{PutsAt};
 ghost use Rattle.uca_key.specs.ShortKey.{short_key_by};
 
 use crate::pieces::TextReading;
-use crate::runs::{Coding, put_later};
+use crate::runs::put_later;
 use crate::short_code::ShortCode;
 use crate::weight_bytes::put_first;
 use uca_table::Table;
@@ -34,7 +34,7 @@ pub(crate) fn put_short_levels(
     let mut level = 1;
     'each: while level < last {
         level += 1;
-        next = put_later(Coding::Short, &reading, s.weighting, level, room, next, out);
+        next = put_later(&reading, s.weighting, level, room, next, out);
     }
     next
 }

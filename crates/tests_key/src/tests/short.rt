@@ -9,7 +9,7 @@ use uca_weights::{Settings, Strength, Variable};
 use uca_window::Passage;
 
 /// The short key of a safe text, tried again where memory was refused.
-fn short_again(
+pub(super) fn short_again(
     rt: &impl Abort,
     alloc: Global,
     t: &Table,

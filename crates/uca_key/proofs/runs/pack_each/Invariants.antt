@@ -2,14 +2,14 @@ use Rattle.std.proofs.Common.{◌≡◌, ◌+◌, ◌*◌, ◌<◌, ◌≤◌, �
 use Rattle.uca_weights.specs.declared.settings.Variable.TheVariants.{NonIgnorable}
 use Rattle.uca_weights.specs.VariableWeighting.{weighted, weighted_after}
 use Rattle.uca_model.specs.LevelWeights.{level_weights}
-use Rattle.uca_key.specs.Runs.{full_run, runs_in}
+use Rattle.uca_key.specs.ShortKey.{runs_after}
 use Rattle.uca_key.proofs.runs.pack_each.Given as goal
 
 -- what is packed, what is left and what follows are packed as all is
 abbrev pub invariant-loop-element : goal.invariant-loop-element
 invariant-loop-element l = record {
-  few : l.packed.run < full_run l.coding;
+  few : l.packed.run < 62;
   within : l.packed.at ≤ l.fn.before.at + 4 * l.element-index;
   size : length l.key ≡ length l.fn.key;
-  same : (ws : List ℕ) → take l.packed.at l.key ++ runs_in l.coding l.common l.packed.run (level_weights l.level (weighted_after NonIgnorable (take l.element-index l.elements) (drop l.element-index l.elements)) ++ ws) ≡ take l.fn.before.at l.fn.key ++ runs_in l.coding l.common l.fn.before.run (level_weights l.level (weighted NonIgnorable l.elements) ++ ws);
+  same : (ws : List ℕ) → take l.packed.at l.key ++ runs_after l.common l.packed.run (level_weights l.level (weighted_after NonIgnorable (take l.element-index l.elements) (drop l.element-index l.elements)) ++ ws) ≡ take l.fn.before.at l.fn.key ++ runs_after l.common l.fn.before.run (level_weights l.level (weighted NonIgnorable l.elements) ++ ws);
 }

@@ -3,8 +3,7 @@ use Rattle.uca_weights.specs.declared.element.Element.{Element}
 use Rattle.uca_weights.specs.declared.settings.Variable.TheVariants.{NonIgnorable}
 use Rattle.uca_weights.specs.VariableWeighting.{weighted}
 use Rattle.uca_model.specs.LevelWeights.{level_weights}
-use Rattle.uca_key.specs.PackedKey.{common_weight}
-use Rattle.uca_key.specs.Runs.{runs_in}
+use Rattle.uca_key.specs.ShortKey.{common_weight, runs_after}
 use Rattle.uca_key.proofs.UnchangedLevels.{level_weights-both}
 use Rattle.uca_key.proofs.runs.pack_unchanged.Goals as goal
 
@@ -12,7 +11,7 @@ pub loop-left-preserved : goal.loop-left-preserved
 loop-left-preserved c =
     let weights_of : List Element → List ℕ = λ es. level_weights c.args.level (weighted NonIgnorable es) in
     let four : List Element = c.split_at.result.0.now in let rest : List Element = c.split_at.result.1.now in
-    let packed : List ℕ → List ℕ = λ ws. take c.loop-left.packed.at c.loop-left.key ++ runs_in c.args.coding (common_weight c.args.level) c.loop-left.packed.run ws in
+    let packed : List ℕ → List ℕ = λ ws. take c.loop-left.packed.at c.loop-left.key ++ runs_after (common_weight c.args.level) c.loop-left.packed.run ws in
     record {
       few = c.pack_few-packed.ensures.few;
       within = omega (arith, c.split_at.ensures.front_len, c.split_at.ensures.back_len, c.pack_few-packed.ensures.within, c.loop-left.invariant.within);

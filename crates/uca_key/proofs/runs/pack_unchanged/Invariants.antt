@@ -2,17 +2,16 @@ use Rattle.std.proofs.Common.{◌≡◌, ◌+◌, ◌*◌, ◌<◌, ◌≤◌, �
 use Rattle.uca_weights.specs.declared.settings.Variable.TheVariants.{NonIgnorable}
 use Rattle.uca_weights.specs.VariableWeighting.{weighted}
 use Rattle.uca_model.specs.LevelWeights.{level_weights}
-use Rattle.uca_key.specs.PackedKey.{common_weight}
-use Rattle.uca_key.specs.Runs.{full_run, runs_in}
+use Rattle.uca_key.specs.ShortKey.{common_weight, runs_after}
 use Rattle.uca_key.proofs.runs.pack_unchanged.Given as goal
 
 -- what is packed, what is left and what follows are packed as all is
 abbrev pub invariant-loop-left : goal.invariant-loop-left
 invariant-loop-left l = record {
-  few : l.packed.run < full_run l.coding;
+  few : l.packed.run < 62;
   within : l.packed.at + 4 * length l.left ≤ l.fn.before.at + 4 * length l.elements;
   size : length l.key ≡ length l.fn.key;
-  same : (ws : List ℕ) → take l.packed.at l.key ++ runs_in l.coding (common_weight l.level) l.packed.run (level_weights l.level (weighted NonIgnorable l.left) ++ ws) ≡ take l.fn.before.at l.fn.key ++ runs_in l.coding (common_weight l.level) l.fn.before.run (level_weights l.level (weighted NonIgnorable l.elements) ++ ws);
+  same : (ws : List ℕ) → take l.packed.at l.key ++ runs_after (common_weight l.level) l.packed.run (level_weights l.level (weighted NonIgnorable l.left) ++ ws) ≡ take l.fn.before.at l.fn.key ++ runs_after (common_weight l.level) l.fn.before.run (level_weights l.level (weighted NonIgnorable l.elements) ++ ws);
 }
 
 abbrev pub decreases-loop-left : goal.decreases-loop-left

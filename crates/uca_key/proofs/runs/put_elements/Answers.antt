@@ -1,8 +1,7 @@
 use Rattle.std.proofs.Common.{ap₂, ◌≡◌, ◌^◌, ◌<◌, ◌++◌, List, length, sym, ap, ◌∙◌, arith, append_assoc, take-append-drop}
 use Rattle.uca_weights.specs.declared.element.Element.{Element}
 use Rattle.uca_levels.specs.Streams.{weights_from}
-use Rattle.uca_key.specs.PackedKey.{common_weight}
-use Rattle.uca_key.specs.Runs.{runs_in}
+use Rattle.uca_key.specs.ShortKey.{common_weight, runs_after}
 use Rattle.uca_key.proofs.PlacingLemmas.{IsPutting-more, IsPutting-size}
 use Rattle.uca_key.proofs.runs.put_elements.Goals as goal
 
@@ -20,6 +19,6 @@ pieces-preserved c =
       putting = λ at before whole es h.
           let now = i.putting at before whole es h in
           let small : length before < 2 ^ 64 = omega (arith, IsPutting-size _ _ _ _ _ _ h, c.requires.size) in
-          let split = ap (λ l. runs_in c.args.coding (common_weight c.args.level) c.pieces.state.run (weights_from c.pieces.state.weigher c.args.level l)) (ap (λ l. l ++ es) parts ∙ append_assoc piece rest es) ∙ sym (c.pack-packed.ensures.bytes (rest ++ es)) in
+          let split = ap (λ l. runs_after (common_weight c.args.level) c.pieces.state.run (weights_from c.pieces.state.weigher c.args.level l)) (ap (λ l. l ++ es) parts ∙ append_assoc piece rest es) ∙ sym (c.pack-packed.ensures.bytes (rest ++ es)) in
           IsPutting-more _ _ _ _ _ _ now _ _ _ _ small split c.put_bytes-state.ensures;
     }

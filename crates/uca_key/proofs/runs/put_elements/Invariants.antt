@@ -1,16 +1,16 @@
 use Rattle.std.proofs.Common.{◌≡◌, ◌<◌, ◌++◌, ℕ, List, length}
 use Rattle.uca_weights.specs.declared.element.Element.{Element}
-use Rattle.uca_key.specs.Runs.{bytes_left, full_run}
+use Rattle.uca_key.specs.Runs.{bytes_left}
 use Rattle.uca_key.specs.Placing.{IsPutting}
 use Rattle.uca_key.proofs.runs.put_elements.Given as goal
 
 abbrev pub invariant-pieces : goal.invariant-pieces
 invariant-pieces l = record {
   option : l.state.weigher.weighting ≡ l.v;
-  few : l.state.run < full_run l.coding;
+  few : l.state.run < 62;
   size : length l.out ≡ length l.fn.out;
   bytes : length l.bytes ≡ 256;
-  putting : (at : ℕ) (before whole : List ℕ) (es : List Element) → IsPutting at before l.fn.state.next l.fn.out whole (bytes_left l.coding l.level l.fn.state (l.elements ++ es)) → IsPutting at before l.state.next l.out whole (bytes_left l.coding l.level l.state (l.left ++ es));
+  putting : (at : ℕ) (before whole : List ℕ) (es : List Element) → IsPutting at before l.fn.state.next l.fn.out whole (bytes_left l.level l.fn.state (l.elements ++ es)) → IsPutting at before l.state.next l.out whole (bytes_left l.level l.state (l.left ++ es));
 }
 
 abbrev pub decreases-pieces : goal.decreases-pieces
