@@ -1,10 +1,11 @@
 // Keys in each form, appended to others.
 ghost use Rattle.std.specs.Prelude.{◌≡◌, ◌<◌, ◌≤◌, ◌+◌, ◌-◌, ◌^◌, ◌++◌, chars, length, min, take, IfOk, OnOk};
-ghost use Rattle.uca_model.specs.SafeText.{IsSafe};
 ghost use Rattle.uca_window.specs.Passage.{text_of};
 ghost use Rattle.uca_key.specs.Form.{key_in};
+ghost use Rattle.uca_key.specs.Pieces.{HoldsElements};
 ghost use Rattle.uca_key.specs.Placing.{PutsAt};
 
+use crate::pieces::TextReading;
 use crate::placing::put_levels;
 use crate::short_code::ShortCode;
 use crate::short_levels::put_short_levels;
@@ -22,65 +23,75 @@ pub(crate) enum Form<'c> {
     Short(&'c ShortCode),
 }
 
-// How many bytes the keys of most texts have at most: a plain key of a text that has no more elements than bytes, and a short key
-// of letters with some marks. Others have more.
-fn expected_bytes(form: Form, s: Settings, bytes: usize) -> usize {
+// How many bytes the key of a text has at most, if its elements are held and it is plain and without the fifth level. Others may have
+// more, which few texts have: short keys of letters with many marks, and those of texts with more elements than bytes.
+fn expected_bytes(form: Form, s: Settings, reading: &TextReading) -> usize {
     let levels = s.levels() as usize;
+    let bytes = reading.text.len();
+    let elements = reading.held.unwrap_or(bytes);
+    let points = if levels == 5 {
+        bytes.saturating_mul(3)
+    } else {
+        0
+    };
     let each = match form {
         Form::Short(_) => levels + 1,
-        Form::Plain => 2 * levels + 1,
+        Form::Plain => 2 * levels,
     };
-    bytes.saturating_mul(each).saturating_add(8)
+    elements
+        .saturating_mul(each)
+        .saturating_add(points)
+        .saturating_add(8)
 }
 
-// Puts a key at a place of a buffer. Its elements are read into room.
+// Puts the key of a text that was read into room at a place of a buffer.
 fn put(
     form: Form,
-    t: &Table,
+    reading: &TextReading,
     s: Settings,
-    text: &str,
     room: &mut [Element],
     at: usize,
     out: &mut [u8],
 ) -> usize
-    requires safe { IsSafe (chars text.now) }
     requires some { 0 < length room.old }
+    requires holds { HoldsElements reading.now room.old }
     requires size { length out.old < 2 ^ 64 }
-    ensures bytes { PutsAt at (key_in form.entry t.now s (chars text.now)) out.old out.new result }
+    ensures bytes { PutsAt at (key_in form.entry reading.now.table.now s (chars reading.now.text.now)) out.old out.new result }
+    ensures holds { HoldsElements reading.now room.new }
     ensures room { length room.new ≡ length room.old }
 {
     match form {
-        Form::Plain => put_levels(t, s, text, room, at, out),
-        Form::Short(code) => put_short_levels(code, t, s, text, room, at, out),
+        Form::Plain => put_levels(reading, s, room, at, out),
+        Form::Short(code) => put_short_levels(code, reading, s, room, at, out),
     }
 }
 
 // Puts a key at a place of a list that gets this size, and returns where it ends, or would end.
 fn put_into(
     form: Form,
-    t: &Table,
+    reading: &TextReading,
     s: Settings,
-    text: &str,
     room: &mut [Element],
     at: usize,
     size: usize,
     keys: &mut Vec<u8>,
 ) -> Result<usize, AllocError>
-    requires safe { IsSafe (chars text.now) }
     requires some { 0 < length room.old }
+    requires holds { HoldsElements reading.now room.old }
     requires place { at ≤ length keys.old.items }
     requires size { at ≤ size }
-    ensures end { IfOk result (λ end. end ≡ min (at + length (key_in form.entry t.now s (chars text.now))) (2 ^ 64 - 1)) }
-    ensures key { IfOk result (λ end. end ≤ length keys.new.items → take end keys.new.items ≡ take at keys.old.items ++ key_in form.entry t.now s (chars text.now)) }
+    ensures end { IfOk result (λ end. end ≡ min (at + length (key_in form.entry reading.now.table.now s (chars reading.now.text.now))) (2 ^ 64 - 1)) }
+    ensures key { IfOk result (λ end. end ≤ length keys.new.items → take end keys.new.items ≡ take at keys.old.items ++ key_in form.entry reading.now.table.now s (chars reading.now.text.now)) }
     ensures front { OnOk result (take at keys.new.items ≡ take at keys.old.items) }
     ensures size { OnOk result (length keys.new.items ≡ size) }
+    ensures holds { HoldsElements reading.now room.new }
     ensures room { length room.new ≡ length room.old }
 {
     keys.resize(size, 0)?;
-    Ok(put(form, t, s, text, room, at, keys.as_mut_slice()))
+    Ok(put(form, reading, s, room, at, keys.as_mut_slice()))
 }
 
-/// Appends the key of a text to others. Its elements are read into room.
+/// Appends the key of a text to others, and returns whether the room held all its elements.
 pub(crate) fn push(
     form: Form,
     t: &Table,
@@ -88,20 +99,18 @@ pub(crate) fn push(
     p: &Passage,
     room: &mut [Element],
     keys: &mut Vec<u8>,
-) -> Result<(), AllocError>
+) -> Result<bool, AllocError>
     requires { 0 < length room.old }
     ensures { OnOk result (keys.new.items ≡ keys.old.items ++ key_in form.entry t.now s (text_of p.now)) }
 {
-    let text = p.as_str();
+    let reading = TextReading::new(t, p.as_str(), room);
+    let held = reading.held.is_some();
     let start = keys.len();
-    let expected = expected_bytes(form, s, text.len());
-    let size = start.saturating_add(expected);
-    let end = put_into(form, t, s, text, room, start, size, keys)?;
+    let size = start.saturating_add(expected_bytes(form, s, &reading));
+    let end = put_into(form, &reading, s, room, start, size, keys)?;
     if end > size {
-        let _same = put_into(form, t, s, text, room, start, end, keys)?;
-        keys.truncate(end);
-        return Ok(());
+        let _same = put_into(form, &reading, s, room, start, end, keys)?;
     }
     keys.truncate(end);
-    Ok(())
+    Ok(held)
 }

@@ -39,11 +39,11 @@ pub(crate) fn key_in(
     let bytes = p.as_str().len();
     if bytes <= SHORT {
         let mut room = [Element::default(); ROOM];
-        push(form, t, s, p, &mut room, &mut key)?;
+        let _held = push(form, t, s, p, &mut room, &mut key)?;
         return Ok(key);
     }
     let mut elements = Vec::new(alloc);
     elements.resize(bytes.saturating_add(1), Element::default())?;
-    push(form, t, s, p, elements.as_mut_slice(), &mut key)?;
+    let _held = push(form, t, s, p, elements.as_mut_slice(), &mut key)?;
     Ok(key)
 }

@@ -152,27 +152,26 @@ fn put_level_of(
     put_weights(v, level, reading, room, at, out)
 }
 
-/// Puts the sort key of a text at a place of a buffer, level after level. Its elements are read into room.
+/// Puts the sort key of a text that was read into room at a place of a buffer, level after level.
 pub(crate) fn put_levels(
-    t: &Table,
+    reading: &TextReading,
     s: Settings,
-    text: &str,
     room: &mut [Element],
     at: usize,
     out: &mut [u8],
 ) -> usize
-    requires safe { IsSafe (chars text.now) }
     requires some { 0 < length room.old }
+    requires holds { HoldsElements reading.now room.old }
     requires size { length out.old < 2 ^ 64 }
-    ensures bytes { PutsAt at (sort_key t.now s (chars text.now)) out.old out.new result }
+    ensures bytes { PutsAt at (sort_key reading.now.table.now s (chars reading.now.text.now)) out.old out.new result }
+    ensures holds { HoldsElements reading.now room.new }
     ensures room { length room.new ≡ length room.old }
 {
     let last = s.levels();
-    let reading = TextReading::new(t, text, room);
     let mut level = 1;
     let mut next = at;
     'each: loop {
-        next = put_level_of(&reading, s.weighting, level, room, next, out);
+        next = put_level_of(reading, s.weighting, level, room, next, out);
         if level == last {
             return next;
         }
@@ -192,5 +191,6 @@ pub fn put_key(t: &Table, s: Settings, p: &Passage, out: &mut [u8]) -> usize
     // Shows that the table is one.
     let _longest = t.longest();
     let mut room = [Element::default(); ROOM];
-    put_levels(t, s, p.as_str(), &mut room, 0, out)
+    let reading = TextReading::new(t, p.as_str(), &mut room);
+    put_levels(&reading, s, &mut room, 0, out)
 }

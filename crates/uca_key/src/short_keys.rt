@@ -14,6 +14,7 @@ ghost use Rattle.uca_key.specs.ShortKey.{short_key, short_prefix};
 use crate::bounds::{PrefixBounds, end_of_prefix};
 use crate::form::Form;
 use crate::keys::key_in;
+use crate::pieces::TextReading;
 use crate::placing::ROOM;
 use crate::short_code::ShortCode;
 use crate::short_levels::put_short_levels;
@@ -117,7 +118,8 @@ pub fn put_short_key(t: &Table, code: &ShortCode, s: Settings, p: &Passage, out:
     // Shows that the table is one.
     let _longest = t.longest();
     let mut room = [Element::default(); ROOM];
-    put_short_levels(code, t, s, p.as_str(), &mut room, 0, out)
+    let reading = TextReading::new(t, p.as_str(), &mut room);
+    put_short_levels(code, &reading, s, &mut room, 0, out)
 }
 
 // The bytes with which the short keys of just those texts begin whose primary weights begin with the primary weights of a text.

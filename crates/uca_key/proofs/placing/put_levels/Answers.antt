@@ -1,9 +1,8 @@
-use Rattle.std.proofs.Common.{◌≡◌, ℕ, List, suc, ◌+◌, ◌-◌, [], ◌∷◌, ◌++◌, chars, refl, sym, ap, ap₂, subst, ◌∙◌, arith}
+use Rattle.std.proofs.Common.{◌≡◌, ℕ, List, suc, ◌+◌, ◌-◌, [], ◌∷◌, ◌++◌, chars, refl, sym, ap, ◌∙◌, arith}
 use Rattle.uca_weights.specs.Settings.{levels}
 use Rattle.uca_model.specs.LevelWeights.{level_list}
 use Rattle.uca_model.specs.DecidingLevel.{bytes_at, key_from}
 use Rattle.uca_model.proofs.LevelLemmas.{sort_key-levels, levels-within}
-use Rattle.uca_key.specs.Placing.{PutsAt}
 use Rattle.uca_key.proofs.KeyPieces.{tail_of, key_from-split}
 use Rattle.uca_key.proofs.PlacingLemmas.{IsPutting-start, IsPutting-more, IsPutting-ends}
 use Rattle.uca_key.proofs.placing.put_levels.Goals as goal
@@ -13,29 +12,29 @@ each-init c =
     record {
       first = omega arith;
       last = (levels-within c.args.s.strength).0;
-      holds = c.new-reading.ensures.holds;
-      size = c.new-reading.ensures.size;
-      putting = IsPutting-start _ _ _ _ c.ranges.at.fits (sym (sort_key-levels c.args.t.now c.args.s (chars c.args.text.now)));
+      holds = c.requires.holds;
+      size = refl;
+      putting = IsPutting-start _ _ _ _ c.ranges.at.fits (sym (sort_key-levels c.args.reading.now.table.now c.args.s (chars c.args.reading.now.text.now)));
     }
 
 pub returns-then-level-last-clause-bytes : goal.returns-then-level-last-clause-bytes
 returns-then-level-last-clause-bytes c =
-    let lists : ℕ → List ℕ = level_list c.args.t.now c.args.s.weighting (chars c.args.text.now) in
+    let lists : ℕ → List ℕ = level_list c.args.reading.now.table.now c.args.s.weighting (chars c.args.reading.now.text.now) in
     let at : ℕ = c.each.level in
     let top : ℕ = levels c.args.s.strength in
     let split = key_from-split (top - at) at lists (lists at) refl in
-    let puts = subst (λ (b : List ℕ). PutsAt c.each.next b c.each.out c.put_level_of-next.new.out c.put_level_of-next.result) (ap₂ (λ t x. bytes_at at (level_list t c.args.s.weighting (chars x) at)) c.new-reading.ensures.table c.new-reading.ensures.text) c.put_level_of-next.ensures.bytes in
+    let puts = c.put_level_of-next.ensures.bytes in
     let one = IsPutting-more _ _ _ _ _ _ c.each.invariant.putting _ _ (bytes_at at (lists at)) (tail_of (top - at) at lists) c.requires.size split puts in
     let none : top - at ≡ 0 = omega (arith, c.levels-last.ensures, c.if-level-last.true) in
     IsPutting-ends _ _ _ _ _ _ one (ap (λ n. tail_of n at lists) none)
 
 pub each-preserved : goal.each-preserved
 each-preserved c =
-    let lists : ℕ → List ℕ = level_list c.args.t.now c.args.s.weighting (chars c.args.text.now) in
+    let lists : ℕ → List ℕ = level_list c.args.reading.now.table.now c.args.s.weighting (chars c.args.reading.now.text.now) in
     let at : ℕ = c.each.level in
     let top : ℕ = levels c.args.s.strength in
     let split = key_from-split (top - at) at lists (lists at) refl in
-    let puts = subst (λ (b : List ℕ). PutsAt c.each.next b c.each.out c.put_level_of-next.new.out c.put_level_of-next.result) (ap₂ (λ t x. bytes_at at (level_list t c.args.s.weighting (chars x) at)) c.new-reading.ensures.table c.new-reading.ensures.text) c.put_level_of-next.ensures.bytes in
+    let puts = c.put_level_of-next.ensures.bytes in
     let one = IsPutting-more _ _ _ _ _ _ c.each.invariant.putting _ _ (bytes_at at (lists at)) (tail_of (top - at) at lists) c.requires.size split puts in
     let some : top - at ≡ suc (top - (at + 1)) = omega (arith, c.each.invariant.last, c.levels-last.ensures, c.if-level-last.false) in
     let later : tail_of (top - at) at lists ≡ (0 ∷ 0 ∷ []) ++ key_from (top - (at + 1)) (at + 1) lists = ap (λ n. tail_of n at lists) some in

@@ -13,8 +13,8 @@ invariant-each l = record {
   last : l.level ≤ levels l.s.strength;
   holds : HoldsElements l.reading l.room;
   size : length l.room ≡ length l.fn.room;
-  putting : IsPutting l.fn.at l.fn.out l.next l.out (sort_key l.t l.s (chars l.text))
-      (key_from (levels l.s.strength - l.level) l.level (level_list l.t l.s.weighting (chars l.text)));
+  putting : IsPutting l.fn.at l.fn.out l.next l.out (sort_key l.reading.table.now l.s (chars l.reading.text.now))
+      (key_from (levels l.s.strength - l.level) l.level (level_list l.reading.table.now l.s.weighting (chars l.reading.text.now)));
 }
 
 abbrev pub decreases-each : goal.decreases-each

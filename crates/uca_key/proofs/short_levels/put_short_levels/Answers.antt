@@ -1,11 +1,10 @@
-use Rattle.std.proofs.Common.{◌≡◌, ℕ, List, suc, ◌+◌, ◌-◌, ◌++◌, chars, refl, ap, ap₂, subst, ◌∙◌, arith}
+use Rattle.std.proofs.Common.{◌≡◌, ℕ, List, suc, ◌+◌, ◌-◌, ◌++◌, chars, refl, ap, ◌∙◌, arith}
 use Rattle.unicode_normalization.specs.Forms.{nfd}
 use Rattle.uca_weights.specs.Settings.{levels}
 use Rattle.uca_weights.specs.VariableWeighting.{weighted}
 use Rattle.uca_model.specs.CollationElements.{elements}
 use Rattle.uca_model.specs.LevelWeights.{level_weights}
 use Rattle.uca_model.proofs.LevelLemmas.{levels-within}
-use Rattle.uca_key.specs.Placing.{PutsAt}
 use Rattle.uca_key.specs.PrimaryCode.{primary_level, start}
 use Rattle.uca_key.specs.ShortKey.{short_key_by, short_later}
 use Rattle.uca_key.proofs.PlacingLemmas.{IsPutting-start, IsPutting-more}
@@ -14,24 +13,24 @@ use Rattle.uca_key.proofs.short_levels.put_short_levels.Goals as goal
 
 pub each-init : goal.each-init
 each-init c =
-    let text : List ℕ = chars c.args.text.now in let k = c.args.code.now in let v = c.args.s.weighting in
-    let ws : List (List ℕ) = weighted v (elements c.args.t.now (nfd text)) in
+    let text : List ℕ = chars c.args.reading.now.text.now in let k = c.args.code.now in let v = c.args.s.weighting in
+    let ws : List (List ℕ) = weighted v (elements c.args.reading.now.table.now (nfd text)) in
     let own : List ℕ = primary_level k (start k) (level_weights 1 ws) in
-    let puts = subst (λ (b : List ℕ). PutsAt c.args.at b c.args.out.now c.put_first-next.new.out c.put_first-next.result) (ap₂ (λ t x. primary_level k (start k) (level_weights 1 (weighted v (elements t (nfd (chars x)))))) c.new-reading.ensures.table c.new-reading.ensures.text) c.put_first-next.ensures.bytes in
+    let puts = c.put_first-next.ensures.bytes in
     record {
       first = omega arith;
       last = (levels-within c.args.s.strength).0;
       holds = c.put_first-next.ensures.holds;
-      size = c.put_first-next.ensures.room ∙ c.new-reading.ensures.size;
-      putting = IsPutting-more _ _ _ _ _ _ (IsPutting-start c.args.at c.args.out.now (short_key_by k c.args.t.now c.args.s text) _ c.ranges.at.fits refl) _ _ own (later_levels (levels c.args.s.strength - 1) 2 ws (nfd text)) c.requires.size (short-levels k c.args.t.now c.args.s text) puts;
+      size = c.put_first-next.ensures.room;
+      putting = IsPutting-more _ _ _ _ _ _ (IsPutting-start c.args.at c.args.out.now (short_key_by k c.args.reading.now.table.now c.args.s text) _ c.ranges.at.fits refl) _ _ own (later_levels (levels c.args.s.strength - 1) 2 ws (nfd text)) c.requires.size (short-levels k c.args.reading.now.table.now c.args.s text) puts;
     }
 
 pub each-preserved : goal.each-preserved
 each-preserved c =
-    let text : List ℕ = chars c.args.text.now in let v = c.args.s.weighting in
-    let ws : List (List ℕ) = weighted v (elements c.args.t.now (nfd text)) in
+    let text : List ℕ = chars c.args.reading.now.text.now in let v = c.args.s.weighting in
+    let ws : List (List ℕ) = weighted v (elements c.args.reading.now.table.now (nfd text)) in
     let at : ℕ = c.each.level in let top : ℕ = levels c.args.s.strength in
-    let puts = subst (λ (b : List ℕ). PutsAt c.each.next b c.each.out c.put_later-next.new.out c.put_later-next.result) (ap₂ (λ t x. short_later (weighted v (elements t (nfd (chars x)))) (nfd (chars x)) (at + 1)) c.new-reading.ensures.table c.new-reading.ensures.text) c.put_later-next.ensures.bytes in
+    let puts = c.put_later-next.ensures.bytes in
     let some : top - at ≡ suc (top - (at + 1)) = omega (arith, c.each.invariant.last, c.levels-last.ensures, c.each-test.true) in
     let split : later_levels (top - at) (at + 1) ws (nfd text) ≡ short_later ws (nfd text) (at + 1) ++ later_levels (top - (at + 1)) (at + 1 + 1) ws (nfd text) = ap (λ n. later_levels n (at + 1) ws (nfd text)) some in
     record {

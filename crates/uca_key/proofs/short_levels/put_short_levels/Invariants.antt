@@ -15,7 +15,7 @@ invariant-each l = record {
   last : l.level ≤ levels l.s.strength;
   holds : HoldsElements l.reading l.room;
   size : length l.room ≡ length l.fn.room;
-  putting : IsPutting l.fn.at l.fn.out l.next l.out (short_key_by l.code l.t l.s (chars l.text)) (later_levels (levels l.s.strength - l.level) (l.level + 1) (weighted l.s.weighting (elements l.t (nfd (chars l.text)))) (nfd (chars l.text)));
+  putting : IsPutting l.fn.at l.fn.out l.next l.out (short_key_by l.code l.reading.table.now l.s (chars l.reading.text.now)) (later_levels (levels l.s.strength - l.level) (l.level + 1) (weighted l.s.weighting (elements l.reading.table.now (nfd (chars l.reading.text.now)))) (nfd (chars l.reading.text.now)));
 }
 
 abbrev pub decreases-each : goal.decreases-each
