@@ -1,5 +1,5 @@
 -- What the vectors of a code of primary weights hold.
-use Rattle.std.specs.Prelude.{◌≡◌, ℕ, ◌<◌, ◌≤◌, ◌/◌, ◌==◌, ◌&&◌, not, Bool, true, nat_le, nat_lt, List, [], length, get_or, slice_index, refl}
+use Rattle.std.specs.Prelude.{◌≡◌, ℕ, ◌<◌, ◌≤◌, ◌/◌, ◌==◌, ◌&&◌, not, Bool, true, false, nat_le, nat_lt, List, length, get_or, slice_index, refl}
 use Rattle.std.specs.Coded.{Coded, code_by, coded×, coded_list, coded_ℕ}
 use Rattle.uca_key.specs.PrimaryCode.{PrimaryCode, is_common, is_single, lead, slot}
 use Rattle.uca_key.specs.declared.short_code.Single.{Single}
@@ -10,20 +10,24 @@ use Rattle.uca_key.specs.declared.short_code.Window.{Window}
 abbrev pub is_range : ℕ × ℕ → Bool
 is_range r = nat_le r.0 r.1 && nat_lt r.1 0xD800
 
--- a code with these common weights, and no others
-abbrev pub bare_code : List ℕ → PrimaryCode
-bare_code commons = record { commons = commons; singles = []; anchors = [] }
-
 -- what a code has of a weight: its slot, whether it is common, and whether it is common, is not zero and begins no implicit pair
 pub record IsSlotOf (k : PrimaryCode) (w : ℕ) (s : Slot) : Type 0 where
   pub number : s.number ≡ slot k w
   pub common : s.common ≡ is_common k w
   pub letter : s.letter ≡ (is_common k w && not (w / 256 == 251) && not (w == 0))
 
+-- flags say of each weight that they have whether it is common
+abbrev pub AreCommons : PrimaryCode → List Bool → Type 0
+AreCommons k flags = (w : ℕ) → w < length flags → get_or flags w false ≡ is_common k w
+
+-- a list begins with what a code has of so many weights
+abbrev pub AreSlots : PrimaryCode → ℕ → List Slot → Type 0
+AreSlots k n slots = (w : ℕ) (d : Slot) → w < n → IsSlotOf k w (get_or slots w d)
+
 -- the same of each weight, the first window, and the space
 pub record HoldsSlots (k : PrimaryCode) (slots : List Slot) (first : Window) (space : Single) : Type 0 where
   pub size : length slots ≡ 65536
-  pub each : (w : ℕ) (d : Slot) → w < 65536 → IsSlotOf k w (get_or slots w d)
+  pub each : AreSlots k 65536 slots
   pub few : length k.singles ≤ 10
   pub begins : first.base ≡ slice_index k.anchors 0
   pub numbered : first.slot ≡ slot k first.base

@@ -1,8 +1,8 @@
 //! The code of primary weights in short keys: what a table says of common characters, with a slot for each weight.
-ghost use Rattle.std.specs.Prelude.{◌≡◌, ◌<◌, ◌≤◌, ◌+◌, ◌-◌, ◌/◌, ◌++◌, [], ◌==◌, ◌&&◌, not, ℕ, true, false, get_or, fold, if◌then◌else◌, length, map, max, nat_le, IsTrue, slice_index, sum_by, OnOk, IfOk};
+ghost use Rattle.std.specs.Prelude.{◌≡◌, ◌<◌, ◌≤◌, ◌+◌, ◌-◌, ◌/◌, ◌%◌, ◌++◌, ◌==◌, ◌&&◌, not, ℕ, true, false, get_or, fold, if◌then◌else◌, length, map, max, nat_le, IsTrue, slice_index, sum_by, OnOk, IfOk};
 ghost use Rattle.std.specs.List.{list_all, list_any, range_with_len};
 ghost use Rattle.uca_key.specs.PrimaryCode.{PrimaryCode, anchor_of, begins_slot, code_of, first_primary, is_common, is_single, lead, page_of, past, points_of_ranges, primary_of, slot};
-ghost use Rattle.uca_key.specs.SlotTables.{IsSlotOf, bare_code, is_range};
+ghost use Rattle.uca_key.specs.SlotTables.{AreCommons, AreSlots, IsSlotOf, is_range};
 
 use crate::common_characters::{COMMON_RANGES, FIRST_LETTERS, SINGLE_CHARACTERS};
 use std::alloc::{AllocError, Global};
@@ -12,6 +12,9 @@ use uca_weights::Element;
 
 // How many weights there are.
 const WEIGHTS: usize = 0x1_0000;
+
+// How many of them have one high byte.
+const PAGE: usize = 256;
 
 // How many weights have a lead of their own, and at how many windows begin.
 const SINGLES: usize = SINGLE_CHARACTERS.len();
@@ -28,10 +31,13 @@ fn first_primary(elements: &[Element]) -> u16
     }
 }
 
-// The first primary weight of the text of one character.
+// The first primary weight of the text of one character. The table knows the elements of nearly all of them.
 fn primary_of(alloc: Global, t: &Table, c: char) -> Result<u16, AllocError>
     ensures { IfOk result (λ w. w ≡ primary_of t.now c) }
 {
+    if let Some(elements) = t.alone_before(c, "") {
+        return Ok(first_primary(elements));
+    }
     let mut elements = Vec::new(alloc);
     t.push_elements(alloc, &mut elements, &[c])?;
     Ok(first_primary(elements.as_slice()))
@@ -117,18 +123,19 @@ fn flags_of(alloc: Global, weights: &[u16]) -> Result<Vec<bool>, AllocError>
 
 // Whether a slot begins at the weight after this one.
 fn begins_slot(flags: &[bool], w: usize) -> bool
-    requires { w + 1 < length flags.now }
-    ensures { (k : PrimaryCode) → ((x : ℕ) → x < length flags.now → get_or flags.now x false ≡ is_common k x) → result ≡ begins_slot k w }
+    requires size { length flags.now ≡ 65536 }
+    requires within { w < 65536 }
+    ensures { (k : PrimaryCode) → AreCommons k flags.now → result ≡ begins_slot k w }
 {
-    (w + 1) % 256 == 0 || flags[w] || flags[w + 1]
+    (w + 1) % PAGE == 0 || flags[w] || flags[w + 1]
 }
 
 // The slot of the weight after this one.
-fn slot_after(flags: &[bool], w: usize, number: u16) -> u16
-    requires within { w + 1 < length flags.now }
+fn slot_after(flags: &[bool], w: usize, number: u32) -> u32
+    requires size { length flags.now ≡ 65536 }
+    requires within { w < 65536 }
     requires most { number ≤ w }
-    requires fits { w < 65535 }
-    ensures next { (k : PrimaryCode) → ((x : ℕ) → x < length flags.now → get_or flags.now x false ≡ is_common k x) → number ≡ slot k w → result ≡ slot k (w + 1) }
+    ensures next { (k : PrimaryCode) → AreCommons k flags.now → number ≡ slot k w → result ≡ slot k (w + 1) }
     ensures most { result ≤ w + 1 }
 {
     if begins_slot(flags, w) {
@@ -139,31 +146,95 @@ fn slot_after(flags: &[bool], w: usize, number: u16) -> u16
 }
 
 // What the code has of a weight in this slot.
-fn slot_of(flags: &[bool], w: usize, number: u16) -> Slot
-    requires { w < length flags.now }
-    ensures { (k : PrimaryCode) → ((x : ℕ) → x < length flags.now → get_or flags.now x false ≡ is_common k x) → number ≡ slot k w → IsSlotOf k w result }
+fn slot_of(flags: &[bool], w: usize, number: u32) -> Slot
+    requires size { length flags.now ≡ 65536 }
+    requires within { w < 65536 }
+    requires most { number ≤ w }
+    ensures { (k : PrimaryCode) → AreCommons k flags.now → number ≡ slot k w → IsSlotOf k w result }
 {
     Slot {
-        number,
+        number: number as u16,
         common: flags[w],
-        letter: flags[w] && w / 256 != 0xFB && w != 0,
+        letter: flags[w] && w / PAGE != 0xFB && w != 0,
     }
 }
 
-// The slot of each weight.
-fn slots_of(alloc: Global, commons: &[u16], flags: &[bool]) -> Result<Vec<Slot>, AllocError>
+// Whether one of the weights with a high byte has a flag.
+fn has_flag(flags: &[bool], first: usize) -> bool
     requires size { length flags.now ≡ 65536 }
-    requires flags { (w : ℕ) → w < length flags.now → get_or flags.now w false ≡ is_common (bare_code commons.now) w }
-    ensures size { IfOk result (λ v. length v.items ≡ 65536) }
-    ensures slots { IfOk result (λ v. (w : ℕ) (d : Slot) → w < 65536 → IsSlotOf (bare_code commons.now) w (get_or v.items w d)) }
+    requires within { first + 256 ≤ 65536 }
+    ensures { result ≡ false → (w : ℕ) → first ≤ w → w < first + 256 → get_or flags.now w false ≡ false }
 {
-    let _commons = commons.len();
+    let mut found = false;
+    for w in first..first + PAGE {
+        found = found | flags[w];
+    }
+    found
+}
+
+// Appends the slots of the weights with one high byte, one by one. Returns that of the weight after them.
+fn push_slots(
+    flags: &[bool],
+    first: usize,
+    number: u32,
+    slots: &mut Vec<Slot>,
+) -> Result<u32, AllocError>
+    requires size { length flags.now ≡ 65536 }
+    requires within { first + 256 ≤ 65536 }
+    requires place { length slots.old.items ≡ first }
+    requires most { number ≤ first }
+    ensures size { OnOk result (length slots.new.items ≡ first + 256) }
+    ensures most { IfOk result (λ n. n ≤ first + 256) }
+    ensures next { IfOk result (λ n. (k : PrimaryCode) → AreCommons k flags.now → number ≡ slot k first → n ≡ slot k (first + 256)) }
+    ensures slots { OnOk result ((k : PrimaryCode) → AreCommons k flags.now → number ≡ slot k first → AreSlots k first slots.old.items → AreSlots k (first + 256) slots.new.items) }
+{
+    let mut here = number;
+    for w in first..first + PAGE {
+        slots.push(slot_of(flags, w, here))?;
+        here = slot_after(flags, w, here);
+    }
+    Ok(here)
+}
+
+// The same, together where none of them is common: then all lie in one slot.
+fn push_page(
+    flags: &[bool],
+    first: usize,
+    number: u32,
+    slots: &mut Vec<Slot>,
+) -> Result<u32, AllocError>
+    requires size { length flags.now ≡ 65536 }
+    requires within { first + 256 ≤ 65536 }
+    requires page { first % 256 ≡ 0 }
+    requires place { length slots.old.items ≡ first }
+    requires most { number ≤ first }
+    ensures size { OnOk result (length slots.new.items ≡ first + 256) }
+    ensures most { IfOk result (λ n. n ≤ first + 256) }
+    ensures next { IfOk result (λ n. (k : PrimaryCode) → AreCommons k flags.now → number ≡ slot k first → n ≡ slot k (first + 256)) }
+    ensures slots { OnOk result ((k : PrimaryCode) → AreCommons k flags.now → number ≡ slot k first → AreSlots k first slots.old.items → AreSlots k (first + 256) slots.new.items) }
+{
+    if has_flag(flags, first) {
+        return push_slots(flags, first, number, slots);
+    }
+    let slot = Slot {
+        number: number as u16,
+        common: false,
+        letter: false,
+    };
+    slots.resize(first + PAGE, slot)?;
+    Ok(number + 1)
+}
+
+// The slot of each weight.
+fn slots_of(alloc: Global, flags: &[bool]) -> Result<Vec<Slot>, AllocError>
+    requires { length flags.now ≡ 65536 }
+    ensures size { IfOk result (λ v. length v.items ≡ 65536) }
+    ensures slots { IfOk result (λ v. (k : PrimaryCode) → AreCommons k flags.now → AreSlots k 65536 v.items) }
+{
     let mut slots = Vec::with_capacity(alloc, WEIGHTS)?;
     let mut number = 0;
-    slots.push(slot_of(flags, 0, number))?;
-    for w in 0..WEIGHTS - 1 {
-        number = slot_after(flags, w, number);
-        slots.push(slot_of(flags, w + 1, number))?;
+    for page in 0..WEIGHTS / PAGE {
+        number = push_page(flags, PAGE * page, number, &mut slots)?;
     }
     Ok(slots)
 }
@@ -284,7 +355,7 @@ fn window_of(slots: &[Slot], singles: &[u16], base: u16) -> Window
     requires size { length slots.now ≡ 65536 }
     requires few { length singles.now ≤ 10 }
     ensures base { result.base ≡ base }
-    ensures slot { (k : PrimaryCode) → ((w : ℕ) (d : Slot) → w < 65536 → IsSlotOf k w (get_or slots.now w d)) → result.slot ≡ slot k base }
+    ensures slot { (k : PrimaryCode) → AreSlots k 65536 slots.now → result.slot ≡ slot k base }
     ensures lead { (k : PrimaryCode) → k.singles ≡ singles.now → result.lead ≡ lead k base }
     ensures most { result.lead ≤ 135 }
 {
@@ -329,7 +400,7 @@ impl ShortCode {
     {
         let commons = weights_of_ranges(alloc, t, &COMMON_RANGES)?;
         let flags = flags_of(alloc, &commons)?;
-        let slots = slots_of(alloc, &commons, &flags)?;
+        let slots = slots_of(alloc, &flags)?;
         let mut singles = [0; SINGLES];
         singles.copy_from_slice(weights_of(alloc, t, &SINGLE_CHARACTERS)?.as_slice());
         let mut anchors = [0; ANCHORS];
