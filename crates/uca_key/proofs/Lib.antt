@@ -15,6 +15,7 @@ pub mod ShortOrder
 pub mod ShortBytes
 pub mod ShortPrefixes
 pub mod SlotSteps
+pub mod OutsidePages
 pub mod RunsLemmas
 pub mod ShortPieces
 pub mod ShortBounds

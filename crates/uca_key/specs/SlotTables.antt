@@ -2,6 +2,7 @@
 use Rattle.std.specs.Prelude.{◌≡◌, ℕ, ◌<◌, ◌≤◌, ◌/◌, ◌==◌, ◌&&◌, not, Bool, true, false, nat_le, nat_lt, List, length, get_or, slice_index, refl}
 use Rattle.std.specs.Coded.{Coded, code_by, coded×, coded_list, coded_ℕ}
 use Rattle.uca_key.specs.PrimaryCode.{PrimaryCode, is_common, is_single, lead, slot}
+use Rattle.uca_key.specs.declared.short_code.Outside.{Outside}
 use Rattle.uca_key.specs.declared.short_code.Single.{Single}
 use Rattle.uca_key.specs.declared.short_code.Slot.{Slot}
 use Rattle.uca_key.specs.declared.short_code.Window.{Window}
@@ -24,10 +25,22 @@ AreCommons k flags = (w : ℕ) → w < length flags → get_or flags w false ≡
 abbrev pub AreSlots : PrimaryCode → ℕ → List Slot → Type 0
 AreSlots k n slots = (w : ℕ) (d : Slot) → w < n → IsSlotOf k w (get_or slots w d)
 
+-- what a code has of a weight outside its window: its lead, and whether it has a byte of its own everywhere
+pub record IsOutsideOf (k : PrimaryCode) (w : ℕ) (o : Outside) : Type 0 where
+  pub lead : o.lead ≡ lead k w
+  pub most : o.lead ≤ 135
+  pub single : o.single ≡ is_single k w
+
+-- a list begins with what a code has of so many weights outside their windows
+abbrev pub AreOutside : PrimaryCode → ℕ → List Outside → Type 0
+AreOutside k n outside = (w : ℕ) (d : Outside) → w < n → IsOutsideOf k w (get_or outside w d)
+
 -- the same of each weight, the first window, and the space
-pub record HoldsSlots (k : PrimaryCode) (slots : List Slot) (first : Window) (space : Single) : Type 0 where
+pub record HoldsSlots (k : PrimaryCode) (slots : List Slot) (outside : List Outside) (first : Window) (space : Single) : Type 0 where
   pub size : length slots ≡ 65536
   pub each : AreSlots k 65536 slots
+  pub outside_size : length outside ≡ 65536
+  pub outer : AreOutside k 65536 outside
   pub few : length k.singles ≤ 10
   pub begins : first.base ≡ slice_index k.anchors 0
   pub numbered : first.slot ≡ slot k first.base

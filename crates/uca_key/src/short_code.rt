@@ -1,8 +1,8 @@
 //! The code of primary weights in short keys: what a table says of common characters, with a slot for each weight.
-ghost use Rattle.std.specs.Prelude.{◌≡◌, ◌<◌, ◌≤◌, ◌+◌, ◌-◌, ◌/◌, ◌%◌, ◌++◌, ◌==◌, ◌&&◌, not, ℕ, true, false, get_or, fold, if◌then◌else◌, length, map, max, nat_le, IsTrue, slice_index, sum_by, OnOk, IfOk};
+ghost use Rattle.std.specs.Prelude.{◌≡◌, ◌<◌, ◌≤◌, ◌+◌, ◌-◌, ◌*◌, ◌/◌, ◌%◌, ◌++◌, ◌==◌, ◌&&◌, not, ℕ, true, false, get_or, fold, if◌then◌else◌, length, map, max, nat_le, IsTrue, slice_index, sum_by, OnOk, IfOk};
 ghost use Rattle.std.specs.List.{list_all, list_any, range_with_len};
 ghost use Rattle.uca_key.specs.PrimaryCode.{PrimaryCode, anchor_of, begins_slot, code_of, first_primary, is_common, is_single, lead, page_of, past, points_of_ranges, primary_of, slot};
-ghost use Rattle.uca_key.specs.SlotTables.{AreCommons, AreSlots, IsSlotOf, is_range};
+ghost use Rattle.uca_key.specs.SlotTables.{AreCommons, AreOutside, AreSlots, IsOutsideOf, IsSlotOf, is_range};
 
 use crate::common_characters::{COMMON_RANGES, FIRST_LETTERS, SINGLE_CHARACTERS};
 use std::alloc::{AllocError, Global};
@@ -321,6 +321,14 @@ struct Slot {
     letter: bool,
 }
 
+// What the code has of a weight outside its window.
+#[derive(Clone, Copy)]
+struct Outside {
+    lead: u8,
+    // Whether it has a byte of its own everywhere.
+    single: bool,
+}
+
 /// A weight that has a lead of its own, and its lead.
 #[derive(Clone, Copy)]
 pub(crate) struct Single {
@@ -334,6 +342,76 @@ pub(crate) struct Window {
     pub(crate) base: u16,
     pub(crate) slot: u16,
     pub(crate) lead: u8,
+}
+
+// What the code has of a weight outside its window.
+fn outside_of(singles: &[u16], w: u16) -> Outside
+    requires { length singles.now ≤ 10 }
+    ensures { (k : PrimaryCode) → k.singles ≡ singles.now → IsOutsideOf k w result }
+{
+    Outside {
+        lead: lead_over(singles, w),
+        single: has_weight(singles, w),
+    }
+}
+
+// Whether one of these weights has a high byte.
+fn has_page_of(singles: &[u16], page: u16) -> bool
+    ensures { result ≡ list_any (λ c. c / 256 == page) singles.now }
+{
+    let mut found = false;
+    for single in singles {
+        found = found || *single / 256 == page;
+    }
+    found
+}
+
+// Appends what the code has of the weights with one high byte outside their windows, one by one.
+fn push_outside(singles: &[u16], page: u16, outside: &mut Vec<Outside>) -> Result<(), AllocError>
+    requires few { length singles.now ≤ 10 }
+    requires within { page < 256 }
+    requires place { length outside.old.items ≡ 256 * page }
+    ensures size { OnOk result (length outside.new.items ≡ 256 * page + 256) }
+    ensures outside { OnOk result ((k : PrimaryCode) → k.singles ≡ singles.now → AreOutside k (256 * page) outside.old.items → AreOutside k (256 * page + 256) outside.new.items) }
+{
+    let first = 256 * page as u32;
+    for w in first..first + 256 {
+        outside.push(outside_of(singles, w as u16))?;
+    }
+    Ok(())
+}
+
+// The same, together where none of them has a byte of its own: then all have one lead.
+fn push_outside_page(
+    singles: &[u16],
+    page: u16,
+    outside: &mut Vec<Outside>,
+) -> Result<(), AllocError>
+    requires few { length singles.now ≤ 10 }
+    requires within { page < 256 }
+    requires place { length outside.old.items ≡ 256 * page }
+    ensures size { OnOk result (length outside.new.items ≡ 256 * page + 256) }
+    ensures outside { OnOk result ((k : PrimaryCode) → k.singles ≡ singles.now → AreOutside k (256 * page) outside.old.items → AreOutside k (256 * page + 256) outside.new.items) }
+{
+    if has_page_of(singles, page) {
+        return push_outside(singles, page, outside);
+    }
+    let all = outside_of(singles, 256 * page);
+    outside.resize(PAGE * page as usize + PAGE, all)?;
+    Ok(())
+}
+
+// What the code has of each weight outside its window.
+fn outsides_of(alloc: Global, singles: &[u16]) -> Result<Vec<Outside>, AllocError>
+    requires { length singles.now ≤ 10 }
+    ensures size { IfOk result (λ v. length v.items ≡ 65536) }
+    ensures outside { IfOk result (λ v. (k : PrimaryCode) → k.singles ≡ singles.now → AreOutside k 65536 v.items) }
+{
+    let mut outside = Vec::with_capacity(alloc, WEIGHTS)?;
+    for page in 0..256 {
+        push_outside_page(singles, page, &mut outside)?;
+    }
+    Ok(outside)
 }
 
 // One of these weights that have leads of their own.
@@ -366,7 +444,7 @@ fn window_of(slots: &[Slot], singles: &[u16], base: u16) -> Window
     }
 }
 
-/// The code of primary weights under a table. It takes some 260 KiB, and more time to make than many keys, so who makes keys by one
+/// The code of primary weights under a table. It takes some 390 KiB, and more time to make than many keys, so who makes keys by one
 /// table keeps its code beside it.
 #[derive(Drop)]
 pub struct ShortCode {
@@ -375,6 +453,7 @@ pub struct ShortCode {
     anchors: [u16; ANCHORS],
     // Of each weight.
     slots: Vec<Slot>,
+    outside: Vec<Outside>,
     // Of each text.
     first: Window,
     space: Single,
@@ -390,7 +469,7 @@ impl Model for ShortCode {
 
     ghost view = { λ c. record { commons = c.commons.items; singles = c.singles; anchors = c.anchors } };
 
-    ghost invariant = { λ c. HoldsSlots (record { commons = c.commons.items; singles = c.singles; anchors = c.anchors }) c.slots.items c.first c.space };
+    ghost invariant = { λ c. HoldsSlots (record { commons = c.commons.items; singles = c.singles; anchors = c.anchors }) c.slots.items c.outside.items c.first c.space };
 }
 
 impl ShortCode {
@@ -407,11 +486,13 @@ impl ShortCode {
         anchors.copy_from_slice(weights_of(alloc, t, &FIRST_LETTERS)?.as_slice());
         let first = window_of(&slots, &singles, anchors[0]);
         let space = single_of(&singles, 0);
+        let outside = outsides_of(alloc, &singles)?;
         Ok(ShortCode {
             commons,
             singles,
             anchors,
             slots,
+            outside,
             first,
             space,
         })
@@ -442,18 +523,20 @@ impl ShortCode {
     }
 
     /// Whether a weight has a byte of its own everywhere.
+    #[inline(always)]
     pub(crate) fn is_single(&self, w: u16) -> bool
         ensures { result ≡ is_single self.now w }
     {
-        has_weight(&self.singles, w)
+        self.outside[w as usize].single
     }
 
     /// The lead of a weight.
+    #[inline(always)]
     pub(crate) fn lead(&self, w: u16) -> u8
         ensures value { result ≡ lead self.now w }
         ensures most { result ≤ 135 }
     {
-        lead_over(&self.singles, w)
+        self.outside[w as usize].lead
     }
 
     /// Where the window begins after a weight, outside it.

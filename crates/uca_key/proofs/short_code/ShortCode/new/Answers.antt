@@ -16,6 +16,8 @@ invariant_of-result c =
     record {
       size = c.in_ok-slots.ensures.size;
       each = each;
+      outside_size = c.in_ok-outside.ensures.size;
+      outer = c.in_ok-outside.ensures.outside k refl;
       few = let ten = ap length singles in omega arith;
       begins = c.window_of-first.ensures.base;
       numbered = c.window_of-first.ensures.slot k (subst (AreSlots k 65536) (sym c.deref-3.ensures.value) each) ∙ ap (slot k) (sym c.window_of-first.ensures.base);
