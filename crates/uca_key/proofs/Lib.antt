@@ -16,6 +16,7 @@ pub mod ShortBytes
 pub mod ShortPrefixes
 pub mod SlotSteps
 pub mod OutsidePages
+pub mod GreatestWeights
 pub mod RunsLemmas
 pub mod ShortPieces
 pub mod ShortBounds

@@ -256,8 +256,9 @@ fn count_common(elements: &[Element]) -> u8
     ensures second { AreCounted NonIgnorable 2 result elements.now }
     ensures third { AreCounted NonIgnorable 3 result elements.now }
 {
+    let most = elements.len().min(FULL_RUN as usize - 1);
     let mut n = 0;
-    'each: while n < elements.len() && n + 1 < FULL_RUN as usize {
+    'each: while n < most {
         let element = elements[n];
         if element.weight(2) != common_weight(2) || element.weight(3) != common_weight(3) {
             return n as u8;

@@ -1,8 +1,8 @@
 //! The code of primary weights in short keys: what a table says of common characters, with a slot for each weight.
-ghost use Rattle.std.specs.Prelude.{◌≡◌, ◌<◌, ◌≤◌, ◌+◌, ◌-◌, ◌*◌, ◌/◌, ◌%◌, ◌++◌, ◌==◌, ◌&&◌, not, ℕ, true, false, get_or, fold, if◌then◌else◌, length, map, max, nat_le, IsTrue, slice_index, sum_by, OnOk, IfOk};
+ghost use Rattle.std.specs.Prelude.{◌≡◌, ◌<◌, ◌≤◌, ◌+◌, ◌-◌, ◌*◌, ◌/◌, ◌%◌, ◌++◌, ◌==◌, ◌&&◌, not, ℕ, true, false, get_or, fold, if◌then◌else◌, length, map, max, nat_le, IsTrue, slice_index, sum_by, OnOk, IfOk, List};
 ghost use Rattle.std.specs.List.{list_all, list_any, range_with_len};
 ghost use Rattle.uca_key.specs.PrimaryCode.{PrimaryCode, anchor_of, begins_slot, code_of, first_primary, is_common, is_single, lead, page_of, past, points_of_ranges, primary_of, slot};
-ghost use Rattle.uca_key.specs.SlotTables.{AreCommons, AreOutside, AreSlots, IsOutsideOf, IsSlotOf, is_range};
+ghost use Rattle.uca_key.specs.SlotTables.{AreCommons, AreFlags, AreGreatest, AreOutside, AreSlots, greatest, greatest_below, IsOutsideOf, IsSlotOf, is_range};
 
 use crate::common_characters::{COMMON_RANGES, FIRST_LETTERS, SINGLE_CHARACTERS};
 use std::alloc::{AllocError, Global};
@@ -290,24 +290,70 @@ fn lead_over(singles: &[u16], w: u16) -> u8
     lead
 }
 
-// The greatest of these weights up to one, or 0.
-#[inline(always)]
-fn greatest_up_to(weights: &[u16], w: u16) -> u16
-    ensures { result ≡ fold (λ best a. if nat_le a w then max best a else best) 0 weights.now }
+// The greatest of some weights up to this one, or 0. The flags say which they are.
+fn greatest_at(flags: &[bool], w: usize, before: u16) -> u16
+    requires size { length flags.now ≡ 65536 }
+    requires within { w < 65536 }
+    ensures { (ws : List ℕ) → AreFlags ws flags.now → before ≡ greatest_below ws w → result ≡ greatest ws w }
 {
-    let mut best = 0;
-    for weight in weights {
-        best = greater_up_to(best, *weight, w);
-    }
-    best
+    if flags[w] { w as u16 } else { before }
 }
 
-// The greater of two weights, if the second is up to another.
-#[inline(always)]
-fn greater_up_to(best: u16, weight: u16, w: u16) -> u16
-    ensures { result ≡ (if nat_le weight w then max best weight else best) }
+// Appends the greatest of some weights up to each weight with one high byte, one by one. Returns that up to the last.
+fn push_greatest(
+    flags: &[bool],
+    first: usize,
+    before: u16,
+    table: &mut Vec<u16>,
+) -> Result<u16, AllocError>
+    requires size { length flags.now ≡ 65536 }
+    requires within { first + 256 ≤ 65536 }
+    requires place { length table.old.items ≡ first }
+    ensures size { OnOk result (length table.new.items ≡ first + 256) }
+    ensures last { IfOk result (λ n. (ws : List ℕ) → AreFlags ws flags.now → before ≡ greatest_below ws first → n ≡ greatest_below ws (first + 256)) }
+    ensures greatest { OnOk result ((ws : List ℕ) → AreFlags ws flags.now → before ≡ greatest_below ws first → AreGreatest ws first table.old.items → AreGreatest ws (first + 256) table.new.items) }
 {
-    if weight <= w { best.max(weight) } else { best }
+    let mut best = before;
+    for w in first..first + PAGE {
+        best = greatest_at(flags, w, best);
+        table.push(best)?;
+    }
+    Ok(best)
+}
+
+// The same, together where they have none of those weights.
+fn push_greatest_page(
+    flags: &[bool],
+    first: usize,
+    before: u16,
+    table: &mut Vec<u16>,
+) -> Result<u16, AllocError>
+    requires size { length flags.now ≡ 65536 }
+    requires within { first + 256 ≤ 65536 }
+    requires place { length table.old.items ≡ first }
+    ensures size { OnOk result (length table.new.items ≡ first + 256) }
+    ensures last { IfOk result (λ n. (ws : List ℕ) → AreFlags ws flags.now → before ≡ greatest_below ws first → n ≡ greatest_below ws (first + 256)) }
+    ensures greatest { OnOk result ((ws : List ℕ) → AreFlags ws flags.now → before ≡ greatest_below ws first → AreGreatest ws first table.old.items → AreGreatest ws (first + 256) table.new.items) }
+{
+    if has_flag(flags, first) {
+        return push_greatest(flags, first, before, table);
+    }
+    table.resize(first + PAGE, before)?;
+    Ok(before)
+}
+
+// The greatest of some weights up to each weight.
+fn greatest_of(alloc: Global, weights: &[u16]) -> Result<Vec<u16>, AllocError>
+    ensures size { IfOk result (λ v. length v.items ≡ 65536) }
+    ensures greatest { IfOk result (λ v. AreGreatest weights.now 65536 v.items) }
+{
+    let flags = flags_of(alloc, weights)?;
+    let mut table = Vec::with_capacity(alloc, WEIGHTS)?;
+    let mut best = 0;
+    for page in 0..WEIGHTS / PAGE {
+        best = push_greatest_page(&flags, PAGE * page, best, &mut table)?;
+    }
+    Ok(table)
 }
 
 // What the code has of a weight.
@@ -444,7 +490,7 @@ fn window_of(slots: &[Slot], singles: &[u16], base: u16) -> Window
     }
 }
 
-/// The code of primary weights under a table. It takes some 390 KiB, and more time to make than many keys, so who makes keys by one
+/// The code of primary weights under a table. It takes some 520 KiB, and more time to make than many keys, so who makes keys by one
 /// table keeps its code beside it.
 #[derive(Drop)]
 pub struct ShortCode {
@@ -454,6 +500,8 @@ pub struct ShortCode {
     // Of each weight.
     slots: Vec<Slot>,
     outside: Vec<Outside>,
+    // Where the window begins after it, outside it.
+    begins: Vec<u16>,
     // Of each text.
     first: Window,
     space: Single,
@@ -469,7 +517,7 @@ impl Model for ShortCode {
 
     ghost view = { λ c. record { commons = c.commons.items; singles = c.singles; anchors = c.anchors } };
 
-    ghost invariant = { λ c. HoldsSlots (record { commons = c.commons.items; singles = c.singles; anchors = c.anchors }) c.slots.items c.outside.items c.first c.space };
+    ghost invariant = { λ c. HoldsSlots (record { commons = c.commons.items; singles = c.singles; anchors = c.anchors }) c.slots.items c.outside.items c.begins.items c.first c.space };
 }
 
 impl ShortCode {
@@ -487,12 +535,14 @@ impl ShortCode {
         let first = window_of(&slots, &singles, anchors[0]);
         let space = single_of(&singles, 0);
         let outside = outsides_of(alloc, &singles)?;
+        let begins = greatest_of(alloc, &anchors)?;
         Ok(ShortCode {
             commons,
             singles,
             anchors,
             slots,
             outside,
+            begins,
             first,
             space,
         })
@@ -540,10 +590,11 @@ impl ShortCode {
     }
 
     /// Where the window begins after a weight, outside it.
+    #[inline(always)]
     pub(crate) fn anchor(&self, w: u16) -> u16
         ensures { result ≡ anchor_of self.now w }
     {
-        greatest_up_to(&self.anchors, w)
+        self.begins[w as usize]
     }
 
     /// The window that begins at a weight.

@@ -1,4 +1,4 @@
-use Rattle.std.proofs.Common.{◌-◌, ◌<◌, length}
+use Rattle.std.proofs.Common.{◌-◌, ◌<◌}
 use Rattle.uca_weights.specs.declared.settings.Variable.TheVariants.{NonIgnorable}
 use Rattle.uca_key.specs.Runs.{AreCounted}
 use Rattle.uca_key.proofs.runs.count_common.Given as goal
@@ -11,4 +11,4 @@ invariant-each l = record {
 }
 
 abbrev pub decreases-each : goal.decreases-each
-decreases-each l = length l.elements - l.n
+decreases-each l = l.most - l.n

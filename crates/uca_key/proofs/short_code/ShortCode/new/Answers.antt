@@ -18,8 +18,10 @@ invariant_of-result c =
       each = each;
       outside_size = c.in_ok-outside.ensures.size;
       outer = c.in_ok-outside.ensures.outside k refl;
+      begins_size = c.in_ok-begins.ensures.size;
+      ahead = c.in_ok-begins.ensures.greatest;
       few = let ten = ap length singles in omega arith;
-      begins = c.window_of-first.ensures.base;
+      from = c.window_of-first.ensures.base;
       numbered = c.window_of-first.ensures.slot k (subst (AreSlots k 65536) (sym c.deref-3.ensures.value) each) ∙ ap (slot k) (sym c.window_of-first.ensures.base);
       led = c.window_of-first.ensures.lead k refl ∙ ap (lead k) (sym c.window_of-first.ensures.base);
       most = c.window_of-first.ensures.most;
