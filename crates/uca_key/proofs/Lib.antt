@@ -15,6 +15,8 @@ pub mod ShortOrder
 pub mod ShortBytes
 pub mod ShortPrefixes
 pub mod SlotSteps
+pub mod OutsidePages
+pub mod GreatestWeights
 pub mod RunsLemmas
 pub mod ShortPieces
 pub mod ShortBounds

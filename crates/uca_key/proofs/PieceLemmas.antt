@@ -25,7 +25,7 @@ take-none zero = refl
 take-none (suc n) = refl
 
 -- a part by its length
-part-between : {A : Type 0} (a b : ℕ) (xs : List A) → drop a (take b xs) ≡ take (b - a) (drop a xs)
+pub part-between : {A : Type 0} (a b : ℕ) (xs : List A) → drop a (take b xs) ≡ take (b - a) (drop a xs)
 part-between zero b xs = same-take b (b - zero) xs (omega arith)
 part-between (suc a) zero xs = same-take zero (zero - suc a) (drop (suc a) xs) (omega arith)
 part-between (suc a) (suc b) [] = take-none (suc b - suc a)

@@ -1,15 +1,20 @@
 -- Steps of the loops that make a code of primary weights.
-use Rattle.std.proofs.Common.{◌≡◌, ℕ, zero, suc, ◌+◌, ◌-◌, ◌≤◌, ◌<◌, Bool, true, cond, nat_le, nat_lt, List, [], ◌∷◌, ◌++◌, length, map, take, get_or, sym, ap, ap₂, subst, ◌∙◌, arith, inl, inr, append_assoc, append-nil}
+use Rattle.std.proofs.Common.{◌≡◌, ℕ, zero, suc, ◌+◌, ◌-◌, ◌/◌, ◌%◌, ◌==◌, ◌||◌, ◌&&◌, not, ◌≤◌, ◌<◌, Bool, true, false, cond, nat_le, nat_lt, List, [], ◌∷◌, ◌++◌, length, map, take, get_or, refl, sym, ap, ap₂, subst, ◌∙◌, arith, inl, inr, append_assoc, append-nil, eq-eqb, ne_eqb}
 use Rattle.std.proofs.lemmas.Bool.{and_parts, cases_lt, leb-true, ltb-true}
 use Rattle.std.proofs.lemmas.Grind.{common_steps}
 use Rattle.std.proofs.lemmas.List.{map-append}
 use Rattle.std.specs.List.{list_all, range_with_len}
+use Rattle.unicode_normalization.specs.Forms.{Nfd, nfd}
+use Rattle.unicode_normalization.proofs.FormsLemmas.{normalize-nil}
+use Rattle.uca_weights.specs.declared.element.Element.{Element}
 use Rattle.uca_model.specs.Table.{ElementTable}
-use Rattle.uca_key.specs.PrimaryCode.{PrimaryCode, begins_slot, code_of, points_of_ranges, primary_of, slot}
+use Rattle.uca_model.specs.CollationElements.{elements}
+use Rattle.uca_model.proofs.RewritingLemmas.{elements_nil}
+use Rattle.uca_key.specs.PrimaryCode.{PrimaryCode, begins_slot, code_of, first_primary, is_common, points_of_ranges, primary_of, slot}
 use Rattle.uca_key.specs.declared.common_characters.TheConstants.{COMMON_RANGES, FIRST_LETTERS, SINGLE_CHARACTERS}
-use Rattle.uca_key.specs.SlotTables.{IsSlotOf, bare_code, is_range}
+use Rattle.uca_key.specs.SlotTables.{AreCommons, AreSlots, IsSlotOf, is_range}
 use Rattle.uca_key.specs.declared.short_code.Slot.{Slot}
-use Rattle.uca_key.proofs.ShortSlots.{slot-next, slot-suc, slot-zero}
+use Rattle.uca_key.proofs.ShortSlots.{slot-next}
 
 -- one number more
 range-more : (f : ℕ → ℕ) (a n : ℕ) → map f (range_with_len a (n + 1)) ≡ map f (range_with_len a n) ++ f (a + n) ∷ []
@@ -28,10 +33,11 @@ range-step f first point before items after from so_far pushed =
     ∙ ap (λ x. before ++ (map f (range_with_len first (point - first)) ++ f x ∷ [])) (sym place)
     ∙ ap (λ l. before ++ l) (sym (ap (λ n. map f (range_with_len first n)) count ∙ range-more f first (point - first)))
 
--- two codes of the same common weights have the same slots
-pub slot-bare : (k : PrimaryCode) (w : ℕ) → slot (bare_code k.commons) w ≡ slot k w
-slot-bare k zero = slot-zero (bare_code k.commons) ∙ sym (slot-zero k)
-slot-bare k (suc w) = slot-suc (bare_code k.commons) w ∙ ap (λ n. n + cond (begins_slot k w) 1 0) (slot-bare k w) ∙ sym (slot-suc k w)
+-- the first primary weight of a character that stands alone before nothing
+pub alone-primary : (t : ElementTable) (c : ℕ) (es : List Element) (rest : List ℕ) → rest ≡ [] → es ++ elements t (nfd rest) ≡ elements t (nfd (c ∷ rest)) → first_primary es ≡ primary_of t c
+alone-primary t c es rest end alone =
+    let none : elements t (nfd rest) ≡ [] = ap (λ r. elements t (nfd r)) end ∙ ap (elements t) (normalize-nil Nfd) ∙ elements_nil t in
+    ap first_primary (sym (append-nil es) ∙ ap (λ l. es ++ l) (sym none) ∙ alone ∙ ap (λ r. elements t (nfd (c ∷ r))) end)
 
 -- the flag of a weight more
 pub slot-more : (k : PrimaryCode) (w number : ℕ) (b : Bool) → b ≡ begins_slot k w → number ≡ slot k w → number + cond b 1 0 ≡ slot k (w + 1)
@@ -79,24 +85,73 @@ unfolding code_of
 code-made t commons singles anchors e f g =
     ap₂ (λ c s. the_code c s anchors) e f ∙ ap (the_code (map (primary_of t) (points_of_ranges COMMON_RANGES)) (map (primary_of t) SINGLE_CHARACTERS)) g
 
--- what a code has of a weight is told by its common weights
-pub slot-of-bare : (k : PrimaryCode) (w : ℕ) (s : Slot) → IsSlotOf (bare_code k.commons) w s → IsSlotOf k w s
-slot-of-bare k w s is = record { number = is.number ∙ slot-bare k w; common = is.common; letter = is.letter }
-
--- the first slot
-pub slots-first : (k : PrimaryCode) (s : Slot) (items : List Slot) → items ≡ s ∷ [] → IsSlotOf k 0 s → (x : ℕ) (d : Slot) → x ≤ 0 → IsSlotOf k x (get_or items x d)
-slots-first k s items made is zero d within = subst (λ (l : List Slot). IsSlotOf k 0 (get_or l 0 d)) (sym made) is
-slots-first k s items made is (suc x) d within = absurd (omega arith)
-
 -- a slot more
-pub slots-more : (k : PrimaryCode) (w : ℕ) (s : Slot) (items after : List Slot) → length items ≡ w + 1 → after ≡ items ++ s ∷ [] → ((x : ℕ) (d : Slot) → x ≤ w → IsSlotOf k x (get_or items x d)) → IsSlotOf k (w + 1) s
-    → (x : ℕ) (d : Slot) → x ≤ w + 1 → IsSlotOf k x (get_or after x d)
-slots-more k w s items after size made each last x d within = elim (cases_lt x (w + 1)) [
+pub slots-more : (k : PrimaryCode) (w : ℕ) (s : Slot) (items after : List Slot) → length items ≡ w → after ≡ items ++ s ∷ [] → AreSlots k w items → IsSlotOf k w s → AreSlots k (w + 1) after
+slots-more k w s items after size made each last x d within = elim (cases_lt x w) [
   | inl before ↦
       let same : get_or after x d ≡ get_or items x d = grind (arith, common_steps) in
-      subst (IsSlotOf k x) (sym same) (each x d (omega arith))
+      subst (IsSlotOf k x) (sym same) (each x d before)
   | inr at ↦
-      let here : x ≡ w + 1 = omega arith in
+      let here : x ≡ w = omega arith in
       let same : get_or after x d ≡ s = grind (arith, common_steps) in
       subst (IsSlotOf k x) (sym same) (subst (λ n. IsSlotOf k n s) (sym here) last)
+]
+
+-- ---- weights with one high byte, none of which is common
+
+-- they begin at this one
+pub record IsPlain (k : PrimaryCode) (first : ℕ) : Type 0 where
+  pub page : first % 256 ≡ 0
+  pub none : (w : ℕ) → first ≤ w → w < first + 256 → is_common k w ≡ false
+
+-- by how much a slot is greater where one begins
+abbrev step : Bool → ℕ
+step b = cond b 1 0
+
+stays : (a b c : Bool) → a ≡ false → b ≡ false → c ≡ false → step (a || b || c) ≡ 0
+stays true b c p q r = absurd (cc)
+stays false true c p q r = absurd (cc)
+stays false false true p q r = absurd (cc)
+stays false false false p q r = refl
+
+begins : (a b c : Bool) → a ≡ true → step (a || b || c) ≡ 1
+begins true b c p = refl
+begins false b c p = absurd (cc)
+
+-- no slot begins among them
+slot-plain : (k : PrimaryCode) (first n : ℕ) → IsPlain k first → n < 256 → slot k (first + n) ≡ slot k first
+slot-plain k first zero plain few = let same : first + 0 ≡ first = omega arith in ap (slot k) same
+slot-plain k first (suc n) plain few =
+    let page = plain.page in
+    let same : first + suc n ≡ first + n + 1 = omega arith in
+    let inside : ((first + n + 1) % 256 == 0) ≡ false = ne_eqb _ _ (λ e. absurd (omega arith)) in
+    let before : slot k (first + n) ≡ slot k first = slot-plain k first n plain (omega arith) in
+    let still : step (begins_slot k (first + n)) ≡ 0 = stays _ _ _ inside (plain.none (first + n) (omega arith) (omega arith)) (plain.none (first + n + 1) (omega arith) (omega arith)) in
+    ap (slot k) same ∙ slot-next k (first + n) ∙ ap₂ (λ a b. a + b) before still ∙ (let none : slot k first + 0 ≡ slot k first = omega arith in none)
+
+-- the next one begins after them
+pub page-next : (k : PrimaryCode) (first number : ℕ) → IsPlain k first → number ≡ slot k first → number + 1 ≡ slot k (first + 256)
+page-next k first number plain here =
+    let page = plain.page in
+    let same : first + 256 ≡ first + 255 + 1 = omega arith in
+    let at : ((first + 255 + 1) % 256 == 0) ≡ true = eq-eqb _ _ (omega arith) in
+    ap (λ n. n + 1) (here ∙ sym (slot-plain k first 255 plain (omega arith))) ∙ ap (λ n. slot k (first + 255) + n) (sym (begins _ _ _ at)) ∙ sym (slot-next k (first + 255)) ∙ ap (slot k) (sym same)
+
+-- no flag is that of a common weight
+pub plain-page : (k : PrimaryCode) (flags : List Bool) (first : ℕ) → length flags ≡ 65536 → first + 256 ≤ 65536 → first % 256 ≡ 0 → AreCommons k flags → ((w : ℕ) → first ≤ w → w < first + 256 → get_or flags w false ≡ false) → IsPlain k first
+plain-page k flags first size within page commons none = record { page = page; none = λ w low high. sym (commons w (omega arith)) ∙ none w low high }
+
+-- one slot for all of them
+pub page-slots : (k : PrimaryCode) (first : ℕ) (s : Slot) (items after : List Slot) → IsPlain k first → s.number ≡ slot k first → s.common ≡ false → s.letter ≡ false
+    → ((w : ℕ) (d : Slot) → w < first → get_or after w d ≡ get_or items w d) → ((w : ℕ) (d : Slot) → first ≤ w → w < first + 256 → get_or after w d ≡ s) → AreSlots k first items → AreSlots k (first + 256) after
+page-slots k first s items after plain number common letter old new each w d within = elim (cases_lt w first) [
+  | inl before ↦ subst (IsSlotOf k w) (sym (old w d before)) (each w d before)
+  | inr later ↦
+      let place : first + (w - first) ≡ w = omega arith in
+      let none : false ≡ is_common k w = sym (plain.none w later within) in
+      subst (IsSlotOf k w) (sym (new w d later within)) (record {
+        number = number ∙ sym (slot-plain k first (w - first) plain (omega arith)) ∙ ap (slot k) place;
+        common = common ∙ none;
+        letter = letter ∙ ap (λ c. c && not (w / 256 == 251) && not (w == 0)) none;
+      })
 ]

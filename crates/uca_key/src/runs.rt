@@ -8,7 +8,7 @@ ghost use Rattle.uca_model.specs.LevelWeights.{level_weights};
 ghost use Rattle.uca_model.specs.SafeText.{IsSafe};
 ghost use Rattle.uca_levels.specs.Streams.{weights_from};
 ghost use Rattle.uca_key.specs.ShortKey.{common_weight, other_bytes, runs_after, short_later, short_level};
-ghost use Rattle.uca_key.specs.Runs.{bytes_left};
+ghost use Rattle.uca_key.specs.Runs.{AreCounted, bytes_left};
 ghost use Rattle.uca_key.specs.Pieces.{HoldsElements, elements_of};
 ghost use Rattle.uca_key.specs.Placing.{IsPutting, PutsAt};
 
@@ -249,6 +249,39 @@ fn pack(
     }
 }
 
+// How many of the first of some elements have common weights at the levels 2 and 3. Most letters have, so both levels are asked
+// together, up to the longest run that is not yet put.
+fn count_common(elements: &[Element]) -> u8
+    ensures few { result < 62 }
+    ensures second { AreCounted NonIgnorable 2 result elements.now }
+    ensures third { AreCounted NonIgnorable 3 result elements.now }
+{
+    let most = elements.len().min(FULL_RUN as usize - 1);
+    let mut n = 0;
+    'each: while n < most {
+        let element = elements[n];
+        if element.weight(2) != common_weight(2) || element.weight(3) != common_weight(3) {
+            return n as u8;
+        }
+        n += 1;
+    }
+    n as u8
+}
+
+/// How many of the first weights of a text that was read into room are common at the levels 2 and 3, as far as that is known before
+/// they are put.
+pub(crate) fn count_held(v: Variable, reading: &TextReading, room: &[Element]) -> u8
+    requires { HoldsElements reading.now room.now }
+    ensures few { result < 62 }
+    ensures second { AreCounted v 2 result (elements_of reading.now) }
+    ensures third { AreCounted v 3 result (elements_of reading.now) }
+{
+    match (v, reading.held) {
+        (Variable::NonIgnorable, Some(held)) => count_common(&room[..held]),
+        _ => 0,
+    }
+}
+
 // How far a level is put: the place after its bytes, how many common weights were counted since, and the weigher of the elements that
 // follow.
 #[derive(Drop)]
@@ -259,16 +292,17 @@ struct RunsLevel {
 }
 
 impl RunsLevel {
-    // A level that begins at a place.
-    fn new(v: Variable, at: usize) -> RunsLevel
+    // A level that begins at a place, after a run of common weights.
+    fn new(v: Variable, at: usize, run: u8) -> RunsLevel
+        requires { run < 62 }
         ensures next { result.next ≡ at }
         ensures few { result.run < 62 }
         ensures option { result.weigher.weighting ≡ v }
-        ensures left { (level : ℕ) (es : List Element) → bytes_left level result es ≡ short_level (weighted v es) level }
+        ensures left { (level : ℕ) (es : List Element) → bytes_left level result es ≡ runs_after (common_weight level) run (level_weights level (weighted v es)) }
     {
         RunsLevel {
             next: at,
-            run: 0,
+            run,
             weigher: Weigher::new(v),
         }
     }
@@ -286,9 +320,9 @@ fn put_elements(v: Variable, level: u8, state: &mut RunsLevel, elements: &[Eleme
     ensures option { state.new.weigher.weighting ≡ v }
     ensures size { length out.new ≡ length out.old }
 {
-    let mut bytes = [0; OTHER * PIECE];
     let mut left = elements;
     'pieces: while !left.is_empty() {
+        let mut bytes = [0; OTHER * PIECE];
         let (piece, rest) = left.split_at(left.len().min(PIECE));
         let packed = pack(&mut bytes, state.run, v, &mut state.weigher, piece, level);
         state.next = put_bytes(&bytes[..packed.at], state.next, out);
@@ -322,7 +356,7 @@ fn put_level_again(
     ensures bytes { PutsAt at (short_level (weighted v (elements_of reading.now)) level) out.old out.new result }
     ensures room { length room.new ≡ length room.old }
 {
-    let mut state = RunsLevel::new(v, at);
+    let mut state = RunsLevel::new(v, at, 0);
     let mut left = reading.again();
     'each: loop {
         let n = left.read(room);
@@ -333,10 +367,11 @@ fn put_level_again(
     }
 }
 
-// Puts a level, from 2 to 4, of a text that was read into room.
+// Puts a level, from 2 to 4, of a text that was read into room. So many of its first weights are common.
 fn put_level(
     v: Variable,
     level: u8,
+    common: u8,
     reading: &TextReading,
     room: &mut [Element],
     at: usize,
@@ -347,23 +382,27 @@ fn put_level(
     requires some { 0 < length room.old }
     requires holds { HoldsElements reading.now room.old }
     requires size { length out.old < 2 ^ 64 }
+    requires few { common < 62 }
+    requires counted { AreCounted v level common (elements_of reading.now) }
     ensures bytes { PutsAt at (short_level (weighted v (elements_of reading.now)) level) out.old out.new result }
     ensures holds { HoldsElements reading.now room.new }
     ensures room { length room.new ≡ length room.old }
 {
     if let Some(held) = reading.held {
-        let mut state = RunsLevel::new(v, at);
-        put_elements(v, level, &mut state, &room[..held], out);
+        let mut state = RunsLevel::new(v, at, common);
+        put_elements(v, level, &mut state, &room[common as usize..held], out);
         return put_end(&state, out);
     }
     put_level_again(v, level, reading, room, at, out)
 }
 
-/// Puts a later level of a text that was read into room, from 2 to 5.
+/// Puts a later level of a text that was read into room, from 2 to 5. So many of its first weights are common, if there is no more to
+/// it than weights.
 pub(crate) fn put_later(
     reading: &TextReading,
     v: Variable,
     level: u8,
+    common: u8,
     room: &mut [Element],
     at: usize,
     out: &mut [u8],
@@ -373,6 +412,8 @@ pub(crate) fn put_later(
     requires some { 0 < length room.old }
     requires holds { HoldsElements reading.now room.old }
     requires size { length out.old < 2 ^ 64 }
+    requires few { common < 62 }
+    requires counted { level ≤ 4 → AreCounted v level common (elements_of reading.now) }
     ensures bytes { PutsAt at (short_later (weighted v (elements_of reading.now)) (nfd (chars reading.now.text.now)) level) out.old out.new result }
     ensures holds { HoldsElements reading.now room.new }
     ensures room { length room.new ≡ length room.old }
@@ -380,5 +421,5 @@ pub(crate) fn put_later(
     if level == 5 {
         return put_text(reading.table, v, reading.text, at, out);
     }
-    put_level(v, level, reading, room, at, out)
+    put_level(v, level, common, reading, room, at, out)
 }

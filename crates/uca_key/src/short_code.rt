@@ -1,8 +1,8 @@
 //! The code of primary weights in short keys: what a table says of common characters, with a slot for each weight.
-ghost use Rattle.std.specs.Prelude.{◌≡◌, ◌<◌, ◌≤◌, ◌+◌, ◌-◌, ◌/◌, ◌++◌, [], ◌==◌, ◌&&◌, not, ℕ, true, false, get_or, fold, if◌then◌else◌, length, map, max, nat_le, IsTrue, slice_index, sum_by, OnOk, IfOk};
+ghost use Rattle.std.specs.Prelude.{◌≡◌, ◌<◌, ◌≤◌, ◌+◌, ◌-◌, ◌*◌, ◌/◌, ◌%◌, ◌++◌, ◌==◌, ◌&&◌, not, ℕ, true, false, get_or, fold, if◌then◌else◌, length, map, max, nat_le, IsTrue, slice_index, sum_by, OnOk, IfOk, List};
 ghost use Rattle.std.specs.List.{list_all, list_any, range_with_len};
 ghost use Rattle.uca_key.specs.PrimaryCode.{PrimaryCode, anchor_of, begins_slot, code_of, first_primary, is_common, is_single, lead, page_of, past, points_of_ranges, primary_of, slot};
-ghost use Rattle.uca_key.specs.SlotTables.{IsSlotOf, bare_code, is_range};
+ghost use Rattle.uca_key.specs.SlotTables.{AreCommons, AreFlags, AreGreatest, AreOutside, AreSlots, greatest, greatest_below, IsOutsideOf, IsSlotOf, is_range};
 
 use crate::common_characters::{COMMON_RANGES, FIRST_LETTERS, SINGLE_CHARACTERS};
 use std::alloc::{AllocError, Global};
@@ -12,6 +12,9 @@ use uca_weights::Element;
 
 // How many weights there are.
 const WEIGHTS: usize = 0x1_0000;
+
+// How many of them have one high byte.
+const PAGE: usize = 256;
 
 // How many weights have a lead of their own, and at how many windows begin.
 const SINGLES: usize = SINGLE_CHARACTERS.len();
@@ -28,10 +31,13 @@ fn first_primary(elements: &[Element]) -> u16
     }
 }
 
-// The first primary weight of the text of one character.
+// The first primary weight of the text of one character. The table knows the elements of nearly all of them.
 fn primary_of(alloc: Global, t: &Table, c: char) -> Result<u16, AllocError>
     ensures { IfOk result (λ w. w ≡ primary_of t.now c) }
 {
+    if let Some(elements) = t.alone_before(c, "") {
+        return Ok(first_primary(elements));
+    }
     let mut elements = Vec::new(alloc);
     t.push_elements(alloc, &mut elements, &[c])?;
     Ok(first_primary(elements.as_slice()))
@@ -117,18 +123,19 @@ fn flags_of(alloc: Global, weights: &[u16]) -> Result<Vec<bool>, AllocError>
 
 // Whether a slot begins at the weight after this one.
 fn begins_slot(flags: &[bool], w: usize) -> bool
-    requires { w + 1 < length flags.now }
-    ensures { (k : PrimaryCode) → ((x : ℕ) → x < length flags.now → get_or flags.now x false ≡ is_common k x) → result ≡ begins_slot k w }
+    requires size { length flags.now ≡ 65536 }
+    requires within { w < 65536 }
+    ensures { (k : PrimaryCode) → AreCommons k flags.now → result ≡ begins_slot k w }
 {
-    (w + 1) % 256 == 0 || flags[w] || flags[w + 1]
+    (w + 1) % PAGE == 0 || flags[w] || flags[w + 1]
 }
 
 // The slot of the weight after this one.
-fn slot_after(flags: &[bool], w: usize, number: u16) -> u16
-    requires within { w + 1 < length flags.now }
+fn slot_after(flags: &[bool], w: usize, number: u32) -> u32
+    requires size { length flags.now ≡ 65536 }
+    requires within { w < 65536 }
     requires most { number ≤ w }
-    requires fits { w < 65535 }
-    ensures next { (k : PrimaryCode) → ((x : ℕ) → x < length flags.now → get_or flags.now x false ≡ is_common k x) → number ≡ slot k w → result ≡ slot k (w + 1) }
+    ensures next { (k : PrimaryCode) → AreCommons k flags.now → number ≡ slot k w → result ≡ slot k (w + 1) }
     ensures most { result ≤ w + 1 }
 {
     if begins_slot(flags, w) {
@@ -139,31 +146,95 @@ fn slot_after(flags: &[bool], w: usize, number: u16) -> u16
 }
 
 // What the code has of a weight in this slot.
-fn slot_of(flags: &[bool], w: usize, number: u16) -> Slot
-    requires { w < length flags.now }
-    ensures { (k : PrimaryCode) → ((x : ℕ) → x < length flags.now → get_or flags.now x false ≡ is_common k x) → number ≡ slot k w → IsSlotOf k w result }
+fn slot_of(flags: &[bool], w: usize, number: u32) -> Slot
+    requires size { length flags.now ≡ 65536 }
+    requires within { w < 65536 }
+    requires most { number ≤ w }
+    ensures { (k : PrimaryCode) → AreCommons k flags.now → number ≡ slot k w → IsSlotOf k w result }
 {
     Slot {
-        number,
+        number: number as u16,
         common: flags[w],
-        letter: flags[w] && w / 256 != 0xFB && w != 0,
+        letter: flags[w] && w / PAGE != 0xFB && w != 0,
     }
 }
 
-// The slot of each weight.
-fn slots_of(alloc: Global, commons: &[u16], flags: &[bool]) -> Result<Vec<Slot>, AllocError>
+// Whether one of the weights with a high byte has a flag.
+fn has_flag(flags: &[bool], first: usize) -> bool
     requires size { length flags.now ≡ 65536 }
-    requires flags { (w : ℕ) → w < length flags.now → get_or flags.now w false ≡ is_common (bare_code commons.now) w }
-    ensures size { IfOk result (λ v. length v.items ≡ 65536) }
-    ensures slots { IfOk result (λ v. (w : ℕ) (d : Slot) → w < 65536 → IsSlotOf (bare_code commons.now) w (get_or v.items w d)) }
+    requires within { first + 256 ≤ 65536 }
+    ensures { result ≡ false → (w : ℕ) → first ≤ w → w < first + 256 → get_or flags.now w false ≡ false }
 {
-    let _commons = commons.len();
+    let mut found = false;
+    for w in first..first + PAGE {
+        found = found | flags[w];
+    }
+    found
+}
+
+// Appends the slots of the weights with one high byte, one by one. Returns that of the weight after them.
+fn push_slots(
+    flags: &[bool],
+    first: usize,
+    number: u32,
+    slots: &mut Vec<Slot>,
+) -> Result<u32, AllocError>
+    requires size { length flags.now ≡ 65536 }
+    requires within { first + 256 ≤ 65536 }
+    requires place { length slots.old.items ≡ first }
+    requires most { number ≤ first }
+    ensures size { OnOk result (length slots.new.items ≡ first + 256) }
+    ensures most { IfOk result (λ n. n ≤ first + 256) }
+    ensures next { IfOk result (λ n. (k : PrimaryCode) → AreCommons k flags.now → number ≡ slot k first → n ≡ slot k (first + 256)) }
+    ensures slots { OnOk result ((k : PrimaryCode) → AreCommons k flags.now → number ≡ slot k first → AreSlots k first slots.old.items → AreSlots k (first + 256) slots.new.items) }
+{
+    let mut here = number;
+    for w in first..first + PAGE {
+        slots.push(slot_of(flags, w, here))?;
+        here = slot_after(flags, w, here);
+    }
+    Ok(here)
+}
+
+// The same, together where none of them is common: then all lie in one slot.
+fn push_page(
+    flags: &[bool],
+    first: usize,
+    number: u32,
+    slots: &mut Vec<Slot>,
+) -> Result<u32, AllocError>
+    requires size { length flags.now ≡ 65536 }
+    requires within { first + 256 ≤ 65536 }
+    requires page { first % 256 ≡ 0 }
+    requires place { length slots.old.items ≡ first }
+    requires most { number ≤ first }
+    ensures size { OnOk result (length slots.new.items ≡ first + 256) }
+    ensures most { IfOk result (λ n. n ≤ first + 256) }
+    ensures next { IfOk result (λ n. (k : PrimaryCode) → AreCommons k flags.now → number ≡ slot k first → n ≡ slot k (first + 256)) }
+    ensures slots { OnOk result ((k : PrimaryCode) → AreCommons k flags.now → number ≡ slot k first → AreSlots k first slots.old.items → AreSlots k (first + 256) slots.new.items) }
+{
+    if has_flag(flags, first) {
+        return push_slots(flags, first, number, slots);
+    }
+    let slot = Slot {
+        number: number as u16,
+        common: false,
+        letter: false,
+    };
+    slots.resize(first + PAGE, slot)?;
+    Ok(number + 1)
+}
+
+// The slot of each weight.
+fn slots_of(alloc: Global, flags: &[bool]) -> Result<Vec<Slot>, AllocError>
+    requires { length flags.now ≡ 65536 }
+    ensures size { IfOk result (λ v. length v.items ≡ 65536) }
+    ensures slots { IfOk result (λ v. (k : PrimaryCode) → AreCommons k flags.now → AreSlots k 65536 v.items) }
+{
     let mut slots = Vec::with_capacity(alloc, WEIGHTS)?;
     let mut number = 0;
-    slots.push(slot_of(flags, 0, number))?;
-    for w in 0..WEIGHTS - 1 {
-        number = slot_after(flags, w, number);
-        slots.push(slot_of(flags, w + 1, number))?;
+    for page in 0..WEIGHTS / PAGE {
+        number = push_page(flags, PAGE * page, number, &mut slots)?;
     }
     Ok(slots)
 }
@@ -219,24 +290,70 @@ fn lead_over(singles: &[u16], w: u16) -> u8
     lead
 }
 
-// The greatest of these weights up to one, or 0.
-#[inline(always)]
-fn greatest_up_to(weights: &[u16], w: u16) -> u16
-    ensures { result ≡ fold (λ best a. if nat_le a w then max best a else best) 0 weights.now }
+// The greatest of some weights up to this one, or 0. The flags say which they are.
+fn greatest_at(flags: &[bool], w: usize, before: u16) -> u16
+    requires size { length flags.now ≡ 65536 }
+    requires within { w < 65536 }
+    ensures { (ws : List ℕ) → AreFlags ws flags.now → before ≡ greatest_below ws w → result ≡ greatest ws w }
 {
-    let mut best = 0;
-    for weight in weights {
-        best = greater_up_to(best, *weight, w);
-    }
-    best
+    if flags[w] { w as u16 } else { before }
 }
 
-// The greater of two weights, if the second is up to another.
-#[inline(always)]
-fn greater_up_to(best: u16, weight: u16, w: u16) -> u16
-    ensures { result ≡ (if nat_le weight w then max best weight else best) }
+// Appends the greatest of some weights up to each weight with one high byte, one by one. Returns that up to the last.
+fn push_greatest(
+    flags: &[bool],
+    first: usize,
+    before: u16,
+    table: &mut Vec<u16>,
+) -> Result<u16, AllocError>
+    requires size { length flags.now ≡ 65536 }
+    requires within { first + 256 ≤ 65536 }
+    requires place { length table.old.items ≡ first }
+    ensures size { OnOk result (length table.new.items ≡ first + 256) }
+    ensures last { IfOk result (λ n. (ws : List ℕ) → AreFlags ws flags.now → before ≡ greatest_below ws first → n ≡ greatest_below ws (first + 256)) }
+    ensures greatest { OnOk result ((ws : List ℕ) → AreFlags ws flags.now → before ≡ greatest_below ws first → AreGreatest ws first table.old.items → AreGreatest ws (first + 256) table.new.items) }
 {
-    if weight <= w { best.max(weight) } else { best }
+    let mut best = before;
+    for w in first..first + PAGE {
+        best = greatest_at(flags, w, best);
+        table.push(best)?;
+    }
+    Ok(best)
+}
+
+// The same, together where they have none of those weights.
+fn push_greatest_page(
+    flags: &[bool],
+    first: usize,
+    before: u16,
+    table: &mut Vec<u16>,
+) -> Result<u16, AllocError>
+    requires size { length flags.now ≡ 65536 }
+    requires within { first + 256 ≤ 65536 }
+    requires place { length table.old.items ≡ first }
+    ensures size { OnOk result (length table.new.items ≡ first + 256) }
+    ensures last { IfOk result (λ n. (ws : List ℕ) → AreFlags ws flags.now → before ≡ greatest_below ws first → n ≡ greatest_below ws (first + 256)) }
+    ensures greatest { OnOk result ((ws : List ℕ) → AreFlags ws flags.now → before ≡ greatest_below ws first → AreGreatest ws first table.old.items → AreGreatest ws (first + 256) table.new.items) }
+{
+    if has_flag(flags, first) {
+        return push_greatest(flags, first, before, table);
+    }
+    table.resize(first + PAGE, before)?;
+    Ok(before)
+}
+
+// The greatest of some weights up to each weight.
+fn greatest_of(alloc: Global, weights: &[u16]) -> Result<Vec<u16>, AllocError>
+    ensures size { IfOk result (λ v. length v.items ≡ 65536) }
+    ensures greatest { IfOk result (λ v. AreGreatest weights.now 65536 v.items) }
+{
+    let flags = flags_of(alloc, weights)?;
+    let mut table = Vec::with_capacity(alloc, WEIGHTS)?;
+    let mut best = 0;
+    for page in 0..WEIGHTS / PAGE {
+        best = push_greatest_page(&flags, PAGE * page, best, &mut table)?;
+    }
+    Ok(table)
 }
 
 // What the code has of a weight.
@@ -248,6 +365,14 @@ struct Slot {
     common: bool,
     // Whether it is common, is not zero and begins no implicit pair.
     letter: bool,
+}
+
+// What the code has of a weight outside its window.
+#[derive(Clone, Copy)]
+struct Outside {
+    lead: u8,
+    // Whether it has a byte of its own everywhere.
+    single: bool,
 }
 
 /// A weight that has a lead of its own, and its lead.
@@ -263,6 +388,76 @@ pub(crate) struct Window {
     pub(crate) base: u16,
     pub(crate) slot: u16,
     pub(crate) lead: u8,
+}
+
+// What the code has of a weight outside its window.
+fn outside_of(singles: &[u16], w: u16) -> Outside
+    requires { length singles.now ≤ 10 }
+    ensures { (k : PrimaryCode) → k.singles ≡ singles.now → IsOutsideOf k w result }
+{
+    Outside {
+        lead: lead_over(singles, w),
+        single: has_weight(singles, w),
+    }
+}
+
+// Whether one of these weights has a high byte.
+fn has_page_of(singles: &[u16], page: u16) -> bool
+    ensures { result ≡ list_any (λ c. c / 256 == page) singles.now }
+{
+    let mut found = false;
+    for single in singles {
+        found = found || *single / 256 == page;
+    }
+    found
+}
+
+// Appends what the code has of the weights with one high byte outside their windows, one by one.
+fn push_outside(singles: &[u16], page: u16, outside: &mut Vec<Outside>) -> Result<(), AllocError>
+    requires few { length singles.now ≤ 10 }
+    requires within { page < 256 }
+    requires place { length outside.old.items ≡ 256 * page }
+    ensures size { OnOk result (length outside.new.items ≡ 256 * page + 256) }
+    ensures outside { OnOk result ((k : PrimaryCode) → k.singles ≡ singles.now → AreOutside k (256 * page) outside.old.items → AreOutside k (256 * page + 256) outside.new.items) }
+{
+    let first = 256 * page as u32;
+    for w in first..first + 256 {
+        outside.push(outside_of(singles, w as u16))?;
+    }
+    Ok(())
+}
+
+// The same, together where none of them has a byte of its own: then all have one lead.
+fn push_outside_page(
+    singles: &[u16],
+    page: u16,
+    outside: &mut Vec<Outside>,
+) -> Result<(), AllocError>
+    requires few { length singles.now ≤ 10 }
+    requires within { page < 256 }
+    requires place { length outside.old.items ≡ 256 * page }
+    ensures size { OnOk result (length outside.new.items ≡ 256 * page + 256) }
+    ensures outside { OnOk result ((k : PrimaryCode) → k.singles ≡ singles.now → AreOutside k (256 * page) outside.old.items → AreOutside k (256 * page + 256) outside.new.items) }
+{
+    if has_page_of(singles, page) {
+        return push_outside(singles, page, outside);
+    }
+    let all = outside_of(singles, 256 * page);
+    outside.resize(PAGE * page as usize + PAGE, all)?;
+    Ok(())
+}
+
+// What the code has of each weight outside its window.
+fn outsides_of(alloc: Global, singles: &[u16]) -> Result<Vec<Outside>, AllocError>
+    requires { length singles.now ≤ 10 }
+    ensures size { IfOk result (λ v. length v.items ≡ 65536) }
+    ensures outside { IfOk result (λ v. (k : PrimaryCode) → k.singles ≡ singles.now → AreOutside k 65536 v.items) }
+{
+    let mut outside = Vec::with_capacity(alloc, WEIGHTS)?;
+    for page in 0..256 {
+        push_outside_page(singles, page, &mut outside)?;
+    }
+    Ok(outside)
 }
 
 // One of these weights that have leads of their own.
@@ -284,7 +479,7 @@ fn window_of(slots: &[Slot], singles: &[u16], base: u16) -> Window
     requires size { length slots.now ≡ 65536 }
     requires few { length singles.now ≤ 10 }
     ensures base { result.base ≡ base }
-    ensures slot { (k : PrimaryCode) → ((w : ℕ) (d : Slot) → w < 65536 → IsSlotOf k w (get_or slots.now w d)) → result.slot ≡ slot k base }
+    ensures slot { (k : PrimaryCode) → AreSlots k 65536 slots.now → result.slot ≡ slot k base }
     ensures lead { (k : PrimaryCode) → k.singles ≡ singles.now → result.lead ≡ lead k base }
     ensures most { result.lead ≤ 135 }
 {
@@ -295,7 +490,7 @@ fn window_of(slots: &[Slot], singles: &[u16], base: u16) -> Window
     }
 }
 
-/// The code of primary weights under a table. It takes some 260 KiB, and more time to make than many keys, so who makes keys by one
+/// The code of primary weights under a table. It takes some 520 KiB, and more time to make than many keys, so who makes keys by one
 /// table keeps its code beside it.
 #[derive(Drop)]
 pub struct ShortCode {
@@ -304,6 +499,9 @@ pub struct ShortCode {
     anchors: [u16; ANCHORS],
     // Of each weight.
     slots: Vec<Slot>,
+    outside: Vec<Outside>,
+    // Where the window begins after it, outside it.
+    begins: Vec<u16>,
     // Of each text.
     first: Window,
     space: Single,
@@ -319,7 +517,7 @@ impl Model for ShortCode {
 
     ghost view = { λ c. record { commons = c.commons.items; singles = c.singles; anchors = c.anchors } };
 
-    ghost invariant = { λ c. HoldsSlots (record { commons = c.commons.items; singles = c.singles; anchors = c.anchors }) c.slots.items c.first c.space };
+    ghost invariant = { λ c. HoldsSlots (record { commons = c.commons.items; singles = c.singles; anchors = c.anchors }) c.slots.items c.outside.items c.begins.items c.first c.space };
 }
 
 impl ShortCode {
@@ -329,18 +527,22 @@ impl ShortCode {
     {
         let commons = weights_of_ranges(alloc, t, &COMMON_RANGES)?;
         let flags = flags_of(alloc, &commons)?;
-        let slots = slots_of(alloc, &commons, &flags)?;
+        let slots = slots_of(alloc, &flags)?;
         let mut singles = [0; SINGLES];
         singles.copy_from_slice(weights_of(alloc, t, &SINGLE_CHARACTERS)?.as_slice());
         let mut anchors = [0; ANCHORS];
         anchors.copy_from_slice(weights_of(alloc, t, &FIRST_LETTERS)?.as_slice());
         let first = window_of(&slots, &singles, anchors[0]);
         let space = single_of(&singles, 0);
+        let outside = outsides_of(alloc, &singles)?;
+        let begins = greatest_of(alloc, &anchors)?;
         Ok(ShortCode {
             commons,
             singles,
             anchors,
             slots,
+            outside,
+            begins,
             first,
             space,
         })
@@ -371,25 +573,28 @@ impl ShortCode {
     }
 
     /// Whether a weight has a byte of its own everywhere.
+    #[inline(always)]
     pub(crate) fn is_single(&self, w: u16) -> bool
         ensures { result ≡ is_single self.now w }
     {
-        has_weight(&self.singles, w)
+        self.outside[w as usize].single
     }
 
     /// The lead of a weight.
+    #[inline(always)]
     pub(crate) fn lead(&self, w: u16) -> u8
         ensures value { result ≡ lead self.now w }
         ensures most { result ≤ 135 }
     {
-        lead_over(&self.singles, w)
+        self.outside[w as usize].lead
     }
 
     /// Where the window begins after a weight, outside it.
+    #[inline(always)]
     pub(crate) fn anchor(&self, w: u16) -> u16
         ensures { result ≡ anchor_of self.now w }
     {
-        greatest_up_to(&self.anchors, w)
+        self.begins[w as usize]
     }
 
     /// The window that begins at a weight.

@@ -5,7 +5,7 @@ ghost use Rattle.uca_key.specs.Placing.{PutsAt};
 ghost use Rattle.uca_key.specs.ShortKey.{short_key_by};
 
 use crate::pieces::TextReading;
-use crate::runs::put_later;
+use crate::runs::{count_held, put_later};
 use crate::short_code::ShortCode;
 use crate::weight_bytes::put_first;
 use uca_weights::{Element, Settings};
@@ -28,10 +28,12 @@ pub(crate) fn put_short_levels(
 {
     let last = s.levels();
     let mut next = put_first(code, s.weighting, reading, room, at, out);
+    let common = count_held(s.weighting, reading, room);
     let mut level = 1;
     'each: while level < last {
         level += 1;
-        next = put_later(reading, s.weighting, level, room, next, out);
+        let counted = if level <= 3 { common } else { 0 };
+        next = put_later(reading, s.weighting, level, counted, room, next, out);
     }
     next
 }

@@ -15,7 +15,6 @@ pieces-preserved c =
       option = c.pack-packed.ensures.option;
       few = c.pack-packed.ensures.few;
       size = c.put_bytes-state.auto.out ∙ i.size;
-      bytes = c.pack-packed.auto.key ∙ i.bytes;
       putting = λ at before whole es h.
           let now = i.putting at before whole es h in
           let small : length before < 2 ^ 64 = omega (arith, IsPutting-size _ _ _ _ _ _ h, c.requires.size) in

@@ -9,7 +9,6 @@ invariant-pieces l = record {
   option : l.state.weigher.weighting ≡ l.v;
   few : l.state.run < 62;
   size : length l.out ≡ length l.fn.out;
-  bytes : length l.bytes ≡ 256;
   putting : (at : ℕ) (before whole : List ℕ) (es : List Element) → IsPutting at before l.fn.state.next l.fn.out whole (bytes_left l.level l.fn.state (l.elements ++ es)) → IsPutting at before l.state.next l.out whole (bytes_left l.level l.state (l.left ++ es));
 }
 

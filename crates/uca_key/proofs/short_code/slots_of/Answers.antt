@@ -1,28 +1,27 @@
-use Rattle.std.proofs.Common.{◌≡◌, ◌∙◌, ◌∷◌, ◌++◌, [], ap, sym, arith, length, length-append}
-use Rattle.uca_key.specs.SlotTables.{bare_code}
+use Rattle.std.proofs.Common.{◌≡◌, ◌+◌, ◌*◌, ap, arith, length, subst, sym, ◌∙◌}
+use Rattle.uca_key.specs.PrimaryCode.{slot}
+use Rattle.uca_key.specs.SlotTables.{AreSlots}
 use Rattle.uca_key.proofs.ShortSlots.{slot-zero}
-use Rattle.uca_key.proofs.SlotSteps.{slots-first, slots-more}
 use Rattle.uca_key.proofs.short_code.slots_of.Goals as goal
 
-pub loop-w-init : goal.loop-w-init
-loop-w-init c =
-    let k = bare_code c.args.commons.now in
-    let items : c.push.new.self.items ≡ c.slot_of.result ∷ [] = c.in_ok-push.ensures.items ∙ ap (λ l. l ++ c.slot_of.result ∷ []) c.in_ok-slots.ensures.items in
+pub loop-page-init : goal.loop-page-init
+loop-page-init c = record {
+  size = ap length c.in_ok-slots.ensures.items;
+  most = omega arith;
+  here = λ k commons. sym (slot-zero k);
+  each = λ k commons w d h. absurd (omega arith);
+}
+
+pub loop-page-preserved : goal.loop-page-preserved
+loop-page-preserved c =
+    let i = c.loop-page.invariant in
+    let more : 256 * c.loop-page.page + 256 ≡ 256 * (c.loop-page.page + 1) = omega arith in
     record {
-      size = ap length items;
-      most = omega arith;
-      here = sym (slot-zero k);
-      each = slots-first k c.slot_of.result c.push.new.self.items items (c.slot_of.ensures k c.requires.flags (sym (slot-zero k)));
+      size = c.in_ok-number.ensures.size ∙ more;
+      most = omega (arith, c.in_ok-number.ensures.most);
+      here = λ k commons. c.in_ok-number.ensures.next k commons (i.here k commons) ∙ ap (slot k) more;
+      each = λ k commons. subst (λ n. AreSlots k n c.push_page.new.slots.items) more (c.in_ok-number.ensures.slots k commons (i.here k commons) (i.each k commons));
     }
 
-pub loop-w-preserved : goal.loop-w-preserved
-loop-w-preserved c =
-    let k = bare_code c.args.commons.now in
-    let here = c.slot_after-number.ensures.next k c.requires.flags c.loop-w.invariant.here in
-    let items = c.in_ok-push-2.ensures.items in
-    record {
-      size = omega (arith, ap length items, length-append c.loop-w.slots.items (c.slot_of-in-loop-w.result ∷ []), c.loop-w.invariant.size);
-      most = c.slot_after-number.ensures.most;
-      here = here;
-      each = slots-more k c.loop-w.w c.slot_of-in-loop-w.result c.loop-w.slots.items _ c.loop-w.invariant.size items c.loop-w.invariant.each (c.slot_of-in-loop-w.ensures k c.requires.flags here);
-    }
+pub returns-clause-slots : goal.returns-clause-slots
+returns-clause-slots c k commons w d h = let done = c.loop-page-test.false in c.loop-page.invariant.each k commons w d (omega arith)

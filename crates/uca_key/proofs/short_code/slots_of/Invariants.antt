@@ -1,13 +1,12 @@
-use Rattle.std.proofs.Common.{◌≡◌, ◌+◌, ◌≤◌, ℕ, get_or, length}
-use Rattle.uca_key.specs.PrimaryCode.{slot}
-use Rattle.uca_key.specs.SlotTables.{IsSlotOf, bare_code}
-use Rattle.uca_key.specs.declared.short_code.Slot.{Slot}
+use Rattle.std.proofs.Common.{◌≡◌, ◌*◌, ◌≤◌, length}
+use Rattle.uca_key.specs.PrimaryCode.{PrimaryCode, slot}
+use Rattle.uca_key.specs.SlotTables.{AreCommons, AreSlots}
 use Rattle.uca_key.proofs.short_code.slots_of.Given as goal
 
-abbrev pub invariant-loop-w : goal.invariant-loop-w
-invariant-loop-w l = record {
-  size : length l.slots.items ≡ l.w + 1;
-  most : l.number ≤ l.w;
-  here : l.number ≡ slot (bare_code l.commons) l.w;
-  each : (x : ℕ) (d : Slot) → x ≤ l.w → IsSlotOf (bare_code l.commons) x (get_or l.slots.items x d);
+abbrev pub invariant-loop-page : goal.invariant-loop-page
+invariant-loop-page l = record {
+  size : length l.slots.items ≡ 256 * l.page;
+  most : l.number ≤ 256 * l.page;
+  here : (k : PrimaryCode) → AreCommons k l.flags → l.number ≡ slot k (256 * l.page);
+  each : (k : PrimaryCode) → AreCommons k l.flags → AreSlots k (256 * l.page) l.slots.items;
 }

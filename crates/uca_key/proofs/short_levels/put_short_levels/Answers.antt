@@ -22,6 +22,9 @@ each-init c =
       last = (levels-within c.args.s.strength).0;
       holds = c.put_first-next.ensures.holds;
       size = c.put_first-next.ensures.room;
+      few = c.count_held-common.ensures.few;
+      second = c.count_held-common.ensures.second;
+      third = c.count_held-common.ensures.third;
       putting = IsPutting-more _ _ _ _ _ _ (IsPutting-start c.args.at c.args.out.now (short_key_by k c.args.reading.now.table.now c.args.s text) _ c.ranges.at.fits refl) _ _ own (later_levels (levels c.args.s.strength - 1) 2 ws (nfd text)) c.requires.size (short-levels k c.args.reading.now.table.now c.args.s text) puts;
     }
 
@@ -38,5 +41,8 @@ each-preserved c =
       last = omega (arith, c.each.invariant.last, c.levels-last.ensures, c.each-test.true);
       holds = c.put_later-next.ensures.holds;
       size = c.put_later-next.ensures.room ∙ c.each.invariant.size;
+      few = c.each.invariant.few;
+      second = c.each.invariant.second;
+      third = c.each.invariant.third;
       putting = IsPutting-more _ _ _ _ _ _ c.each.invariant.putting _ _ (short_later ws (nfd text) (at + 1)) _ c.requires.size split puts;
     }

@@ -1,30 +1,28 @@
-use Rattle.std.proofs.Common.{◌≡◌, ◌<◌, ◌∙◌, ◌==◌, Bool, List, ap, arith, false, get_or, length, refl, subst, sym, ℕ}
+use Rattle.std.proofs.Common.{◌≡◌, ◌∙◌, ◌==◌, Bool, List, ap, arith, false, get_or, length, refl, subst, sym, ℕ}
 use Rattle.std.specs.List.{list_any}
 use Rattle.uca_key.specs.PrimaryCode.{PrimaryCode, lead, slot}
-use Rattle.uca_key.specs.SlotTables.{IsSlotOf, bare_code}
-use Rattle.uca_key.specs.declared.short_code.Slot.{Slot}
-use Rattle.uca_key.proofs.SlotSteps.{code-made, slot-of-bare}
+use Rattle.uca_key.specs.SlotTables.{AreCommons, AreSlots}
+use Rattle.uca_key.proofs.SlotSteps.{code-made}
 use Rattle.uca_key.proofs.short_code.ShortCode.new.Goals as goal
-
-pub slots_of-requires-clause-flags : goal.slots_of-requires-clause-flags
-slots_of-requires-clause-flags c w h =
-    let size : length c.deref-3.result.now ≡ 65536 = ap length c.deref-3.ensures.value ∙ c.in_ok-flags.ensures.size in
-    ap (λ (l : List Bool). get_or l w false) c.deref-3.ensures.value ∙ c.in_ok-flags.ensures.flags w (omega arith)
-    ∙ ap (λ (l : List ℕ). list_any (λ (x : ℕ). x == w) l) (c.deref.ensures.value ∙ sym c.deref-2.ensures.value)
 
 pub invariant_of-result : goal.invariant_of-result
 invariant_of-result c =
     let k : PrimaryCode = record { commons = c.in_ok-commons.commons.items; singles = c.copy_from_slice.new.self; anchors = c.copy_from_slice-2.new.self } in
     let singles = c.copy_from_slice.ensures.after ∙ c.as_slice.ensures.value ∙ c.in_ok-weights_of.ensures in
-    let each : (w : ℕ) (d : Slot) → w < 65536 → IsSlotOf k w (get_or c.in_ok-slots.slots.items w d) = λ w d h.
-    let bare = c.in_ok-slots.ensures.slots w d h in let same = ap (λ (l : List ℕ). bare_code l) c.deref-2.ensures.value in
-    let own = get_or c.in_ok-slots.slots.items w d in slot-of-bare k w own (subst (λ b. IsSlotOf b w own) same bare) in
+    let size : length c.deref-2.result.now ≡ 65536 = ap length c.deref-2.ensures.value ∙ c.in_ok-flags.ensures.size in
+    let flags : AreCommons k c.deref-2.result.now = λ w h.
+    ap (λ (l : List Bool). get_or l w false) c.deref-2.ensures.value ∙ c.in_ok-flags.ensures.flags w (omega arith) ∙ ap (λ (l : List ℕ). list_any (λ (x : ℕ). x == w) l) c.deref.ensures.value in
+    let each : AreSlots k 65536 c.in_ok-slots.slots.items = c.in_ok-slots.ensures.slots k flags in
     record {
       size = c.in_ok-slots.ensures.size;
       each = each;
+      outside_size = c.in_ok-outside.ensures.size;
+      outer = c.in_ok-outside.ensures.outside k refl;
+      begins_size = c.in_ok-begins.ensures.size;
+      ahead = c.in_ok-begins.ensures.greatest;
       few = let ten = ap length singles in omega arith;
-      begins = c.window_of-first.ensures.base;
-      numbered = c.window_of-first.ensures.slot k (λ w d h. subst (λ (l : List Slot). IsSlotOf k w (get_or l w d)) (sym c.deref-4.ensures.value) (each w d h)) ∙ ap (slot k) (sym c.window_of-first.ensures.base);
+      from = c.window_of-first.ensures.base;
+      numbered = c.window_of-first.ensures.slot k (subst (AreSlots k 65536) (sym c.deref-3.ensures.value) each) ∙ ap (slot k) (sym c.window_of-first.ensures.base);
       led = c.window_of-first.ensures.lead k refl ∙ ap (lead k) (sym c.window_of-first.ensures.base);
       most = c.window_of-first.ensures.most;
       single = c.single_of-space.ensures.single;
