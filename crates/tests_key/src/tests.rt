@@ -1,9 +1,9 @@
 mod all_pairs;
 mod bounds;
 mod long_stretches;
-mod short;
-mod short_buffers;
-mod short_runs;
+mod packed;
+mod packed_buffers;
+mod packed_runs;
 mod texts;
 mod written;
 

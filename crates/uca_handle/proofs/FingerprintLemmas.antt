@@ -10,7 +10,7 @@ use Rattle.uca_model.specs.CanonicalText.{canonical}
 use Rattle.uca_model.specs.SortKey.{sort_key}
 use Rattle.uca_model.specs.Table.{ElementTable, with_ideographs}
 use Rattle.uca_model.proofs.ReadBackLemmas.{canonical-apart}
-use Rattle.uca_key.specs.ShortKey.{short_key}
+use Rattle.uca_key.specs.PackedKey.{packed_key}
 use Rattle.uca_handle.specs.Fingerprint.{settings_bytes, variable_number}
 use Rattle.uca_weights.specs.Settings.{levels}
 use Rattle.uca_handle.specs.FingerprintLaws.{EqualFingerprintsMeanEqualKeys}
@@ -63,5 +63,5 @@ fingerprints-apart t u s r of_t of_u same =
       table = tables;
       settings = settings;
       keys = λ text. ap₂ (λ (w : ElementTable) (x : Settings). sort_key w x text) tables settings;
-      packed = λ text. ap₂ (λ (w : ElementTable) (x : Settings). short_key w x text) tables settings;
+      packed = λ text. ap₂ (λ (w : ElementTable) (x : Settings). packed_key w x text) tables settings;
     }

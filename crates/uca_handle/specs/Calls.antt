@@ -9,7 +9,7 @@ use Rattle.uca_model.specs.SortKey.{key_order, sort_key}
 use Rattle.uca_model.specs.Table.{ElementTable}
 use Rattle.uca_weights.specs.declared.settings.Settings.{Settings}
 use Rattle.uca_weights.specs.declared.settings.Variable.{Variable}
-use Rattle.uca_key.specs.ShortKey.{short_key, short_prefix}
+use Rattle.uca_key.specs.PackedKey.{packed_key, packed_prefix}
 use Rattle.uca_handle.specs.Fingerprint.{fingerprinted}
 use Rattle.uca_handle.specs.Opening.{SaysTable, RefusesTable}
 use Rattle.uca_key.specs.Placing.{with_front}
@@ -92,7 +92,7 @@ MakesKey (Some t) s text before after result = MakesKeyBy (sort_key t s (chars t
 -- the same of the packed sort key
 abbrev pub MakesPackedKey : Option ElementTable → Settings → List ℕ → List ℕ → List ℕ → Result ℕ KeyFault → Type 0
 MakesPackedKey None s text before after result = (result ≡ Err key.Closed) × (after ≡ before)
-MakesPackedKey (Some t) s text before after result = MakesKeyBy (short_key t s (chars text)) text before after result
+MakesPackedKey (Some t) s text before after result = MakesKeyBy (packed_key t s (chars text)) text before after result
 
 -- the key of a text under a table is in the front of a buffer, and this is its length, which stops at 2^64 - 1
 pub record IsKeyWritten (t : ElementTable) (s : Settings) (text before after : List ℕ) (size : ℕ) : Type 0 where
@@ -138,7 +138,7 @@ PutsBoundsBy t v text lower lower_after upper upper_after result = PutsEndsBy (p
 
 -- the same of the packed keys: they begin with the first level of its packed key, without the end of the level
 abbrev pub PutsPackedBoundsBy : ElementTable → Variable → List ℕ → List ℕ → List ℕ → List ℕ → List ℕ → Result BoundsSize BoundsFault → Type 0
-PutsPackedBoundsBy t v text lower lower_after upper upper_after result = PutsEndsBy (short_prefix t v (chars text)) (is_complete t (chars text)) text lower lower_after upper upper_after result
+PutsPackedBoundsBy t v text lower lower_after upper upper_after result = PutsEndsBy (packed_prefix t v (chars text)) (is_complete t (chars text)) text lower lower_after upper upper_after result
 
 -- the same by a collator, which may have no table
 abbrev pub PutsBounds : Option ElementTable → Variable → List ℕ → List ℕ → List ℕ → List ℕ → List ℕ → Result BoundsSize BoundsFault → Type 0

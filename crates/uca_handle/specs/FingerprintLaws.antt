@@ -4,7 +4,7 @@ use Rattle.uca_weights.specs.declared.settings.Settings.{Settings}
 use Rattle.uca_model.specs.Ranges.{AreByFirst}
 use Rattle.uca_model.specs.SortKey.{sort_key}
 use Rattle.uca_model.specs.Table.{ElementTable, IsTable}
-use Rattle.uca_key.specs.ShortKey.{short_key}
+use Rattle.uca_key.specs.PackedKey.{packed_key}
 use Rattle.uca_handle.specs.Fingerprint.{fingerprinted}
 
 -- two tables and the settings beside them are the same, and make the same sort keys and packed keys
@@ -12,7 +12,7 @@ pub record MakeSameKeys (t u : ElementTable) (s r : Settings) : Type 0 where
   pub table : t ≡ u
   pub settings : s ≡ r
   pub keys : (text : List ℕ) → sort_key t s text ≡ sort_key u r text
-  pub packed : (text : List ℕ) → short_key t s text ≡ short_key u r text
+  pub packed : (text : List ℕ) → packed_key t s text ≡ packed_key u r text
 
 -- a table without further ideographs
 pub record IsWithoutIdeographs (t : ElementTable) : Type 0 where

@@ -7,7 +7,7 @@ ghost use Rattle.uca_handle.specs.Calls.{AreEndsIn, PutsBoundsBy, PutsPackedBoun
 use crate::faults::BoundsFault;
 use crate::opened::Opened;
 use std::alloc::Global;
-use uca_key::{PrefixBounds, copy_front, prefix_bounds, short_prefix_bounds};
+use uca_key::{PrefixBounds, copy_front, packed_prefix_bounds, prefix_bounds};
 use uca_table::Table;
 use uca_weights::Variable;
 use uca_window::Passage;
@@ -81,7 +81,7 @@ pub(crate) fn put_packed_bounds(
         Ok(passage) => passage,
         Err(fault) => return Err(BoundsFault::Text(fault)),
     };
-    match short_prefix_bounds(alloc, opened.table(), opened.code(), v, &passage) {
+    match packed_prefix_bounds(alloc, opened.table(), opened.code(), v, &passage) {
         Ok(bounds) => Ok(put_ends(&bounds, lower, upper)),
         Err(_) => Err(BoundsFault::OutOfMemory),
     }

@@ -1,6 +1,6 @@
 ghost use Rattle.std.specs.Prelude.{◌≡◌, chars, length};
 ghost use Rattle.uca_model.specs.SortKey.{sort_key};
-ghost use Rattle.uca_key.specs.ShortKey.{short_key};
+ghost use Rattle.uca_key.specs.PackedKey.{packed_key};
 ghost use Rattle.uca_key.specs.Placing.{with_front};
 ghost use Rattle.uca_handle.specs.Calls.{MakesKeyBy, WritesKeyBy};
 ghost use Rattle.uca_window.specs.Passage.{bytes_of, text_of};
@@ -8,7 +8,7 @@ ghost use Rattle.uca_window.specs.Passage.{bytes_of, text_of};
 use crate::faults::KeyFault;
 use crate::opened::Opened;
 use std::alloc::Global;
-use uca_key::{SHORT, copy_front, key_of, put_short_key, short_key_by};
+use uca_key::{SHORT, copy_front, key_of, packed_key_by};
 use uca_table::Table;
 use uca_weights::Settings;
 use uca_window::Passage;
@@ -46,7 +46,7 @@ pub(crate) fn put_packed_key(
     text: &[u8],
     out: &mut [u8],
 ) -> Result<usize, KeyFault>
-    ensures { MakesKeyBy (short_key opened.now s (chars text.now)) text.now out.old out.new result }
+    ensures { MakesKeyBy (packed_key opened.now s (chars text.now)) text.now out.old out.new result }
 {
     match Passage::of_bytes(text) {
         Ok(passage) => put_packed_text_key(alloc, opened, s, &passage, out),
@@ -82,12 +82,12 @@ pub(crate) fn put_packed_text_key(
     p: &Passage,
     out: &mut [u8],
 ) -> Result<usize, KeyFault>
-    ensures { MakesKeyBy (short_key opened.now s (text_of p.now)) (bytes_of p.now) out.old out.new result }
+    ensures { MakesKeyBy (packed_key opened.now s (text_of p.now)) (bytes_of p.now) out.old out.new result }
 {
     if p.as_str().len() <= SHORT {
-        return Ok(put_short_key(opened.table(), opened.code(), s, p, out));
+        return Ok(uca_key::put_packed_key(opened.table(), opened.code(), s, p, out));
     }
-    match short_key_by(alloc, opened.table(), opened.code(), s, p) {
+    match packed_key_by(alloc, opened.table(), opened.code(), s, p) {
         Ok(key) => Ok(put_front(key.as_slice(), out)),
         Err(_) => Err(KeyFault::OutOfMemory),
     }

@@ -4,14 +4,14 @@ ghost use Rattle.uca_key.specs.PrimaryCode.{code_of};
 
 use std::alloc::{AllocError, Global};
 use std::marker::Model;
-use uca_key::ShortCode;
+use uca_key::PackedCode;
 use uca_table::Table;
 
 /// A table, with the code of primary weights that its packed keys are made by.
 #[derive(Drop)]
 pub struct Opened {
     table: Table,
-    code: ShortCode,
+    code: PackedCode,
 }
 
 impl Model for Opened {
@@ -34,7 +34,7 @@ impl Opened {
     pub(crate) fn new(alloc: Global, table: Table) -> Result<Opened, AllocError>
         ensures { IfOk result (λ o. o ≡ table) }
     {
-        let code = ShortCode::new(alloc, &table)?;
+        let code = PackedCode::new(alloc, &table)?;
         Ok(Opened { table, code })
     }
 
@@ -44,7 +44,7 @@ impl Opened {
         &self.table
     }
 
-    pub(crate) fn code(&self) -> &ShortCode
+    pub(crate) fn code(&self) -> &PackedCode
         ensures { result.now ≡ code_of self.now }
     {
         &self.code

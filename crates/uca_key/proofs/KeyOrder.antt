@@ -1,4 +1,4 @@
--- The byte order of sort keys is the order of their levels, and what decides the order of the bytes of short keys.
+-- The byte order of sort keys is the order of their levels, and what decides the order of the bytes of packed keys.
 use Rattle.std.proofs.Common.{◌⊎◌, ◌≡◌, ℕ, suc, zero, ◌+◌, ◌-◌, ◌≤◌, ◌<◌, List, [], ◌∷◌, ◌++◌, refl, sym, ap, ap₂, subst, ◌∙◌, arith, inl, inr}
 use Rattle.std.proofs.lemmas.Bool.{cases_lt, cond-true, cond-false, lt-ltb, le-ltb}
 use Rattle.std.proofs.lemmas.Bool.Decides.{nat_tests}
@@ -14,7 +14,7 @@ use Rattle.uca_model.specs.LevelWeights.{level_list}
 use Rattle.uca_model.specs.SortKey.{weight_bytes, key_order, sort_key}
 use Rattle.uca_model.proofs.LevelLemmas.{sort_key-levels, levels-within, weight_first, OrdersLevel-weights, OrdersLevel-points}
 use Rattle.uca_model.proofs.WeightLemmas.{HasWeights}
-use Rattle.uca_key.specs.ShortKey.{other_bytes}
+use Rattle.uca_key.specs.PackedKey.{other_bytes}
 
 -- ---- bytes and weights
 

@@ -114,7 +114,7 @@ pub short_text : (bytes : List ℕ) → IsUtf8 bytes → length bytes ≤ 65536 
 short_text bytes utf8 few = omega (arith, length-normalize Nfd (chars bytes), ap length (encodes-chars bytes utf8))
 
 -- those of a key of a short text
-pub length-short_key : (t : ElementTable) (s : Settings) (bytes : List ℕ) → IsTable t → IsUtf8 bytes → length bytes ≤ 65536 → length (sort_key t s (chars bytes)) < 2 ^ 60
-length-short_key t s bytes table utf8 few =
+pub length-key_few : (t : ElementTable) (s : Settings) (bytes : List ℕ) → IsTable t → IsUtf8 bytes → length bytes ≤ 65536 → length (sort_key t s (chars bytes)) < 2 ^ 60
+length-key_few t s bytes table utf8 few =
     let text : List ℕ = chars bytes in
     omega (arith, ap length (sort_key-levels t s text), short_key_few (levels s.strength - 1) 1 (level_list t s.weighting text) (λ k. omega (arith, level_few t s.weighting text k table, short_text bytes utf8 few)), (levels-within s.strength).0, (levels-within s.strength).1)

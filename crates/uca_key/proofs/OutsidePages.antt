@@ -7,7 +7,7 @@ use Rattle.std.proofs.lemmas.List.Sums.{sum_by-cons}
 use Rattle.std.specs.List.{list_any, sum_by}
 use Rattle.uca_key.specs.PrimaryCode.{PrimaryCode, is_single, lead, page_of, past}
 use Rattle.uca_key.specs.SlotTables.{AreOutside, IsOutsideOf}
-use Rattle.uca_key.specs.declared.short_code.Outside.{Outside}
+use Rattle.uca_key.specs.declared.packed_code.Outside.{Outside}
 
 -- a weight more
 pub outside-more : (k : PrimaryCode) (w : ℕ) (o : Outside) (items after : List Outside) → length items ≡ w → after ≡ items ++ o ∷ [] → AreOutside k w items → IsOutsideOf k w o → AreOutside k (w + 1) after

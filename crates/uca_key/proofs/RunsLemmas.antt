@@ -8,7 +8,7 @@ use Rattle.uca_weights.specs.declared.settings.Variable.TheVariants.{NonIgnorabl
 use Rattle.uca_weights.specs.VariableWeighting.{unchanged, weighted}
 use Rattle.uca_model.specs.LevelWeights.{level_weights}
 use Rattle.uca_key.specs.Runs.{AreCounted}
-use Rattle.uca_key.specs.ShortKey.{common_weight, runs_after}
+use Rattle.uca_key.specs.PackedKey.{common_weight, runs_after}
 use Rattle.uca_key.proofs.UnchangedLevels.{level_weights-both}
 
 -- one more

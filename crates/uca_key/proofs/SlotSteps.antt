@@ -13,8 +13,8 @@ use Rattle.uca_model.proofs.RewritingLemmas.{elements_nil}
 use Rattle.uca_key.specs.PrimaryCode.{PrimaryCode, begins_slot, code_of, first_primary, is_common, points_of_ranges, primary_of, slot}
 use Rattle.uca_key.specs.declared.common_characters.TheConstants.{COMMON_RANGES, FIRST_LETTERS, SINGLE_CHARACTERS}
 use Rattle.uca_key.specs.SlotTables.{AreCommons, AreSlots, IsSlotOf, is_range}
-use Rattle.uca_key.specs.declared.short_code.Slot.{Slot}
-use Rattle.uca_key.proofs.ShortSlots.{slot-next}
+use Rattle.uca_key.specs.declared.packed_code.Slot.{Slot}
+use Rattle.uca_key.proofs.PackedSlots.{slot-next}
 
 -- one number more
 range-more : (f : ℕ → ℕ) (a n : ℕ) → map f (range_with_len a (n + 1)) ≡ map f (range_with_len a n) ++ f (a + n) ∷ []

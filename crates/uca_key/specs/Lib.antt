@@ -4,7 +4,7 @@ pub mod Runs
 pub mod Pieces
 pub mod Placing
 pub mod PrimaryCode
-pub mod ShortKey
-pub mod ShortLaws
+pub mod PackedKey
+pub mod PackedLaws
 pub mod SlotTables
 pub mod Reach

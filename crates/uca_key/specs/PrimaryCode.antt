@@ -1,4 +1,4 @@
--- The code of primary weights in short keys. A form of this project (compare UTS #10, 9.1, Reducing Sort Key Lengths). Letters of one script lie in a window, where
+-- The code of primary weights in packed keys. A form of this project (compare UTS #10, 9.1, Reducing Sort Key Lengths). Letters of one script lie in a window, where
 -- a byte says each of the common ones. Two bytes say a letter outside it, and the window goes there.
 use Rattle.std.specs.Prelude.{ℕ, zero, suc, ◌+◌, ◌-◌, ◌/◌, ◌%◌, max, Bool, false, ◌==◌, ◌&&◌, ◌||◌, nat_lt, nat_le, List, [], ◌∷◌, ◌++◌, map, flat_map, fold, slice_index, if◌then◌else◌}
 use Rattle.std.specs.List.{list_any, range_with_len, sum_by}

@@ -5,7 +5,7 @@ use Rattle.uca_weights.specs.declared.settings.Variable.{Variable}
 use Rattle.uca_weights.specs.VariableWeighting.{weighted}
 use Rattle.uca_model.specs.LevelWeights.{level_weights}
 use Rattle.uca_levels.specs.Streams.{weights_from}
-use Rattle.uca_key.specs.ShortKey.{common_weight, runs_after, short_level}
+use Rattle.uca_key.specs.PackedKey.{common_weight, runs_after, packed_level}
 use Rattle.uca_key.specs.declared.runs.RunsLevel.{RunsLevel}
 
 -- the bytes of a level that are left to put, where these elements are left
@@ -15,4 +15,4 @@ bytes_left level s es = runs_after (common_weight level) s.run (weights_from s.w
 -- so many of the first elements have common weights at a level, so that it begins with a run of them
 pub record AreCounted (v : Variable) (level n : ℕ) (es : List Element) : Type 0 where
   pub some : n ≤ length es
-  pub run : runs_after (common_weight level) n (level_weights level (weighted v (drop n es))) ≡ short_level (weighted v es) level
+  pub run : runs_after (common_weight level) n (level_weights level (weighted v (drop n es))) ≡ packed_level (weighted v es) level

@@ -3,10 +3,10 @@ use Rattle.std.specs.Prelude.{◌≡◌, ℕ, ◌<◌, ◌≤◌, ◌/◌, ◌==
 use Rattle.std.specs.List.{list_any}
 use Rattle.std.specs.Coded.{Coded, code_by, coded×, coded_list, coded_ℕ}
 use Rattle.uca_key.specs.PrimaryCode.{PrimaryCode, is_common, is_single, lead, slot}
-use Rattle.uca_key.specs.declared.short_code.Outside.{Outside}
-use Rattle.uca_key.specs.declared.short_code.Single.{Single}
-use Rattle.uca_key.specs.declared.short_code.Slot.{Slot}
-use Rattle.uca_key.specs.declared.short_code.Window.{Window}
+use Rattle.uca_key.specs.declared.packed_code.Outside.{Outside}
+use Rattle.uca_key.specs.declared.packed_code.Single.{Single}
+use Rattle.uca_key.specs.declared.packed_code.Slot.{Slot}
+use Rattle.uca_key.specs.declared.packed_code.Window.{Window}
 
 -- ranges from a first code point to a last one, below the surrogates
 abbrev pub is_range : ℕ × ℕ → Bool

@@ -1,4 +1,4 @@
-//! The characters that most texts are made of. Their primary weights have the shortest codes in short keys.
+//! The characters that most texts are made of. Their primary weights have the shortest codes in packed keys.
 
 /// Ranges of letters and digits, from the first code point to the last: of each script that many people write today, the letters of
 /// its main languages. Letters with marks are here for tailored tables, which may give them primary weights of their own. Digits come

@@ -5,10 +5,10 @@ ghost use Rattle.uca_key.specs.Form.{key_in};
 ghost use Rattle.uca_key.specs.Pieces.{HoldsElements};
 ghost use Rattle.uca_key.specs.Placing.{PutsAt};
 
+use crate::packed_code::PackedCode;
+use crate::packed_levels::put_packed_levels;
 use crate::pieces::TextReading;
 use crate::placing::put_levels;
-use crate::short_code::ShortCode;
-use crate::short_levels::put_short_levels;
 use std::alloc::AllocError;
 use uca_table::Table;
 use uca_weights::{Element, Settings};
@@ -20,11 +20,11 @@ pub(crate) enum Form<'c> {
     /// As the standard has it.
     Plain,
     /// With a code of primary weights, and with runs of common weights.
-    Short(&'c ShortCode),
+    Packed(&'c PackedCode),
 }
 
 // How many bytes the key of a text has at most, if its elements are held and it is plain and without the fifth level. Others may have
-// more, which few texts have: short keys of letters with many marks, and those of texts with more elements than bytes.
+// more, which few texts have: packed keys of letters with many marks, and those of texts with more elements than bytes.
 fn expected_bytes(form: Form, s: Settings, reading: &TextReading) -> usize {
     let levels = s.levels() as usize;
     let bytes = reading.text.len();
@@ -35,7 +35,7 @@ fn expected_bytes(form: Form, s: Settings, reading: &TextReading) -> usize {
         0
     };
     let each = match form {
-        Form::Short(_) => levels + 1,
+        Form::Packed(_) => levels + 1,
         Form::Plain => 2 * levels,
     };
     elements
@@ -62,7 +62,7 @@ fn put(
 {
     match form {
         Form::Plain => put_levels(reading, s, room, at, out),
-        Form::Short(code) => put_short_levels(code, reading, s, room, at, out),
+        Form::Packed(code) => put_packed_levels(code, reading, s, room, at, out),
     }
 }
 

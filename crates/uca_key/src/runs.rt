@@ -1,4 +1,4 @@
-// The later levels of a short key, with runs of common weights, put into a buffer piece by piece.
+// The later levels of a packed key, with runs of common weights, put into a buffer piece by piece.
 ghost use Rattle.std.specs.Prelude.{◌≡◌, ◌≢◌, ◌==◌, ◌+◌, ◌*◌, ◌-◌, ◌^◌, ◌<◌, ◌≤◌, ◌++◌, ◌∷◌, [], ℕ, List, not, chars, filter, length, take};
 ghost use Rattle.unicode_normalization.specs.Forms.{nfd};
 ghost use Rattle.uca_weights.specs.declared.element.Element.{Element};
@@ -7,7 +7,7 @@ ghost use Rattle.uca_weights.specs.VariableWeighting.{weighted};
 ghost use Rattle.uca_model.specs.LevelWeights.{level_weights};
 ghost use Rattle.uca_model.specs.SafeText.{IsSafe};
 ghost use Rattle.uca_levels.specs.Streams.{weights_from};
-ghost use Rattle.uca_key.specs.ShortKey.{common_weight, other_bytes, runs_after, short_later, short_level};
+ghost use Rattle.uca_key.specs.PackedKey.{common_weight, other_bytes, runs_after, packed_later, packed_level};
 ghost use Rattle.uca_key.specs.Runs.{AreCounted, bytes_left};
 ghost use Rattle.uca_key.specs.Pieces.{HoldsElements, elements_of};
 ghost use Rattle.uca_key.specs.Placing.{IsPutting, PutsAt};
@@ -353,7 +353,7 @@ fn put_level_again(
     requires last { level ≤ 4 }
     requires some { 0 < length room.old }
     requires size { length out.old < 2 ^ 64 }
-    ensures bytes { PutsAt at (short_level (weighted v (elements_of reading.now)) level) out.old out.new result }
+    ensures bytes { PutsAt at (packed_level (weighted v (elements_of reading.now)) level) out.old out.new result }
     ensures room { length room.new ≡ length room.old }
 {
     let mut state = RunsLevel::new(v, at, 0);
@@ -384,7 +384,7 @@ fn put_level(
     requires size { length out.old < 2 ^ 64 }
     requires few { common < 62 }
     requires counted { AreCounted v level common (elements_of reading.now) }
-    ensures bytes { PutsAt at (short_level (weighted v (elements_of reading.now)) level) out.old out.new result }
+    ensures bytes { PutsAt at (packed_level (weighted v (elements_of reading.now)) level) out.old out.new result }
     ensures holds { HoldsElements reading.now room.new }
     ensures room { length room.new ≡ length room.old }
 {
@@ -414,7 +414,7 @@ pub(crate) fn put_later(
     requires size { length out.old < 2 ^ 64 }
     requires few { common < 62 }
     requires counted { level ≤ 4 → AreCounted v level common (elements_of reading.now) }
-    ensures bytes { PutsAt at (short_later (weighted v (elements_of reading.now)) (nfd (chars reading.now.text.now)) level) out.old out.new result }
+    ensures bytes { PutsAt at (packed_later (weighted v (elements_of reading.now)) (nfd (chars reading.now.text.now)) level) out.old out.new result }
     ensures holds { HoldsElements reading.now room.new }
     ensures room { length room.new ≡ length room.old }
 {

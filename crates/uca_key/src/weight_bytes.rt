@@ -1,4 +1,4 @@
-// The first level of a short key, put into a buffer piece by piece.
+// The first level of a packed key, put into a buffer piece by piece.
 ghost use Rattle.std.specs.Prelude.{◌≡◌, ◌==◌, ◌≤◌, ◌<◌, ◌+◌, ◌*◌, ◌-◌, ◌^◌, ◌/◌, ◌%◌, ◌++◌, ◌∷◌, [], ℕ, List, if◌then◌else◌, nat_lt, not, filter, length, take, drop, true, false, IsTrue};
 ghost use Rattle.uca_weights.specs.declared.element.Element.{Element};
 ghost use Rattle.uca_weights.specs.declared.settings.Variable.TheVariants.{NonIgnorable};
@@ -11,9 +11,9 @@ ghost use Rattle.uca_key.specs.Pieces.{HoldsElements, elements_of};
 ghost use Rattle.uca_key.specs.Placing.{IsPutting, PutsAt};
 ghost use Rattle.uca_key.specs.PrimaryCode.{after_slot, base_after, has_page, is_common, is_in_window, is_single, lead, letter_bytes, primary_bytes, primary_level, second_bytes, slot, start, state_after};
 
+use crate::packed_code::{PackedCode, Single, Window};
 use crate::pieces::{PIECE, TextReading};
 use crate::placing::put_bytes;
-use crate::short_code::{ShortCode, Single, Window};
 use uca_weights::{Element, Variable, Weigher};
 
 // How many slots a window has.
@@ -69,7 +69,7 @@ fn put_after_lead(w: u16, key: &mut [u8], at: usize) -> usize
 
 // Puts what follows the byte of a slot.
 #[inline(always)]
-fn put_after_slot(code: &ShortCode, w: u16, key: &mut [u8], at: usize) -> usize
+fn put_after_slot(code: &PackedCode, w: u16, key: &mut [u8], at: usize) -> usize
     requires { at + 1 ≤ length key.old }
     ensures bytes { take result key.new ≡ take at key.old ++ after_slot code.now w }
     ensures within { result ≤ at + 1 }
@@ -83,7 +83,7 @@ fn put_after_slot(code: &ShortCode, w: u16, key: &mut [u8], at: usize) -> usize
 
 // Whether a window has the slot of a weight.
 #[inline(always)]
-fn is_in_window(code: &ShortCode, window: Window, w: u16) -> bool
+fn is_in_window(code: &PackedCode, window: Window, w: u16) -> bool
     requires { window.slot ≡ slot code.now window.base }
     ensures { result ≡ is_in_window code.now window.base w }
 {
@@ -94,7 +94,7 @@ fn is_in_window(code: &ShortCode, window: Window, w: u16) -> bool
 
 // The first byte of a weight in the window.
 #[inline(always)]
-fn slot_byte(code: &ShortCode, window: Window, w: u16) -> u8
+fn slot_byte(code: &PackedCode, window: Window, w: u16) -> u8
     requires slot { window.slot ≡ slot code.now window.base }
     requires lead { window.lead ≡ lead code.now window.base }
     requires most { window.lead ≤ 135 }
@@ -109,7 +109,7 @@ fn slot_byte(code: &ShortCode, window: Window, w: u16) -> u8
 
 // The first byte of a weight outside the window, which has this lead.
 #[inline(always)]
-fn lead_byte(code: &ShortCode, window: Window, w: u16, own: u8) -> u8
+fn lead_byte(code: &PackedCode, window: Window, w: u16, own: u8) -> u8
     requires slot { window.slot ≡ slot code.now window.base }
     requires lead { own ≡ lead code.now w }
     requires most { own ≤ 135 }
@@ -124,7 +124,7 @@ fn lead_byte(code: &ShortCode, window: Window, w: u16, own: u8) -> u8
 
 // Puts a weight that the window has.
 #[inline(always)]
-fn put_inside(code: &ShortCode, window: Window, w: u16, key: &mut [u8], at: usize) -> usize
+fn put_inside(code: &PackedCode, window: Window, w: u16, key: &mut [u8], at: usize) -> usize
     requires slot { window.slot ≡ slot code.now window.base }
     requires lead { window.lead ≡ lead code.now window.base }
     requires most { window.lead ≤ 135 }
@@ -140,7 +140,7 @@ fn put_inside(code: &ShortCode, window: Window, w: u16, key: &mut [u8], at: usiz
 
 // Puts a weight that the window does not have, and that may have a byte of its own.
 fn put_outside(
-    code: &ShortCode,
+    code: &PackedCode,
     window: Window,
     w: u16,
     single: bool,
@@ -177,7 +177,7 @@ fn put_second(w: u16, key: &mut [u8], at: usize) -> usize
 }
 
 // Where the window begins after a weight that it does not have, and that may have a byte of its own.
-fn window_after(code: &ShortCode, window: Window, w: u16, single: bool) -> Window
+fn window_after(code: &PackedCode, window: Window, w: u16, single: bool) -> Window
     requires slot { window.slot ≡ slot code.now window.base }
     requires lead { window.lead ≡ lead code.now window.base }
     requires most { window.lead ≤ 135 }
@@ -214,7 +214,7 @@ struct Placed {
 }
 
 // Puts a weight.
-fn put_weight(code: &ShortCode, before: Placed, w: u16, key: &mut [u8]) -> Placed
+fn put_weight(code: &PackedCode, before: Placed, w: u16, key: &mut [u8]) -> Placed
     requires slot { before.reach.window.slot ≡ slot code.now before.reach.window.base }
     requires lead { before.reach.window.lead ≡ lead code.now before.reach.window.base }
     requires most { before.reach.window.lead ≤ 135 }
@@ -256,7 +256,7 @@ fn put_weight(code: &ShortCode, before: Placed, w: u16, key: &mut [u8]) -> Place
 
 // The same of a weight that may be zero, which is left out.
 #[inline(never)]
-fn put_some(code: &ShortCode, before: Placed, w: u16, key: &mut [u8]) -> Placed
+fn put_some(code: &PackedCode, before: Placed, w: u16, key: &mut [u8]) -> Placed
     requires slot { before.reach.window.slot ≡ slot code.now before.reach.window.base }
     requires lead { before.reach.window.lead ≡ lead code.now before.reach.window.base }
     requires most { before.reach.window.lead ≤ 135 }
@@ -276,7 +276,7 @@ fn put_some(code: &ShortCode, before: Placed, w: u16, key: &mut [u8]) -> Placed
 
 // Whether a weight is one byte in the window, and the window stays.
 #[inline(always)]
-fn is_letter(code: &ShortCode, window: Window, w: u16) -> bool
+fn is_letter(code: &PackedCode, window: Window, w: u16) -> bool
     requires { window.slot ≡ slot code.now window.base }
     ensures inside { IsTrue result → is_in_window code.now window.base w ≡ true }
     ensures common { IsTrue result → is_common code.now w ≡ true }
@@ -288,7 +288,7 @@ fn is_letter(code: &ShortCode, window: Window, w: u16) -> bool
 
 // Puts a letter.
 #[inline(always)]
-fn put_letter(code: &ShortCode, reach: Reach, w: u16, key: &mut [u8], at: usize) -> usize
+fn put_letter(code: &PackedCode, reach: Reach, w: u16, key: &mut [u8], at: usize) -> usize
     requires slot { reach.window.slot ≡ slot code.now reach.window.base }
     requires lead { reach.window.lead ≡ lead code.now reach.window.base }
     requires most { reach.window.lead ≤ 135 }
@@ -308,7 +308,7 @@ fn put_letter(code: &ShortCode, reach: Reach, w: u16, key: &mut [u8], at: usize)
 
 // Whether a weight is that of the space, outside the window, and the window stays.
 #[inline(always)]
-fn is_gap(code: &ShortCode, window: Window, space: Single, w: u16) -> bool
+fn is_gap(code: &PackedCode, window: Window, space: Single, w: u16) -> bool
     requires slot { window.slot ≡ slot code.now window.base }
     requires single { is_single code.now space.weight ≡ true }
     ensures same { IsTrue result → w ≡ space.weight }
@@ -321,7 +321,7 @@ fn is_gap(code: &ShortCode, window: Window, space: Single, w: u16) -> bool
 
 // Puts a weight that has a byte of its own, outside the window.
 #[inline(always)]
-fn put_single(code: &ShortCode, reach: Reach, w: u16, own: u8, key: &mut [u8], at: usize) -> usize
+fn put_single(code: &PackedCode, reach: Reach, w: u16, own: u8, key: &mut [u8], at: usize) -> usize
     requires slot { reach.window.slot ≡ slot code.now reach.window.base }
     requires first { reach.second ≡ false }
     requires some { 0 < w }
@@ -348,7 +348,7 @@ struct Letters {
 
 // Puts the weights of elements that keep them as long as they are letters, spaces or zero. Most of a text is put here, so it asks little.
 #[inline(always)]
-fn put_letters(code: &ShortCode, before: Placed, elements: &[Element], key: &mut [u8]) -> Letters
+fn put_letters(code: &PackedCode, before: Placed, elements: &[Element], key: &mut [u8]) -> Letters
     requires slot { before.reach.window.slot ≡ slot code.now before.reach.window.base }
     requires lead { before.reach.window.lead ≡ lead code.now before.reach.window.base }
     requires most { before.reach.window.lead ≤ 135 }
@@ -385,7 +385,7 @@ fn put_letters(code: &ShortCode, before: Placed, elements: &[Element], key: &mut
 }
 
 // Puts the weight of the first of some elements that keep them, if there is one.
-fn put_next(code: &ShortCode, before: Placed, elements: &[Element], key: &mut [u8]) -> Placed
+fn put_next(code: &PackedCode, before: Placed, elements: &[Element], key: &mut [u8]) -> Placed
     requires slot { before.reach.window.slot ≡ slot code.now before.reach.window.base }
     requires lead { before.reach.window.lead ≡ lead code.now before.reach.window.base }
     requires most { before.reach.window.lead ≤ 135 }
@@ -404,7 +404,7 @@ fn put_next(code: &ShortCode, before: Placed, elements: &[Element], key: &mut [u
 }
 
 // Puts the weights of elements that keep them, letters together and others one by one.
-fn put_kept(code: &ShortCode, before: Placed, elements: &[Element], key: &mut [u8]) -> Placed
+fn put_kept(code: &PackedCode, before: Placed, elements: &[Element], key: &mut [u8]) -> Placed
     requires slot { before.reach.window.slot ≡ slot code.now before.reach.window.base }
     requires lead { before.reach.window.lead ≡ lead code.now before.reach.window.base }
     requires most { before.reach.window.lead ≤ 135 }
@@ -434,7 +434,7 @@ fn put_kept(code: &ShortCode, before: Placed, elements: &[Element], key: &mut [u
 
 // Puts the weights of some elements by their variable weighting. The weigher has seen those before them.
 fn put_weighted(
-    code: &ShortCode,
+    code: &PackedCode,
     before: Placed,
     weigher: &mut Weigher,
     elements: &[Element],
@@ -460,7 +460,7 @@ fn put_weighted(
 
 // Puts the weights of some elements into the front of a piece.
 fn put_piece(
-    code: &ShortCode,
+    code: &PackedCode,
     reach: Reach,
     v: Variable,
     weigher: &mut Weigher,
@@ -497,7 +497,7 @@ struct FirstLevel {
 
 impl FirstLevel {
     // A level that begins at a place.
-    fn new(code: &ShortCode, v: Variable, at: usize) -> FirstLevel
+    fn new(code: &PackedCode, v: Variable, at: usize) -> FirstLevel
         ensures next { result.next ≡ at }
         ensures slot { result.reach.window.slot ≡ slot code.now result.reach.window.base }
         ensures lead { result.reach.window.lead ≡ lead code.now result.reach.window.base }
@@ -518,7 +518,7 @@ impl FirstLevel {
 
 // Puts the weights of some elements, a piece at a time.
 fn put_elements(
-    code: &ShortCode,
+    code: &PackedCode,
     v: Variable,
     state: &mut FirstLevel,
     elements: &[Element],
@@ -550,7 +550,7 @@ fn put_elements(
 // Puts a first level of a text that the room does not hold, as it is read once more.
 #[inline(never)]
 fn put_first_again(
-    code: &ShortCode,
+    code: &PackedCode,
     v: Variable,
     reading: &TextReading,
     room: &mut [Element],
@@ -575,7 +575,7 @@ fn put_first_again(
 
 /// Puts the first level of a text that was read into room. It ends itself.
 pub(crate) fn put_first(
-    code: &ShortCode,
+    code: &PackedCode,
     v: Variable,
     reading: &TextReading,
     room: &mut [Element],

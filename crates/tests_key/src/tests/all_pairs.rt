@@ -3,7 +3,7 @@ use std::alloc::{AllocError, Global};
 use std::cmp::Ordering;
 use std::process::Abort;
 use std::test::Fail;
-use uca_key::{ShortKeys, key_of};
+use uca_key::{PackedKeys, key_of};
 use uca_levels::compare;
 use uca_table::Table;
 use uca_testing::table_from;
@@ -164,7 +164,7 @@ fn texts_after(alloc: Global, front: &str) -> Result<Vec<String>, AllocError> {
 struct Keyed<'t> {
     passage: Passage<'t>,
     key: Vec<u8>,
-    short: Vec<u8>,
+    packed: Vec<u8>,
 }
 
 /// A text with its keys at these settings.
@@ -172,17 +172,17 @@ fn keyed_text<'t>(
     rt: &impl Abort,
     alloc: Global,
     t: &Table,
-    keys: &ShortKeys,
+    keys: &PackedKeys,
     s: Settings,
     text: &'t str,
 ) -> Result<Keyed<'t>, AllocError> {
     let passage = Passage::check(text).ok().expect(rt, "a safe text");
     let key = key_of(alloc, t, s, &passage)?;
-    let short = keys.key_of(alloc, s, &passage)?;
+    let packed = keys.key_of(alloc, s, &passage)?;
     Ok(Keyed {
         passage,
         key,
-        short,
+        packed,
     })
 }
 
@@ -194,7 +194,7 @@ fn keyed_texts<'t>(
     s: Settings,
     texts: &'t [String],
 ) -> Result<Vec<Keyed<'t>>, AllocError> {
-    let keys = ShortKeys::new(alloc, t)?;
+    let keys = PackedKeys::new(alloc, t)?;
     let mut keyed = Vec::new(alloc);
     for text in texts {
         keyed.push(keyed_text(rt, alloc, t, &keys, s, text)?)?;
@@ -202,11 +202,11 @@ fn keyed_texts<'t>(
     Ok(keyed)
 }
 
-/// The order of two texts, if they compare as their keys and their short keys do.
+/// The order of two texts, if they compare as their keys and their packed keys do.
 fn order_of(t: &Table, s: Settings, left: &Keyed, right: &Keyed) -> Option<Ordering> {
     let order = left.key.as_slice().cmp(right.key.as_slice());
     let is_same = compare(t, s, &left.passage, &right.passage) == order
-        && left.short.as_slice().cmp(right.short.as_slice()) == order;
+        && left.packed.as_slice().cmp(right.packed.as_slice()) == order;
     is_same.then_some(order)
 }
 
@@ -251,7 +251,7 @@ fn count_equal_texts(
     Ok(count_equal(rt, t, s, &keyed))
 }
 
-/// At each strength every two of these texts compare as their keys and short keys do, and some differ first at this strength's own
+/// At each strength every two of these texts compare as their keys and packed keys do, and some differ first at this strength's own
 /// level.
 fn check_texts(
     rt: &impl Abort,

@@ -1,7 +1,7 @@
 use Rattle.std.proofs.Common.{◌≡◌, ℕ, List, ◌++◌, take, sym, ap, subst, ◌∙◌}
 use Rattle.uca_weights.specs.declared.element.Element.{Element}
 use Rattle.uca_levels.specs.Streams.{weights_from}
-use Rattle.uca_key.specs.ShortKey.{common_weight, runs_after}
+use Rattle.uca_key.specs.PackedKey.{common_weight, runs_after}
 use Rattle.uca_key.proofs.UnchangedLevels.{weights_from-both}
 use Rattle.uca_key.proofs.runs.pack.Goals as goal
 

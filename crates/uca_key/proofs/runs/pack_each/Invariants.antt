@@ -2,7 +2,7 @@ use Rattle.std.proofs.Common.{◌≡◌, ◌+◌, ◌*◌, ◌<◌, ◌≤◌, �
 use Rattle.uca_weights.specs.declared.settings.Variable.TheVariants.{NonIgnorable}
 use Rattle.uca_weights.specs.VariableWeighting.{weighted, weighted_after}
 use Rattle.uca_model.specs.LevelWeights.{level_weights}
-use Rattle.uca_key.specs.ShortKey.{runs_after}
+use Rattle.uca_key.specs.PackedKey.{runs_after}
 use Rattle.uca_key.proofs.runs.pack_each.Given as goal
 
 -- what is packed, what is left and what follows are packed as all is

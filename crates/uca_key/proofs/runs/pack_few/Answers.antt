@@ -3,7 +3,7 @@ use Rattle.std.proofs.lemmas.Grind.{common_steps}
 use Rattle.uca_weights.specs.declared.settings.Variable.TheVariants.{NonIgnorable}
 use Rattle.uca_weights.specs.VariableWeighting.{weighted}
 use Rattle.uca_model.specs.LevelWeights.{level_weights}
-use Rattle.uca_key.specs.ShortKey.{common_weight, runs_after}
+use Rattle.uca_key.specs.PackedKey.{common_weight, runs_after}
 use Rattle.uca_key.proofs.RunsLemmas.{four-common}
 use Rattle.uca_key.proofs.runs.pack_few.Goals as goal
 

@@ -2,7 +2,7 @@ use Rattle.std.proofs.Common.{◌≡◌, ◌+◌, ◌*◌, ◌<◌, ◌≤◌, �
 use Rattle.uca_weights.specs.declared.settings.Variable.TheVariants.{NonIgnorable}
 use Rattle.uca_weights.specs.VariableWeighting.{weighted}
 use Rattle.uca_model.specs.LevelWeights.{level_weights}
-use Rattle.uca_key.specs.ShortKey.{common_weight, runs_after}
+use Rattle.uca_key.specs.PackedKey.{common_weight, runs_after}
 use Rattle.uca_key.proofs.runs.pack_unchanged.Given as goal
 
 -- what is packed, what is left and what follows are packed as all is

@@ -1,7 +1,7 @@
 use Rattle.std.proofs.Common.{◌≡◌, ◌+◌, ◌*◌, ◌<◌, ◌≤◌, ◌++◌, List, length, take, drop}
 use Rattle.uca_weights.specs.declared.element.Element.{Element}
 use Rattle.uca_levels.specs.Streams.{weights_from}
-use Rattle.uca_key.specs.ShortKey.{runs_after}
+use Rattle.uca_key.specs.PackedKey.{runs_after}
 use Rattle.uca_key.proofs.runs.pack_weighted.Given as goal
 
 -- what is packed, what is left and what follows are packed as all is

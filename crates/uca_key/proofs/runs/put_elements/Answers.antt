@@ -1,7 +1,7 @@
 use Rattle.std.proofs.Common.{ap₂, ◌≡◌, ◌^◌, ◌<◌, ◌++◌, List, length, sym, ap, ◌∙◌, arith, append_assoc, take-append-drop}
 use Rattle.uca_weights.specs.declared.element.Element.{Element}
 use Rattle.uca_levels.specs.Streams.{weights_from}
-use Rattle.uca_key.specs.ShortKey.{common_weight, runs_after}
+use Rattle.uca_key.specs.PackedKey.{common_weight, runs_after}
 use Rattle.uca_key.proofs.PlacingLemmas.{IsPutting-more, IsPutting-size}
 use Rattle.uca_key.proofs.runs.put_elements.Goals as goal
 

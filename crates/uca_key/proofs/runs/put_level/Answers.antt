@@ -5,7 +5,7 @@ use Rattle.uca_weights.specs.VariableWeighting.{weighted}
 use Rattle.uca_key.specs.Placing.{IsPutting}
 use Rattle.uca_key.specs.Runs.{bytes_left}
 use Rattle.uca_model.specs.LevelWeights.{level_weights}
-use Rattle.uca_key.specs.ShortKey.{common_weight, runs_after, short_level}
+use Rattle.uca_key.specs.PackedKey.{common_weight, runs_after, packed_level}
 use Rattle.uca_key.specs.Pieces.{elements_of}
 use Rattle.uca_key.proofs.PieceLemmas.{part-between}
 use Rattle.uca_key.proofs.PlacingLemmas.{IsPutting-start, IsPutting-more, IsPutting-ends}
@@ -27,7 +27,7 @@ slice_bounds-put_elements-count c =
 pub returns-in-Some-clause-bytes : goal.returns-in-Some-clause-bytes
 returns-in-Some-clause-bytes c =
     let level = c.args.level in
-    let whole = short_level (weighted c.args.v (elements_of c.args.reading.now)) level in
+    let whole = packed_level (weighted c.args.v (elements_of c.args.reading.now)) level in
     let n = c.args.common in let h = c.in-Some.held in let holds = c.requires.holds h c.in-Some.is in
     let held : List Element = take (h - n) (drop n c.args.room.now) in
     let all : held ++ [] ≡ drop n (elements_of c.args.reading.now) = append-nil held ∙ sym (part-between n h c.args.room.now) ∙ ap (drop n) holds.1 in

@@ -3,7 +3,7 @@ use Rattle.uca_match.specs.TextLeft.{elements_left}
 use Rattle.uca_weights.specs.VariableWeighting.{weighted}
 use Rattle.uca_key.specs.Placing.{IsPutting}
 use Rattle.uca_key.specs.Runs.{bytes_left}
-use Rattle.uca_key.specs.ShortKey.{short_level}
+use Rattle.uca_key.specs.PackedKey.{packed_level}
 use Rattle.uca_key.specs.Pieces.{elements_of}
 use Rattle.uca_key.proofs.PlacingLemmas.{IsPutting-start, IsPutting-more, IsPutting-ends}
 use Rattle.uca_key.proofs.runs.put_level_again.Goals as goal
@@ -15,8 +15,8 @@ each-init c = record {
   size = refl;
   out = refl;
   putting =
-      subst (λ next. IsPutting c.args.at c.args.out.now next c.args.out.now (short_level (weighted c.args.v (elements_of c.args.reading.now)) c.args.level) (bytes_left c.args.level c.new-state.result (elements_left c.again-left.result))) (sym c.new-state.ensures.next)
-      (IsPutting-start _ _ _ _ c.ranges.at.fits (c.new-state.ensures.left c.args.level (elements_left c.again-left.result) ∙ ap (λ es. short_level (weighted c.args.v es) c.args.level) c.again-left.ensures));
+      subst (λ next. IsPutting c.args.at c.args.out.now next c.args.out.now (packed_level (weighted c.args.v (elements_of c.args.reading.now)) c.args.level) (bytes_left c.args.level c.new-state.result (elements_left c.again-left.result))) (sym c.new-state.ensures.next)
+      (IsPutting-start _ _ _ _ c.ranges.at.fits (c.new-state.ensures.left c.args.level (elements_left c.again-left.result) ∙ ap (λ es. packed_level (weighted c.args.v es) c.args.level) c.again-left.ensures));
 }
 
 pub returns-then-n-eq0-clause-bytes : goal.returns-then-n-eq0-clause-bytes
@@ -34,5 +34,5 @@ each-preserved c = record {
   out = c.put_elements.ensures.size ∙ c.each.invariant.out;
   putting =
       c.put_elements.ensures.bytes c.args.at c.args.out.now _ (elements_left c.read-n.new.self)
-      (subst (λ es. IsPutting c.args.at c.args.out.now c.each.state.next c.each.out (short_level (weighted c.args.v (elements_of c.args.reading.now)) c.args.level) (bytes_left c.args.level c.each.state es)) c.read-n.ensures.left c.each.invariant.putting);
+      (subst (λ es. IsPutting c.args.at c.args.out.now c.each.state.next c.each.out (packed_level (weighted c.args.v (elements_of c.args.reading.now)) c.args.level) (bytes_left c.args.level c.each.state es)) c.read-n.ensures.left c.each.invariant.putting);
 }

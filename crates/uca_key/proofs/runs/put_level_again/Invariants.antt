@@ -2,7 +2,7 @@ use Rattle.std.proofs.Common.{◌≡◌, ◌<◌, length}
 use Rattle.uca_weights.specs.VariableWeighting.{weighted}
 use Rattle.uca_match.specs.TextLeft.{elements_left}
 use Rattle.uca_key.specs.Runs.{bytes_left}
-use Rattle.uca_key.specs.ShortKey.{short_level}
+use Rattle.uca_key.specs.PackedKey.{packed_level}
 use Rattle.uca_key.specs.Pieces.{elements_of}
 use Rattle.uca_key.specs.Placing.{IsPutting}
 use Rattle.uca_key.proofs.runs.put_level_again.Given as goal
@@ -13,7 +13,7 @@ invariant-each l = record {
   few : l.state.run < 62;
   size : length l.room ≡ length l.fn.room;
   out : length l.out ≡ length l.fn.out;
-  putting : IsPutting l.at l.fn.out l.state.next l.out (short_level (weighted l.v (elements_of l.reading)) l.level) (bytes_left l.level l.state (elements_left l.left));
+  putting : IsPutting l.at l.fn.out l.state.next l.out (packed_level (weighted l.v (elements_of l.reading)) l.level) (bytes_left l.level l.state (elements_left l.left));
 }
 
 abbrev pub decreases-each : goal.decreases-each

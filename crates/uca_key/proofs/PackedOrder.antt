@@ -1,0 +1,99 @@
+-- The byte order of packed keys is the order of their levels, as that of sort keys is.
+use Rattle.std.proofs.Common.{◌≡◌, ℕ, zero, suc, ◌-◌, ◌≤◌, ◌<◌, List, [], ◌∷◌, ◌++◌, flat_map, take, refl, sym, ap, ap₂, ◌∙◌, arith, append_assoc, append-nil}
+use Rattle.std.proofs.lemmas.Map.Lookups.{exact_bytes}
+use Rattle.std.specs.declared.cmp.Ordering.{Ordering}
+use Rattle.std.specs.List.{concat}
+use Rattle.std.specs.Ordering.{ordering_then}
+use Rattle.unicode_normalization.specs.Forms.{nfd}
+use Rattle.uca_weights.specs.declared.settings.Settings.{Settings}
+use Rattle.uca_weights.specs.declared.settings.Strength.{Strength}
+use Rattle.uca_weights.specs.declared.settings.Strength.TheVariants.{Primary, Secondary, Tertiary, Quaternary, Identical}
+use Rattle.uca_weights.specs.declared.settings.Variable.{Variable}
+use Rattle.uca_weights.specs.Settings.{levels}
+use Rattle.uca_weights.specs.VariableWeighting.{weighted}
+use Rattle.uca_model.specs.Table.{ElementTable}
+use Rattle.uca_model.specs.CollationElements.{elements}
+use Rattle.uca_model.specs.DecidingLevel.{list_order}
+use Rattle.uca_model.specs.Laws.{BeginsWith}
+use Rattle.uca_model.specs.LevelWeights.{level_list}
+use Rattle.uca_model.specs.SortKey.{code_point_bytes, key_order, sort_key}
+use Rattle.uca_model.proofs.LevelLemmas.{OrdersLevel-points}
+use Rattle.uca_model.proofs.OrderLemmas.{then_equal}
+use Rattle.uca_model.proofs.WeightLemmas.{HasWeights, HasWeights-IsTable}
+use Rattle.uca_key.specs.PrimaryCode.{PrimaryCode, code_of, primary_level, start}
+use Rattle.uca_key.specs.PackedKey.{common_weight, runs_after, packed_key, packed_key_by, packed_levels}
+use Rattle.uca_key.specs.PackedLaws.{EquivalentTextsHaveOnePackedKey, PackedKeysFollowKeys, PackedKeysGrowByLevels, PackedKeysTellTextsApart}
+use Rattle.uca_key.proofs.KeyOrder.{ordered_from, same_order, sort_key-ordered}
+use Rattle.uca_key.proofs.PackedLetters.{is-code}
+use Rattle.uca_key.proofs.PackedLevels.{primary_order}
+use Rattle.uca_key.proofs.PackedRuns.{runs_order}
+
+-- the order of a level
+abbrev decided : ElementTable → Variable → List ℕ → List ℕ → ℕ → Ordering
+decided t v a b level = list_order (level_list t v a level) (level_list t v b level)
+
+-- the order of keys that are made of such levels by any code
+packed_levels-ordered : (k : PrimaryCode) (t : ElementTable) (s : Settings) (a b : List ℕ) → HasWeights t s a → HasWeights t s b → (strength : Strength)
+    → key_order (concat (take (levels strength) (packed_levels k (weighted s.weighting (elements t (nfd a))) (nfd a)))) (concat (take (levels strength) (packed_levels k (weighted s.weighting (elements t (nfd b))) (nfd b))))
+    ≡ ordered_from (levels strength - 1) 1 (level_list t s.weighting a) (level_list t s.weighting b)
+packed_levels-ordered k t s a b p q = by_strength
+  where
+    first : (r u : List ℕ) → key_order (primary_level k (start k) (level_list t s.weighting a 1) ++ r) (primary_level k (start k) (level_list t s.weighting b 1) ++ u) ≡ ordering_then (decided t s.weighting a b 1) (key_order r u)
+    first r u = primary_order k (is-code k) (start k) (level_list t s.weighting a 1) (level_list t s.weighting b 1) r u (p.weights 1 (omega arith) (omega arith)) (q.weights 1 (omega arith) (omega arith))
+
+    later : (level : ℕ) → 1 ≤ level → level < 5 → (r u : List ℕ)
+        → key_order (runs_after (common_weight level) 0 (level_list t s.weighting a level) ++ r) (runs_after (common_weight level) 0 (level_list t s.weighting b level) ++ u) ≡ ordering_then (decided t s.weighting a b level) (key_order r u)
+    later level low high r u = runs_order (common_weight level) 0 (level_list t s.weighting a level) (level_list t s.weighting b level) r u (omega arith) (p.weights level low high) (q.weights level low high)
+
+    last : (level : ℕ) → 1 ≤ level → level < 5
+        → key_order (runs_after (common_weight level) 0 (level_list t s.weighting a level) ++ []) (runs_after (common_weight level) 0 (level_list t s.weighting b level) ++ []) ≡ decided t s.weighting a b level
+    last level low high = later level low high [] [] ∙ sym (then_equal (decided t s.weighting a b level))
+
+    points_last : key_order (flat_map code_point_bytes (nfd a) ++ []) (flat_map code_point_bytes (nfd b) ++ []) ≡ list_order (nfd a) (nfd b)
+    points_last = ap₂ key_order (append-nil (flat_map code_point_bytes (nfd a))) (append-nil (flat_map code_point_bytes (nfd b))) ∙ (OrdersLevel-points (nfd a) (nfd b) p.points q.points).last
+
+    by_strength : (strength : Strength) → key_order (concat (take (levels strength) (packed_levels k (weighted s.weighting (elements t (nfd a))) (nfd a)))) (concat (take (levels strength) (packed_levels k (weighted s.weighting (elements t (nfd b))) (nfd b))))
+        ≡ ordered_from (levels strength - 1) 1 (level_list t s.weighting a) (level_list t s.weighting b)
+    by_strength Primary = first [] [] ∙ sym (then_equal (decided t s.weighting a b 1))
+    by_strength Secondary = first _ _ ∙ ap (ordering_then (decided t s.weighting a b 1)) (last 2 (omega arith) (omega arith))
+    by_strength Tertiary = first _ _ ∙ ap (ordering_then (decided t s.weighting a b 1)) (later 2 (omega arith) (omega arith) _ _ ∙ ap (ordering_then (decided t s.weighting a b 2)) (last 3 (omega arith) (omega arith)))
+    by_strength Quaternary =
+        first _ _ ∙ ap (ordering_then (decided t s.weighting a b 1)) (later 2 (omega arith) (omega arith) _ _ ∙ ap (ordering_then (decided t s.weighting a b 2)) (later 3 (omega arith) (omega arith) _ _ ∙ ap (ordering_then (decided t s.weighting a b 3)) (last 4 (omega arith) (omega arith))))
+    by_strength Identical =
+        first _ _ ∙ ap (ordering_then (decided t s.weighting a b 1)) (later 2 (omega arith) (omega arith) _ _ ∙ ap (ordering_then (decided t s.weighting a b 2)) (later 3 (omega arith) (omega arith) _ _
+        ∙ ap (ordering_then (decided t s.weighting a b 3)) (later 4 (omega arith) (omega arith) _ _ ∙ ap (ordering_then (decided t s.weighting a b 4)) points_last)))
+
+-- the order of packed keys
+packed_key-ordered : (t : ElementTable) (s : Settings) (a b : List ℕ) → HasWeights t s a → HasWeights t s b
+    → key_order (packed_key t s a) (packed_key t s b) ≡ ordered_from (levels s.strength - 1) 1 (level_list t s.weighting a) (level_list t s.weighting b)
+unfolding packed_key packed_key_by
+packed_key-ordered t s a b p q = packed_levels-ordered (code_of t) t s a b p q s.strength
+
+pub packed-follow : PackedKeysFollowKeys
+packed-follow t s a b table of_a of_b =
+    let p = HasWeights-IsTable t s a table of_a in let q = HasWeights-IsTable t s b table of_b in
+    packed_key-ordered t s a b p q ∙ sym (sort_key-ordered t s a b p q)
+
+pub packed-apart : PackedKeysTellTextsApart
+packed-apart t s a b table of_a of_b =
+    let same = packed-follow t s a b table of_a of_b in (
+      λ e. exact_bytes (sort_key t s a) (sort_key t s b) (sym same ∙ same_order (packed_key t s a) (packed_key t s b) e),
+      λ e. exact_bytes (packed_key t s a) (packed_key t s b) (same ∙ same_order (sort_key t s a) (sort_key t s b) e),
+    )
+
+-- the first pieces, one after the other, begin with fewer of them
+begins-take : (m n : ℕ) (ls : List (List ℕ)) → m ≤ n → BeginsWith (concat (take n ls)) (concat (take m ls))
+begins-take zero n ls few = record { rest = concat (take n ls); parts = refl }
+begins-take (suc m) zero ls few = absurd (omega arith)
+begins-take (suc m) (suc n) [] few = record { rest = []; parts = refl }
+begins-take (suc m) (suc n) (x ∷ xs) few =
+    let below = begins-take m n xs (omega arith) in
+    record { rest = below.rest; parts = ap (λ l. x ++ l) below.parts ∙ sym (append_assoc x (concat (take m xs)) below.rest) }
+
+pub packed-grow : PackedKeysGrowByLevels
+unfolding packed_key packed_key_by
+packed-grow t v low high text fewer = begins-take (levels low) (levels high) (packed_levels (code_of t) (weighted v (elements t (nfd text))) (nfd text)) fewer
+
+pub packed-equivalent : EquivalentTextsHaveOnePackedKey
+unfolding packed_key packed_key_by
+packed-equivalent t s a b same = ap (λ (xs : List ℕ). concat (take (levels s.strength) (packed_levels (code_of t) (weighted s.weighting (elements t xs)) xs))) same

@@ -1,0 +1,48 @@
+-- Which tables give a text one packed key.
+use Rattle.std.proofs.Common.{◌≡◌, ℕ, Bool, true, false, ◌==◌, ◌||◌, List, [], ◌∷◌, ◌++◌, map, take, refl, ap, ap₂, ◌∙◌, eq-eqb}
+use Rattle.std.proofs.lemmas.List.Folds.{list_any-append}
+use Rattle.std.specs.List.{concat, list_any}
+use Rattle.unicode_normalization.specs.Forms.{nfd}
+use Rattle.uca_weights.specs.declared.element.Element.{Element}
+use Rattle.uca_weights.specs.Settings.{levels}
+use Rattle.uca_weights.specs.VariableWeighting.{weighted}
+use Rattle.uca_model.specs.Table.{ElementTable}
+use Rattle.uca_model.proofs.AgreeingTables.{elements-same}
+use Rattle.uca_key.specs.declared.common_characters.TheConstants.{COMMON_RANGES, FIRST_LETTERS, SINGLE_CHARACTERS}
+use Rattle.uca_key.specs.PrimaryCode.{PrimaryCode, code_of, code_points, first_primary, points_of_ranges, primary_of}
+use Rattle.uca_key.specs.PackedKey.{packed_key, packed_key_by, packed_levels}
+use Rattle.uca_key.specs.PackedLaws.{PackedKeysOutliveTables}
+use Rattle.uca_key.proofs.SlotSteps.{the_code}
+
+-- the place of a number in a list, and in a longer one
+or-true : (a b : Bool) → b ≡ true → (a || b) ≡ true
+or-true true b h = refl
+or-true false b h = h
+
+or-first : (a b : Bool) → a ≡ true → (a || b) ≡ true
+or-first a b h = ap (λ c. c || b) h
+
+-- functions that agree on the numbers of a list
+map-same : (f g : ℕ → ℕ) (xs : List ℕ) → ((c : ℕ) → list_any (λ x. x == c) xs ≡ true → f c ≡ g c) → map f xs ≡ map g xs
+map-same f g [] h = refl
+map-same f g (x ∷ xs) h = ap₂ (λ y ys. y ∷ ys) (h x (or-first (x == x) (list_any (λ y. y == x) xs) (eq-eqb x x refl))) (map-same f g xs (λ c there. h c (or-true (x == c) (list_any (λ y. y == c) xs) there)))
+
+-- the code of two tables, of any characters
+same-code : (f g : ℕ → ℕ) (a b c : List ℕ) → ((x : ℕ) → list_any (λ y. y == x) (a ++ b ++ c) ≡ true → f x ≡ g x) → the_code (map f a) (map f b) (map f c) ≡ the_code (map g a) (map g b) (map g c)
+same-code f g a b c h =
+    let in_first : (x : ℕ) → list_any (λ y. y == x) a ≡ true → f x ≡ g x = λ x there.
+    h x (list_any-append (λ y. y == x) (a ++ b) c ∙ or-first _ _ (list_any-append (λ y. y == x) a b ∙ or-first _ _ there)) in
+    let in_second : (x : ℕ) → list_any (λ y. y == x) b ≡ true → f x ≡ g x = λ x there.
+    h x (list_any-append (λ y. y == x) (a ++ b) c ∙ or-first _ _ (list_any-append (λ y. y == x) a b ∙ or-true _ _ there)) in
+    let in_third : (x : ℕ) → list_any (λ y. y == x) c ≡ true → f x ≡ g x = λ x there. h x (list_any-append (λ y. y == x) (a ++ b) c ∙ or-true _ _ there) in
+    ap₂ (λ u v. the_code u v (map f c)) (map-same f g a in_first) (map-same f g b in_second) ∙ ap (the_code (map g a) (map g b)) (map-same f g c in_third)
+
+code-same : (t u : ElementTable) → ((c : ℕ) → list_any (λ x. x == c) code_points ≡ true → primary_of t c ≡ primary_of u c) → code_of t ≡ code_of u
+unfolding code_of
+code-same t u h = same-code (λ c. primary_of t c) (λ c. primary_of u c) (points_of_ranges COMMON_RANGES) SINGLE_CHARACTERS FIRST_LETTERS h
+
+pub packed-outlive : PackedKeysOutliveTables
+unfolding packed_key packed_key_by
+packed-outlive changed t u s text agree of_code without =
+    let code : code_of t ≡ code_of u = code-same t u (λ c there. ap first_primary (elements-same changed t u agree (nfd (c ∷ [])) (of_code c there))) in
+    ap₂ (λ (k : PrimaryCode) (es : List Element). concat (take (levels s.strength) (packed_levels k (weighted s.weighting es) (nfd text)))) code (elements-same changed t u agree (nfd text) without)

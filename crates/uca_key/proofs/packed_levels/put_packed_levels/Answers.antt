@@ -1,0 +1,48 @@
+use Rattle.std.proofs.Common.{◌≡◌, ℕ, List, suc, ◌+◌, ◌-◌, ◌++◌, chars, refl, ap, ◌∙◌, arith}
+use Rattle.unicode_normalization.specs.Forms.{nfd}
+use Rattle.uca_weights.specs.Settings.{levels}
+use Rattle.uca_weights.specs.VariableWeighting.{weighted}
+use Rattle.uca_model.specs.CollationElements.{elements}
+use Rattle.uca_model.specs.LevelWeights.{level_weights}
+use Rattle.uca_model.proofs.LevelLemmas.{levels-within}
+use Rattle.uca_key.specs.PrimaryCode.{primary_level, start}
+use Rattle.uca_key.specs.PackedKey.{packed_key_by, packed_later}
+use Rattle.uca_key.proofs.PlacingLemmas.{IsPutting-start, IsPutting-more}
+use Rattle.uca_key.proofs.PackedPieces.{later_levels, packed-levels}
+use Rattle.uca_key.proofs.packed_levels.put_packed_levels.Goals as goal
+
+pub each-init : goal.each-init
+each-init c =
+    let text : List ℕ = chars c.args.reading.now.text.now in let k = c.args.code.now in let v = c.args.s.weighting in
+    let ws : List (List ℕ) = weighted v (elements c.args.reading.now.table.now (nfd text)) in
+    let own : List ℕ = primary_level k (start k) (level_weights 1 ws) in
+    let puts = c.put_first-next.ensures.bytes in
+    record {
+      first = omega arith;
+      last = (levels-within c.args.s.strength).0;
+      holds = c.put_first-next.ensures.holds;
+      size = c.put_first-next.ensures.room;
+      few = c.count_held-common.ensures.few;
+      second = c.count_held-common.ensures.second;
+      third = c.count_held-common.ensures.third;
+      putting = IsPutting-more _ _ _ _ _ _ (IsPutting-start c.args.at c.args.out.now (packed_key_by k c.args.reading.now.table.now c.args.s text) _ c.ranges.at.fits refl) _ _ own (later_levels (levels c.args.s.strength - 1) 2 ws (nfd text)) c.requires.size (packed-levels k c.args.reading.now.table.now c.args.s text) puts;
+    }
+
+pub each-preserved : goal.each-preserved
+each-preserved c =
+    let text : List ℕ = chars c.args.reading.now.text.now in let v = c.args.s.weighting in
+    let ws : List (List ℕ) = weighted v (elements c.args.reading.now.table.now (nfd text)) in
+    let at : ℕ = c.each.level in let top : ℕ = levels c.args.s.strength in
+    let puts = c.put_later-next.ensures.bytes in
+    let some : top - at ≡ suc (top - (at + 1)) = omega (arith, c.each.invariant.last, c.levels-last.ensures, c.each-test.true) in
+    let split : later_levels (top - at) (at + 1) ws (nfd text) ≡ packed_later ws (nfd text) (at + 1) ++ later_levels (top - (at + 1)) (at + 1 + 1) ws (nfd text) = ap (λ n. later_levels n (at + 1) ws (nfd text)) some in
+    record {
+      first = omega arith;
+      last = omega (arith, c.each.invariant.last, c.levels-last.ensures, c.each-test.true);
+      holds = c.put_later-next.ensures.holds;
+      size = c.put_later-next.ensures.room ∙ c.each.invariant.size;
+      few = c.each.invariant.few;
+      second = c.each.invariant.second;
+      third = c.each.invariant.third;
+      putting = IsPutting-more _ _ _ _ _ _ c.each.invariant.putting _ _ (packed_later ws (nfd text) (at + 1)) _ c.requires.size split puts;
+    }
