@@ -20,7 +20,7 @@ class Look:
     def __init__(self, collator: uca.Collator, rules: str) -> None:
         self.collator = collator
         self.identical = collator.clone(strength=uca.IDENTICAL)
-        self.strengths = [collator.clone(strength=strength) for strength in range(uca.PRIMARY, collator.strength + 1)]
+        self.by_strength = [collator.clone(strength=strength) for strength in range(uca.PRIMARY, collator.strength + 1)]
         self.rule_lines = lines_of_items(rules, self.decomposed)
 
     def decomposed(self, text: str) -> str:
@@ -84,7 +84,7 @@ class Look:
 
     def _packed_pieces(self, text: str) -> list[bytes]:
         """The levels of a packed key: that at a strength is the beginning of that at each higher one."""
-        keys = [collator.packed_key(text) for collator in self.strengths]
+        keys = [collator.packed_key(text) for collator in self.by_strength]
         return [key[len(lower) :] for lower, key in zip([b"", *keys], keys)]
 
     def _levels(self, key: bytes, found: Sequence[uca.Match]) -> list[dict[str, Any]]:
