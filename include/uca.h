@@ -181,8 +181,8 @@ uint32_t uca_unicode_version(void);
 
 /*
  * Gives a collator a table: `table` in the format of allkeys.txt (UTS #10, Allkeys File Format), tailored by `rules` (a profile
- * of UTS #35, part 5; no bytes for no rules). The call reads both completely before it returns. If the collator had a table, it releases that
- * one. The published table takes about 12 MB of memory.
+ * of UTS #35, part 5; no bytes for no rules). The call reads both completely before it returns. If the collator had a table, it
+ * releases that one. The published table takes about 12 MB of memory.
  * Returns UCA_OK, UCA_BAD_TABLE, UCA_BAD_RULES, UCA_BAD_TAILORING or UCA_NO_MEMORY.
  */
 uint32_t uca_open(uca_collator *collator, const uint8_t *table, size_t table_size, const uint8_t *rules, size_t rules_size,
@@ -231,8 +231,8 @@ uint32_t uca_sort_key(const uca_collator *collator, const uca_settings *settings
                       uint8_t *out, size_t capacity, size_t *needed, uca_fault *fault);
 
 /*
- * Writes a text's packed key to `out`, as uca_sort_key writes its sort key. Packed keys are short keys for indexes: over lines of ten
- * scripts they have a fifth of the bytes of the sort keys. Comparing two of them byte by byte gives the order of the two sort keys
+ * Writes a text's packed key to `out`, as uca_sort_key writes its sort key. Packed keys are compressed keys for indexes: over lines of
+ * ten scripts they have a fifth of the bytes of the sort keys. Comparing two of them byte by byte gives the order of the two sort keys
  * under the same settings, and they are equal exactly when the sort keys are. The packed key at a strength is the beginning of that at
  * each higher one. They depend on what sort keys depend on, so one fingerprint serves both. A packed key cannot be compared with a sort
  * key.
