@@ -141,7 +141,7 @@ if command -v sqlite3 >/dev/null && echo '#include <sqlite3ext.h>' | cc -E - >/d
     { cat "$published"; echo '10FFFD ; [.1C47.0020.0002]'; } >"$work/newer"
     is "SQLite: another table" "$others" "$(sqlite "SELECT uca_load('uca', '$work/newer')")"
     earlier=$({ ./uca table --table "$published" </dev/null; printf '\001\003\000\022\000\000'; } | sha256sum | cut -d' ' -f1)
-    is "SQLite: keys of the form of 1.0" "$others" "$(cp "$db" "$work/earlier.db"; sqlite3 "$work/earlier.db" "UPDATE uca_fixed SET fingerprint = X'$earlier'"; db=$work/earlier.db sqlite "$loads")"
+    is "SQLite: keys of another form" "$others" "$(cp "$db" "$work/earlier.db"; sqlite3 "$work/earlier.db" "UPDATE uca_fixed SET fingerprint = X'$earlier'"; db=$work/earlier.db sqlite "$loads")"
     is "SQLite: other rules in another database of the connection" "${others/main/one}" "$(fixed=$db; db=:memory:; sqlite "ATTACH '$fixed' AS one" "SELECT uca_load('uca', '$published', 'rules/sv.rules')")"
     is "SQLite: other rules under another name" "sv|uca|2" "$(sqlite "SELECT uca_load('sv', '$published', 'rules/sv.rules')" "$loads" "SELECT count(*) FROM uca_fixed")"
     is "SQLite: a database that can't be written" "$others|x|2" "$(sqlite3 -readonly -cmd ".load $work/uca_sqlite" "$db" "SELECT uca_load('uca', '$work/newer')" 2>&1 | sed 's/^Error: [a-z]*, //')|$(sqlite "PRAGMA query_only = 1" "SELECT uca_load('x', '$work/newer')" "SELECT count(*) FROM uca_fixed")"
