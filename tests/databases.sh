@@ -72,6 +72,16 @@ is "the words of each language rise by their packed keys" "" "$(for rules in rul
     packed 3 "$rules" <"tests/rules/$(basename "$rules" .rules).words" | LC_ALL=C sort -cu 2>/dev/null || echo "$rules"
 done)"
 
+# A table in which one mark has another weight has the same code, so packed keys of words without the mark stay as they are.
+sed 's/^0301  *;.*/0301 ; [.0000.0025.0002]/' "$published" >"$work/marked"
+is "a mark of another weight leaves the code of packed keys" "0301" "$(tools/changed-code-points "$published" "$work/marked" 2>&1)"
+is "and the packed keys of words without it" "0 wrong, some other" "$(paste "$work/words" "$work/packed" <("$work/bounds_of" "$work/marked" /dev/null 3 <"$work/words") |
+    perl -CSD -MUnicode::Normalize=NFD -ne '
+        chomp;
+        my ($word, $before, $after) = split /\t/;
+        NFD($word) =~ /\x{301}/ ? $other += $before ne $after : ($wrong += $before ne $after);
+        END { printf "%d wrong, %s other\n", $wrong // 0, $other ? "some" : "no" }')"
+
 # A text also has a range if the next character may join its end: what then becomes another letter is outside the range.
 # in_range LANGUAGE BEGINNING WORDS..: which of the words are in the range of the beginning
 in_range() {
