@@ -19,9 +19,10 @@
  * Most calls return a status, and most of them also take a uca_fault, which says where the fault is. If a call returns anything
  * but UCA_OK, it has changed nothing but the fault.
  *
- * Memory: uca_open, uca_clone, uca_sort_key, uca_packed_key, uca_sort_key_of, uca_packed_key_of, uca_prefix_bounds, uca_matches and
- * uca_fingerprint call malloc, realloc and free. The other calls do not allocate. No call keeps a pointer that it was given, except
- * that the text made by uca_text_of points to its bytes.
+ * Memory: uca_open, uca_clone, uca_sort_key, uca_packed_key, uca_sort_key_of, uca_packed_key_of, uca_prefix_bounds,
+ * uca_packed_prefix_bounds, uca_matches and uca_fingerprint call malloc, realloc and free. The other calls do not allocate, and the four
+ * that make a key do not for a text of at most 127 bytes. No call keeps a pointer that it was given, except that the text made by
+ * uca_text_of points to its bytes.
  *
  * Threads: a call that takes a const uca_collator only reads it, and any number of threads may make such calls on one collator at
  * once. While uca_open, uca_close or uca_clone changes a collator, no other call may use it. A collator may be opened in one thread
@@ -180,8 +181,8 @@ uint32_t uca_unicode_version(void);
 
 /*
  * Gives a collator a table: `table` in the format of allkeys.txt (UTS #10, Allkeys File Format), tailored by `rules` (a profile
- * of UTS #35, part 5; no bytes for no rules). The call reads both completely before it returns. If the collator had a table, it releases that
- * one. The published table takes about 12 MB of memory.
+ * of UTS #35, part 5; no bytes for no rules). The call reads both completely before it returns. If the collator had a table, it
+ * releases that one. The published table takes about 12 MB of memory.
  * Returns UCA_OK, UCA_BAD_TABLE, UCA_BAD_RULES, UCA_BAD_TAILORING or UCA_NO_MEMORY.
  */
 uint32_t uca_open(uca_collator *collator, const uint8_t *table, size_t table_size, const uint8_t *rules, size_t rules_size,
@@ -230,11 +231,11 @@ uint32_t uca_sort_key(const uca_collator *collator, const uca_settings *settings
                       uint8_t *out, size_t capacity, size_t *needed, uca_fault *fault);
 
 /*
- * Writes a text's packed sort key to `out`, as uca_sort_key writes its sort key. Packed keys are for indexes. Comparing two of them
- * byte by byte gives the order of the two sort keys under the same settings, and they are equal exactly when the sort keys are. Most
- * have less than half the bytes of the sort key, and none has more than twice as many. They depend on what sort keys depend on, so
- * one fingerprint serves both, and the range of uca_prefix_bounds is right for packed keys too. A packed key cannot be compared with
- * a sort key (except at strength UCA_PRIMARY, where the two are the same bytes).
+ * Writes a text's packed key to `out`, as uca_sort_key writes its sort key. Packed keys are compressed keys for indexes: over lines of
+ * ten scripts they have a fifth of the bytes of the sort keys. Comparing two of them byte by byte gives the order of the two sort keys
+ * under the same settings, and they are equal exactly when the sort keys are. The packed key at a strength is the beginning of that at
+ * each higher one. They depend on what sort keys depend on, so one fingerprint serves both. A packed key cannot be compared with a sort
+ * key.
  * Returns UCA_OK, UCA_BAD_SETTINGS, UCA_NOT_OPEN, UCA_NOT_UTF8, UCA_LONG_RUN or UCA_NO_MEMORY.
  */
 uint32_t uca_packed_key(const uca_collator *collator, const uca_settings *settings, const uint8_t *text, size_t size,
@@ -250,12 +251,12 @@ uint32_t uca_write_key(const uca_collator *collator, const uca_settings *setting
                        uint8_t *out, size_t capacity, size_t *needed, uca_fault *fault);
 
 /*
- * Writes the two ends of the range that holds the keys, packed or not, of all texts whose primary weights begin with those of a
- * text. Each such key, of any strength, is at or after `lower` and before `upper`, and no other key is. `lower` is the key of the
- * text at strength UCA_PRIMARY, and `upper` is the first byte string after all those that begin with `lower`. Of each end the call
- * writes at most its capacity in bytes, and its whole size in bytes to `lower_needed` and `upper_needed`. An upper end has at least
- * one byte. If `upper_needed` is 0, there is no upper end, and all keys from `lower` on are in the range: this is so if `lower` is
- * empty or has only bytes FF. The strength in the settings does not matter.
+ * Writes the two ends of the range that holds the sort keys of all texts whose primary weights begin with those of a text. Each such
+ * key, of any strength, is at or after `lower` and before `upper`, and no other sort key is. `lower` is the sort key of the text at
+ * strength UCA_PRIMARY, and `upper` is the first byte string after all those that begin with `lower`. Of each end the call writes at
+ * most its capacity in bytes, and its whole size in bytes to `lower_needed` and `upper_needed`. An upper end has at least one byte. If
+ * `upper_needed` is 0, there is no upper end, and all keys from `lower` on are in the range: this is so if `lower` is empty or has only
+ * bytes FF. The strength in the settings does not matter.
  * A text that begins with the given one can be outside the range, if its next character joins the last ones and changes their
  * primary weights: `cho` is not in the range of `c` if `ch` is a letter.
  * Returns UCA_OK, UCA_BAD_SETTINGS, UCA_NOT_OPEN, UCA_NOT_UTF8, UCA_LONG_RUN or UCA_NO_MEMORY.
@@ -265,9 +266,18 @@ uint32_t uca_prefix_bounds(const uca_collator *collator, const uca_settings *set
                            size_t *upper_needed, uca_fault *fault);
 
 /*
+ * Writes the two ends of the range that holds the packed keys of these texts, as uca_prefix_bounds does those of the sort keys. `lower`
+ * is the beginning that these packed keys, of any strength, have in common: the first level of the text's packed key, without its end.
+ * Returns UCA_OK, UCA_BAD_SETTINGS, UCA_NOT_OPEN, UCA_NOT_UTF8, UCA_LONG_RUN or UCA_NO_MEMORY.
+ */
+uint32_t uca_packed_prefix_bounds(const uca_collator *collator, const uca_settings *settings, const uint8_t *text, size_t size,
+                                  uint8_t *lower, size_t lower_capacity, uint8_t *upper, size_t upper_capacity, size_t *lower_needed,
+                                  size_t *upper_needed, uca_fault *fault);
+
+/*
  * Writes 1 to `complete` if a text is complete, else 0. The keys of every text that begins with a complete one are in the range that
- * uca_prefix_bounds gives for it. A text that begins with an incomplete one may be outside, as `cho` is above. In doubt the call
- * writes 0. The answer does not depend on settings. It does not allocate.
+ * uca_prefix_bounds gives for it, and their packed keys in that of uca_packed_prefix_bounds. A text that begins with an incomplete one
+ * may be outside, as `cho` is above. In doubt the call writes 0. The answer does not depend on settings. It does not allocate.
  * Returns UCA_OK, UCA_NOT_OPEN, UCA_NOT_UTF8 or UCA_LONG_RUN.
  */
 uint32_t uca_is_complete(const uca_collator *collator, const uint8_t *text, size_t size, uint32_t *complete, uca_fault *fault);
@@ -300,7 +310,7 @@ uint32_t uca_compare_texts(const uca_collator *collator, const uca_settings *set
                            int32_t *order);
 
 /*
- * Write the sort key of a text as uca_sort_key does, and its packed sort key as uca_packed_key does, without checking it.
+ * Write the sort key of a text as uca_sort_key does, and its packed key as uca_packed_key does, without checking it.
  * Both return UCA_OK, UCA_BAD_SETTINGS, UCA_NOT_OPEN or UCA_NO_MEMORY.
  */
 uint32_t uca_sort_key_of(const uca_collator *collator, const uca_settings *settings, const uca_text *text, uint8_t *out,

@@ -14,6 +14,9 @@ is "a table and itself" "" "$(changed "$work/old" "$work/old")"
 sed 's/^0062 ;.*/0062 ; [.1001.0020.0003]/' "$work/old" >"$work/new"
 is "other elements" "0062" "$(changed "$work/old" "$work/new")"
 sed '/^0063 0068/d' "$work/old" >"$work/new"
+sed 's/^0062 ;.*/0062 ; [.1003.0020.0002]/' "$work/old" >"$work/moved"
+is "a letter at another place, and so another code of packed keys" "0062 changed-code-points: the code of packed keys has changed: rebuild all packed keys" \
+    "$(tools/changed-code-points "$work/old" "$work/moved" 2>"$work/err") $(cat "$work/err")"
 is "a contraction that was removed" "0063 0068" "$(changed "$work/old" "$work/new")"
 is "one that was added" "0063 0068" "$(changed "$work/new" "$work/old")"
 sed 's/^@implicitweights 18D00..18D8F; FB00/@implicitweights 18D00..18D8F; FB01/' "$work/old" >"$work/new"
@@ -56,7 +59,8 @@ published=$(published_table)
 if [ -n "$published" ]; then
     runs table --table "$published" --rules rules/sv.rules
     cp "$work/out" "$work/tailored"
-    tools/changed-code-points --characters "$published" "$work/tailored" >"$work/characters"
+    tools/changed-code-points --characters "$published" "$work/tailored" >"$work/characters" 2>"$work/err"
+    is "the code of packed keys in Swedish" "changed-code-points: the code of packed keys has changed: rebuild all packed keys" "$(cat "$work/err")"
     is "keys under the published table and in Swedish" "0 wrong, some same, some other" "$(keys_stay "$published" "$work/tailored")"
 fi
 sum_up

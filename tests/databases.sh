@@ -34,25 +34,53 @@ is "what is in a range begins with the same primary weights" "0" "$(head -n 60 "
     awk -v low="$low" -v high="$high" '($0 "" >= low "") && ($0 "" < high "") && substr($0, 1, length(low)) != low' "$work/keys"
 done | wc -l)"
 
-# Packed keys, by the C library: of each line of standard input, at the strength of a number
-packed() { "$work/bounds_of" "$published" "${2:-/dev/null}" "$1"; }
+# Packed keys, by the C library: of each line of standard input, at the strength of a number. At 0 the ends of their ranges.
+# packed STRENGTH [RULES [OPTION]]
+packed() { "$work/bounds_of" "$published" "${2:-/dev/null}" "$1" "${3:-0}"; }
 packed 3 <"$work/words" >"$work/packed"
-is "packed keys at primary are the keys at primary" "" "$(packed 1 <"$work/words" | cmp - "$work/primary" 2>&1)"
-is "a level of four common weights is a byte" "20D6213C2109213C00000909" "$(echo lomo | packed 3)"
+is "a packed key at primary is the lower end of its range and 00" "" "$(packed 1 <"$work/words" | cmp - <(packed 0 <"$work/words" | sed 's/ .*/00/') 2>&1)"
+is "the packed key of docs/DATABASES.md" "565F595F000808" "$(echo lomo | packed 3)"
+
+# A second program makes packed keys of sort keys, by the form in docs/DATABASES.md.
+{ cat "$work/words"; perl tests/texts.pl 20000; printf 'a%.0s' {1..200}; } >"$work/texts"
+# same_form NUMBER STRENGTH RULES [NUMBER OPTION]: where the packed keys of both programs differ
+same_form() {
+    ./uca elements --table "$published" --rules "$3" <"$work/characters" >"$work/elements"
+    keys --strength "$2" --rules "$3" --variable "${5:-non-ignorable}" <"$work/texts" | perl tests/packed.pl "$work/elements" "$1" |
+        cmp - <(packed "$1" "$3" "${4:-0}" <"$work/texts") 2>&1
+}
+perl tests/packed.pl >"$work/characters"
+for settings in "1 primary" "2 secondary" "3 tertiary" "4 quaternary" "5 identical"; do
+    read -r number strength <<<"$settings"
+    is "the form of packed keys at $strength" "" "$(same_form "$number" "$strength" /dev/null)"
+    is "the form of packed keys at $strength, shifted" "" "$(same_form "$number" "$strength" /dev/null 2 shifted)"
+done
+for language in sv vi lt si; do is "the form of packed keys by the rules of $language" "" "$(same_form 3 tertiary "rules/$language.rules")"; done
 for strength in 1:primary 2:secondary 3:tertiary 4:quaternary 5:identical; do
     is "words by packed keys at ${strength#*:}" "same" "$(paste <(packed "${strength%:*}" <"$work/words") "$work/words" | LC_ALL=C sort -s -t $'\t' -k1,1 | cut -f2- |
         cmp -s - <(./uca order --table "$published" --strength "${strength#*:}" <"$work/words") && echo same)"
 done
+cut -f1 "$work/cuts" | packed 0 >"$work/packed_ends"
 cut -f2 "$work/cuts" | packed 3 >"$work/own_packed"
 is "a word is in the range of its beginnings by its packed key" "$(wc -l <"$work/cuts") of $(wc -l <"$work/cuts")" \
-    "$(paste -d' ' "$work/ends" "$work/own_packed" | awk '($1 "" <= $3 "") && ($3 "" < $2 "") { n++ } END { print n + 0 " of " NR }')"
+    "$(paste -d' ' "$work/packed_ends" "$work/own_packed" | awk '($1 "" <= $3 "") && ($3 "" < $2 "") { n++ } END { print n + 0 " of " NR }')"
 places() { awk -v low="$1" -v high="$2" '($0 "" >= low "") && ($0 "" < high "") { print NR }' "$3" | paste -sd' '; }
-is "a range has the same words by keys and by packed keys" "" "$(head -n 60 "$work/ends" | while read -r low high; do
-    [ "$(places "$low" "$high" "$work/keys")" = "$(places "$low" "$high" "$work/packed")" ] || echo "$low"
+is "a range has the same words by keys and by packed keys" "" "$(paste -d' ' "$work/ends" "$work/packed_ends" | head -n 60 | while read -r low high packed_low packed_high; do
+    [ "$(places "$low" "$high" "$work/keys")" = "$(places "$packed_low" "$packed_high" "$work/packed")" ] || echo "$low"
 done)"
 is "the words of each language rise by their packed keys" "" "$(for rules in rules/*.rules; do
     packed 3 "$rules" <"tests/rules/$(basename "$rules" .rules).words" | LC_ALL=C sort -cu 2>/dev/null || echo "$rules"
 done)"
+
+# A table in which one mark has another weight has the same code, so packed keys of words without the mark stay as they are.
+sed 's/^0301  *;.*/0301 ; [.0000.0025.0002]/' "$published" >"$work/marked"
+is "a mark of another weight leaves the code of packed keys" "0301" "$(tools/changed-code-points "$published" "$work/marked" 2>&1)"
+is "and the packed keys of words without it" "0 wrong, some other" "$(paste "$work/words" "$work/packed" <("$work/bounds_of" "$work/marked" /dev/null 3 <"$work/words") |
+    perl -CSD -MUnicode::Normalize=NFD -ne '
+        chomp;
+        my ($word, $before, $after) = split /\t/;
+        NFD($word) =~ /\x{301}/ ? $other += $before ne $after : ($wrong += $before ne $after);
+        END { printf "%d wrong, %s other\n", $wrong // 0, $other ? "some" : "no" }')"
 
 # A text also has a range if the next character may join its end: what then becomes another letter is outside the range.
 # in_range LANGUAGE BEGINNING WORDS..: which of the words are in the range of the beginning
@@ -78,18 +106,18 @@ is "c in Turkish" "cam Cami" "$(in_range tr c cam çam Cami)"
 for language in sv es-u-co-trad de-u-co-phonebk hu tr da vi; do
     rules=rules/$language.rules words=tests/rules/$language.words
     perl -CSD -ne 'chomp; my $word = $_; print substr($word, 0, $_), "\n" for 1 .. length $word' "$words" >"$work/beginnings"
-    bounds "$rules" <"$work/beginnings" >"$work/their_ends"
+    paste -d' ' <(bounds "$rules" <"$work/beginnings") <(packed 0 "$rules" <"$work/beginnings") >"$work/their_ends"
     paste -d' ' <(keys --rules "$rules" <"$words") <(packed 3 "$rules" <"$words") <(keys --strength primary --rules "$rules" <"$words") >"$work/their_keys"
     is "the ranges of $language" "$(wc -l <"$work/beginnings") 0" "$(awk '
         FNR == NR { key[FNR] = $1 ""; packed[FNR] = $2 ""; primary[FNR] = $3 ""; words = FNR; next }
-        { ends++; low = $1 ""; high = $2 "" }
+        { ends++; low = $1 ""; high = $2 ""; packed_low = $3 ""; packed_high = $4 "" }
         { for (i = 1; i <= words; i++) {
             begins = substr(primary[i], 1, length(low)) == low
-            if ((key[i] >= low && key[i] < high) != begins || (packed[i] >= low && packed[i] < high) != begins) wrong++
+            if ((key[i] >= low && key[i] < high) != begins || (packed[i] >= packed_low && packed[i] < packed_high) != begins) wrong++
         } }
         END { print ends + 0, wrong + 0 }' "$work/their_keys" "$work/their_ends")"
 done
-is "the range of the empty text has no upper end" "- -" "$(echo | bounds)"
+is "the range of the empty text has no upper end" "- -|- -" "$(echo | bounds)|$(echo | packed 0)"
 
 # An index of SQLite is in this order, and answers the same.
 if command -v sqlite3 >/dev/null; then
@@ -114,7 +142,7 @@ if command -v sqlite3 >/dev/null && echo '#include <sqlite3ext.h>' | cc -E - >/d
     # sqlite WORDS..: with the extension, in one line
     sqlite() { sqlite3 -cmd ".load $work/uca_sqlite" "$db" "$@" 2>&1 | sed 's/^Error: [a-z]*, //; s/^Runtime error near line [0-9]*: //' | paste -sd'|'; }
     loads="SELECT uca_load('uca', '$published')"
-    others="uca_load: the database \"main\" has keys of another table, other rules or other settings under \"uca\": load those, or DELETE FROM uca_fixed, load these, and REINDEX"
+    others="uca_load: the database \"main\" has keys of another table, other rules, other settings or another version of uca under \"uca\": load those, or DELETE FROM uca_fixed, load these, and REINDEX"
     is "SQLite: an index by the first rules" "uca|öl zon" "$(sqlite "$loads" "CREATE TABLE w (t TEXT)" "INSERT INTO w VALUES ('zon'), ('öl')" "CREATE INDEX by_key ON w (uca_key(t))" \
         "SELECT group_concat(t, ' ') FROM (SELECT t FROM w ORDER BY uca_key(t))")"
     is "SQLite: the same again" "uca|1" "$(sqlite "$loads" "SELECT hex(fingerprint) = hex(uca_fingerprint('uca')) FROM uca_fixed")"
@@ -122,6 +150,8 @@ if command -v sqlite3 >/dev/null && echo '#include <sqlite3ext.h>' | cc -E - >/d
     is "SQLite: other settings" "$others" "$(sqlite "SELECT uca_load('UCA', '$published', NULL, 'primary')" | sed 's/"UCA"/"uca"/')"
     { cat "$published"; echo '10FFFD ; [.1C47.0020.0002]'; } >"$work/newer"
     is "SQLite: another table" "$others" "$(sqlite "SELECT uca_load('uca', '$work/newer')")"
+    earlier=$({ ./uca table --table "$published" </dev/null; printf '\001\003\000\022\000\000'; } | sha256sum | cut -d' ' -f1)
+    is "SQLite: keys of another form" "$others" "$(cp "$db" "$work/earlier.db"; sqlite3 "$work/earlier.db" "UPDATE uca_fixed SET fingerprint = X'$earlier'"; db=$work/earlier.db sqlite "$loads")"
     is "SQLite: other rules in another database of the connection" "${others/main/one}" "$(fixed=$db; db=:memory:; sqlite "ATTACH '$fixed' AS one" "SELECT uca_load('uca', '$published', 'rules/sv.rules')")"
     is "SQLite: other rules under another name" "sv|uca|2" "$(sqlite "SELECT uca_load('sv', '$published', 'rules/sv.rules')" "$loads" "SELECT count(*) FROM uca_fixed")"
     is "SQLite: a database that can't be written" "$others|x|2" "$(sqlite3 -readonly -cmd ".load $work/uca_sqlite" "$db" "SELECT uca_load('uca', '$work/newer')" 2>&1 | sed 's/^Error: [a-z]*, //')|$(sqlite "PRAGMA query_only = 1" "SELECT uca_load('x', '$work/newer')" "SELECT count(*) FROM uca_fixed")"
@@ -135,9 +165,12 @@ if command -v sqlite3 >/dev/null && echo '#include <sqlite3ext.h>' | cc -E - >/d
     is "SQLite: uca_begins says what is in the range, of each beginning" "sv|9 of 56" "$(db=:memory: sqlite "SELECT uca_load('sv', '$published', 'rules/sv.rules')" "CREATE TABLE w (t TEXT)" \
         "INSERT INTO w VALUES ('stora'), ('Storasyster'), ('storå'), ('apa'), ('åka'), ('ost'), ('öst'), ('über')" \
         "SELECT sum(uca_begins(t, b, 'sv')) || ' of ' || sum(uca_begins(t, b, 'sv') = (uca_key(t, 'sv') >= uca_prefix_lower(b, 'sv') AND uca_key(t, 'sv') < uca_prefix_upper(b, 'sv'))) FROM w, (SELECT 'stora' AS b UNION SELECT 'a' UNION SELECT 'å' UNION SELECT 'o' UNION SELECT 'u' UNION SELECT 'ö' UNION SELECT 'st')")"
-    printf '0061 ; [.10FF.0020.0002]\n0062 ; [.FFFF.0020.0002]\n' >"$work/full"
-    is "SQLite: an upper end where the lower one is all FF" "full|FFFF|4098|1 1 0" "$(db=:memory: sqlite "SELECT uca_load('full', '$work/full')" "SELECT hex(uca_prefix_lower('b', 'full'))" "SELECT length(uca_prefix_upper('b', 'full'))" \
-        "SELECT group_concat(uca_key(column1, 'full') >= uca_prefix_lower('b', 'full') AND uca_key(column1, 'full') < uca_prefix_upper('b', 'full'), ' ') FROM (VALUES ('b'), (printf('%.*c', 2047, 'b')), ('a'))")"
+    # Windows begin at a weight that is far below the greatest one.
+    printf '%s ; [.1000.0020.0002]\n' 0030 03B1 0430 10D0 0561 05D0 0621 1200 0904 0985 0A05 0A85 0B05 0B85 0C05 0C85 0D05 0D85 0E01 0E81 0F40 1000 1780 1820 \
+        1100 3042 3105 >"$work/full"
+    printf '0250 ; [.FFFF.0020.0002]\n' >>"$work/full"
+    is "SQLite: an upper end where the lower one is all FF" "full|FFFFFF|4099|1 1 0 0" "$(db=:memory: sqlite "SELECT uca_load('full', '$work/full')" "SELECT hex(uca_prefix_lower('ɐ', 'full'))" "SELECT length(uca_prefix_upper('ɐ', 'full'))" \
+        "SELECT group_concat(uca_key(column1, 'full') >= uca_prefix_lower('ɐ', 'full') AND uca_key(column1, 'full') < uca_prefix_upper('ɐ', 'full'), ' ') FROM (VALUES ('ɐ'), (replace(printf('%.*c', 1366, 'b'), 'b', 'ɐ')), (replace(printf('%.*c', 1367, 'b'), 'b', 'ɐ')), ('0'))")"
     is "SQLite: bad names and files by the thousand change nothing" "1000|2" "$(for i in $(seq 1000); do echo "SELECT uca_load('bad$((i % 7))', '/nowhere/$i', CASE $((i % 2)) WHEN 1 THEN 'rules/sv.rules' END);"; done | sqlite | tr '|' '\n' | grep -c 'could not be read')|$(sqlite3 "$db" 'SELECT count(*) FROM uca_fixed')"
 else
     echo "$script: left out: the extension of SQLite, since sqlite3 or its header is not there"

@@ -128,7 +128,9 @@ def takes_keys_apart(page):
                 for level, (piece, row) in enumerate(zip(got["key"], got["levels"]), 1):
                     assert piece == "".join(row["weights"])
                     assert len(row["owners"]) == len(row["weights"]) or level == 5, (word, strength, variable, level, row)
-                assert got["packed"][0] == got["key"][0]
+                assert got["packed"][0].endswith("00") and all(got["packed"][:4]), (word, strength, variable, got["packed"])
+                if strength > 1:
+                    assert page.look(chosen=word, strength=strength - 1, variable=variable)["word"]["packed"] == got["packed"][:-1]
     rules = "# ll\n&l<ll # <x\n<<<'L'\\u006C\n&a=\\U0001F600"
     lines = [match["line"] for match in page.look(rules=rules, chosen="llLl\U0001f600l")["word"]["matches"]]
     assert lines == [2, 3, 4, None]

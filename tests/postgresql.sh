@@ -62,8 +62,9 @@ for language in "sv $swedish" "de $german --variable shifted"; do
     # shellcheck disable=SC2086 # the words are the program's
     ./uca order --table "$table" --rules "$rules" $words <"$work/words" >"$work/wanted"
     is "the order of $name" "" "$(sql one names -c "SET enable_seqscan = off" -c "SELECT t FROM w ORDER BY uca_key(t, '$name'), n" | cmp - "$work/wanted" 2>&1)"
+    ends=$(sql one names -c "SELECT uca_prefix_lower('l', '$name'), uca_prefix_upper('l', '$name')")
     says "the index of $name is used for its order and its ranges" \
-        "Index Scan using by_$name on w|Index Scan using by_$name on w|  Index Cond: ((uca_key(t, '$name'::regdictionary) >= '\\x20d6'::bytea) AND (uca_key(t, '$name'::regdictionary) < '\\x20d7'::bytea))" \
+        "Index Scan using by_$name on w|Index Scan using by_$name on w|  Index Cond: ((uca_key(t, '$name'::regdictionary) >= '${ends%|*}'::bytea) AND (uca_key(t, '$name'::regdictionary) < '${ends#*|}'::bytea))" \
         names "SET enable_seqscan = off" "SET enable_sort = off" "SET enable_bitmapscan = off" "EXPLAIN (COSTS OFF) SELECT t FROM w ORDER BY uca_key(t, '$name')" \
         "EXPLAIN (COSTS OFF) SELECT t FROM w WHERE uca_key(t, '$name') >= uca_prefix_lower('l', '$name') AND uca_key(t, '$name') < uca_prefix_upper('l', '$name')"
     says "uca_begins of $name finds what the range has" "t" names "SELECT count(*) = count(*) FILTER (WHERE uca_begins(t, b, '$name') =
@@ -74,10 +75,13 @@ says "each call by name" "-1|1|t|f|f|t|t" names "SELECT uca_cmp('zon', 'ål', 's
     "SELECT uca_sort_key('ål', 'sv') > uca_sort_key('zon', 'sv')"
 says "bounds without a null" "0|4096|t" names "SELECT length(uca_prefix_lower('', 'sv'))" "SELECT length(uca_prefix_upper('', 'sv'))" \
     "SELECT count(*) = count(*) FILTER (WHERE uca_key(t, 'sv') < uca_prefix_upper('', 'sv')) FROM w"
-printf '0061 ; [.10FF.0020.0002]\n0062 ; [.FFFF.0020.0002]\n' >"$work/full"
+# Windows begin at a weight that is far below the greatest one.
+printf '%s ; [.1000.0020.0002]\n' 0030 03B1 0430 10D0 0561 05D0 0621 1200 0904 0985 0A05 0A85 0B05 0B85 0C05 0C85 0D05 0D85 0E01 0E81 0F40 1000 1780 1820 \
+    1100 3042 3105 >"$work/full"
+printf '0250 ; [.FFFF.0020.0002]\n' >>"$work/full"
 chmod 644 "$work/full"
-says "an upper end where the lower one is all FF" "ffff|\\xffff|4098|t|t|f" names "SELECT uca_create('ffff', '$work/full')" "SELECT uca_prefix_lower('b', 'ffff')" "SELECT length(uca_prefix_upper('b', 'ffff'))" \
-    "SELECT uca_key(b, 'ffff') >= uca_prefix_lower('b', 'ffff') AND uca_key(b, 'ffff') < uca_prefix_upper('b', 'ffff') FROM (VALUES ('b'), (repeat('b', 2047)), ('a')) AS t (b)" \
+says "an upper end where the lower one is all FF" "ffff|\\xffffff|4099|t|t|f|f" names "SELECT uca_create('ffff', '$work/full')" "SELECT uca_prefix_lower('ɐ', 'ffff')" "SELECT length(uca_prefix_upper('ɐ', 'ffff'))" \
+    "SELECT uca_key(b, 'ffff') >= uca_prefix_lower('ɐ', 'ffff') AND uca_key(b, 'ffff') < uca_prefix_upper('ɐ', 'ffff') FROM (VALUES ('ɐ'), (repeat('ɐ', 1366)), (repeat('ɐ', 1367)), ('0')) AS t (b)" \
     "DROP TEXT SEARCH DICTIONARY ffff"
 says "names, files and settings that are bad" \
     "ERROR:  uca: there is a text search dictionary \"sv\" already|ERROR:  uca: could not open \"/nowhere\": No such file or directory|ERROR:  uca: could not open \"/nowhere\": No such file or directory|ERROR:  uca: could not read \"/\": Is a directory|ERROR:  uca: \"files/sv.rules\": bad table, kind 3, at 3|ERROR:  uca: \"files/table\": bad rules, kind 22, at 539|ERROR:  uca: \"sixth\" is not a value of strength|ERROR:  uca: \"none\" is not a value of variable|ERROR:  uca: table_file is missing|ERROR:  text search dictionary \"none\" does not exist at character 21|ERROR:  uca: the text search dictionary \"english_stem\" is not a collation of uca|ERROR:  uca: a collation has no option \"tabel\"|3" \
@@ -129,17 +133,17 @@ sql one stale -c "CREATE EXTENSION uca" -c "SELECT uca_fix()" -c "SELECT uca_cre
     -c "INSERT INTO w (t) VALUES ('öl'), ('zon'), ('oas')" -c "CREATE INDEX by_key ON w (uca_key(t))" -c "CREATE INDEX by_text ON w (t uca_ops)" -c "CREATE INDEX by_sv ON w (uca_key(t, 'sv'))" >/dev/null
 sql one postgres -c "ALTER DATABASE stale SET uca.rules_file = '$swedish'"
 says "other rules after an index was built" "ERROR:  uca: uca.rules_file is \"files/sv.rules\", and the collation \"uca\" has \"\"" stale "SET enable_seqscan = off" "SELECT count(*) FROM w WHERE uca_key(t) = uca_key('öl')"
-says "uca_fix says what depends on it" "ERROR:  uca: the files or settings of the collation uca are not those that were fixed" stale "SELECT uca_fix()"
+says "uca_fix says what depends on it" "ERROR:  uca: the fingerprint of the collation uca is not the one that was fixed" stale "SELECT uca_fix()"
 is "and names it" "What depends on it: index by_key, index by_text." "$(sql one stale -v VERBOSITY=default -c "SELECT uca_fix()" | sed -n 's/^DETAIL:  //p')"
 says "with force it rebuilds it, without a search path too" "NOTICE:  uca: index public.by_key is rebuilt|NOTICE:  uca: index public.by_text is rebuilt|t|1|oas zon öl" stale "SET search_path = ''" "SELECT public.uca_fix(force => true) IS NOT NULL" \
     "SET search_path = public" "SET enable_seqscan = off" "SELECT count(*) FROM w WHERE uca_key(t) = uca_key('öl')" "SELECT string_agg(t, ' ' ORDER BY uca_key(t)) FROM w"
 cat "$work/files/es.rules" >>"$swedish" # other rules, in a file of the same name
-says "other rules in the file" "ERROR:  uca: the files or settings of the collation \"sv\" are not those that were fixed|ERROR:  uca: the files or settings of the collation \"sv\" are not those that were fixed|ERROR:  uca: the files or settings of the collation sv are not those that were fixed" \
+says "other rules in the file" "ERROR:  uca: the fingerprint of the collation \"sv\" is not the one that was fixed|ERROR:  uca: the fingerprint of the collation \"sv\" is not the one that was fixed|ERROR:  uca: the fingerprint of the collation sv is not the one that was fixed" \
     stale "SELECT count(*) FROM w WHERE uca_key(t, 'sv') = uca_key('öl', 'sv')" "INSERT INTO w (t) VALUES ('anka')" "SELECT uca_fix('sv')"
 is "they are fixed for all collations at once" "NOTICE:  uca: index by_key is rebuilt|NOTICE:  uca: index by_sv is rebuilt|NOTICE:  uca: index by_text is rebuilt|NOTICE:  uca: default value for column k of table w is rebuilt||t" \
     "$(sql one stale -c "SELECT uca_fix_all(force => true)" -c "SELECT bool_and(k = uca_key(t, 'sv')) FROM w" | paste -sd'|')"
 cp rules/sv.rules "$swedish"
-says "the old file again is another one now" "ERROR:  uca: the files or settings of the collation \"sv\" are not those that were fixed" stale "SELECT uca_key('a', 'sv')"
+says "the old file again is another one now" "ERROR:  uca: the fingerprint of the collation \"sv\" is not the one that was fixed" stale "SELECT uca_key('a', 'sv')"
 sql one stale -c "SELECT uca_fix_all(force => true)" >/dev/null 2>&1
 # An open session, with earlier keys and a plan, notices that another session has fixed a new fingerprint.
 sql one stale -c "SELECT uca_create('es', '$table', '$work/files/es.rules')" -c "CREATE INDEX by_es ON w (uca_key(t, 'es'))" >/dev/null
@@ -183,18 +187,20 @@ is "a dump is restored by pg_restore -j" "0|5000|t|a_k a_key a_sv a_text|1|f|t" 
 sql one postgres -c "DROP DATABASE old"
 is "a dump with -C is restored" "" "$(sql one postgres -v ON_ERROR_STOP=1 -f "$work/create.sql" | grep -v '^$')"
 is "with its setting" "5000|t|a_k a_key a_sv a_text|1|f|t|files/table" "$(restored old)|$(sql one old -c "SHOW uca.table_file" | sed "s,$work/,,")"
-says "the database that was there is refused by the newer files" "ERROR:  uca: the files or settings of the collation \"sv\" are not those that were fixed" fresh "SELECT count(*) FROM a WHERE uca_key(t, 'sv') = uca_key('b1', 'sv')"
+says "the database that was there is refused by the newer files" "ERROR:  uca: the fingerprint of the collation \"sv\" is not the one that was fixed" fresh "SELECT count(*) FROM a WHERE uca_key(t, 'sv') = uca_key('b1', 'sv')"
 cp "$published" "$table"
 
 # ---- The upgrade of the extension
+# The fingerprint of this table in 1.0, where the form of keys had the number 1.
+earlier=$({ ./uca table --table "$table" </dev/null; printf '\001\003\000\022\000\000'; } | sha256sum | cut -d' ' -f1)
 new_database upgrade
-sql one upgrade -c "CREATE EXTENSION uca VERSION '1.0'" -c "CREATE TABLE w (t text)" -c "CREATE INDEX by_key ON w (uca_key(t))" -c "CREATE INDEX by_text ON w (t uca_ops)" -c "INSERT INTO uca_fixed VALUES ('\\x00')"
-says "keys that 1.0 fixed stay fixed" "ERROR:  uca: the files or settings of the collation \"uca\" are not those that were fixed|NOTICE:  uca: index by_key is rebuilt|NOTICE:  uca: index by_text is rebuilt|t|a b" upgrade \
+sql one upgrade -c "CREATE EXTENSION uca VERSION '1.0'" -c "CREATE TABLE w (t text)" -c "CREATE INDEX by_key ON w (uca_key(t))" -c "CREATE INDEX by_text ON w (t uca_ops)" -c "INSERT INTO uca_fixed VALUES ('\\x$earlier')"
+says "keys of the form of 1.0 are refused, and rebuilt" "ERROR:  uca: the fingerprint of the collation \"uca\" is not the one that was fixed|NOTICE:  uca: index by_key is rebuilt|NOTICE:  uca: index by_text is rebuilt|t|a b" upgrade \
     "SET uca.table_file = '$table'" "ALTER EXTENSION uca UPDATE" "SELECT uca_key('a')" "SELECT uca_fix(force => true) IS NOT NULL" "INSERT INTO w VALUES ('b'), ('a')" "SELECT string_agg(t, ' ' ORDER BY uca_key(t)) FROM w"
 is "an upgraded extension has what a new one has" "" "$(cmp <(sql one upgrade -c '\dx+ uca') <(sql one names -c '\dx+ uca') 2>&1)"
 new_database again
 sql one again -c "CREATE EXTENSION uca VERSION '1.0'" -c "CREATE TABLE w (t text)" -c "CREATE INDEX by_key ON w (uca_key(t))" -c "INSERT INTO uca_fixed SELECT decode('$(sql one names -c "SELECT uca_fixed('uca')")', 'hex')"
-says "and are used at once where they are the same" "t" again "SET uca.table_file = '$table'" "ALTER EXTENSION uca UPDATE" "SELECT uca_key('a') IS NOT NULL"
+says "and keys of the present form are used at once" "t" again "SET uca.table_file = '$table'" "ALTER EXTENSION uca UPDATE" "SELECT uca_key('a') IS NOT NULL"
 
 # ---- One table for all connections
 # memory PID: the kilobytes of a process's own memory
@@ -260,7 +266,8 @@ is "both servers have a part of it" "yes" "$(awk '$1 == 0 { few = 1 } END { prin
 asked() { sql one list -c "EXPLAIN (ANALYZE, VERBOSE, COSTS OFF, TIMING OFF, SUMMARY OFF) $1" | sed -n 's/^ *-> *Foreign Scan on public.\(names_[12]\).*(\(actual\|never\).*/\1 \2/p; s/^ *Foreign Scan on public.\(names_[12]\).*(\(actual\|never\).*/\1 \2/p; s/^ *Remote SQL: //p' | paste -sd'|'; }
 is "the first names ask the first server alone, and it sorts" "names_1 actual|SELECT name FROM public.names_1 ORDER BY public.uca_key(name) ASC NULLS LAST|names_2 never|SELECT name FROM public.names_2 ORDER BY public.uca_key(name) ASC NULLS LAST" \
     "$(asked "SELECT name FROM names ORDER BY uca_key(name) LIMIT 5")"
-is "a beginning asks its server alone, by its index's range" "names_2 actual|SELECT name FROM public.names_2 WHERE ((public.uca_key(name) >= E'\\\\x21d2'::bytea)) AND ((public.uca_key(name) < E'\\\\x21d3'::bytea))" \
+ends=$(sql one list -c "SELECT uca_prefix_lower('s'), uca_prefix_upper('s')")
+is "a beginning asks its server alone, by its index's range" "names_2 actual|SELECT name FROM public.names_2 WHERE ((public.uca_key(name) >= E'\\${ends%|*}'::bytea)) AND ((public.uca_key(name) < E'\\${ends#*|}'::bytea))" \
     "$(asked "SELECT name FROM names WHERE uca_key(name) >= uca_prefix_lower('s') AND uca_key(name) < uca_prefix_upper('s')")"
 says "a name goes to its server, and is found there" "names_2|names_1" list "INSERT INTO names VALUES ('Öster'), ('Anka')" "SELECT tableoid::regclass FROM names WHERE uca_key(name) = uca_key('Öster')" "SELECT tableoid::regclass FROM names WHERE uca_key(name) = uca_key('Anka')"
 
@@ -274,7 +281,7 @@ start_server three && stop_server three
 as_nobody env -C "$work/upgraded" "$bin/pg_upgrade" -b "$bin" -B "$bin" -d "$work/two" -D "$new" -U tester >"$work/log" 2>&1 || cat "$work/log"
 start_server three || echo "$script: the upgraded server does not start"
 is "indexes that pg_upgrade has copied are refused by a newer table, and rebuilt" \
-    "ERROR:  uca: the files or settings of the collation \"uca\" are not those that were fixed|NOTICE:  uca: index names_2_uca_key_idx is rebuilt|t|Öster" \
+    "ERROR:  uca: the fingerprint of the collation \"uca\" is not the one that was fixed|NOTICE:  uca: index names_2_uca_key_idx is rebuilt|t|Öster" \
     "$(sql three shard -c "SET enable_seqscan = off" -c "SELECT name FROM names_2 WHERE uca_key(name) = uca_key('Öster')" -c "SELECT uca_fix(force => true) IS NOT NULL" -c "SELECT name FROM names_2 WHERE uca_key(name) = uca_key('Öster')" | paste -sd'|')"
 is "and new collations are fixed there" "sv|t" "$(sql three shard -c "SELECT uca_create('sv', '$table', '$swedish')" -c "SELECT uca_fixed('sv') = uca_found('sv')" | paste -sd'|')"
 

@@ -49,6 +49,8 @@ uint32_t uca_proved_write_key(const uca_collator *, const uca_settings *, const 
                               uca_fault *);
 uint32_t uca_proved_prefix_bounds(const uca_collator *, const uca_settings *, const uint8_t *, size_t, uint8_t *, size_t, uint8_t *,
                                   size_t, size_t *, size_t *, uca_fault *);
+uint32_t uca_proved_packed_prefix_bounds(const uca_collator *, const uca_settings *, const uint8_t *, size_t, uint8_t *, size_t,
+                                         uint8_t *, size_t, size_t *, size_t *, uca_fault *);
 uint32_t uca_proved_is_complete(const uca_collator *, const uint8_t *, size_t, uint32_t *, uca_fault *);
 uint32_t uca_proved_matches(const uca_collator *, const uint8_t *, size_t, uca_match *, size_t, uint32_t *, size_t, uca_element *,
                             size_t, uca_matches_needed *, uca_fault *);
@@ -97,6 +99,13 @@ uint32_t uca_prefix_bounds(const uca_collator *collator, const uca_settings *set
                            size_t *upper_needed, uca_fault *fault) {
     return uca_proved_prefix_bounds(collator, settings, given(text), size, room(lower), lower_capacity, other_room(upper),
                                     upper_capacity, lower_needed, upper_needed, fault);
+}
+
+uint32_t uca_packed_prefix_bounds(const uca_collator *collator, const uca_settings *settings, const uint8_t *text, size_t size,
+                                  uint8_t *lower, size_t lower_capacity, uint8_t *upper, size_t upper_capacity, size_t *lower_needed,
+                                  size_t *upper_needed, uca_fault *fault) {
+    return uca_proved_packed_prefix_bounds(collator, settings, given(text), size, room(lower), lower_capacity, other_room(upper),
+                                           upper_capacity, lower_needed, upper_needed, fault);
 }
 
 uint32_t uca_is_complete(const uca_collator *collator, const uint8_t *text, size_t size, uint32_t *complete, uca_fault *fault) {

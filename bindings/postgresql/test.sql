@@ -19,10 +19,10 @@ EXPLAIN (COSTS OFF) SELECT t FROM w ORDER BY t USING <~;
 EXPLAIN (COSTS OFF) SELECT t FROM w WHERE uca_key(t) BETWEEN uca_key('l') AND uca_key('m');
 EXPLAIN (COSTS OFF) SELECT t FROM w WHERE t >=~ 'l' AND t <=~ 'm';
 EXPLAIN (COSTS OFF) SELECT t FROM w WHERE uca_key(t) >= uca_prefix_lower('lo') AND uca_key(t) < uca_prefix_upper('lo');
-EXPLAIN (COSTS OFF) SELECT t FROM w WHERE uca_sort_key(t) >= uca_prefix_lower('lo') AND uca_sort_key(t) < uca_prefix_upper('lo');
+EXPLAIN (COSTS OFF) SELECT t FROM w WHERE uca_sort_key(t) BETWEEN uca_sort_key('l') AND uca_sort_key('m');
 SELECT (SELECT count(*) FROM w WHERE uca_key(t) BETWEEN uca_key('l') AND uca_key('m')) = (SELECT count(*) FROM w WHERE t >=~ 'l' AND t <=~ 'm');
 SELECT (SELECT array_agg(n ORDER BY n) FROM w WHERE uca_key(t) >= uca_prefix_lower('a') AND uca_key(t) < uca_prefix_upper('a'))
-    IS NOT DISTINCT FROM (SELECT array_agg(n ORDER BY n) FROM w WHERE uca_sort_key(t) >= uca_prefix_lower('a') AND uca_sort_key(t) < uca_prefix_upper('a'));
+    IS NOT DISTINCT FROM (SELECT array_agg(n ORDER BY n) FROM w WHERE uca_begins(t, 'a'));
 SELECT uca_cmp('a', 'b'), uca_cmp('b', 'a'), uca_cmp(E'a\u0301', E'\u00e1'), uca_key(NULL) IS NULL;
 SELECT uca_key('lomo'), uca_sort_key('lomo'), uca_sort_key(NULL) IS NULL;
 SELECT length(uca_prefix_upper('')), length(uca_prefix_lower('')), (SELECT count(*) FROM w WHERE uca_key(t) >= uca_prefix_lower('') AND uca_key(t) < uca_prefix_upper(''));

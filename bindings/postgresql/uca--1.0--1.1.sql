@@ -9,7 +9,8 @@ CREATE FUNCTION uca_lexize(internal, internal, internal, internal) RETURNS inter
 CREATE TEXT SEARCH TEMPLATE uca (INIT = uca_init, LEXIZE = uca_lexize);
 
 -- The functions of 1.0 use the collation named uca; these use the one that their last argument names. A collation makes keys only while
--- its files have the fixed fingerprint, so all are immutable.
+-- its files have the fixed fingerprint, so all are immutable. uca_prefix_lower and uca_prefix_upper give the ends of ranges of packed keys,
+-- which uca_key returns, and not of those of uca_sort_key.
 CREATE FUNCTION uca_key(text, regdictionary) RETURNS bytea
     AS 'MODULE_PATHNAME', 'uca_pg_packed_key' LANGUAGE C IMMUTABLE STRICT PARALLEL SAFE;
 CREATE FUNCTION uca_sort_key(text, regdictionary) RETURNS bytea
@@ -146,9 +147,9 @@ BEGIN
     changed := ARRAY(SELECT n FROM unnest(dictionaries) n WHERE @extschema@.uca_found(n) IS DISTINCT FROM @extschema@.uca_fixed(n));
     SELECT string_agg(DISTINCT d.description, ', ') INTO dependents FROM unnest(changed) n CROSS JOIN @extschema@.uca_dependents(n) d;
     IF dependents IS NOT NULL AND force IS NOT TRUE THEN
-        RAISE EXCEPTION 'uca: the files or settings of the collation % are not those that were fixed', array_to_string(changed, ' and of ')
+        RAISE EXCEPTION 'uca: the fingerprint of the collation % is not the one that was fixed', array_to_string(changed, ' and of ')
             USING ERRCODE = 'dependent_objects_still_exist', DETAIL = format('What depends on it: %s.', dependents),
-                HINT = 'With force => true what they are now is fixed, and indexes and generated columns are rebuilt.';
+                HINT = 'With force => true the present one is fixed, and indexes and generated columns are rebuilt.';
     END IF;
     PERFORM @extschema@.uca_fix_and_rebuild(changed);
 END $$;
@@ -169,7 +170,8 @@ CREATE FUNCTION uca_fix_all(force boolean DEFAULT false) RETURNS void LANGUAGE s
         WHERE t.tmplname = 'uca' AND t.tmplnamespace = '@extschema@'::pg_catalog.regnamespace), force)
 $$;
 
--- Makes the default collation of 1.0 if indexes depend on it. It keeps the fingerprint that was fixed.
+-- Makes the default collation of 1.0 if indexes depend on it. It keeps the fingerprint that was fixed. The packed keys of 1.0 had another
+-- form, so its fingerprints are other ones, and keys are refused until uca_fix(force => true) has rebuilt the indexes.
 DO $$
 DECLARE
     table_file text := nullif(current_setting('uca.table_file', true), '');

@@ -36,8 +36,8 @@ PG_MODULE_MAGIC;
 #define MOST_BYTES ((size_t)64 << 20)
 
 /* If a range has no upper end, this many bytes FF after the lower end, which has only bytes FF, are used as one. No byte string comes
- * after all keys of every table, since a weight can be FFFF and a text of any length. A key at or after this end belongs to a text with
- * 2048 more primary weights FFFF in a row. */
+ * after all packed keys of every table, since a weight can be FFFF, of which a key can have three bytes FF, and a text of any length. A key
+ * at or after this end belongs to a text with 1365 more primary weights FFFF in a row. */
 #define BYTES_OF_LAST_END 4096
 
 #define DIGITS (2 * sizeof(uca_digest))
@@ -247,11 +247,12 @@ static void load(struct collation *collation, const struct definition *definitio
     digits_of(&collation->collator, &collation->settings, digits);
     if (strcmp(digits, definition->fixed) == 0) return;
     uca_close(&collation->collator);
-    ereport(ERROR, (errcode(ERRCODE_INDEX_CORRUPTED), errmsg("uca: the files or settings of the collation \"%s\" are not those that were fixed", name),
+    ereport(ERROR, (errcode(ERRCODE_INDEX_CORRUPTED), errmsg("uca: the fingerprint of the collation \"%s\" is not the one that was fixed", name),
                     errdetail("The fingerprint of \"%s\"%s%s%s is %s; fixed was %s.",
                               definition->table, *definition->rules ? " with \"" : "",
                               definition->rules, *definition->rules ? "\"" : "", digits, definition->fixed),
-                    errhint("Restore the files and settings; or SELECT uca_fix(%s), which says what depends on it.", quote_literal_cstr(name))));
+                    errhint("Restore the files, the settings and the version of uca; or SELECT uca_fix(%s), which says what depends on it.",
+                            quote_literal_cstr(name))));
 }
 
 static void make_right(struct collation *collation, Oid schema, bool is_default) {
@@ -357,31 +358,19 @@ Datum uca_pg_sort_key(PG_FUNCTION_ARGS) {
     PG_RETURN_BYTEA_P(key_of(collation, &collation->settings, PG_GETARG_TEXT_PP(0), uca_sort_key, "uca_sort_key", 8));
 }
 
-/* Whether the primary weights of a text begin with those of another: whether its primary key begins with the other's. */
-PG_FUNCTION_INFO_V1(uca_pg_begins);
-Datum uca_pg_begins(PG_FUNCTION_ARGS) {
-    struct collation *collation = collation_of(fcinfo, 2);
-    uca_settings settings = UCA_SETTINGS(UCA_PRIMARY, collation->settings.variable);
-    bytea *whole = key_of(collation, &settings, PG_GETARG_TEXT_PP(0), uca_packed_key, "uca_begins", 4);
-    bytea *front = key_of(collation, &settings, PG_GETARG_TEXT_PP(1), uca_packed_key, "uca_begins", 4);
-    PG_RETURN_BOOL(VARSIZE(front) <= VARSIZE(whole) && memcmp(VARDATA(whole), VARDATA(front), VARSIZE(front) - VARHDRSZ) == 0);
-}
-
 /* The upper end to use for a range without one, whose lower end has `size` bytes. */
 static bytea *last_end(size_t size) {
     bytea *end;
     size += BYTES_OF_LAST_END;
-    if (size > MaxAllocSize - VARHDRSZ) ereport(ERROR, (errcode(ERRCODE_PROGRAM_LIMIT_EXCEEDED), errmsg("uca: the key is too long")));
+    if (size > MaxAllocSize - VARHDRSZ) ereport(ERROR, (errcode(ERRCODE_PROGRAM_LIMIT_EXCEEDED), errmsg("uca_prefix_upper: the key is too long")));
     end = palloc(VARHDRSZ + size);
     memset(VARDATA(end), 0xFF, size);
     SET_VARSIZE(end, VARHDRSZ + size);
     return end;
 }
 
-/* One of the two ends of the range of uca_prefix_bounds. */
-static Datum bound(FunctionCallInfo fcinfo, bool is_upper) {
-    struct collation *collation = collation_of(fcinfo, 1);
-    text *given = PG_GETARG_TEXT_PP(0);
+/* One of the two ends of uca_packed_prefix_bounds for a text. */
+static bytea *end_of(struct collation *collation, const text *given, bool is_upper, const char *function) {
     size_t size = VARSIZE_ANY_EXHDR(given), room = 4 * size + 64, needed[2] = {0, 0};
     uca_fault fault;
     uint32_t status;
@@ -390,24 +379,40 @@ static Datum bound(FunctionCallInfo fcinfo, bool is_upper) {
         uint8_t *out;
         end = palloc_extended(VARHDRSZ + room, MCXT_ALLOC_HUGE);
         out = (uint8_t *)VARDATA(end);
-        status = uca_prefix_bounds(&collation->collator, &collation->settings, (uint8_t *)VARDATA_ANY(given), size, is_upper ? NULL : out,
-                                   is_upper ? 0 : room, is_upper ? out : NULL, is_upper ? room : 0, &needed[0], &needed[1], &fault);
-        if (status != UCA_OK) report(is_upper ? "uca_prefix_upper" : "uca_prefix_lower", status, &fault);
+        status = uca_packed_prefix_bounds(&collation->collator, &collation->settings, (uint8_t *)VARDATA_ANY(given), size,
+                                          is_upper ? NULL : out, is_upper ? 0 : room, is_upper ? out : NULL, is_upper ? room : 0, &needed[0],
+                                          &needed[1], &fault);
+        if (status != UCA_OK) report(function, status, &fault);
         if (needed[is_upper] <= room) break;
         pfree(end);
         room = needed[is_upper];
     }
-    if (is_upper && needed[1] == 0) PG_RETURN_BYTEA_P(last_end(needed[0]));
-    if (needed[is_upper] > MaxAllocSize - VARHDRSZ) ereport(ERROR, (errcode(ERRCODE_PROGRAM_LIMIT_EXCEEDED), errmsg("uca: the key is too long")));
+    if (is_upper && needed[1] == 0) return last_end(needed[0]);
+    if (needed[is_upper] > MaxAllocSize - VARHDRSZ) ereport(ERROR, (errcode(ERRCODE_PROGRAM_LIMIT_EXCEEDED), errmsg("%s: the key is too long", function)));
     SET_VARSIZE(end, VARHDRSZ + needed[is_upper]);
-    PG_RETURN_BYTEA_P(end);
+    return end;
 }
 
 PG_FUNCTION_INFO_V1(uca_pg_prefix_lower);
-Datum uca_pg_prefix_lower(PG_FUNCTION_ARGS) { return bound(fcinfo, false); }
+Datum uca_pg_prefix_lower(PG_FUNCTION_ARGS) {
+    PG_RETURN_BYTEA_P(end_of(collation_of(fcinfo, 1), PG_GETARG_TEXT_PP(0), false, "uca_prefix_lower"));
+}
 
 PG_FUNCTION_INFO_V1(uca_pg_prefix_upper);
-Datum uca_pg_prefix_upper(PG_FUNCTION_ARGS) { return bound(fcinfo, true); }
+Datum uca_pg_prefix_upper(PG_FUNCTION_ARGS) {
+    PG_RETURN_BYTEA_P(end_of(collation_of(fcinfo, 1), PG_GETARG_TEXT_PP(0), true, "uca_prefix_upper"));
+}
+
+/* Whether the primary weights of a text begin with those of another: whether its packed key begins with the lower end of the other's
+ * range. */
+PG_FUNCTION_INFO_V1(uca_pg_begins);
+Datum uca_pg_begins(PG_FUNCTION_ARGS) {
+    struct collation *collation = collation_of(fcinfo, 2);
+    uca_settings settings = UCA_SETTINGS(UCA_PRIMARY, collation->settings.variable);
+    bytea *whole = key_of(collation, &settings, PG_GETARG_TEXT_PP(0), uca_packed_key, "uca_begins", 4);
+    bytea *front = end_of(collation, PG_GETARG_TEXT_PP(1), false, "uca_begins");
+    PG_RETURN_BOOL(VARSIZE(front) <= VARSIZE(whole) && memcmp(VARDATA(whole), VARDATA(front), VARSIZE(front) - VARHDRSZ) == 0);
+}
 
 static int32_t order_of(struct collation *collation, const text *a, const text *b) {
     size_t a_size = VARSIZE_ANY_EXHDR(a), b_size = VARSIZE_ANY_EXHDR(b);
@@ -536,17 +541,19 @@ static int compare_alike(Datum x, Datum y, SortSupport support) {
     return order ? order : (a_key->key_size > b_key->key_size) - (a_key->key_size < b_key->key_size);
 }
 
-/* The first eight bytes of a key, as a number. If the primary key has eight bytes, they are the same, and it is faster to make. */
+/* The first eight bytes of a key, as a number. The key at the first strength, which is faster to make, is its beginning. So if that one has
+ * eight bytes, they are the same. Of a text of fewer than seven bytes it seldom has. */
 static Datum abbreviated(Datum original, SortSupport support) {
     struct collation *collation = collation_of_sort(support);
     text *given = DatumGetTextPP(original);
     uint8_t *bytes = (uint8_t *)VARDATA_ANY(given);
     size_t size = VARSIZE_ANY_EXHDR(given), needed;
-    uca_settings settings = UCA_SETTINGS(UCA_PRIMARY, collation->settings.variable);
+    uca_settings primary = UCA_SETTINGS(UCA_PRIMARY, collation->settings.variable);
+    const uca_settings *settings = size + 1 < sizeof(uint64) ? &collation->settings : &primary;
     uint64 front = 0;
     uca_fault fault;
-    uint32_t status = uca_packed_key(&collation->collator, &settings, bytes, size, (uint8_t *)&front, sizeof front, &needed, &fault);
-    if (status == UCA_OK && needed < sizeof front)
+    uint32_t status = uca_packed_key(&collation->collator, settings, bytes, size, (uint8_t *)&front, sizeof front, &needed, &fault);
+    if (status == UCA_OK && settings == &primary && needed < sizeof front)
         status = uca_packed_key(&collation->collator, &collation->settings, bytes, size, (uint8_t *)&front, sizeof front, &needed, &fault);
     if (status != UCA_OK) report("uca_cmp", status, &fault);
     if (PointerGetDatum(given) != original) pfree(given);

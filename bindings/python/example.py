@@ -12,7 +12,7 @@ names.sort(key=collator.key)
 print(*names)
 
 index = sorted((collator.packed_key(name), name) for name in names)
-lower, upper = collator.prefix_bounds("zander")
+lower, upper = collator.packed_prefix_bounds("zander")
 print(*(name for _, name in index[bisect.bisect_left(index, (lower,)) : bisect.bisect_left(index, (upper,)) if upper else None]))
 
 try:

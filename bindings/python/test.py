@@ -73,17 +73,19 @@ def looks(collator):
 
 
 def long_texts(collator):
-    assert len(collator.packed_key("\ufdfa" * 1000)) > 2 * 18 * 1000
+    assert 16384 < len(collator.packed_key("\ufdfa" * 1000)) < len(collator.key("\ufdfa" * 1000)) / 2
     assert collator.key("a" * 10000) > collator.key("a" * 9999)
     assert collator.key("a" * 100000)[:200000] == collator.clone(strength=uca.PRIMARY).key("a" * 100000)
     assert "".join(match.text for match in collator.matches("ab" * 50000)) == "ab" * 50000
     assert collator.explain("a" * 100000, "a" * 99999 + "b") == (-1, 1)
-    assert collator.prefix_bounds("") == (b"", None)
-    lower, upper = collator.prefix_bounds("lo" * 3000)
-    assert len(lower) == len(upper) == 12000 and lower < collator.key("LÓ" * 3000 + "x") < upper
-    lower, upper = collator.prefix_bounds("lo")
-    for key in (collator.key, collator.packed_key):
+    for bounds, key, size in ((collator.prefix_bounds, collator.key, 2), (collator.packed_prefix_bounds, collator.packed_key, 1)):
+        assert bounds("") == (b"", None)
+        lower, upper = bounds("lo" * 3000)
+        assert len(lower) == len(upper) == 6000 * size and lower < key("LÓ" * 3000 + "x") < upper
+        lower, upper = bounds("lo")
         assert [lower <= key(word) < upper for word in ("lo", "Lómo", "l", "lp", "ln\uffff")] == [True, True, False, False, False]
+    few = collator.clone(strength=uca.PRIMARY)
+    assert few.packed_key("lomo") == few.packed_prefix_bounds("lomo")[0] + b"\0" == collator.packed_key("lomo")[:5]
 
 
 def texts_at_fault(collator):
@@ -91,7 +93,7 @@ def texts_at_fault(collator):
     place = {"status": uca.LONG_RUN, "kind": 0, "line": 2, "column": 62, "character": "\u0301"}
     error = refused(lambda: collator.compare("a", "é\n" + run), uca.TextError, text=2, at=3 + 1 + 120, **place)
     assert str(error) == "text 2: line 2, column 62, U+0301: this is the 61st nonstarter (combining mark) in a row, and a text may have at most 60"
-    for call in (collator.key, collator.packed_key, collator.sort_key, collator.prefix_bounds, collator.matches, uca.check):
+    for call in (collator.key, collator.packed_key, collator.sort_key, collator.prefix_bounds, collator.packed_prefix_bounds, collator.matches, uca.check):
         refused(lambda: call(b"a\xc3\xa9\xff"), uca.TextError, status=uca.NOT_UTF8, text=1, at=3, line=1, column=3, character="\\xff")
         refused(lambda: call("é\udc80"), uca.TextError, at=2, column=2, character="\udc80", cause="a lone surrogate is not a character")
         refused(lambda: call(None), TypeError)
@@ -252,7 +254,7 @@ def database(collator):
     connection.execute("CREATE INDEX by_key ON words (uca_key(t))")
     wanted = [("arbol",), ("Árbol",), ("arce",), ("zorro",)]
     assert connection.execute("SELECT t FROM words ORDER BY t COLLATE uca").fetchall() == wanted
-    found = connection.execute("SELECT t FROM words WHERE uca_key(t) >= ? AND uca_key(t) < ? ORDER BY uca_key(t)", collator.prefix_bounds("arb"))
+    found = connection.execute("SELECT t FROM words WHERE uca_key(t) >= ? AND uca_key(t) < ? ORDER BY uca_key(t)", collator.packed_prefix_bounds("arb"))
     assert found.fetchall() == wanted[:2]
 
 
@@ -269,6 +271,7 @@ def memory():
         lambda: collator.key(item),
         lambda: collator.compare(item, "b"),
         lambda: collator.prefix_bounds("ab" * 30),
+        lambda: collator.packed_prefix_bounds("ab" * 30),
         lambda: collator.clone(),
         lambda: collator.matches(item),
         lambda: collator.explain(item, "a"),
@@ -335,8 +338,8 @@ collator.close()
 assert sorted(lines, key=clone.key) == ordered
 with uca.Collator(table, "&h<ch") as czech:
     for begin, inside, outside in (("ac", "acá", "achát"), ("ach", "achát", "ac"), ("c", "Č", "chata")):
-        lower, upper = czech.prefix_bounds(begin)
-        for key in (czech.key, czech.packed_key):
+        for bounds, key in ((czech.prefix_bounds, czech.key), (czech.packed_prefix_bounds, czech.packed_key)):
+            lower, upper = bounds(begin)
             assert lower <= key(inside) < upper and not lower <= key(outside) < upper, begin
 settings_at_fault()
 tables_and_rules()

@@ -10,7 +10,7 @@
  *     SELECT uca_key(t, 'es') FROM words;                              -- under the collation of this name
  *     SELECT uca_sort_key(t) FROM words;                               -- the sort key of the standard: longer, in the same order
  *     SELECT t FROM words WHERE uca_key(t) >= uca_prefix_lower('l') AND uca_key(t) < uca_prefix_upper('l');
- *                                                -- the texts whose primary weights begin with those of 'l'; or with uca_sort_key
+ *                                                -- the texts whose primary weights begin with those of 'l'; not with uca_sort_key
  *     SELECT t FROM words WHERE uca_begins(t, 'l');                    -- the same without an index
  *     SELECT uca_fingerprint('uca');                                   -- of the table, the rules and the settings
  *
@@ -124,9 +124,9 @@ static void key(sqlite3_context *context, int count, sqlite3_value **values) { k
 
 static void sort_key(sqlite3_context *context, int count, sqlite3_value **values) { key_by(uca_sort_key, "uca_sort_key", context, count, values); }
 
-/* An upper end for a range without one. Its lower end has `size` bytes, all of them FF. No byte string comes after all keys of every
- * table, since a weight can be FFFF and a text of any length. A key at or after this end belongs to a text with 2048 more primary weights
- * FFFF in a row. */
+/* An upper end for a range without one. Its lower end has `size` bytes, all of them FF. No byte string comes after all packed keys of
+ * every table, since a weight can be FFFF, of which a key can have three bytes FF, and a text of any length. A key at or after this end
+ * belongs to a text with 1365 more primary weights FFFF in a row. */
 static void last_end(sqlite3_context *context, size_t size) {
     uint8_t *end = sqlite3_malloc64(size += 4096);
     if (!end) {
@@ -137,28 +137,38 @@ static void last_end(sqlite3_context *context, size_t size) {
     sqlite3_result_blob64(context, end, size, sqlite3_free);
 }
 
-/* One of the two ends of the range of uca_prefix_bounds. */
-static void bound(sqlite3_context *context, int count, sqlite3_value **values, int is_upper) {
-    struct collation *collation = wanted(context, count, values, 1);
-    if (!collation || sqlite3_value_type(values[0]) == SQLITE_NULL) return;
-    const uint8_t *text = sqlite3_value_text(values[0]);
-    size_t size = sqlite3_value_bytes(values[0]), capacity = 1024, needed[2] = {0, 0};
-    uint8_t room[1024], *out = room;
+/* Gives one of the two ends of uca_packed_prefix_bounds for a text, and the sizes of both. It is in `room`, of 1024 bytes, or else it has
+ * to be freed with sqlite3_free; null if an error was reported. */
+static uint8_t *end_of(sqlite3_context *context, struct collation *collation, const char *function, sqlite3_value *value, int is_upper,
+                       uint8_t *room, size_t *needed) {
+    const uint8_t *text = sqlite3_value_text(value);
+    size_t size = sqlite3_value_bytes(value), capacity = 1024;
+    uint8_t *out = room;
     uca_fault fault;
-    uint32_t status;
     for (;;) {
-        status = uca_prefix_bounds(&collation->collator, &collation->settings, text, size, is_upper ? NULL : out, is_upper ? 0 : capacity,
-                                   is_upper ? out : NULL, is_upper ? capacity : 0, &needed[0], &needed[1], &fault);
-        if (status != UCA_OK || needed[is_upper] <= capacity) break;
+        uint32_t status = out ? uca_packed_prefix_bounds(&collation->collator, &collation->settings, text, size, is_upper ? NULL : out,
+                                                         is_upper ? 0 : capacity, is_upper ? out : NULL, is_upper ? capacity : 0,
+                                                         &needed[0], &needed[1], &fault)
+                              : UCA_NO_MEMORY;
+        if (status == UCA_OK && needed[is_upper] <= capacity) return out;
+        if (out != room) sqlite3_free(out);
+        if (status != UCA_OK) {
+            report(context, function, status, &fault);
+            return NULL;
+        }
         capacity = needed[is_upper];
         out = sqlite3_malloc64(capacity);
-        if (!out) {
-            sqlite3_result_error_nomem(context);
-            return;
-        }
     }
-    if (status != UCA_OK) report(context, is_upper ? "uca_prefix_upper" : "uca_prefix_lower", status, &fault);
-    else if (is_upper && needed[1] == 0) last_end(context, needed[0]);
+}
+
+static void bound(sqlite3_context *context, int count, sqlite3_value **values, int is_upper) {
+    struct collation *collation = wanted(context, count, values, 1);
+    uint8_t room[1024], *out;
+    size_t needed[2];
+    if (!collation || sqlite3_value_type(values[0]) == SQLITE_NULL) return;
+    out = end_of(context, collation, is_upper ? "uca_prefix_upper" : "uca_prefix_lower", values[0], is_upper, room, needed);
+    if (!out) return;
+    if (is_upper && needed[1] == 0) last_end(context, needed[0]);
     else sqlite3_result_blob64(context, out, needed[is_upper], SQLITE_TRANSIENT);
     if (out != room) sqlite3_free(out);
 }
@@ -167,7 +177,7 @@ static void lower_bound(sqlite3_context *context, int count, sqlite3_value **val
 
 static void upper_bound(sqlite3_context *context, int count, sqlite3_value **values) { bound(context, count, values, 1); }
 
-/* The primary key of a text, to be freed with sqlite3_free; null if an error was reported. */
+/* The packed key of a text at the first strength, to be freed with sqlite3_free; null if an error was reported. */
 static uint8_t *primary_key(sqlite3_context *context, struct collation *collation, sqlite3_value *value, size_t *needed) {
     const uint8_t *text = sqlite3_value_text(value);
     size_t size = sqlite3_value_bytes(value), capacity = 4 * size + 64;
@@ -186,16 +196,18 @@ static uint8_t *primary_key(sqlite3_context *context, struct collation *collatio
     }
 }
 
-/* Whether the primary weights of a text begin with those of another: whether its primary key begins with the other's. */
+/* Whether the primary weights of a text begin with those of another: whether its packed key begins with the lower end of the other's
+ * range. */
 static void begins(sqlite3_context *context, int count, sqlite3_value **values) {
     struct collation *collation = wanted(context, count, values, 2);
-    size_t whole_size, front_size;
+    uint8_t room[1024], *whole, *front;
+    size_t whole_size, needed[2];
     if (!collation || sqlite3_value_type(values[0]) == SQLITE_NULL || sqlite3_value_type(values[1]) == SQLITE_NULL) return;
-    uint8_t *whole = primary_key(context, collation, values[0], &whole_size);
-    uint8_t *front = whole ? primary_key(context, collation, values[1], &front_size) : NULL;
-    if (front) sqlite3_result_int(context, front_size <= whole_size && memcmp(whole, front, front_size) == 0);
+    whole = primary_key(context, collation, values[0], &whole_size);
+    front = whole ? end_of(context, collation, "uca_begins", values[1], 0, room, needed) : NULL;
+    if (front) sqlite3_result_int(context, needed[0] <= whole_size && memcmp(whole, front, needed[0]) == 0);
     sqlite3_free(whole);
-    sqlite3_free(front);
+    if (front != room) sqlite3_free(front);
 }
 
 static void fingerprint(sqlite3_context *context, int count, sqlite3_value **values) {
@@ -295,8 +307,8 @@ static int fits(sqlite3_context *context, sqlite3 *connection, const char *schem
         result = run(connection, "CREATE TABLE \"%w\".uca_fixed (name TEXT PRIMARY KEY COLLATE NOCASE, fingerprint BLOB NOT NULL)",
                      schema, name, digest, &has_row, &is_same);
     if (result == SQLITE_OK && has_row && !is_same) {
-        char *text = sqlite3_mprintf("uca_load: the database \"%s\" has keys of another table, other rules or other settings under \"%s\": "
-                                     "load those, or DELETE FROM uca_fixed, load these, and REINDEX", schema, name);
+        char *text = sqlite3_mprintf("uca_load: the database \"%s\" has keys of another table, other rules, other settings or another "
+                                     "version of uca under \"%s\": load those, or DELETE FROM uca_fixed, load these, and REINDEX", schema, name);
         sqlite3_result_error(context, text ? text : "uca_load", -1);
         sqlite3_free(text);
         return 0;

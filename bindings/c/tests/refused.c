@@ -1,6 +1,6 @@
 /* The allocations of a call are refused one at a time. Link with --wrap=malloc,realloc,free. Each call must return its answer or
  * UCA_NO_MEMORY, leave its collators unchanged, and free what it allocated. Some calls, such as comparing and uca_write_key, must not
- * allocate at all. */
+ * allocate at all, and no call that makes a key may allocate for a short text. */
 #include "checks.h"
 
 static long calls, refused, live;
@@ -24,6 +24,10 @@ void __wrap_free(void *block) {
     if (block) live--;
     __real_free(block);
 }
+
+/* A text of more than 127 bytes, of which keys are made in memory, and one of fewer. */
+#define FOUR(text) text text text text
+static const char text[] = FOUR(FOUR(FOUR("ch\xC3\xA1 b"))), short_text[] = "ch\xC3\xA1 b";
 
 /* Whether the call ended before the allocation that was to be refused. */
 static int ends(long count) { return calls < count; }
@@ -50,12 +54,12 @@ static long refuses_opening(void) {
 }
 
 static long refuses_the_rest(void) {
-    static const char text[] = "ch\xC3\xA1 b";
+    static uint8_t key[8192], whole[8192], packed[8192];
     uca_settings settings = UCA_SETTINGS(UCA_IDENTICAL, UCA_SHIFTED);
     uca_collator collator = UCA_CLOSED;
     uca_fault fault;
     uca_digest digest, right;
-    uint8_t key[256], whole[256], packed[256], lower[16], upper[16];
+    uint8_t lower[16], upper[16];
     size_t needed, size, packed_size, lower_size, upper_size;
     long count, none_left = 0, tried = 0;
     uca_text made;
@@ -64,9 +68,10 @@ static long refuses_the_rest(void) {
     long open_blocks = live;
     CHECK(uca_sort_key(&collator, &settings, TEXT(text), whole, sizeof whole, &size, &fault) == UCA_OK);
     CHECK(uca_packed_key(&collator, &settings, TEXT(text), packed, sizeof packed, &packed_size, &fault) == UCA_OK);
+    CHECK(size > 1000 && size <= sizeof whole && packed_size > 500 && packed_size < size);
     CHECK(uca_fingerprint(&collator, &settings, &right) == UCA_OK);
     CHECK(uca_text_of(TEXT(text), &made, &fault) == UCA_OK);
-    for (int call = 0; call < 7; call++) {
+    for (int call = 0; call < 8; call++) {
         for (count = 1, none_left = 0; !none_left; count = next(count), tried++) {
             uca_collator other = UCA_CLOSED;
             uint32_t status;
@@ -91,6 +96,10 @@ static long refuses_the_rest(void) {
             } else if (call == 5) {
                 status = uca_packed_key_of(&collator, &settings, &made, key, sizeof key, &needed);
                 if (status == UCA_OK) CHECK(needed == packed_size && memcmp(key, packed, packed_size) == 0);
+            } else if (call == 6) {
+                status = uca_packed_prefix_bounds(&collator, &settings, TEXT("\xC3\xA1" "c"), lower, sizeof lower, upper, sizeof upper,
+                                                  &lower_size, &upper_size, &fault);
+                if (status == UCA_OK) CHECK(lower_size == 4 && memcmp(lower, "\x13\0\x13\2", 4) == 0 && upper_size == 4 && memcmp(upper, "\x13\0\x13\3", 4) == 0);
             } else {
                 status = uca_clone(&collator, &other);
                 CHECK(other.private_is_open == (status == UCA_OK));
@@ -114,6 +123,11 @@ static long refuses_the_rest(void) {
     CHECK(uca_is_complete(&collator, TEXT(text), &complete, &fault) == UCA_OK && complete == 1);
     uca_locate(TEXT(text), 2, &line, &column);
     CHECK(line == 1 && column == 3);
+    CHECK(uca_text_of(TEXT(short_text), &made, &fault) == UCA_OK);
+    CHECK(uca_sort_key(&collator, &settings, TEXT(short_text), key, sizeof key, &needed, &fault) == UCA_OK);
+    CHECK(uca_sort_key_of(&collator, &settings, &made, whole, sizeof whole, &size) == UCA_OK && needed == size && memcmp(key, whole, size) == 0);
+    CHECK(uca_packed_key(&collator, &settings, TEXT(short_text), key, sizeof key, &needed, &fault) == UCA_OK);
+    CHECK(uca_packed_key_of(&collator, &settings, &made, packed, sizeof packed, &packed_size) == UCA_OK && needed == packed_size && memcmp(key, packed, packed_size) == 0);
     CHECK(calls == 0);
     uca_close(&collator);
     CHECK(live == 0);

@@ -1,5 +1,5 @@
 /* Eight threads use one collator at once, with each call that only reads it. Meanwhile its page is write-protected.
- * shared ROUNDS: each thread makes 383 calls per round. */
+ * shared ROUNDS: each thread makes 393 calls per round. */
 #define _DEFAULT_SOURCE
 #include "checks.h"
 #include <pthread.h>
@@ -54,6 +54,8 @@ static void add_text(const uca_collator *collator, const char *word, uint64_t *s
     if (uca_write_key(collator, &settings, text, size, key, sizeof key, &needed, &fault)) *sum += 1;
     else add(sum, key, needed);
     if (uca_prefix_bounds(collator, &settings, text, size, key, sizeof key, upper, sizeof upper, &needed, &upper_needed, &fault)) *sum += 1;
+    else add(sum, key, needed), add(sum, upper, upper_needed);
+    if (uca_packed_prefix_bounds(collator, &settings, text, size, key, sizeof key, upper, sizeof upper, &needed, &upper_needed, &fault)) *sum += 1;
     else add(sum, key, needed), add(sum, upper, upper_needed);
 }
 

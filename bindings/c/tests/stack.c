@@ -108,6 +108,13 @@ static void *finds_bounds(void *none) {
     return none;
 }
 
+static void *finds_packed_bounds(void *none) {
+    uca_fault fault;
+    size_t lower_size, upper_size;
+    CHECK(uca_packed_prefix_bounds(&collator, &settings, long_text.bytes, long_text.size, key, room / 2, key + room / 2, room / 2, &lower_size, &upper_size, &fault) == UCA_OK);
+    return none;
+}
+
 static void *takes_a_fingerprint(void *none) {
     uca_digest digest;
     CHECK(uca_fingerprint(&collator, &settings, &digest) == UCA_OK);
@@ -191,6 +198,7 @@ int main(int count, char **words) {
     printf("uca_packed_key %zu\n", taken(packs_a_key, NULL) - own);
     printf("uca_write_key %zu\n", taken(writes_a_key, NULL) - own);
     printf("uca_prefix_bounds %zu\n", taken(finds_bounds, NULL) - own);
+    printf("uca_packed_prefix_bounds %zu\n", taken(finds_packed_bounds, NULL) - own);
     printf("uca_is_complete %zu\n", taken(asks_completeness, NULL) - own);
     printf("uca_locate %zu\n", taken(locates, NULL) - own);
     printf("uca_text_of %zu\n", taken(makes_texts, NULL) - own);

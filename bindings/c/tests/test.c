@@ -147,7 +147,7 @@ static void settings(void) {
 typedef uint32_t key_call(const uca_collator *, const uca_settings *, const uint8_t *, size_t, uint8_t *, size_t, size_t *, uca_fault *);
 
 static const uint8_t sort_key[] = {0x10, 0, 0x10, 1, 0, 0, 0, 0x20, 0, 0x24, 0, 0x20, 0, 0, 0, 2, 0, 2, 0, 2};
-static const uint8_t packed_key[] = {0x10, 0, 0x10, 1, 0, 0, 0xFE, 0x24, 3, 7};
+static const uint8_t packed_key[] = {0x13, 0, 0x13, 1, 0, 0xBD, 2, 6};
 
 /* The key of a text of two letters with a mark, and the length of the key of one letter. */
 static void keys(key_call *makes_key, const uint8_t *key, size_t key_size, size_t size_of_a) {
@@ -198,7 +198,8 @@ static int order_of(const uint8_t *a, size_t a_size, const uint8_t *b, size_t b_
     return order ? (order > 0) - (order < 0) : (a_size > b_size) - (a_size < b_size);
 }
 
-/* Packed keys are in the order that uca_compare gives, at each strength and under each option. */
+/* Packed keys are in the order that uca_compare gives, at each strength and under each option. Each is the beginning of that at the next
+ * strength, and at the first one it is the lower end of uca_packed_prefix_bounds and a byte 0. */
 static void packed_keys(void) {
     static const char *const texts[] = {"", "a", "A", "a b", "ab", "aB", "a\xCC\x81", "\xC3\xA1" "b", "ch", "cz", "Chch", "\xE4\xB8\x80 z", "\xCC\x81", "b",
         "aaaaaaaaaaaaaaaaaaaaaaaaaaaaaaaaaaaaaaaaaaaaaaaaaaaaaaaaaaaaaaaaaaaaaaaaaaaaaaaaaaaaaaaaaaaaaaaaaaaa",
@@ -210,10 +211,21 @@ static void packed_keys(void) {
     for (uint32_t number = 0; number < 15; number++) {
         uca_settings settings = UCA_SETTINGS(1 + number / 3, number % 3);
         uint8_t out[COUNT][1024];
-        size_t needed[COUNT];
+        uint8_t higher[1024], lower[1024];
+        size_t needed[COUNT], higher_size, lower_size, upper_size;
         for (size_t i = 0; i < COUNT; i++) {
-            CHECK(uca_packed_key(&collator, &settings, (uint8_t *)texts[i], strlen(texts[i]), out[i], sizeof out[i], &needed[i], &fault) == UCA_OK);
+            const uint8_t *text = (uint8_t *)texts[i];
+            size_t size = strlen(texts[i]);
+            CHECK(uca_packed_key(&collator, &settings, text, size, out[i], sizeof out[i], &needed[i], &fault) == UCA_OK);
             CHECK(needed[i] <= sizeof out[i]);
+            CHECK(uca_packed_prefix_bounds(&collator, &settings, text, size, lower, sizeof lower, NULL, 0, &lower_size, &upper_size, &fault) == UCA_OK);
+            CHECK(lower_size < needed[i] && memcmp(lower, out[i], lower_size) == 0 && out[i][lower_size] == 0);
+            CHECK(settings.strength != UCA_PRIMARY || lower_size + 1 == needed[i]);
+            if (settings.strength == UCA_IDENTICAL) continue;
+            settings.strength++;
+            CHECK(uca_packed_key(&collator, &settings, text, size, higher, sizeof higher, &higher_size, &fault) == UCA_OK);
+            CHECK(needed[i] <= higher_size && memcmp(out[i], higher, needed[i]) == 0);
+            settings.strength--;
         }
         for (size_t i = 0; i < COUNT; i++) {
             for (size_t j = 0; j < COUNT; j++) {
@@ -226,16 +238,41 @@ static void packed_keys(void) {
     uca_close(&collator);
 }
 
-static void bounds(void) {
-    /* The last table has primary weights that end in FF, and one that is FFFF. */
-    static const char full_table[] = "0061 ; [.10FF.0020.0002]\n0062 ; [.FFFF.0020.0002]\n";
-    static const struct { const char *text, *lower, *upper; size_t lower_size, upper_size; int variable, is_full; } cases[] = {
-        {"", "", "", 0, 0, 0, 0}, {"a", "\x10\0", "\x10\1", 2, 2, 0, 0}, {"\xC3\xA1", "\x10\0", "\x10\1", 2, 2, 0, 0},
-        {"ch", "\x10\3", "\x10\4", 2, 2, 0, 0}, {"c", "\x10\2", "\x10\3", 2, 2, 0, 0}, {"ac", "\x10\0\x10\2", "\x10\0\x10\3", 4, 4, 0, 0},
-        {"A b", "\x10\0\2\1\x10\1", "\x10\0\2\1\x10\2", 6, 6, 0, 0},
-        {"A b", "\x10\0\x10\1", "\x10\0\x10\2", 4, 4, 2, 0}, {" ", "", "", 0, 0, 1, 0},
-        {"a", "\x10\xFF", "\x11", 2, 1, 0, 1}, {"ab", "\x10\xFF\xFF\xFF", "\x11", 4, 1, 0, 1}, {"bb", "\xFF\xFF\xFF\xFF", "", 4, 0, 0, 1},
-    };
+/* A call that gives the ends of a range: uca_prefix_bounds or uca_packed_prefix_bounds. */
+typedef uint32_t bounds_call(const uca_collator *, const uca_settings *, const uint8_t *, size_t, uint8_t *, size_t, uint8_t *, size_t, size_t *, size_t *, uca_fault *);
+
+/* The ends of the range of a text, under the small table or one with primary weights that end in FF. */
+struct ends {
+    const char *text, *lower, *upper;
+    size_t lower_size, upper_size;
+    int variable, is_full;
+};
+
+#define COUNT_OF_ENDS 12
+
+static const struct ends sort_ends[COUNT_OF_ENDS] = {
+    {"", "", "", 0, 0, 0, 0}, {"a", "\x10\0", "\x10\1", 2, 2, 0, 0}, {"\xC3\xA1", "\x10\0", "\x10\1", 2, 2, 0, 0},
+    {"ch", "\x10\3", "\x10\4", 2, 2, 0, 0}, {"c", "\x10\2", "\x10\3", 2, 2, 0, 0}, {"ac", "\x10\0\x10\2", "\x10\0\x10\3", 4, 4, 0, 0},
+    {"A b", "\x10\0\2\1\x10\1", "\x10\0\2\1\x10\2", 6, 6, 0, 0},
+    {"A b", "\x10\0\x10\1", "\x10\0\x10\2", 4, 4, 2, 0}, {" ", "", "", 0, 0, 1, 0},
+    {"a", "\x10\xFF", "\x11", 2, 1, 0, 1}, {"a\xC9\x90", "\x10\xFF\xFF\xFF", "\x11", 4, 1, 0, 1},
+    {"\xC9\x90\xC9\x90", "\xFF\xFF\xFF\xFF", "", 4, 0, 0, 1},
+};
+
+/* Under the small table no window has a letter, and a space has a byte of its own. The other one has its digit and its letter `a` in the
+ * first window. */
+static const struct ends packed_ends[COUNT_OF_ENDS] = {
+    {"", "", "", 0, 0, 0, 0}, {"a", "\x13\0", "\x13\1", 2, 2, 0, 0}, {"\xC3\xA1", "\x13\0", "\x13\1", 2, 2, 0, 0},
+    {"ch", "\x13\3", "\x13\4", 2, 2, 0, 0}, {"c", "\x13\2", "\x13\3", 2, 2, 0, 0}, {"ac", "\x13\0\x13\2", "\x13\0\x13\3", 4, 4, 0, 0},
+    {"A b", "\x13\0\4\x13\1", "\x13\0\4\x13\2", 5, 5, 0, 0},
+    {"A b", "\x13\0\x13\1", "\x13\0\x13\2", 4, 4, 2, 0}, {" ", "", "", 0, 0, 1, 0},
+    {"a", "\x14", "\x15", 1, 1, 0, 1}, {"a\xC9\x90", "\x14\xFF\xFF\xFF", "\x15", 4, 1, 0, 1},
+    {"\xC9\x90", "\xFF\xFF\xFF", "", 3, 0, 0, 1},
+};
+
+static void bounds(bounds_call *bounds_of, key_call *makes_key, const struct ends *cases) {
+    /* It has a primary weight that ends in FF, and one that is FFFF. */
+    static const char full_table[] = "0030 ; [.1000.0020.0002]\n0061 ; [.10FF.0020.0002]\n0250 ; [.FFFF.0020.0002]\n";
     /* Texts that begin with `ac`: `ch` is a letter of its own, so texts with it are outside. */
     static const struct { const char *text; int is_inside; } followers[] = {
         {"ac", 1}, {"aca", 1}, {"ac\xCC\x81", 1}, {"acc", 1}, {"ach", 0}, {"acho", 0}, {"ac\xCC\x81h", 1}};
@@ -245,7 +282,7 @@ static void bounds(void) {
     size_t lower_size, upper_size;
     open_small(&small);
     CHECK(uca_open(&full, TEXT(full_table), NULL, 0, &fault) == UCA_OK);
-    for (size_t i = 0; i < sizeof cases / sizeof cases[0]; i++) {
+    for (size_t i = 0; i < COUNT_OF_ENDS; i++) {
         uca_settings settings = UCA_SETTINGS(UCA_IDENTICAL, cases[i].variable);
         const uint8_t *text = (const uint8_t *)cases[i].text;
         for (size_t capacity = 0; capacity <= sizeof lower; capacity++) {
@@ -254,7 +291,7 @@ static void bounds(void) {
             size_t of_upper = room < cases[i].upper_size ? room : cases[i].upper_size;
             memset(lower, 0xEE, sizeof lower);
             memset(upper, 0xEE, sizeof upper);
-            CHECK(uca_prefix_bounds(cases[i].is_full ? &full : &small, &settings, text, strlen(cases[i].text), lower, capacity, upper, room,
+            CHECK(bounds_of(cases[i].is_full ? &full : &small, &settings, text, strlen(cases[i].text), lower, capacity, upper, room,
                                     &lower_size, &upper_size, &fault) == UCA_OK);
             SAME_FAULT(0, 0, 0);
             CHECK(lower_size == cases[i].lower_size && memcmp(lower, cases[i].lower, of_lower) == 0);
@@ -264,29 +301,29 @@ static void bounds(void) {
         }
     }
     uca_settings settings = UCA_TERTIARY_SETTINGS;
-    CHECK(uca_prefix_bounds(&small, &settings, TEXT("ab"), NULL, 0, NULL, 0, &lower_size, &upper_size, &fault) == UCA_OK);
+    CHECK(bounds_of(&small, &settings, TEXT("ab"), NULL, 0, NULL, 0, &lower_size, &upper_size, &fault) == UCA_OK);
     CHECK(lower_size == 4 && upper_size == 4);
-    CHECK(uca_prefix_bounds(&small, &settings, TEXT("ac"), lower, 8, upper, 8, &lower_size, &upper_size, &fault) == UCA_OK);
+    CHECK(bounds_of(&small, &settings, TEXT("ac"), lower, 8, upper, 8, &lower_size, &upper_size, &fault) == UCA_OK);
     for (size_t i = 0; i < sizeof followers / sizeof followers[0]; i++) {
         uint8_t key[64];
         size_t size;
-        CHECK(uca_sort_key(&small, &settings, (const uint8_t *)followers[i].text, strlen(followers[i].text), key, sizeof key, &size, &fault) == UCA_OK);
+        CHECK(makes_key(&small, &settings, (const uint8_t *)followers[i].text, strlen(followers[i].text), key, sizeof key, &size, &fault) == UCA_OK);
         CHECK((memcmp(key, lower, 4) >= 0 && memcmp(key, upper, 4) < 0) == followers[i].is_inside);
     }
     memset(lower, 0xEE, sizeof lower);
     memset(upper, 0xEE, sizeof upper);
-    CHECK(uca_prefix_bounds(&small, &settings, TEXT("a\xFF"), lower, 8, upper, 8, &lower_size, &upper_size, &fault) == UCA_NOT_UTF8);
+    CHECK(bounds_of(&small, &settings, TEXT("a\xFF"), lower, 8, upper, 8, &lower_size, &upper_size, &fault) == UCA_NOT_UTF8);
     SAME_FAULT(0, 1, 1);
     char run[2 * 61];
     for (int i = 0; i < 61; i++) memcpy(run + 2 * i, "\xCC\x81", 2);
-    CHECK(uca_prefix_bounds(&small, &settings, (uint8_t *)run, sizeof run, lower, 8, upper, 8, &lower_size, &upper_size, &fault) == UCA_LONG_RUN);
+    CHECK(bounds_of(&small, &settings, (uint8_t *)run, sizeof run, lower, 8, upper, 8, &lower_size, &upper_size, &fault) == UCA_LONG_RUN);
     SAME_FAULT(0, 1, 120);
     uca_settings refused = UCA_SETTINGS(UCA_TERTIARY, 3);
-    CHECK(uca_prefix_bounds(&small, &refused, TEXT("a"), lower, 8, upper, 8, &lower_size, &upper_size, &fault) == UCA_BAD_SETTINGS);
+    CHECK(bounds_of(&small, &refused, TEXT("a"), lower, 8, upper, 8, &lower_size, &upper_size, &fault) == UCA_BAD_SETTINGS);
     SAME_FAULT(0, 0, 0);
     uca_close(&small);
     uca_close(&full);
-    CHECK(uca_prefix_bounds(&small, &settings, TEXT("a"), lower, 8, upper, 8, &lower_size, &upper_size, &fault) == UCA_NOT_OPEN);
+    CHECK(bounds_of(&small, &settings, TEXT("a"), lower, 8, upper, 8, &lower_size, &upper_size, &fault) == UCA_NOT_OPEN);
     SAME_FAULT(0, 0, 0);
     CHECK(lower[0] == 0xEE && upper[0] == 0xEE && lower_size == 4 && upper_size == 4);
 }
@@ -381,6 +418,8 @@ static void nulls(void) {
     CHECK(uca_matches(&collator, TEXT("ab"), NULL, 0, NULL, 0, NULL, 0, &matches, &fault) == UCA_OK && matches.points == 2);
     CHECK(uca_sort_key(&collator, &settings, NULL, 0, NULL, 0, &needed, &fault) == UCA_OK && needed == 4);
     CHECK(uca_prefix_bounds(&collator, &settings, NULL, 0, NULL, 0, NULL, 0, &needed, &upper, &fault) == UCA_OK && needed == 0 && upper == 0);
+    CHECK(uca_packed_prefix_bounds(&collator, &settings, NULL, 0, NULL, 0, NULL, 0, &needed, &upper, &fault) == UCA_OK && needed == 0 && upper == 0);
+    CHECK(uca_packed_key(&collator, &settings, NULL, 0, NULL, 0, &needed, &fault) == UCA_OK && needed == 3);
     CHECK(uca_is_complete(&collator, NULL, 0, &complete, &fault) == UCA_OK && complete == 1);
     uca_close(&collator);
 }
@@ -476,10 +515,11 @@ int main(int count, char **words) {
     settings();
     keys(uca_sort_key, sort_key, sizeof sort_key, 10);
     keys(uca_write_key, sort_key, sizeof sort_key, 10);
-    keys(uca_packed_key, packed_key, sizeof packed_key, 6);
+    keys(uca_packed_key, packed_key, sizeof packed_key, 5);
     same_keys();
     packed_keys();
-    bounds();
+    bounds(uca_prefix_bounds, uca_sort_key, sort_ends);
+    bounds(uca_packed_prefix_bounds, uca_packed_key, packed_ends);
     completeness();
     texts();
     nulls();

@@ -28,6 +28,8 @@ static long sum_of(const uca_collator *collator) {
         }
         if (uca_sort_key(collator, &settings, (const uint8_t *)words[i], strlen(words[i]), key, sizeof key, &needed, &fault)) return -1;
         for (size_t k = 0; k < needed; k++) sum = (sum * 131 + key[k]) % 1000003;
+        if (uca_packed_key(collator, &settings, (const uint8_t *)words[i], strlen(words[i]), key, sizeof key, &needed, &fault)) return -1;
+        for (size_t k = 0; k < needed; k++) sum = (sum * 131 + key[k]) % 1000003;
     }
     return sum;
 }

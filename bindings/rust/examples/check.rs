@@ -1,6 +1,6 @@
 //! Sorts the lines of a file by key, as `uca order` does: check TABLE LINES ORDERED FINGERPRINT
 use std::cmp::Ordering;
-use uca::{Collator, Key, PackedKey, Settings, Strength, Variable};
+use uca::{Collator, Key, PackedKey, PrefixBounds, Settings, Strength, Variable};
 
 fn main() {
     let words: Vec<String> = std::env::args().skip(1).collect();
@@ -22,14 +22,15 @@ fn main() {
     let (lomo, mut front) = (collator.key("Lómo").unwrap(), [9; 6]);
     assert_eq!(collator.write_key("Lómo", &mut front), Ok(lomo.as_bytes().len()));
     assert_eq!(front, lomo.as_bytes()[..6]);
-    let bounds = collator.prefix_bounds("lo").unwrap();
-    let upper = bounds.upper.unwrap();
-    let is_between = |key: &[u8]| key >= &bounds.lower[..] && key < &upper[..];
+    let is_between = |key: &[u8], ends: &PrefixBounds| key >= &ends.lower[..] && key < &ends.upper.as_ref().unwrap()[..];
+    let (bounds, packed_bounds) = (collator.prefix_bounds("lo").unwrap(), collator.packed_prefix_bounds("lo").unwrap());
     for (word, inside) in [("lo", true), ("Lómo", true), ("l", false), ("lp", false)] {
-        assert_eq!(is_between(collator.key(word).unwrap().as_bytes()), inside);
-        assert_eq!(is_between(collator.packed_key(word).unwrap().as_bytes()), inside);
+        assert_eq!(is_between(collator.key(word).unwrap().as_bytes(), &bounds), inside);
+        assert_eq!(is_between(collator.packed_key(word).unwrap().as_bytes(), &packed_bounds), inside);
     }
-    assert_eq!(collator.prefix_bounds(&"\u{FDFA}".repeat(100)).map(|ends| ends.lower.len() > 32), Ok(true));
+    for ends in [collator.prefix_bounds(&"\u{FDFA}".repeat(100)), collator.packed_prefix_bounds(&"\u{FDFA}".repeat(100))] {
+        assert_eq!(ends.map(|ends| ends.lower.len() > 1232), Ok(true));
+    }
     let digits: String = collator.fingerprint().unwrap().iter().map(|byte| format!("{byte:02x}")).collect();
     assert_eq!(digits, words[3]);
 
@@ -43,10 +44,13 @@ fn main() {
     let settings = Settings { strength: Strength::Identical, variable: Variable::Shifted };
     let empty = Collator::open(b"", b"", settings).unwrap();
     assert_eq!(empty.compare("", ""), Ok(Ordering::Equal));
-    assert_eq!(empty.prefix_bounds("").map(|ends| (ends.lower, ends.upper)), Ok((vec![], None)));
+    for ends in [empty.prefix_bounds(""), empty.packed_prefix_bounds("")] {
+        assert_eq!(ends.map(|ends| (ends.lower, ends.upper)), Ok((vec![], None)));
+    }
     let joined = Collator::open(b"0063 ; [.1000.0020.0002]\n0063 0068 ; [.1001.0020.0002]\n", b"", settings).unwrap();
     assert_eq!(joined.prefix_bounds("c").map(|ends| (ends.lower, ends.upper)), Ok((vec![0x10, 0], Some(vec![0x10, 1]))));
-    assert_eq!(empty.packed_key("").map(PackedKey::into_bytes), Ok(vec![0, 0, 1, 1, 1]));
+    assert_eq!(joined.packed_prefix_bounds("c").map(|ends| (ends.lower, ends.upper)), Ok((vec![0x11, 0], Some(vec![0x11, 1]))));
+    assert_eq!(empty.packed_key("").map(PackedKey::into_bytes), Ok(vec![0, 0, 0, 0]));
     assert_eq!(empty.packed_key(&"\u{301}".repeat(61)).err().map(|error| (error.status, error.at)), Some((2, 120)));
     assert_eq!(empty.key(&"\u{301}".repeat(61)).err().map(|error| (error.status, error.at)), Some((2, 120)));
     assert_eq!(uca::check(b"a\xFF").err().map(|error| (error.status, error.text, error.at)), Some((1, 1, 1)));

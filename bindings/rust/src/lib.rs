@@ -39,6 +39,7 @@ mod ffi {
         pub fn uca_packed_key(c: *const RawCollator, s: *const RawSettings, text: *const u8, size: usize, out: *mut u8, capacity: usize, needed: *mut usize, fault: *mut RawFault) -> u32;
         pub fn uca_write_key(c: *const RawCollator, s: *const RawSettings, text: *const u8, size: usize, out: *mut u8, capacity: usize, needed: *mut usize, fault: *mut RawFault) -> u32;
         pub fn uca_prefix_bounds(c: *const RawCollator, s: *const RawSettings, text: *const u8, size: usize, lower: *mut u8, lower_capacity: usize, upper: *mut u8, upper_capacity: usize, lower_needed: *mut usize, upper_needed: *mut usize, fault: *mut RawFault) -> u32;
+        pub fn uca_packed_prefix_bounds(c: *const RawCollator, s: *const RawSettings, text: *const u8, size: usize, lower: *mut u8, lower_capacity: usize, upper: *mut u8, upper_capacity: usize, lower_needed: *mut usize, upper_needed: *mut usize, fault: *mut RawFault) -> u32;
         pub fn uca_is_complete(c: *const RawCollator, text: *const u8, size: usize, complete: *mut u32, fault: *mut RawFault) -> u32;
         pub fn uca_text_of(bytes: *const u8, size: usize, text: *mut RawText, fault: *mut RawFault) -> u32;
         pub fn uca_compare_texts(c: *const RawCollator, s: *const RawSettings, a: *const RawText, b: *const RawText, order: *mut i32) -> u32;
@@ -153,7 +154,7 @@ impl Key {
     }
 }
 
-/// A packed sort key: shorter than the sort key, and in the same order under the same table and settings.
+/// A packed key: shorter than the sort key, and in the same order under the same table and settings.
 #[derive(Clone, Debug, PartialEq, Eq, PartialOrd, Ord, Hash)]
 pub struct PackedKey(Vec<u8>);
 
@@ -178,6 +179,9 @@ type MakesKey = unsafe extern "C" fn(*const ffi::RawCollator, *const RawSettings
 
 /// A call that makes a key of a checked text.
 type MakesKeyOf = unsafe extern "C" fn(*const ffi::RawCollator, *const RawSettings, *const RawText, *mut u8, usize, *mut usize) -> u32;
+
+/// A call that gives the ends of a range.
+type FindsBounds = unsafe extern "C" fn(*const ffi::RawCollator, *const RawSettings, *const u8, usize, *mut u8, usize, *mut u8, usize, *mut usize, *mut usize, *mut RawFault) -> u32;
 
 /// A text that was checked once, so that later calls need not check it. To sort texts by comparing them, check each once.
 #[derive(Clone, Copy)]
@@ -210,8 +214,9 @@ impl fmt::Debug for Text<'_> {
     }
 }
 
-/// The ends of the range that holds the keys of all texts whose primary weights begin with those of a text. Exactly these keys are at
-/// or after `lower` and, if there is an upper end, before `upper`.
+/// The ends of the range that holds the keys of all texts whose primary weights begin with those of a text: sort keys from
+/// [`Collator::prefix_bounds`], packed keys from [`Collator::packed_prefix_bounds`]. Exactly these keys are at or after `lower` and, if
+/// there is an upper end, before `upper`.
 #[derive(Clone, Debug, PartialEq, Eq)]
 pub struct PrefixBounds {
     pub lower: Vec<u8>,
@@ -281,7 +286,7 @@ impl Collator {
         self.key_by(ffi::uca_sort_key, text, 8).map(Key)
     }
 
-    /// The packed sort key of a text, for an index.
+    /// The packed key of a text, for an index.
     pub fn packed_key(&self, text: &str) -> Result<PackedKey, Error> {
         self.key_by(ffi::uca_packed_key, text, 4).map(PackedKey)
     }
@@ -309,7 +314,7 @@ impl Collator {
         self.key_of_by(ffi::uca_sort_key_of, text, 8).map(Key)
     }
 
-    /// The packed sort key of a checked text.
+    /// The packed key of a checked text.
     pub fn packed_key_of(&self, text: Text<'_>) -> Result<PackedKey, Error> {
         self.key_of_by(ffi::uca_packed_key_of, text, 4).map(PackedKey)
     }
@@ -331,14 +336,23 @@ impl Collator {
         answer(status, fault, needed)
     }
 
-    /// The range of the keys, packed or not, of all texts whose primary weights begin with those of a text. A text that begins with it
-    /// can be outside, if its next character joins the last ones: `cho` is outside the range of `c` if `ch` is a letter.
+    /// The range of the sort keys of all texts whose primary weights begin with those of a text. A text that begins with it can be
+    /// outside, if its next character joins the last ones: `cho` is outside the range of `c` if `ch` is a letter.
     pub fn prefix_bounds(&self, text: &str) -> Result<PrefixBounds, Error> {
+        self.bounds_by(ffi::uca_prefix_bounds, text)
+    }
+
+    /// The range of the packed keys of the same texts.
+    pub fn packed_prefix_bounds(&self, text: &str) -> Result<PrefixBounds, Error> {
+        self.bounds_by(ffi::uca_packed_prefix_bounds, text)
+    }
+
+    fn bounds_by(&self, finds_bounds: FindsBounds, text: &str) -> Result<PrefixBounds, Error> {
         let (mut lower, mut upper) = (vec![0; 4 * text.len() + 32], vec![0; 4 * text.len() + 32]);
         loop {
             let (mut lower_needed, mut upper_needed, mut fault) = (0, 0, RawFault::default());
             let status = unsafe {
-                ffi::uca_prefix_bounds(&self.raw, &self.settings.raw(), text.as_ptr(), text.len(), lower.as_mut_ptr(), lower.len(), upper.as_mut_ptr(), upper.len(), &mut lower_needed, &mut upper_needed, &mut fault)
+                finds_bounds(&self.raw, &self.settings.raw(), text.as_ptr(), text.len(), lower.as_mut_ptr(), lower.len(), upper.as_mut_ptr(), upper.len(), &mut lower_needed, &mut upper_needed, &mut fault)
             };
             answer(status, fault, ())?;
             let whole = lower_needed <= lower.len() && upper_needed <= upper.len();
@@ -350,7 +364,8 @@ impl Collator {
         }
     }
 
-    /// Whether the keys of every text that begins with this one are in the range of `prefix_bounds`. In doubt it is false.
+    /// Whether the keys of every text that begins with this one are in the range of `prefix_bounds`, and their packed keys in that of
+    /// `packed_prefix_bounds`. In doubt it is false.
     pub fn is_complete(&self, text: &str) -> Result<bool, Error> {
         let (mut complete, mut fault) = (0, RawFault::default());
         let status = unsafe { ffi::uca_is_complete(&self.raw, text.as_ptr(), text.len(), &mut complete, &mut fault) };

@@ -52,7 +52,7 @@ fn keys_are_bytes() {
     let collator = opened();
     let key: Key = collator.key("ab").unwrap();
     assert_eq!(len(&key), key.as_bytes().len());
-    assert_eq!(len(collator.packed_key("ab").unwrap()), 8);
+    assert_eq!(len(collator.packed_key("ab").unwrap()), 7);
 }
 
 #[test]
@@ -84,6 +84,18 @@ fn texts_are_checked_once() {
 fn a_letter_of_two_characters_leaves_its_first_incomplete() {
     let collator = Collator::open(TABLE, "&a<bb".as_bytes(), Settings::default()).unwrap();
     assert_eq!((collator.is_complete("a"), collator.is_complete("ab")), (Ok(true), Ok(false)));
+}
+
+#[test]
+fn packed_keys_are_in_the_range_of_their_beginnings() {
+    let collator = opened();
+    let (keys, packed) = (collator.prefix_bounds("b").unwrap(), collator.packed_prefix_bounds("b").unwrap());
+    assert_ne!(keys, packed);
+    for word in WORDS {
+        let key = collator.packed_key(word).unwrap();
+        let is_inside = key.as_bytes() >= &packed.lower[..] && key.as_bytes() < &packed.upper.as_ref().unwrap()[..];
+        assert_eq!(is_inside, word.starts_with('b'), "{word}");
+    }
 }
 
 #[test]

@@ -19,7 +19,8 @@
 
 #define EACH_CALL(use)                                                                                                          \
     use(uca_version) use(uca_unicode_version) use(uca_open) use(uca_close) use(uca_clone) use(uca_check) use(uca_compare)       \
-    use(uca_sort_key) use(uca_packed_key) use(uca_prefix_bounds) use(uca_fingerprint) use(uca_compare_levels) use(uca_matches)
+    use(uca_sort_key) use(uca_packed_key) use(uca_prefix_bounds) use(uca_packed_prefix_bounds) use(uca_fingerprint)             \
+    use(uca_compare_levels) use(uca_matches)
 
 #define member(name) __typeof__(name) *name;
 static struct {
@@ -43,6 +44,7 @@ typedef struct {
 } Text;
 
 typedef __typeof__(uca_sort_key) *MakeKey;
+typedef __typeof__(uca_prefix_bounds) *FindBounds;
 
 /* Raises the exception for a status. `source` is the text, table or rules at fault. */
 static void refuse(uint32_t status, const uca_fault *fault, size_t number, PyObject *source) {
@@ -327,7 +329,7 @@ static PyObject *collator_sort_keys(Collator *self, PyObject *texts) { return ke
 
 static PyObject *collator_packed_keys(Collator *self, PyObject *texts) { return keys_of(self, library.uca_packed_key, texts); }
 
-static PyObject *collator_prefix_bounds(Collator *self, PyObject *from) {
+static PyObject *bounds_of(Collator *self, FindBounds find_bounds, PyObject *from) {
     Text text;
     if (!take(from, "a text has", 0, &text))
         return NULL;
@@ -337,8 +339,7 @@ static PyObject *collator_prefix_bounds(Collator *self, PyObject *from) {
     PyObject *bounds = NULL;
     uint8_t *ends;
     while ((ends = PyMem_Malloc(2 * room))) {
-        status = library.uca_prefix_bounds(&self->collator, &self->settings, text.bytes, text.size, ends, room, ends + room, room, &lower,
-                                           &upper, &fault);
+        status = find_bounds(&self->collator, &self->settings, text.bytes, text.size, ends, room, ends + room, room, &lower, &upper, &fault);
         if (status != UCA_OK || (lower <= room && upper <= room))
             break;
         PyMem_Free(ends);
@@ -352,6 +353,12 @@ static PyObject *collator_prefix_bounds(Collator *self, PyObject *from) {
     if (status != UCA_OK)
         refuse(status, &fault, fault.text, from);
     return bounds;
+}
+
+static PyObject *collator_prefix_bounds(Collator *self, PyObject *text) { return bounds_of(self, library.uca_prefix_bounds, text); }
+
+static PyObject *collator_packed_prefix_bounds(Collator *self, PyObject *text) {
+    return bounds_of(self, library.uca_packed_prefix_bounds, text);
 }
 
 static PyObject *collator_fingerprint(Collator *self, PyObject *Py_UNUSED(none)) {
@@ -381,8 +388,8 @@ static PyMethodDef collator_methods[] = {
      "key($self, text, /)\n--\n\nThe sort key of a text: bytes that compare as the texts do. At three levels it has about six bytes "
      "per letter.\n\nRaises TextError."},
     {"packed_key", (PyCFunction)collator_packed_key, METH_O,
-     "packed_key($self, text, /)\n--\n\nThe packed sort key of a text: bytes in the same order, but for most texts less than half as many. A "
-     "packed key cannot be\ncompared with a sort key.\n\nRaises TextError."},
+     "packed_key($self, text, /)\n--\n\nThe packed key of a text: bytes in the same order as those of sort keys, and fewer of them. A packed "
+     "key cannot be\ncompared with a sort key.\n\nRaises TextError."},
     {"sort_key", (PyCFunction)collator_key, METH_O, "sort_key($self, text, /)\n--\n\nThe same as key."},
     {"sort_keys", (PyCFunction)collator_sort_keys, METH_O,
      "sort_keys($self, texts, /)\n--\n\nThe sort keys of texts, in a list in the same order. Other threads wait until all are made.\n\nRaises "
@@ -390,10 +397,13 @@ static PyMethodDef collator_methods[] = {
     {"packed_keys", (PyCFunction)collator_packed_keys, METH_O,
      "packed_keys($self, texts, /)\n--\n\nThe packed keys of texts, in a list, as from sort_keys."},
     {"prefix_bounds", (PyCFunction)collator_prefix_bounds, METH_O,
-     "prefix_bounds($self, text, /)\n--\n\nThe ends of the range that holds the keys, packed or not, of all texts whose primary weights "
-     "begin with\nthose of `text`: exactly these keys are at or after the first end and before the second. The second is None if there is "
-     "no\nupper end.\n\nA text that begins with `text` can be outside, if its next character joins the last ones, as in `cho` after `c` if "
+     "prefix_bounds($self, text, /)\n--\n\nThe ends of the range that holds the sort keys of all texts whose primary weights begin with\n"
+     "those of `text`: exactly these sort keys are at or after the first end and before the second. The second is None if there\nis no "
+     "upper end.\n\nA text that begins with `text` can be outside, if its next character joins the last ones, as in `cho` after `c` if "
      "`ch`\nis a letter.\n\nRaises TextError."},
+    {"packed_prefix_bounds", (PyCFunction)collator_packed_prefix_bounds, METH_O,
+     "packed_prefix_bounds($self, text, /)\n--\n\nThe ends of the range of the packed keys of the same texts, as prefix_bounds gives those "
+     "of the sort keys.\n\nRaises TextError."},
     {"fingerprint", (PyCFunction)collator_fingerprint, METH_NOARGS,
      "fingerprint($self, /)\n--\n\nThe 32 bytes of the SHA-256 digest of everything that keys depend on. Store it with keys, and rebuild them if "
      "it differs.\nIt takes about as long as reading the table did."},

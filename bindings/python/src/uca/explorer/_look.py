@@ -20,6 +20,7 @@ class Look:
     def __init__(self, collator: uca.Collator, rules: str) -> None:
         self.collator = collator
         self.identical = collator.clone(strength=uca.IDENTICAL)
+        self.by_strength = [collator.clone(strength=strength) for strength in range(uca.PRIMARY, collator.strength + 1)]
         self.rule_lines = lines_of_items(rules, self.decomposed)
 
     def decomposed(self, text: str) -> str:
@@ -46,7 +47,7 @@ class Look:
         """What a word is made of."""
         points = self.decomposed(text)
         found = self.collator.matches(text)
-        key, packed = self.collator.key(text), self.collator.packed_key(text)
+        key = self.collator.key(text)
         return {
             "text": text,
             "characters": [self._character(c) for c in text],
@@ -63,7 +64,7 @@ class Look:
             ],
             "levels": self._levels(key, found),
             "key": [piece.hex().upper() for piece in _pieces(key, self.collator.strength)],
-            "packed": [piece.hex().upper() for piece in _packed_pieces(packed, self.collator.strength)],
+            "packed": [piece.hex().upper() for piece in self._packed_pieces(text)],
         }
 
     def pair(self, a: str, b: str) -> dict[str, Any]:
@@ -80,6 +81,11 @@ class Look:
     def _character(self, c: str) -> dict[str, Any]:
         points = self.decomposed(c)
         return {**_point(c), "parts": [_point(part) for part in points] if points != c else []}
+
+    def _packed_pieces(self, text: str) -> list[bytes]:
+        """The levels of a packed key: that at a strength is the beginning of that at each higher one."""
+        keys = [collator.packed_key(text) for collator in self.by_strength]
+        return [key[len(lower) :] for lower, key in zip([b"", *keys], keys)]
 
     def _levels(self, key: bytes, found: Sequence[uca.Match]) -> list[dict[str, Any]]:
         """The weights of each level, and the match that each comes from, if that is known."""
@@ -108,21 +114,6 @@ def _pieces(key: bytes, strength: int) -> list[bytes]:
         pieces.append(key[:end])
         key = key[end + 2 :]
     return [*pieces, key]
-
-
-def _packed_pieces(key: bytes, strength: int) -> list[bytes]:
-    """The levels of a packed key. The end of the first level, 0000, is left out; the end of a later one is part of it."""
-    if strength == uca.PRIMARY:
-        return [key]
-    first = _pieces(key, uca.SECONDARY)[0]
-    pieces, begin = [first], len(first) + 2
-    for _ in range(2, min(strength, 4) + 1):
-        at = begin
-        while not (key[at] < 0xA8 and key[at] % 2):
-            at += 1 if key[at] == 0xA9 else 4 if key[at + 1] == 0xFE else 2
-        pieces.append(key[begin : at + 1])
-        begin = at + 1
-    return [*pieces, key[begin:]] if strength == uca.IDENTICAL else pieces
 
 
 def _places(points: str, found: Sequence[uca.Match]) -> list[list[int]]:

@@ -323,11 +323,12 @@ function weightRow(level, row) {
   return make("tr", { "data-level": level, kids });
 }
 
-/* A key with its levels apart. A sort key has 0000 between its levels, and a packed key only after the first. */
+/* A key with its levels apart. A sort key has weights of two bytes, and 0000 between its levels; both keys have code points of three bytes
+ * at the fifth one. */
 function showBytes(box, pieces, isSortKey) {
   pieces.forEach((piece, n) => {
-    if (n && (isSortKey || n === 1)) box.append(make("span", { cls: "between", text: "0000" }));
-    const spaced = piece.replace(isSortKey || !n ? (n === 4 ? /.{6}(?=.)/g : /.{4}(?=.)/g) : n === 4 ? /.{6}(?=.)/g : /.{2}(?=.)/g, "$& ");
+    if (n && isSortKey) box.append(make("span", { cls: "between", text: "0000" }));
+    const spaced = piece.replace(n === 4 ? /.{6}(?=.)/g : isSortKey ? /.{4}(?=.)/g : /.{2}(?=.)/g, "$& ");
     box.append(make("span", { cls: "piece", "data-level": n + 1, title: levelName(n + 1), text: spaced }), " ");
   });
 }
