@@ -70,7 +70,7 @@ is "one collator in eight threads, a million calls" "well" "$("$work/shared" 340
 compiles random bindings/c/tests/random.c "$usr/lib/libuca.a" -lpthread
 is "random texts to every call, by the small table" "0 checks failed" "$("$work/random" 2 1 2>&1 | sed 's/.*: //')"
 is "random texts to every call, by the published table and rules" "0 checks failed" \
-    "$("$work/random" 3 2 "$table" rules/hu 2>&1 | sed 's/.*: //')"
+    "$("$work/random" 3 2 "$table" rules/hu.rules 2>&1 | sed 's/.*: //')"
 if command -v valgrind >/dev/null; then
     valgrind -q --error-exitcode=9 --leak-check=full "$work/test" "$small" >"$work/out" 2>&1
     is "every call under valgrind" "0|well" "$?|$(cat "$work/out")"
