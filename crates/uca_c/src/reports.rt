@@ -1,5 +1,5 @@
 ghost use Rattle.std.specs.Prelude.{◌≡◌};
-ghost use Rattle.uca_c.specs.Reports.{bounds_report, check_report, compare_report, completeness_report, fingerprint_status, key_report, open_report, order_number, placed, plain, rule_kind, share_status, size_after, table_kind, tailoring_kind, text_report};
+ghost use Rattle.uca_c.specs.Reports.{bounds_report, check_report, compare_report, completeness_report, fingerprint_status, key_report, lower_size_after, open_report, order_number, placed, plain, rule_kind, share_status, size_after, table_kind, tailoring_kind, text_report, upper_size_after};
 
 use crate::numbers::*;
 use std::cmp::Ordering;

@@ -117,8 +117,8 @@ abbrev pub end_bytes : Option (List ℕ) → List ℕ
 end_bytes end = option_map_or (λ bytes. bytes) end []
 
 -- the two ends of the range of byte strings that begin with these bytes are in the fronts of two buffers, these are their lengths, and this is whether a text is complete
-pub record AreEndsIn (prefix : List ℕ) (complete : Bool) (lower_before lower_after upper_before upper_after : List ℕ) (size : BoundsSize) : Type 0 where
-  pub complete : size.complete ≡ complete
+pub record AreEndsIn (prefix : List ℕ) (told : Bool) (lower_before lower_after upper_before upper_after : List ℕ) (size : BoundsSize) : Type 0 where
+  pub complete : size.complete ≡ told
   pub lower_is : size.lower ≡ length prefix
   pub lower_written : lower_after ≡ with_front prefix lower_before
   pub upper_is : size.upper ≡ option_map length (end_of_prefix prefix)
