@@ -10,6 +10,7 @@ use crate::ascii::is_ascii;
 use crate::fault::TextFault;
 use crate::passing::{STRIDE, is_passed, pass, skip};
 use simdutf8::compat::from_utf8;
+use simdutf8::is_utf8;
 use std::str::from_utf8_unchecked;
 use thiserror::Error;
 use uca_weights::{MAX_DECOMPOSITION, MAX_RUN};
@@ -18,6 +19,10 @@ use unicode_normalization::char::{canonical_combining_class, decomposition};
 
 /// The greatest length in bytes at which every text is safe: each byte brings at most two nonstarters.
 const SHORT: usize = MAX_RUN / 2;
+
+/// From this length in bytes on, a look at a block of 64 bytes is faster than one at each character, which `from_utf8` takes of less
+/// than a block.
+const BLOCK_FROM: usize = 16;
 
 /// A text is not safe: a run of nonstarters in its NFD is longer than `MAX_RUN`, or the NFD of a character is
 /// longer than `MAX_DECOMPOSITION` code points.
@@ -80,12 +85,22 @@ impl<'t> Passage<'t> {
     fn of_any(bytes: &'t [u8]) -> Result<Passage<'t>, TextFault>
         ensures { MatchResult result (λ p. IsTextLine bytes.now × (text_of p ≡ chars bytes.now)) (IsFault bytes.now) }
     {
+        if bytes.len() >= BLOCK_FROM && is_utf8(bytes) {
+            return Passage::of_text(unsafe { from_utf8_unchecked(bytes) });
+        }
         match from_utf8(bytes) {
-            Ok(text) => match Passage::check(text) {
-                Ok(passage) => Ok(passage),
-                Err(run) => Err(TextFault::LongRun(run.at)),
-            },
+            Ok(text) => Passage::of_text(text),
             Err(error) => Err(TextFault::NotUtf8(error.valid_up_to())),
+        }
+    }
+
+    /// A text, unless it is not safe.
+    fn of_text(text: &'t str) -> Result<Passage<'t>, TextFault>
+        ensures { MatchResult result (λ p. IsTextLine text.now × (text_of p ≡ chars text.now)) (IsFault text.now) }
+    {
+        match Passage::check(text) {
+            Ok(passage) => Ok(passage),
+            Err(run) => Err(TextFault::LongRun(run.at)),
         }
     }
 
