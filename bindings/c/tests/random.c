@@ -16,7 +16,7 @@ static uca_collator shared = UCA_CLOSED;
 static time_t last_second;
 
 struct run {
-    uint64_t state, pairs, faulty;
+    uint64_t state, pairs, faulty, packed;
     pthread_t thread;
     uint8_t bytes[2 * LONGEST];
     uint8_t keys[6][ROOM];
@@ -28,15 +28,20 @@ static uint32_t next(struct run *run, uint32_t below) {
 }
 
 /* Code points of each kind that a quick way treats in its own manner. */
-static const uint32_t starts[] = {0x61, 0x61, 0x61, 0x41, 0x20, 0x2D, 0x30, 0xE0, 0x300, 0x300, 0x323, 0x345, 0x3B1, 0x430, 0x5D0, 0x627, 0x915, 0x93F, 0xE40, 0xE01, 0x1100, 0x1161,
-                                  0x11A8, 0x1EA0, 0x3042, 0x3099, 0x4E00, 0xAC00, 0xF900, 0xFB00, 0xFDFA, 0xFFFD, 0x10FFFF, 0x1D15E, 0x17000, 0x20000, 0x2F800, 0x0, 0xFDD0, 0x1D165};
+static const uint32_t starts[] = {
+    0x61, 0x61, 0x61, 0x41, 0x20, 0x2D, 0x30, 0xE0, 0x300, 0x300, 0x323, 0x345, 0x3B1, 0x430, 0x5D0, 0x627, 0x915, 0x93F, 0xE40, 0xE01,
+    0x1100, 0x1161, 0x11A8, 0x1EA0, 0x3042, 0x3099, 0x4E00, 0xAC00, 0xF900, 0xFB00, 0xFDFA, 0xFFFD, 0x10FFFF, 0x1D15E, 0x17000, 0x20000,
+    0x2F800, 0x0, 0xFDD0, 0x1D165,
+};
+
+static uint8_t later(uint32_t bits) { return (uint8_t)(0x80 | (bits & 63)); }
 
 static size_t put_point(uint32_t c, uint8_t *out) {
-    if (c < 0x80) return out[0] = (uint8_t)c, 1;
-    if (c < 0x800) return out[0] = (uint8_t)(0xC0 | c >> 6), out[1] = (uint8_t)(0x80 | (c & 63)), 2;
-    if (c < 0x10000) return out[0] = (uint8_t)(0xE0 | c >> 12), out[1] = (uint8_t)(0x80 | (c >> 6 & 63)), out[2] = (uint8_t)(0x80 | (c & 63)), 3;
-    out[0] = (uint8_t)(0xF0 | c >> 18), out[1] = (uint8_t)(0x80 | (c >> 12 & 63)), out[2] = (uint8_t)(0x80 | (c >> 6 & 63)), out[3] = (uint8_t)(0x80 | (c & 63));
-    return 4;
+    size_t size = c < 0x80 ? 1 : c < 0x800 ? 2 : c < 0x10000 ? 3 : 4;
+    static const uint8_t marks[] = {0, 0, 0xC0, 0xE0, 0xF0};
+    out[0] = (uint8_t)(marks[size] | c >> 6 * (size - 1));
+    for (size_t i = 1; i < size; i++) out[i] = later(c >> 6 * (size - 1 - i));
+    return size;
 }
 
 /* A text of a few kinds of characters, now and then with a byte that is wrong. */
@@ -70,7 +75,8 @@ static int begins(const uint8_t *bytes, size_t size, const uint8_t *front, size_
 typedef uint32_t key_call(const uca_collator *, const uca_settings *, const uint8_t *, size_t, uint8_t *, size_t, size_t *, uca_fault *);
 typedef uint32_t text_key_call(const uca_collator *, const uca_settings *, const uca_text *, uint8_t *, size_t, size_t *);
 
-static size_t key_of(struct run *run, key_call *call, text_key_call *again, const uca_settings *settings, const uca_text *text, uint8_t *out) {
+static size_t key_of(struct run *run, key_call *call, text_key_call *again, const uca_settings *settings, const uca_text *text,
+                     uint8_t *out) {
     const uint8_t *bytes = text->private_bytes;
     size_t size = text->private_size, needed = 0, more = 0;
     uca_fault fault;
@@ -109,6 +115,7 @@ static void check_pair(struct run *run, const uca_settings *settings, const uca_
     size_t a_packed = key_of(run, uca_packed_key, uca_packed_key_of, settings, a, keys[2]);
     size_t b_packed = key_of(run, uca_packed_key, uca_packed_key_of, settings, b, keys[3]);
     CHECK(order_of(keys[2], a_packed, keys[3], b_packed) == order);
+    run->packed += a_packed + b_packed;
     uca_settings lower = *settings;
     lower.strength = 1 + next(run, settings->strength);
     size_t low = key_of(run, uca_packed_key, uca_packed_key_of, &lower, a, keys[4]);
@@ -117,13 +124,16 @@ static void check_pair(struct run *run, const uca_settings *settings, const uca_
     CHECK(begins(keys[0], a_key, keys[4], low_key));
 }
 
-typedef uint32_t bounds_call(const uca_collator *, const uca_settings *, const uint8_t *, size_t, uint8_t *, size_t, uint8_t *, size_t, size_t *, size_t *, uca_fault *);
+typedef uint32_t bounds_call(const uca_collator *, const uca_settings *, const uint8_t *, size_t, uint8_t *, size_t, uint8_t *, size_t,
+                             size_t *, size_t *, uca_fault *);
 
 /* Whether a key is in the range of a prefix. */
-static int is_within(struct run *run, bounds_call *call, const uca_settings *settings, const uca_text *prefix, const uint8_t *key, size_t size) {
+static int is_within(struct run *run, bounds_call *call, const uca_settings *settings, const uca_text *prefix, const uint8_t *key,
+                     size_t size) {
+    const uint8_t *bytes = prefix->private_bytes;
     size_t lower, upper;
     uca_fault fault;
-    CHECK(call(&shared, settings, prefix->private_bytes, prefix->private_size, run->keys[4], ROOM, run->keys[5], ROOM, &lower, &upper, &fault) == UCA_OK);
+    CHECK(call(&shared, settings, bytes, prefix->private_size, run->keys[4], ROOM, run->keys[5], ROOM, &lower, &upper, &fault) == UCA_OK);
     return order_of(key, size, run->keys[4], lower) >= 0 && (upper == 0 || order_of(key, size, run->keys[5], upper) < 0);
 }
 
@@ -146,21 +156,22 @@ static void check_prefix(struct run *run, const uca_settings *settings, const uc
 }
 
 /* Bytes that are no text: every call reports the same fault, and writes nothing. */
-static void check_faulty(const uca_settings *settings, const uint8_t *bytes, size_t size, uint32_t status, const uca_fault *found) {
+static void check_faulty(const uca_settings *settings, const uint8_t *bytes, size_t size, uint32_t status, uint64_t at) {
+    static const uint8_t other[] = {'a'};
     uca_fault fault;
     int32_t order = 9;
     size_t needed = 9, upper = 9;
     uint32_t complete = 9;
     uint8_t out[4] = {7, 7, 7, 7};
-    CHECK(uca_compare(&shared, settings, bytes, size, (const uint8_t *)"a", 1, &order, &fault) == status && fault.text == 1 && fault.at == found->at && order == 9);
-    CHECK(uca_compare(&shared, settings, (const uint8_t *)"a", 1, bytes, size, &order, &fault) == status && fault.text == 2 && fault.at == found->at && order == 9);
-    CHECK(uca_sort_key(&shared, settings, bytes, size, out, 4, &needed, &fault) == status && fault.at == found->at && needed == 9);
-    CHECK(uca_packed_key(&shared, settings, bytes, size, out, 4, &needed, &fault) == status && fault.at == found->at && needed == 9);
-    CHECK(uca_write_key(&shared, settings, bytes, size, out, 4, &needed, &fault) == status && fault.at == found->at && needed == 9);
-    CHECK(uca_prefix_bounds(&shared, settings, bytes, size, out, 2, out + 2, 2, &needed, &upper, &fault) == status && fault.at == found->at && needed == 9 && upper == 9);
-    CHECK(uca_packed_prefix_bounds(&shared, settings, bytes, size, out, 2, out + 2, 2, &needed, &upper, &fault) == status && fault.at == found->at && needed == 9 && upper == 9);
-    CHECK(uca_is_complete(&shared, bytes, size, &complete, &fault) == status && fault.at == found->at && complete == 9);
-    CHECK(memcmp(out, "\7\7\7\7", 4) == 0);
+    CHECK(uca_compare(&shared, settings, bytes, size, other, 1, &order, &fault) == status && fault.text == 1 && fault.at == at);
+    CHECK(uca_compare(&shared, settings, other, 1, bytes, size, &order, &fault) == status && fault.text == 2 && fault.at == at);
+    CHECK(uca_sort_key(&shared, settings, bytes, size, out, 4, &needed, &fault) == status && fault.at == at);
+    CHECK(uca_packed_key(&shared, settings, bytes, size, out, 4, &needed, &fault) == status && fault.at == at);
+    CHECK(uca_write_key(&shared, settings, bytes, size, out, 4, &needed, &fault) == status && fault.at == at);
+    CHECK(uca_prefix_bounds(&shared, settings, bytes, size, out, 2, out + 2, 2, &needed, &upper, &fault) == status && fault.at == at);
+    CHECK(uca_packed_prefix_bounds(&shared, settings, bytes, size, out, 2, out + 2, 2, &needed, &upper, &fault) == status && fault.at == at);
+    CHECK(uca_is_complete(&shared, bytes, size, &complete, &fault) == status && fault.at == at);
+    CHECK(order == 9 && needed == 9 && upper == 9 && complete == 9 && memcmp(out, "\7\7\7\7", 4) == 0);
 }
 
 static void check_settings(struct run *run, const uint8_t *bytes, size_t size) {
@@ -175,7 +186,7 @@ static void check_settings(struct run *run, const uint8_t *bytes, size_t size) {
     default: settings.reserved[next(run, 6)] = 1u << next(run, 32);
     }
     CHECK(uca_compare(&shared, &settings, bytes, size, bytes, size, &order, &fault) == UCA_BAD_SETTINGS && order == 9);
-    CHECK(uca_packed_key(&shared, &settings, bytes, size, out, 2, &needed, &fault) == UCA_BAD_SETTINGS && needed == 9 && out[0] == 7 && out[1] == 7);
+    CHECK(uca_packed_key(&shared, &settings, bytes, size, out, 2, &needed, &fault) == UCA_BAD_SETTINGS && needed == 9 && out[0] == 7);
 }
 
 static void one_round(struct run *run) {
@@ -192,7 +203,7 @@ static void one_round(struct run *run) {
     run->pairs += 1;
     if (a_status != UCA_OK) {
         run->faulty += 1;
-        check_faulty(&settings, run->bytes, a_size, a_status, &fault);
+        check_faulty(&settings, run->bytes, a_size, a_status, fault.at);
         return;
     }
     if (b_status != UCA_OK) return;
@@ -221,7 +232,7 @@ static uint8_t *read_file(const char *name, size_t *size) {
 int main(int count, char **words) {
     static struct run all[THREADS];
     uca_fault fault;
-    uint64_t pairs = 0, faulty = 0;
+    uint64_t pairs = 0, faulty = 0, packed = 0;
     size_t table_size, rules_size = 0;
     if (count < 3) return 2;
     if (count == 3) {
@@ -238,9 +249,10 @@ int main(int count, char **words) {
     }
     for (int i = 0; i < THREADS; i++) {
         pthread_join(all[i].thread, NULL);
-        pairs += all[i].pairs, faulty += all[i].faulty;
+        pairs += all[i].pairs, faulty += all[i].faulty, packed += all[i].packed;
     }
-    printf("%llu pairs, %llu of them faulty: %d checks failed\n", (unsigned long long)pairs, (unsigned long long)faulty, failed_checks);
+    printf("%llu pairs, %llu of them faulty, %llu bytes of packed keys: %d checks failed\n", (unsigned long long)pairs,
+           (unsigned long long)faulty, (unsigned long long)packed, failed_checks);
     uca_close(&shared);
     return failed_checks != 0;
 }
