@@ -21,7 +21,7 @@ use Rattle.uca_commands.specs.LineSorting.{IsRun, SharesFront, ShowsFronts, Sort
 use Rattle.uca_commands.specs.declared.keyed_line.KeyedLine.{KeyedLine}
 use Rattle.uca_commands.specs.declared.keyed_line.KeyedLines.{KeyedLines}
 use Rattle.uca_commands.proofs.KeyFrontLemmas.{IsFront-less, IsFront-more}
-use Rattle.uca_commands.proofs.SortLemmas.{before, filter-alike, filter-map, filter-none, filter-refined, IsBelow, some_or_none, SortsByKey-after, SortsByKey-append, SortsByKey-packed}
+use Rattle.uca_commands.proofs.SortLemmas.{before, filter-alike, filter-map, filter-none, filter-refined, IsBelow, some_or_none, SortsByKey-after, SortsByKey-append, SortsByKey-short}
 
 -- ---- keys that tie
 
@@ -103,7 +103,7 @@ RunsSorted-none of ys = record {
   within = omega arith;
   rest = refl;
   apart = λ i j c d low above below. absurd (omega arith);
-  done = SortsByKey-packed (λ p. p.0) [] (omega arith);
+  done = SortsByKey-short (λ p. p.0) [] (omega arith);
 }
 
 pub RunsSorted-all : (of : KeyedLines) (ys now : Lines) (from : ℕ) → RunsSorted of ys now from → length now ≤ from → SortsLines of ys now

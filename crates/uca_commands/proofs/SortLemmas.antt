@@ -44,8 +44,8 @@ module _ {X : Type 0} (key : X → List ℕ) where
   abbrev pub before : X → X → Bool
   before a b = is_lt (key_order (key a) (key b))
 
-  pub SortsByKey-packed : (xs : List X) → length xs < 2 → SortsByKey key xs xs
-  SortsByKey-packed xs few = record {
+  pub SortsByKey-short : (xs : List X) → length xs < 2 → SortsByKey key xs xs
+  SortsByKey-short xs few = record {
     same = IsPermutation-refl xs;
     sorted = λ k d low more. absurd (omega arith);
     stable = λ x. refl;

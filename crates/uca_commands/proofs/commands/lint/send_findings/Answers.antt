@@ -31,7 +31,7 @@ loop-condition-preserved g c =
     let complete : c.loop-condition.invariant.sent ++ (piece ++ rest) ≡ flat_map finding_line (map condition_of broken)
     = ap (λ l. c.loop-condition.invariant.sent ++ l) (sym (here broken i c.loop-condition-test.true)) ∙ c.loop-condition.invariant.complete in
     let more = sent_more _ _ _ c.args.out.now c.loop-condition.out c.write.new.self c.loop-condition.invariant.sent piece rest _ _ c.loop-condition.invariant.sends complete c.finding.ensures.text c.in_ok-write.ensures.all in
-    let size : accepted c.write.new.self ≡ accepted c.loop-condition.out + 4 = accepted-Accepts _ _ _ _ _ c.in_ok-write.ensures.all ∙ ap (λ n. accepted c.loop-condition.out + n) c.finding.ensures.packed in
+    let size : accepted c.write.new.self ≡ accepted c.loop-condition.out + 4 = accepted-Accepts _ _ _ _ _ c.in_ok-write.ensures.all ∙ ap (λ n. accepted c.loop-condition.out + n) c.finding.ensures.short in
     let left : length (drop i broken) ≡ length broken - i = length-drop i broken in
     let less : length (drop (i + 1) broken) ≡ length broken - (i + 1) = length-drop (i + 1) broken in
     record {
