@@ -1,5 +1,5 @@
 -- A key that is written piece by piece.
-use Rattle.std.proofs.Common.{◌≡◌, ℕ, zero, suc, ◌+◌, ◌<◌, List, [], ◌∷◌, ◌++◌, length, Option, Some, None, refl, sym, ap, subst, ◌∙◌, arith, append_assoc, append-nil, length-append}
+use Rattle.std.proofs.Common.{◌≡◌, ℕ, zero, suc, ◌+◌, ◌-◌, ◌<◌, ◌≤◌, List, [], ◌∷◌, ◌++◌, length, Option, Some, None, refl, sym, ap, subst, ◌∙◌, arith, append_assoc, append-nil, length-append}
 use Rattle.uca_io.specs.BufferState.{BufferState}
 use Rattle.uca_io.specs.declared.writer.WriteFault.{WriteFault}
 use Rattle.uca_io.specs.WriterState.{WriterState}
@@ -46,6 +46,32 @@ tail_of (suc n) level lists = 0 ∷ 0 ∷ key_from n (level + 1) lists
 pub key_from-split : (n level : ℕ) (lists : ℕ → List ℕ) (own : List ℕ) → lists level ≡ own → key_from n level lists ≡ bytes_at level own ++ tail_of n level lists
 key_from-split zero level lists own same = sym (append-nil (bytes_at level (lists level))) ∙ ap (λ l. bytes_at level l ++ []) same
 key_from-split (suc n) level lists own same = ap (λ l. bytes_at level l ++ 0 ∷ 0 ∷ key_from n (level + 1) lists) same
+
+-- a level and those after it are left: these are its own weights
+module _ (s0 s1 : WriterState) (o0 o1 : BufferState) (whole : List ℕ) (top at : ℕ) (lists : ℕ → List ℕ) (h : IsSending s0 o0 s1 o1 whole (key_from (top - at) at lists)) (own : List ℕ) (same : lists at ≡ own) where
+  split : key_from (top - at) at lists ≡ bytes_at at own ++ tail_of (top - at) at lists
+  split = key_from-split (top - at) at lists own same
+
+  pub level-room : (limit : ℕ) → accepted o0 + length whole < limit → accepted o1 + length (bytes_at at own) < limit
+  level-room limit room = IsSending-room s0 s1 o0 o1 whole _ h (bytes_at at own) (tail_of (top - at) at lists) limit split room
+
+  pub level-sent : (s2 : WriterState) (o2 : BufferState) → Accepts s1 o1 s2 o2 (bytes_at at own) → IsSending s0 o0 s2 o2 whole (tail_of (top - at) at lists)
+  level-sent s2 o2 sends = IsSending-more s0 s1 o0 o1 whole _ h s2 o2 (bytes_at at own) (tail_of (top - at) at lists) split sends
+
+  pub level-stops : (s2 : WriterState) (f : WriteFault) → FailsPartway s1 o1 s2 (bytes_at at own) f → FailsPartway s0 o0 s2 whole f
+  level-stops s2 f stops = IsSending-stops s0 s1 o0 o1 whole _ h s2 (bytes_at at own) (tail_of (top - at) at lists) f split stops
+
+-- nothing follows the last level
+pub tail-none : (top at : ℕ) (lists : ℕ → List ℕ) → top ≤ at → tail_of (top - at) at lists ≡ []
+tail-none top at lists last =
+    let none : top - at ≡ 0 = omega (arith, last) in
+    ap (λ n. tail_of n at lists) none
+
+-- a separator and the later levels follow another one
+pub tail-later : (top at : ℕ) (lists : ℕ → List ℕ) → at < top → tail_of (top - at) at lists ≡ (0 ∷ 0 ∷ []) ++ key_from (top - (at + 1)) (at + 1) lists
+tail-later top at lists more =
+    let some : top - at ≡ suc (top - (at + 1)) = omega (arith, more) in
+    ap (λ n. tail_of n at lists) some
 
 pub none_from : {A : Type 0} (o : Option A) → ((x : A) → o ≡ Some x → ⊥) → o ≡ None
 none_from None other = refl

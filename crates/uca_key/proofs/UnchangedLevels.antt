@@ -3,31 +3,14 @@ use Rattle.std.proofs.Common.{◌≡◌, ℕ, suc, ◌+◌, ◌-◌, ◌<◌, �
 use Rattle.std.proofs.Math.Seq.{drop-cons}
 use Rattle.std.proofs.lemmas.Grind.{flat_map-append}
 use Rattle.std.proofs.lemmas.List.{map-append}
-use Rattle.std.proofs.lemmas.List.Elements.{filter-append}
 use Rattle.uca_weights.specs.declared.element.Element.{Element}
 use Rattle.uca_weights.specs.declared.settings.Variable.TheVariants.{NonIgnorable}
-use Rattle.uca_weights.specs.VariableWeighting.{unchanged, weighted, weighted_after, weights}
+use Rattle.uca_weights.specs.VariableWeighting.{unchanged, weighted, weights}
 use Rattle.uca_weights.specs.Weigher.{WeigherState, after_element, weighted_from}
 use Rattle.uca_model.specs.LevelWeights.{level_weights}
 use Rattle.uca_model.specs.SortKey.{level_bytes, weight_bytes}
 use Rattle.uca_levels.specs.Streams.{weights_from}
-
--- elements keep their weights, whatever comes before them
-weighted-unchanged : (before es : List Element) → weighted_after NonIgnorable before es ≡ map (λ e. unchanged e 0) es
-weighted-unchanged before [] = refl
-weighted-unchanged before (e ∷ es) = ap (λ ws. unchanged e 0 ∷ ws) (weighted-unchanged (before ++ e ∷ []) es)
-
-level_weights-append : (level : ℕ) (xs ys : List (List ℕ)) → level_weights level (xs ++ ys) ≡ level_weights level xs ++ level_weights level ys
-level_weights-append level xs ys =
-    let at : List ℕ → ℕ = λ w. slice_index w (level - 1) in
-    ap (filter (λ w. not (w == 0))) (map-append at xs ys) ∙ filter-append (λ w. not (w == 0)) (map at xs) (map at ys)
-
--- the weights of two lists, one after the other
-pub level_weights-both : (level : ℕ) (xs ys : List Element) → level_weights level (weighted NonIgnorable (xs ++ ys)) ≡ level_weights level (weighted NonIgnorable xs) ++ level_weights level (weighted NonIgnorable ys)
-level_weights-both level xs ys =
-    let f : Element → List ℕ = λ e. unchanged e 0 in
-    ap (level_weights level) (weighted-unchanged [] (xs ++ ys) ∙ map-append f xs ys ∙ sym (ap₂ (λ v w. v ++ w) (weighted-unchanged [] xs) (weighted-unchanged [] ys)))
-    ∙ level_weights-append level (weighted NonIgnorable xs) (weighted NonIgnorable ys)
+use Rattle.uca_levels.proofs.UnchangedWeights.{weighted-unchanged, level_weights-append, level_weights-both}
 
 -- the weights from one element on: its own, and those after it
 pub kept-one : (level i : ℕ) (es : List Element) (d : Element) (ws : List ℕ) → i < length es

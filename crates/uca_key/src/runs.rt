@@ -1,5 +1,5 @@
 // The later levels of a packed key, with runs of common weights, put into a buffer piece by piece.
-ghost use Rattle.std.specs.Prelude.{◌≡◌, ◌≢◌, ◌==◌, ◌+◌, ◌*◌, ◌-◌, ◌^◌, ◌<◌, ◌≤◌, ◌++◌, ◌∷◌, [], ℕ, List, not, chars, filter, length, take};
+ghost use Rattle.std.specs.Prelude.{◌≡◌, IsTrue, ◌≢◌, ◌==◌, ◌+◌, ◌*◌, ◌-◌, ◌^◌, ◌<◌, ◌≤◌, ◌++◌, ◌∷◌, [], ℕ, List, not, chars, filter, length, take};
 ghost use Rattle.unicode_normalization.specs.Forms.{nfd};
 ghost use Rattle.uca_weights.specs.declared.element.Element.{Element};
 ghost use Rattle.uca_weights.specs.declared.settings.Variable.TheVariants.{NonIgnorable};
@@ -148,34 +148,24 @@ fn pack_each(key: &mut [u8], before: Counted, elements: &[Element], level: u8) -
     packed
 }
 
-// The same of four elements at most. Four common weights, as most are, are counted together.
+// Whether some elements are four, and their weights at a level 2 or 3 all the common one.
 #[inline(always)]
-fn pack_few(key: &mut [u8], before: Counted, elements: &[Element], level: u8) -> Counted
-    requires few { before.run < 62 }
+fn are_four_common(elements: &[Element], level: u8) -> bool
     requires first { 2 ≤ level }
     requires last { level ≤ 3 }
-    requires room { before.at + 4 * length elements.now ≤ length key.old }
-    ensures bytes { (ws : List ℕ) → take result.at key.new ++ runs_after (common_weight level) result.run ws ≡ take before.at key.old ++ runs_after (common_weight level) before.run (level_weights level (weighted NonIgnorable elements.now) ++ ws) }
-    ensures few { result.run < 62 }
-    ensures within { result.at ≤ before.at + 4 * length elements.now }
-    ensures size { length key.new ≡ length key.old }
+    ensures { IsTrue result → level_weights level (weighted NonIgnorable elements.now) ≡ common_weight level ∷ common_weight level ∷ common_weight level ∷ common_weight level ∷ [] }
 {
+    let [a, b, c, d] = elements else {
+        return false;
+    };
     let common = common_weight(level);
-    if let [a, b, c, d] = elements {
-        let (first, second) = (a.weight(level), b.weight(level));
-        let (third, fourth) = (c.weight(level), d.weight(level));
-        let are_common = first == common && second == common && third == common && fourth == common;
-        if are_common && before.run + 4 < FULL_RUN {
-            return Counted {
-                at: before.at,
-                run: before.run + 4,
-            };
-        }
-    }
-    pack_each(key, before, elements, level)
+    let (first, second) = (a.weight(level), b.weight(level));
+    let (third, fourth) = (c.weight(level), d.weight(level));
+    first == common && second == common && third == common && fourth == common
 }
 
-// Packs the weights of elements that keep them, at a level 2 or 3. It is a loop of its own, since most texts come this way.
+// Packs the weights of elements that keep them, at a level 2 or 3. It is a loop of its own, since most texts come this way: four
+// common weights, as most are, are counted together.
 #[inline(always)]
 fn pack_unchanged(key: &mut [u8], before: Counted, elements: &[Element], level: u8) -> Counted
     requires few { before.run < 62 }
@@ -191,7 +181,11 @@ fn pack_unchanged(key: &mut [u8], before: Counted, elements: &[Element], level: 
     let mut left = elements;
     while left.len() >= 4 {
         let (four, rest) = left.split_at(4);
-        packed = pack_few(key, packed, four, level);
+        if packed.run + 4 < FULL_RUN && are_four_common(four, level) {
+            packed.run += 4;
+        } else {
+            packed = pack_each(key, packed, four, level);
+        }
         left = rest;
     }
     pack_each(key, packed, left, level)

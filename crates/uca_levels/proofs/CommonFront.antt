@@ -32,22 +32,26 @@ within-front (true ∷ ms) = omega arith
 within-front (false ∷ ms) = let h : prefix_len (λ m. not m) ms ≤ length ms = within-front ms in omega arith
 
 -- how many lanes come before the first that differs, by the mask of those that do
-pub in-block : (xs ys : List ℕ) (mask : ℕ) → length xs ≡ 16 → length ys ≡ 16 → mask ≡ mask_l (map (top 7) (zip2 (λ a b. cond (differ a b) 255 0) xs ys)) % 2 ^ 64
-    → (cond (eqb mask 0) 16 (count_trailing_zeros 64 mask) ≤ 16) × (take (cond (eqb mask 0) 16 (count_trailing_zeros 64 mask)) xs ≡ take (cond (eqb mask 0) 16 (count_trailing_zeros 64 mask)) ys)
+pub in-block : (xs ys : List ℕ) (mask : ℕ) → length xs ≡ 8 → length ys ≡ 8 → mask ≡ mask_l (map (top 7) (zip2 (λ a b. cond (differ a b) 255 0) xs ys)) % 2 ^ 64
+    → (cond (eqb mask 0) 8 (count_trailing_zeros 64 mask) ≤ 8) × (take (cond (eqb mask 0) 8 (count_trailing_zeros 64 mask)) xs ≡ take (cond (eqb mask 0) 8 (count_trailing_zeros 64 mask)) ys)
 in-block xs ys mask long_x long_y is =
     let ms = zip2 differ xs ys in
-    let long : length ms ≡ 16 = length-zip2 differ xs ys (long_x ∙ sym long_y) ∙ long_x in
+    let long : length ms ≡ 8 = length-zip2 differ xs ys (long_x ∙ sym long_y) ∙ long_x in
     let mask_is : mask ≡ mask_l (map (λ m. m) ms) =
     is ∙ ap (λ l. mask_l l % 2 ^ 64) (tops_compared w8 differ xs ys) ∙ mask_l-mod ms 64 (omega (arith, long)) ∙ ap mask_l (sym (map-itself ms)) in
-    let counted : cond (eqb mask 0) 16 (count_trailing_zeros 64 mask) ≡ prefix_len (λ m. not m) ms =
-    ap (λ n. cond (eqb n 0) 16 (count_trailing_zeros 64 n)) mask_is ∙ first_set_mask_l (λ m. m) ms 16 long (omega arith) in (
+    let counted : cond (eqb mask 0) 8 (count_trailing_zeros 64 mask) ≡ prefix_len (λ m. not m) ms =
+    ap (λ n. cond (eqb n 0) 8 (count_trailing_zeros 64 n)) mask_is ∙ first_set_mask_l (λ m. m) ms 8 long (omega arith) in (
       omega (arith, counted, within-front ms, long),
       subst (λ k. take k xs ≡ take k ys) (sym counted) (same-front xs ys (long_x ∙ sym long_y)),
     )
 
+-- a shorter front is the same too
+pub common-fewer : (a b : List ℕ) (more at : ℕ) → at ≤ more → take more a ≡ take more b → take at a ≡ take at b
+common-fewer a b more at fewer same = sym (take-take at more a fewer) ∙ ap (take at) same ∙ take-take at more b fewer
+
 -- more bytes in common from a place on
-pub common-more : (a b : List ℕ) (at k : ℕ) → take at a ≡ take at b → k ≤ 16 → take k (chunk at 16 a) ≡ take k (chunk at 16 b) → take (at + k) a ≡ take (at + k) b
+pub common-more : (a b : List ℕ) (at k : ℕ) → take at a ≡ take at b → k ≤ 8 → take k (chunk at 8 a) ≡ take k (chunk at 8 b) → take (at + k) a ≡ take (at + k) b
 common-more a b at k before small more = take-add at k a ∙ ap₂ (λ x y. x ++ y) before (part a ∙ more ∙ sym (part b)) ∙ sym (take-add at k b)
   where
-    part : (l : List ℕ) → take k (drop at l) ≡ take k (chunk at 16 l)
-    part l = sym (take-take k 16 (drop at l) small)
+    part : (l : List ℕ) → take k (drop at l) ≡ take k (chunk at 8 l)
+    part l = sym (take-take k 8 (drop at l) small)

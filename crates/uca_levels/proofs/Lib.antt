@@ -7,3 +7,5 @@ pub mod CommonFront
 pub mod FirstWeight
 pub mod PrimaryLemmas
 pub mod StreamLemmas
+pub mod UnchangedWeights
+mod PrimarySteps

@@ -35,3 +35,7 @@ of-weight level (Some w) h = record { weight = λ _. h; point = omega (arith, h.
 pub of-point : (x : Option ℕ) → IfSome x (λ c. c < 2 ^ 24) → IfSome x (IsOfLevel 5)
 of-point None h = h
 of-point (Some c) h = record { weight = λ low. absurd (omega (arith, low)); point = h }
+
+pub if_some : (o : Option Ordering) (P Q : Ordering → Type 0) → ((x : Ordering) → P x → Q x) → IfSome o P → IfSome o Q
+if_some None P Q more h = h
+if_some (Some x) P Q more h = more x h

@@ -8,3 +8,4 @@ pub mod Streams
 pub mod CellWeights
 pub mod JoinedWeights
 pub mod FirstWeight
+pub mod Primaries

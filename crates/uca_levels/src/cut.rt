@@ -10,7 +10,7 @@ use uca_match::joins_nothing;
 use uca_table::Table;
 
 /// How many bytes are looked at together.
-const LANES: usize = 16;
+const LANES: usize = 8;
 
 // Whether a text may be cut before these characters.
 fn may_follow(t: &Table, left: &str) -> bool
@@ -28,10 +28,10 @@ fn common_in_block(a: &[u8], b: &[u8], at: usize) -> usize
     requires in_a { at + LANES ≤ length a.now }
     requires in_b { at + LANES ≤ length b.now }
     ensures within { result ≤ LANES }
-    ensures same { take result (chunk at 16 a.now) ≡ take result (chunk at 16 b.now) }
+    ensures same { take result (chunk at 8 a.now) ≡ take result (chunk at 8 b.now) }
 {
-    let block = u8x16::from_slice(&a[at..]);
-    let differ = block.simd_ne(u8x16::from_slice(&b[at..])).to_bitmask();
+    let block = u8x8::from_slice(&a[at..]);
+    let differ = block.simd_ne(u8x8::from_slice(&b[at..])).to_bitmask();
     if differ == 0 {
         LANES
     } else {
@@ -39,22 +39,37 @@ fn common_in_block(a: &[u8], b: &[u8], at: usize) -> usize
     }
 }
 
-// How many bytes two texts have in common from their start.
-fn common_len(a: &[u8], b: &[u8]) -> usize
+// How many bytes two texts have in common from their start, of which one is too short for a block.
+fn few_in_common(a: &[u8], b: &[u8]) -> usize
     ensures { take result a.now ≡ take result b.now }
 {
     let mut at = 0;
-    while at + LANES <= a.len() && at + LANES <= b.len() {
-        let common = common_in_block(a, b, at);
-        at += common;
-        if common < LANES {
-            return at;
-        }
-    }
     while at < a.len() && at < b.len() && a[at] == b[at] {
         at += 1;
     }
     at
+}
+
+// How many bytes two texts have in common from their start. The last block may begin in the one before it.
+fn common_len(a: &[u8], b: &[u8]) -> usize
+    ensures { take result a.now ≡ take result b.now }
+{
+    let shorter = a.len().min(b.len());
+    if shorter < LANES {
+        return few_in_common(a, b);
+    }
+    let last = shorter - LANES;
+    let mut at = 0;
+    'each: loop {
+        let common = common_in_block(a, b, at);
+        if common < LANES {
+            return at + common;
+        }
+        if at == last {
+            return shorter;
+        }
+        at = last.min(at + LANES);
+    }
 }
 
 // Whether no character of two texts lies on both sides of a place.

@@ -16,6 +16,7 @@ mod first_weight;
 mod joined_weights;
 mod level_order;
 pub mod points;
+mod primaries;
 mod stream;
 pub mod text_order;
 pub mod weights;

@@ -12,6 +12,7 @@ use crate::cell_weights::CellWeights;
 use crate::comparison::compare_sources;
 use crate::cut::{apart_after, common_front, without_front};
 use crate::joined_weights::JoinedWeights;
+use crate::primaries::order_of_primaries;
 use crate::stream::order_of;
 use std::cmp::Ordering;
 use uca_table::Table;
@@ -67,6 +68,20 @@ fn order_of_weights(t: &Table, v: Variable, level: u8, a: &str, b: &str) -> Opti
     }
 }
 
+// The order of two texts at the first level. `None`: many characters join each other. Most characters have one primary weight, and most
+// texts differ in one soon.
+#[inline(always)]
+fn order_at_first(t: &Table, v: Variable, a: &str, b: &str) -> Option<Ordering>
+    requires safe_a { IsSafe (chars a.now) }
+    requires safe_b { IsSafe (chars b.now) }
+    ensures { IfSome result (OrdersLevel 1 (level_list t.now v (chars a.now) 1) (level_list t.now v (chars b.now) 1)) }
+{
+    match order_of_primaries(t, v, a, b) {
+        Ok(order) => Some(order),
+        Err(left) => order_of_weights(t, v, 1, left.a, left.b),
+    }
+}
+
 // The order of two texts at the first four levels, as many of them as there are. Both begin with bytes in common: the first level
 // begins at the last place in them at which both texts may be cut for their elements, and later levels at the last one at which they
 // may be cut for all weights. `None`: the fifth level is asked for, or many characters join each other.
@@ -78,7 +93,7 @@ fn order_by_weights(t: &Table, s: Settings, a: &str, b: &str, common: usize) -> 
 {
     let _longest = t.longest();
     let (left_a, left_b) = apart_after(t, a, b, common);
-    let order = order_of_weights(t, s.weighting, 1, left_a, left_b)?;
+    let order = order_at_first(t, s.weighting, left_a, left_b)?;
     if order.is_ne() {
         return Some(order);
     }

@@ -11,7 +11,7 @@ use uca_io::{
 const REFUSED: &[u8] = b"bad";
 
 /// A sum of lines by which each number and each byte counts. It refuses one line.
-#[derive(Drop)]
+#[derive(Default, Drop)]
 struct Sum {
     numbers: u64,
     bytes: u64,
@@ -70,32 +70,6 @@ impl<'a> Read for OneByOne<'a> {
     }
 }
 
-/// Takes each line, and keeps none.
-#[derive(Drop)]
-struct Taken;
-
-impl LineSink for Taken {
-    type Cause = Bad;
-
-    ghost State = { Unit {0} };
-
-    ghost Fault = { Unit {0} };
-
-    ghost state = { λ _. tt };
-
-    ghost fold = { record { step = λ n a line. Ok a; long = tt; large = tt; failed = tt } };
-
-    ghost fault_of = { λ _. None };
-
-    ghost possible = { λ _. Unit {0} };
-
-    ghost ready = { λ _ n. Unit {0} };
-
-    fn add(&mut self, _number: u64, _line: &[u8]) -> Result<(), Bad> {
-        Ok(())
-    }
-}
-
 /// Gives lines of `MAX_LINE` bytes without end, and counts its calls and its bytes.
 #[derive(Drop)]
 struct Endless {
@@ -128,19 +102,13 @@ impl Reader for Endless {
 }
 
 fn numbers_at_once(text: &[u8]) -> Result<u64, LineFault<Bad>> {
-    let mut sum = Sum {
-        numbers: 0,
-        bytes: 0,
-    };
+    let mut sum = Sum::default();
     read_lines(&mut Reading::new(text), &mut sum)?;
     Ok(sum.numbers)
 }
 
 fn numbers_one_by_one(text: &[u8]) -> Result<u64, LineFault<Bad>> {
-    let mut sum = Sum {
-        numbers: 0,
-        bytes: 0,
-    };
+    let mut sum = Sum::default();
     read_lines(&mut Reading::new(OneByOne { rest: text }), &mut sum)?;
     Ok(sum.numbers)
 }
@@ -188,7 +156,7 @@ fn an_endless_text_is_refused_at_the_first_byte_past_the_limit(rt: HostRuntime) 
         line: 16_381,
         cause: LineCause::TooLarge,
     };
-    assert!(rt; read_lines(&mut reader, &mut Taken) == Err(large));
+    assert!(rt; read_lines(&mut reader, &mut Sum::default()) == Err(large));
     assert!(rt; reader.bytes == MAX_INPUT as u64 + 1);
     assert!(rt; reader.calls == 16_385);
 }

@@ -1,21 +1,42 @@
-use Rattle.std.proofs.Common.{◌++◌, ℕ, List, take, sym, ap, ◌∙◌, arith, append_assoc}
+use Rattle.std.proofs.Common.{◌≡◌, ℕ, ◌+◌, ◌<◌, List, [], ◌∷◌, ◌++◌, take, sym, ap, ◌∙◌, arith, append_assoc}
 use Rattle.uca_weights.specs.declared.element.Element.{Element}
 use Rattle.uca_weights.specs.declared.settings.Variable.TheVariants.{NonIgnorable}
 use Rattle.uca_weights.specs.VariableWeighting.{weighted}
 use Rattle.uca_model.specs.LevelWeights.{level_weights}
 use Rattle.uca_key.specs.PackedKey.{common_weight, runs_after}
-use Rattle.uca_key.proofs.UnchangedLevels.{level_weights-both}
+use Rattle.uca_key.proofs.RunsLemmas.{four-common}
+use Rattle.uca_levels.proofs.UnchangedWeights.{level_weights-both}
 use Rattle.uca_key.proofs.runs.pack_unchanged.Goals as goal
+
+abbrev weights_of : ℕ → List Element → List ℕ
+weights_of level es = level_weights level (weighted NonIgnorable es)
+
+-- the weights of two lists, one after the other
+both : (level : ℕ) (whole four rest : List Element) (ws : List ℕ) → whole ≡ four ++ rest → weights_of level four ++ (weights_of level rest ++ ws) ≡ weights_of level whole ++ ws
+both level whole four rest ws split = sym (append_assoc (weights_of level four) (weights_of level rest) ws) ∙ ap (λ l. l ++ ws) (sym (level_weights-both level four rest)) ∙ ap (λ es. weights_of level es ++ ws) (sym split)
 
 pub loop-left-preserved : goal.loop-left-preserved
 loop-left-preserved c =
-    let weights_of : List Element → List ℕ = λ es. level_weights c.args.level (weighted NonIgnorable es) in
     let four : List Element = c.split_at.result.0.now in let rest : List Element = c.split_at.result.1.now in
     let packed : List ℕ → List ℕ = λ ws. take c.loop-left.packed.at c.loop-left.key ++ runs_after (common_weight c.args.level) c.loop-left.packed.run ws in
     record {
-      few = c.pack_few-packed.ensures.few;
-      within = omega (arith, c.split_at.ensures.front_len, c.split_at.ensures.back_len, c.pack_few-packed.ensures.within, c.loop-left.invariant.within);
-      size = c.pack_few-packed.ensures.size ∙ c.loop-left.invariant.size;
-      same = λ ws. c.pack_few-packed.ensures.bytes (weights_of rest ++ ws) ∙ ap packed (sym (append_assoc (weights_of four) (weights_of rest) ws) ∙ ap (λ l. l ++ ws) (sym (level_weights-both c.args.level four rest)))
-          ∙ ap (λ es. packed (weights_of es ++ ws)) (sym c.split_at.ensures.by_index.0) ∙ c.loop-left.invariant.same ws;
+      few = c.pack_each-packed.ensures.few;
+      within = omega (arith, c.split_at.ensures.front_len, c.split_at.ensures.back_len, c.pack_each-packed.ensures.within, c.loop-left.invariant.within);
+      size = c.pack_each-packed.ensures.size ∙ c.loop-left.invariant.size;
+      same = λ ws. c.pack_each-packed.ensures.bytes (weights_of c.args.level rest ++ ws) ∙ ap packed (both c.args.level c.loop-left.left.now four rest ws c.split_at.ensures.by_index.0) ∙ c.loop-left.invariant.same ws;
+    }
+
+pub loop-left-preserved-then-are_four_common : goal.loop-left-preserved-then-are_four_common
+loop-left-preserved-then-are_four_common c =
+    let four : List Element = c.split_at.result.0.now in let rest : List Element = c.split_at.result.1.now in
+    let packed : List ℕ → List ℕ = λ ws. take c.loop-left.packed.at c.loop-left.key ++ runs_after (common_weight c.args.level) c.loop-left.packed.run ws in
+    let w : ℕ = common_weight c.args.level in
+    let few : c.loop-left.packed.run + 4 < 62 = omega arith in
+    let common : weights_of c.args.level four ≡ w ∷ w ∷ w ∷ w ∷ [] = c.are_four_common.ensures c.if-are_four_common.true in
+    record {
+      few = few;
+      within = omega (arith, c.split_at.ensures.front_len, c.split_at.ensures.back_len, c.loop-left.invariant.within);
+      size = c.loop-left.invariant.size;
+      same = λ ws. ap (λ l. take c.loop-left.packed.at c.loop-left.key ++ l) (four-common w c.loop-left.packed.run (weights_of c.args.level rest ++ ws) few)
+          ∙ ap (λ l. packed (l ++ (weights_of c.args.level rest ++ ws))) (sym common) ∙ ap packed (both c.args.level c.loop-left.left.now four rest ws c.split_at.ensures.by_index.0) ∙ c.loop-left.invariant.same ws;
     }

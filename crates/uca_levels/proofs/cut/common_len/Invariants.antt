@@ -1,22 +1,12 @@
-use Rattle.std.proofs.Common.{◌≡◌, ◌-◌, ◌≤◌, length, take}
+use Rattle.std.proofs.Common.{◌≡◌, ◌-◌, ◌≤◌, take}
 use Rattle.uca_levels.proofs.cut.common_len.Given as goal
 
-abbrev pub invariant-loop-at : goal.invariant-loop-at
-invariant-loop-at l = record {
-  in_a : l.at ≤ length l.a;
-  in_b : l.at ≤ length l.b;
+-- the bytes before the block are the same
+abbrev pub invariant-each : goal.invariant-each
+invariant-each l = record {
+  within : l.at ≤ l.last;
   same : take l.at l.a ≡ take l.at l.b;
 }
 
-abbrev pub decreases-loop-at : goal.decreases-loop-at
-decreases-loop-at l = length l.a - l.at
-
-abbrev pub invariant-loop-at-2 : goal.invariant-loop-at-2
-invariant-loop-at-2 l = record {
-  in_a : l.at ≤ length l.a;
-  in_b : l.at ≤ length l.b;
-  same : take l.at l.a ≡ take l.at l.b;
-}
-
-abbrev pub decreases-loop-at-2 : goal.decreases-loop-at-2
-decreases-loop-at-2 l = length l.a - l.at
+abbrev pub decreases-each : goal.decreases-each
+decreases-each l = l.last - l.at

@@ -53,14 +53,14 @@ each-preserved c =
       undecided = undecided-next t c.args.s a b c.each.level o c.each.invariant.undecided inside orders (from_not_ne o (sym c.is_ne-in-each.ensures ∙ c.if-is_ne-2.false));
     }
 
+pub order_at_first-requires-clause-safe_a : goal.order_at_first-requires-clause-safe_a
+order_at_first-requires-clause-safe_a c = (safe-apart c.args.t.now _ _ _ _ c.apart_after.ensures c.requires.safe_a c.requires.safe_b).0
+
+pub order_at_first-requires-clause-safe_b : goal.order_at_first-requires-clause-safe_b
+order_at_first-requires-clause-safe_b c = (safe-apart c.args.t.now _ _ _ _ c.apart_after.ensures c.requires.safe_a c.requires.safe_b).1
+
 pub order_of_weights-requires-clause-safe_a : goal.order_of_weights-requires-clause-safe_a
-order_of_weights-requires-clause-safe_a c = (safe-apart c.args.t.now _ _ _ _ c.apart_after.ensures c.requires.safe_a c.requires.safe_b).0
+order_of_weights-requires-clause-safe_a c = (left-safe c.args.t.now (chars c.args.a.now) (chars c.args.b.now) _ _ c.without_front.ensures c.requires.safe_a c.requires.safe_b).0
 
 pub order_of_weights-requires-clause-safe_b : goal.order_of_weights-requires-clause-safe_b
-order_of_weights-requires-clause-safe_b c = (safe-apart c.args.t.now _ _ _ _ c.apart_after.ensures c.requires.safe_a c.requires.safe_b).1
-
-pub order_of_weights-requires-in-each-clause-safe_a : goal.order_of_weights-requires-in-each-clause-safe_a
-order_of_weights-requires-in-each-clause-safe_a c = (left-safe c.args.t.now (chars c.args.a.now) (chars c.args.b.now) _ _ c.without_front.ensures c.requires.safe_a c.requires.safe_b).0
-
-pub order_of_weights-requires-in-each-clause-safe_b : goal.order_of_weights-requires-in-each-clause-safe_b
-order_of_weights-requires-in-each-clause-safe_b c = (left-safe c.args.t.now (chars c.args.a.now) (chars c.args.b.now) _ _ c.without_front.ensures c.requires.safe_a c.requires.safe_b).1
+order_of_weights-requires-clause-safe_b c = (left-safe c.args.t.now (chars c.args.a.now) (chars c.args.b.now) _ _ c.without_front.ensures c.requires.safe_a c.requires.safe_b).1

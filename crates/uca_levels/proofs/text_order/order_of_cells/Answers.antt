@@ -1,16 +1,11 @@
 use Rattle.std.proofs.Common.{◌≡◌, chars, refl, subst, ◌∙◌}
-use Rattle.std.specs.declared.cmp.Ordering.{Ordering}
-use Rattle.std.specs.Prelude.{IfSome, Option, Some, None}
 use Rattle.uca_model.specs.LevelWeights.{level_list}
 use Rattle.uca_model.specs.DecidingLevel.{OrdersLevel}
 use Rattle.uca_levels.specs.CellWeights.{cell_weights_left}
 use Rattle.uca_levels.specs.Streams.{given_before}
 use Rattle.uca_levels.proofs.ReadsLemmas.{InStep-orders}
+use Rattle.uca_levels.proofs.StreamLemmas.{if_some}
 use Rattle.uca_levels.proofs.text_order.order_of_cells.Goals as goal
-
-if_some : (o : Option Ordering) (P Q : Ordering → Type 0) → ((x : Ordering) → P x → Q x) → IfSome o P → IfSome o Q
-if_some None P Q more h = h
-if_some (Some x) P Q more h = more x h
 
 pub returns-in-Err : goal.returns-in-Err
 returns-in-Err c =

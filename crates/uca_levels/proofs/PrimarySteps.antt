@@ -1,0 +1,52 @@
+-- The primary weights of a text, character after character.
+use Rattle.std.proofs.Common.{◌≡◌, ℕ, Bool, not, ◌==◌, List, [], ◌∷◌, ◌++◌, map, filter, slice_index, ne_eqb, refl, sym, ap, ap₂, ◌∙◌, arith}
+use Rattle.std.proofs.lemmas.Grind.{common_steps}
+use Rattle.std.proofs.lemmas.Bool.{cond-true, cond-false}
+use Rattle.std.proofs.lemmas.List.{map-append}
+use Rattle.std.proofs.lemmas.List.Elements.{filter-append}
+use Rattle.unicode_normalization.specs.Forms.{nfd}
+use Rattle.uca_weights.specs.declared.element.Element.{Element}
+use Rattle.uca_weights.specs.declared.settings.Variable.{Variable}
+use Rattle.uca_weights.specs.declared.settings.Variable.TheVariants.{NonIgnorable, Blanked, Shifted}
+use Rattle.uca_weights.specs.VariableWeighting.{is_after_variable, weighted, weighted_after, weights}
+use Rattle.uca_model.specs.CollationElements.{elements}
+use Rattle.uca_model.specs.LevelWeights.{level_list, level_weights}
+use Rattle.uca_model.specs.Table.{ElementTable}
+use Rattle.uca_levels.specs.Primaries.{primary_of}
+use Rattle.uca_levels.specs.Streams.{weight_before}
+
+-- what comes before an element does not change its primary weight
+primary-is : (v : Variable) (after : Bool) (e : Element) → slice_index (weights v after e) 0 ≡ primary_of v e
+primary-is NonIgnorable after e = refl
+primary-is Blanked after e = grind (arith, common_steps)
+primary-is Shifted after e = grind (arith, common_steps)
+
+-- the primary weights of elements that are not zero
+abbrev primaries : Variable → List Element → List ℕ
+primaries v es = filter (λ w. not (w == 0)) (map (primary_of v) es)
+
+primaries-after : (v : Variable) (before es : List Element) → map (λ w. slice_index w 0) (weighted_after v before es) ≡ map (primary_of v) es
+primaries-after v before [] = refl
+primaries-after v before (e ∷ es) = ap₂ (λ w ws. w ∷ ws) (primary-is v (is_after_variable before) e) (primaries-after v (before ++ e ∷ []) es)
+
+pub primaries-are : (v : Variable) (es : List Element) → level_weights 1 (weighted v es) ≡ primaries v es
+primaries-are v es = ap (filter (λ w. not (w == 0))) (primaries-after v [] es)
+
+-- those of two lists, one after the other
+primaries-both : (v : Variable) (xs ys : List Element) → level_weights 1 (weighted v (xs ++ ys)) ≡ level_weights 1 (weighted v xs) ++ level_weights 1 (weighted v ys)
+primaries-both v xs ys =
+    primaries-are v (xs ++ ys)
+    ∙ ap (filter (λ w. not (w == 0))) (map-append (primary_of v) xs ys)
+    ∙ filter-append (λ w. not (w == 0)) (map (primary_of v) xs) (map (primary_of v) ys)
+    ∙ sym (ap₂ (λ a b. a ++ b) (primaries-are v xs) (primaries-are v ys))
+
+-- a character has these elements before the rest of a text, of which one may have a primary weight
+module _ (t : ElementTable) (v : Variable) (c w : ℕ) (rest : List ℕ) (es : List Element) (whole : es ++ elements t (nfd rest) ≡ elements t (nfd (c ∷ rest))) (own : level_weights 1 (weighted v es) ≡ weight_before w []) where
+  step : level_list t v (c ∷ rest) 1 ≡ weight_before w [] ++ level_list t v rest 1
+  step = ap (λ l. level_weights 1 (weighted v l)) (sym whole) ∙ primaries-both v es (elements t (nfd rest)) ∙ ap (λ l. l ++ level_list t v rest 1) own
+
+  pub first-weight : (w ≡ 0 → ⊥) → level_list t v (c ∷ rest) 1 ≡ w ∷ level_list t v rest 1
+  first-weight some = step ∙ ap (λ l. l ++ level_list t v rest 1) (cond-true (not (w == 0)) _ _ (ap not (ne_eqb w 0 some)))
+
+  pub no-weight : w ≡ 0 → level_list t v (c ∷ rest) 1 ≡ level_list t v rest 1
+  no-weight none = step ∙ ap (λ l. l ++ level_list t v rest 1) (cond-false (not (w == 0)) _ _ (ap (λ n. not (n == 0)) none))

@@ -1,0 +1,106 @@
+//! Primary weights of characters that stand alone and have at most one: by these most comparisons are decided.
+ghost use Rattle.std.specs.Prelude.{◌≡◌, [], ◌<◌, ◌≤◌, chars, length, IfErr, IfSome, MatchResult};
+ghost use Rattle.uca_weights.specs.VariableWeighting.{weighted};
+ghost use Rattle.uca_model.specs.DecidingLevel.{OrdersLevel};
+ghost use Rattle.uca_model.specs.LevelWeights.{level_list, level_weights};
+ghost use Rattle.uca_model.specs.SafeText.{IsSafe};
+ghost use Rattle.uca_match.specs.Yields.{YieldsFirst};
+ghost use Rattle.uca_levels.specs.Decides.{IsOfLevel};
+ghost use Rattle.uca_levels.specs.Primaries.{primary_of};
+ghost use Rattle.uca_levels.specs.Reads.{InStep};
+ghost use Rattle.uca_levels.specs.Streams.{weight_before};
+
+use crate::decided::{decided, widened};
+use std::cmp::Ordering;
+use uca_table::Table;
+use uca_weights::{Element, Variable};
+
+/// What is left of two texts after characters with the same primary weights.
+#[derive(Clone, Copy)]
+pub(crate) struct Rest<'t> {
+    pub(crate) a: &'t str,
+    pub(crate) b: &'t str,
+}
+
+// The weight of an element at the first level, whatever comes before it (UTS #10, section 4).
+#[inline(always)]
+fn primary(v: Variable, e: &Element) -> u16
+    ensures { result ≡ primary_of v e.now }
+{
+    match v {
+        Variable::NonIgnorable => e.l1,
+        _ if e.starred => 0,
+        _ => e.l1,
+    }
+}
+
+// The primary weight of elements of which only the first may have one, or zero. `None`: others may have one.
+#[inline(always)]
+fn only_primary(v: Variable, elements: &[Element]) -> Option<u16>
+    ensures { IfSome result (λ w. level_weights 1 (weighted v elements.now) ≡ weight_before w []) }
+{
+    match elements {
+        [e] => Some(primary(v, e)),
+        [e, mark] if primary(v, mark) == 0 => Some(primary(v, e)),
+        _ => None,
+    }
+}
+
+// The next primary weight of a text, or that there is none, and what is left of the text. `None`: that is not known without a look at
+// more than one character at a time.
+#[inline(always)]
+fn next_primary<'t>(t: &Table, v: Variable, text: &'t str) -> Option<(Option<u16>, &'t str)>
+    requires { IsSafe (chars text.now) }
+    ensures first { IfSome result (λ r. YieldsFirst (level_list t.now v (chars text.now) 1) r.0 (level_list t.now v (chars r.1.now) 1)) }
+    ensures weight { IfSome result (λ r. IfSome r.0 (IsOfLevel 1)) }
+    ensures safe { IfSome result (λ r. IsSafe (chars r.1.now)) }
+    ensures shorter { IfSome result (λ r. IfSome r.0 (λ _. length r.1.now < length text.now)) }
+{
+    let mut left = text;
+    'characters: loop {
+        let mut characters = left.chars();
+        let Some(c) = characters.next() else {
+            return Some((None, left));
+        };
+        let rest = characters.as_str();
+        let weight = only_primary(v, t.alone_before(c, rest)?)?;
+        if weight != 0 {
+            return Some((Some(weight), rest));
+        }
+        left = rest;
+    }
+}
+
+/// The order of two texts at the first level, as far as their primary weights come one from a character. If that is not so up to where
+/// the texts differ, what is left has the order of the texts.
+#[inline(always)]
+pub(crate) fn order_of_primaries<'t>(
+    t: &Table,
+    v: Variable,
+    a: &'t str,
+    b: &'t str,
+) -> Result<Ordering, Rest<'t>>
+    requires safe_a { IsSafe (chars a.now) }
+    requires safe_b { IsSafe (chars b.now) }
+    ensures order { MatchResult result
+        (OrdersLevel 1 (level_list t.now v (chars a.now) 1) (level_list t.now v (chars b.now) 1))
+        (λ left. InStep (level_list t.now v (chars a.now) 1) (level_list t.now v (chars b.now) 1) (level_list t.now v (chars left.a.now) 1) (level_list t.now v (chars left.b.now) 1)) }
+    ensures safe { IfErr result (λ left. IsSafe (chars left.a.now) × IsSafe (chars left.b.now)) }
+{
+    let mut left = Rest { a, b };
+    'weights: loop {
+        let Some((x, rest_a)) = next_primary(t, v, left.a) else {
+            return Err(left);
+        };
+        let Some((y, rest_b)) = next_primary(t, v, left.b) else {
+            return Err(left);
+        };
+        if let Some(order) = decided(widened(x), widened(y)) {
+            return Ok(order);
+        }
+        left = Rest {
+            a: rest_a,
+            b: rest_b,
+        };
+    }
+}
