@@ -53,20 +53,6 @@ fn put_some_weight(weight: u16, at: usize, out: &mut [u8]) -> usize
     at
 }
 
-// The same, by whether it is known to fit.
-#[inline(always)]
-fn put_weight_where(fits: bool, weight: u16, at: usize, out: &mut [u8]) -> usize
-    requires { IsTrue fits → at + 2 ≤ length out.old }
-    ensures puts { PutsAt at (flat_map weight_bytes (filter (λ w. not (w == 0)) (weight ∷ []))) out.old out.new result }
-    ensures within { IsTrue fits → result ≤ at + 2 }
-{
-    if fits {
-        put_weight(weight, at, out)
-    } else {
-        put_some_weight(weight, at, out)
-    }
-}
-
 // Puts the weight of an element as the table has it, at a level from 1 to 3, where it fits, unless it is zero.
 #[inline(always)]
 fn put_unchanged(element: &Element, level: u8, at: usize, out: &mut [u8]) -> usize
@@ -179,8 +165,30 @@ fn put_unchanged_level(elements: &[Element], level: u8, at: usize, out: &mut [u8
     put_each(left, level, next, out)
 }
 
-// Puts the bytes of one level, from 1 to 4, of elements by their variable weighting. Where all of them fit, no weight asks whether it
-// does.
+// Puts the bytes of one level, from 1 to 4, of elements by their variable weighting, where they may not fit.
+#[inline(never)]
+fn put_some_weighted_level(
+    weigher: &mut Weigher,
+    elements: &[Element],
+    level: u8,
+    at: usize,
+    out: &mut [u8],
+) -> usize
+    requires first { 1 ≤ level }
+    requires last { level ≤ 4 }
+    requires size { length out.old < 2 ^ 64 }
+    ensures bytes { PutsAt at (flat_map weight_bytes (weights_from weigher.old level elements.now)) out.old out.new result }
+    ensures seen { (es : List Element) → weights_from weigher.old level (elements.now ++ es) ≡ weights_from weigher.old level elements.now ++ weights_from weigher.new level es }
+    ensures option { weigher.new.weighting ≡ weigher.old.weighting }
+{
+    let mut next = at;
+    for element in elements {
+        next = put_some_weight(weigher.weigh_at(*element, level), next, out);
+    }
+    next
+}
+
+// Puts the bytes of one level, from 1 to 4, of elements by their variable weighting.
 #[inline(always)]
 fn put_weighted_level(
     weigher: &mut Weigher,
@@ -196,11 +204,12 @@ fn put_weighted_level(
     ensures seen { (es : List Element) → weights_from weigher.old level (elements.now ++ es) ≡ weights_from weigher.old level elements.now ++ weights_from weigher.new level es }
     ensures option { weigher.new.weighting ≡ weigher.old.weighting }
 {
-    let all_fit = has_room(elements.len(), at, out.len());
+    if !has_room(elements.len(), at, out.len()) {
+        return put_some_weighted_level(weigher, elements, level, at, out);
+    }
     let mut next = at;
     for element in elements {
-        let weight = weigher.weigh_at(*element, level);
-        next = put_weight_where(all_fit, weight, next, out);
+        next = put_weight(weigher.weigh_at(*element, level), next, out);
     }
     next
 }
@@ -216,9 +225,9 @@ pub(crate) fn put_level(
     at: usize,
     out: &mut [u8],
 ) -> usize
+    requires option { weigher.old.weighting ≡ v }
     requires first { 1 ≤ level }
     requires last { level ≤ 4 }
-    requires option { weigher.old.weighting ≡ v }
     requires size { length out.old < 2 ^ 64 }
     ensures bytes { PutsAt at (flat_map weight_bytes (weights_from weigher.old level elements.now)) out.old out.new result }
     ensures seen { (es : List Element) → weights_from weigher.old level (elements.now ++ es) ≡ weights_from weigher.old level elements.now ++ weights_from weigher.new level es }

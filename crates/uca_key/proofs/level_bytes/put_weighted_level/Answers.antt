@@ -9,10 +9,10 @@ loop-element-preserved c =
     let i = c.loop-element.invariant in
     let split = drop_more c.args.elements.now c.loop-element.element-index _ c.loop-element-test.true in
     record {
-      room = λ fits. search (arith, rules, i.room fits, c.put_weight_where-next.ensures.within fits, c.loop-element-test.true);
-      option = ap (λ w. w.weighting) c.weigh_at-weight.ensures.moved ∙ i.option;
-      ahead = IsAhead-more _ _ _ _ _ _ (_ ∷ []) _ i.ahead split (weigh-passes _ _ _ _ _ c.weigh_at-weight.ensures.weight c.weigh_at-weight.ensures.moved);
-      putting = IsPutting-more _ _ _ _ _ _ i.putting _ _ _ _ c.requires.size (bytes-one _ _ _ _ _ _ _ split c.weigh_at-weight.ensures.weight c.weigh_at-weight.ensures.moved) c.put_weight_where-next.ensures.puts;
+      room = search (arith, rules, i.room, c.put_weight-next.ensures.within, c.loop-element-test.true);
+      option = ap (λ w. w.weighting) c.weigh_at.ensures.moved ∙ i.option;
+      ahead = IsAhead-more _ _ _ _ _ _ (_ ∷ []) _ i.ahead split (weigh-passes _ _ _ _ _ c.weigh_at.ensures.weight c.weigh_at.ensures.moved);
+      putting = IsPutting-more _ _ _ _ _ _ i.putting _ _ _ _ c.requires.size (bytes-one _ _ _ _ _ _ _ split c.weigh_at.ensures.weight c.weigh_at.ensures.moved) c.put_weight-next.ensures.puts;
     }
 
 pub returns-clause-seen : goal.returns-clause-seen
