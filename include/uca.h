@@ -181,8 +181,9 @@ uint32_t uca_unicode_version(void);
 
 /*
  * Gives a collator a table: `table` in the format of allkeys.txt (UTS #10, Allkeys File Format), tailored by `rules` (a profile
- * of UTS #35, part 5; no bytes for no rules). The call reads both completely before it returns. If the collator had a table, it
- * releases that one. The published table takes about 12 MB of memory.
+ * of UTS #35, part 5; no bytes for no rules). The call reads both completely before it returns. A table of no bytes is an empty table,
+ * and not a fault: by it every character has implicit weights. So check that a file with a table was read. If the collator had a table,
+ * it releases that one. The published table takes about 12 MB of memory.
  * Returns UCA_OK, UCA_BAD_TABLE, UCA_BAD_RULES, UCA_BAD_TAILORING or UCA_NO_MEMORY.
  */
 uint32_t uca_open(uca_collator *collator, const uint8_t *table, size_t table_size, const uint8_t *rules, size_t rules_size,
@@ -256,7 +257,7 @@ uint32_t uca_write_key(const uca_collator *collator, const uca_settings *setting
  * strength UCA_PRIMARY, and `upper` is the first byte string after all those that begin with `lower`. Of each end the call writes at
  * most its capacity in bytes, and its whole size in bytes to `lower_needed` and `upper_needed`. An upper end has at least one byte. If
  * `upper_needed` is 0, there is no upper end, and all keys from `lower` on are in the range: this is so if `lower` is empty or has only
- * bytes FF. The strength in the settings does not matter.
+ * bytes FF. The strength in the settings has no effect, but must be valid.
  * A text that begins with the given one can be outside the range, if its next character joins the last ones and changes their
  * primary weights: `cho` is not in the range of `c` if `ch` is a letter.
  * Returns UCA_OK, UCA_BAD_SETTINGS, UCA_NOT_OPEN, UCA_NOT_UTF8, UCA_LONG_RUN or UCA_NO_MEMORY.

@@ -103,6 +103,16 @@ sorts() {
     shift
     is "$name: some words" "lomo luna llano mano" "$(printf 'mano\nluna\nllano\nlomo\n' | LD_LIBRARY_PATH=$usr/lib "$@" "$table" "$work/rules" 2>&1 | paste -sd' ')"
     is "$name: lines" "$(keys_in_order <"$work/ordered")" "$(LD_LIBRARY_PATH=$usr/lib "$@" "$table" /dev/null <"$work/lines" | keys_in_order)"
+    stops "$name: a table that is not there" "$@" "$work/none" "$work/rules"
+    stops "$name: rules that are not there" "$@" "$table" "$work/none"
+}
+
+# stops NAME WORDS..: the program that WORDS run fails, prints no line, and names the file that it cannot read
+stops() {
+    local name=$1
+    shift
+    printf 'b\na\n' | LD_LIBRARY_PATH=$usr/lib "$@" >"$work/out" 2>"$work/errors"
+    is "$name" "1|0|yes" "$?|$(wc -c <"$work/out")|$(grep -q "$work/none" "$work/errors" && echo yes)"
 }
 
 if command -v c++ >/dev/null; then
@@ -211,7 +221,7 @@ in_sqlite() {
         "$(grep -v '^QUERY PLAN' "$folder/answers" | sed 's/^`--//' | sed -n '1,16p' | paste -sd'|')"
     is "SQLite: a null, and a long key" "|6004" "$(tail -1 "$folder/answers")"
     is "SQLite: faults" \
-        "uca_key: not UTF-8, kind 0, at 1|uca_sort_key: not UTF-8, kind 0, at 1|uca: no collation of this name: call uca_load first|uca_load: there is a collation of this name|uca_load: a file could not be read|uca_load: bad table, kind 3, at 1|uca_load: bad settings, kind 0, at 0" \
+        "uca_key: not UTF-8, kind 0, at 1|uca_sort_key: not UTF-8, kind 0, at 1|uca: no collation of this name: call uca_load first|uca_load: there is a collation of this name|uca_load: could not read \"/nowhere\"|uca_load: \"$work/rules\": bad table: bad code point, line 1|uca_load: a strength is 'primary', 'secondary', 'tertiary', 'quaternary' or 'identical', and a variable weighting 'non-ignorable', 'blanked' or 'shifted'" \
         "$(sed 's/^.*near line [0-9]*: //' "$folder/errors" | paste -sd'|')"
 }
 if command -v sqlite3 >/dev/null && echo '#include <sqlite3ext.h>' | cc -E - >/dev/null 2>&1; then

@@ -171,7 +171,7 @@ if command -v sqlite3 >/dev/null && echo '#include <sqlite3ext.h>' | cc -E - >/d
     printf '0250 ; [.FFFF.0020.0002]\n' >>"$work/full"
     is "SQLite: an upper end where the lower one is all FF" "full|FFFFFF|4099|1 1 0 0" "$(db=:memory: sqlite "SELECT uca_load('full', '$work/full')" "SELECT hex(uca_prefix_lower('ɐ', 'full'))" "SELECT length(uca_prefix_upper('ɐ', 'full'))" \
         "SELECT group_concat(uca_key(column1, 'full') >= uca_prefix_lower('ɐ', 'full') AND uca_key(column1, 'full') < uca_prefix_upper('ɐ', 'full'), ' ') FROM (VALUES ('ɐ'), (replace(printf('%.*c', 1366, 'b'), 'b', 'ɐ')), (replace(printf('%.*c', 1367, 'b'), 'b', 'ɐ')), ('0'))")"
-    is "SQLite: bad names and files by the thousand change nothing" "1000|2" "$(for i in $(seq 1000); do echo "SELECT uca_load('bad$((i % 7))', '/nowhere/$i', CASE $((i % 2)) WHEN 1 THEN 'rules/sv.rules' END);"; done | sqlite | tr '|' '\n' | grep -c 'could not be read')|$(sqlite3 "$db" 'SELECT count(*) FROM uca_fixed')"
+    is "SQLite: bad names and files by the thousand change nothing" "1000|2" "$(for i in $(seq 1000); do echo "SELECT uca_load('bad$((i % 7))', '/nowhere/$i', CASE $((i % 2)) WHEN 1 THEN 'rules/sv.rules' END);"; done | sqlite | tr '|' '\n' | grep -c 'could not read')|$(sqlite3 "$db" 'SELECT count(*) FROM uca_fixed')"
 else
     echo "$script: left out: the extension of SQLite, since sqlite3 or its header is not there"
 fi

@@ -69,8 +69,8 @@ if [ -n "$published" ]; then
     for command in $(find "$work" -name '*.command' | sort -V); do
         line=$(cat "$command")
         case $line in
-        .ci/run | psql* | "make -C bindings/postgresql"*) ;; # those of PostgreSQL: tests/callers.sh
-        "python3 -m venv"* | venv/*) [ -z "$builds" ] || runs_with_compiler "${line/#python3/$builds}" "${command%.command}.wanted" ;;
+        .ci/run | psql* | "sudo -u postgres psql"* | "make -C bindings/postgresql"* | "install "*/usr/local/*) ;; # those of PostgreSQL: tests/callers.sh
+        "/usr/bin/python3 -m venv"* | venv/*) [ -z "$builds" ] || runs_with_compiler "${line/#\/usr\/bin\/python3/$builds}" "${command%.command}.wanted" ;;
         *python3*) [ -z "$has_python" ] || runs_with_compiler "$line" "${command%.command}.wanted" ;;
         table=*)
             eval "$line"

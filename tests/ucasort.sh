@@ -152,7 +152,7 @@ for words in tests/rules/*.words; do
     is "the words of $tag" "0|same" "$status|$(cmp -s "$work/wanted" "$work/out" && echo same)"
 done
 printf 'zon\nåka\nära\n' >"$work/words"
-for tag in sv sv-SE sv_SE.UTF-8 SV; do
+for tag in sv sv-SE sv_SE.UTF-8 SV sv_FI@euro sv_FI.ISO-8859-15@euro; do
     sorts -l $tag "$work/words"
     is "Swedish as $tag" "0|zon|åka|ära" "$status|$(in_one "$work/out")"
 done
@@ -163,10 +163,16 @@ done
 printf 'Müller\nMud\nMuz\n' >"$work/words"
 sorts -l de-DE-u-co-phonebk "$work/words"
 is "German as in phone books, with a region" "0|Mud|Müller|Muz" "$status|$(in_one "$work/out")"
-for tag in xx sv-u-co-trad sr-Arab ../rules/sv ''; do
-    sorts --language="${tag:-x y}" "$work/words"
-    is "a language that is not there: $tag" "2|0|1" "$status|$(wc -c <"$work/out")|$(grep -c '^ucasort: no rules for the language .*; -l list lists' "$work/err")"
+for tag in xx sv-u-co-trad sr-Arab ../rules/sv de@phonebook es_ES@traditional es@collation=traditional sv_SE.UTF-8@x sv@ sv@euro@x de@latin @euro; do
+    sorts --language="$tag" "$work/words"
+    is "a language that is not there: $tag" "2|0|ucasort: no rules for the language $tag; -l list lists the languages" "$status|$(wc -c <"$work/out")|$(cat "$work/err")"
 done
+for tag in 'x y' ''; do
+    sorts -l "$tag" "$work/words"
+    is "a language that is not there: '$tag'" "2|0|ucasort: no rules for the language '$tag'; -l list lists the languages" "$status|$(wc -c <"$work/out")|$(cat "$work/err")"
+done
+LANG='' LC_ALL='' LANGUAGE='' sorts "$work/words"
+is "variables of the locale that are empty" "0|Mud|Müller|Muz" "$status|$(in_one "$work/out")"
 sorts -l list
 is "the list of languages" "0|$(find rules -name '*.rules' | wc -l)|sv	Swedish" "$status|$(grep -vc 'the order of the table' "$work/out")|$(grep '^sv	' "$work/out")"
 sorts --rules rules/sv.rules "$work/words"

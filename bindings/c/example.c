@@ -13,6 +13,7 @@ static uint8_t *contents(const char *path, size_t *size) {
     char *bytes = NULL;
     if (!file) { perror(path); exit(1); }
     ssize_t got = getdelim(&bytes, size, EOF, file);
+    if (ferror(file)) { perror(path); exit(1); }
     *size = got < 0 ? 0 : (size_t)got;
     fclose(file);
     return (uint8_t *)bytes;

@@ -126,16 +126,27 @@ static uint8_t *contents(const char *path, size_t *size) {
     return bytes;
 }
 
+/* Says why a file is refused, and where: at a line of a table, at a place in rules, or at a relation of theirs. */
+static void report_file(const char *path, const uint8_t *bytes, size_t size, uint32_t status, const uca_fault *fault) {
+    uint64_t line = fault->at, column = 0;
+    if (status == UCA_BAD_RULES) uca_locate(bytes, size, fault->at, &line, &column);
+    ereport(ERROR, (errcode(ERRCODE_INVALID_PARAMETER_VALUE),
+                    errmsg("uca: \"%s\": %s: %s, %s %llu%s", path, uca_status_name(status), uca_kind_name(fault->kind),
+                           status == UCA_BAD_TAILORING ? "relation" : "line", (unsigned long long)line,
+                           column > 0 ? psprintf(", column %llu", (unsigned long long)column) : "")));
+}
+
 /* Opens a collator with files. A fault in their contents is reported with the name of the file. */
 static void open_files(uca_collator *collator, const char *table_file, const char *rules_file) {
     uca_fault fault;
     size_t table_size, rules_size = 0;
     uint8_t *table = contents(table_file, &table_size), *rules = *rules_file ? contents(rules_file, &rules_size) : NULL;
     uint32_t status = uca_open(collator, table, table_size, rules, rules_size, &fault);
+    if (status == UCA_BAD_RULES || status == UCA_BAD_TAILORING) report_file(rules_file, rules, rules_size, status, &fault);
+    if (status == UCA_BAD_TABLE) report_file(table_file, table, table_size, status, &fault);
+    if (status != UCA_OK) report("uca_open", status, &fault);
     pfree(table);
     if (rules) pfree(rules);
-    if (status == UCA_OK) return;
-    report(psprintf("uca: \"%s\"", status == UCA_BAD_RULES || status == UCA_BAD_TAILORING ? rules_file : table_file), status, &fault);
 }
 
 static void digest_of(const uca_collator *collator, const uca_settings *settings, uca_digest *digest) {

@@ -82,9 +82,25 @@ static void report(sqlite3_context *context, const char *function, uint32_t stat
         sqlite3_result_error_nomem(context);
         return;
     }
+    if (status == UCA_BAD_SETTINGS) {
+        sqlite3_result_error(context, "uca_load: a strength is 'primary', 'secondary', 'tertiary', 'quaternary' or 'identical', and a variable "
+                                      "weighting 'non-ignorable', 'blanked' or 'shifted'", -1);
+        return;
+    }
     char *text = sqlite3_mprintf("%s: %s, kind %u, at %llu", function, uca_status_name(status), fault->kind,
                                  (unsigned long long)fault->at);
     sqlite3_result_error(context, text ? text : function, -1);
+    sqlite3_free(text);
+}
+
+/* Says why a file is refused, and where: at a line of a table, at a place in rules, or at a relation of theirs. */
+static void report_file(sqlite3_context *context, const char *path, const uint8_t *bytes, size_t size, uint32_t status, const uca_fault *fault) {
+    uint64_t line = fault->at, column = 0;
+    if (status == UCA_BAD_RULES) uca_locate(bytes, size, fault->at, &line, &column);
+    char *text = sqlite3_mprintf("uca_load: \"%s\": %s: %s, %s %llu", path, uca_status_name(status), uca_kind_name(fault->kind),
+                                 status == UCA_BAD_TAILORING ? "relation" : "line", (unsigned long long)line);
+    if (text && column > 0) text = sqlite3_mprintf("%z, column %llu", text, (unsigned long long)column);
+    sqlite3_result_error(context, text ? text : "uca_load", -1);
     sqlite3_free(text);
 }
 
@@ -258,6 +274,12 @@ static uca_settings settings_of(int count, sqlite3_value **values) {
     return settings;
 }
 
+static void cannot_read(sqlite3_context *context, const char *path) {
+    char *text = sqlite3_mprintf("uca_load: could not read \"%s\"", path ? path : "");
+    sqlite3_result_error(context, text ? text : "uca_load", -1);
+    sqlite3_free(text);
+}
+
 /* Opens a collator with the files that the arguments name. Returns whether it did. */
 static int opens(sqlite3_context *context, struct collation *collation, int count, sqlite3_value **values) {
     size_t table_size = 0, rules_size = 0;
@@ -269,10 +291,12 @@ static int opens(sqlite3_context *context, struct collation *collation, int coun
     uca_fault fault = {0, 0, 0};
     int are_read = table && (rules || !rules_path);
     if (are_read) status = uca_open(&collation->collator, table, table_size, rules, rules_size, &fault);
+    if (!are_read) cannot_read(context, table ? rules_path : table_path);
+    else if (status == UCA_BAD_RULES || status == UCA_BAD_TAILORING) report_file(context, rules_path, rules, rules_size, status, &fault);
+    else if (status == UCA_BAD_TABLE) report_file(context, table_path, table, table_size, status, &fault);
+    else if (status != UCA_OK) report(context, "uca_load", status, &fault);
     sqlite3_free(table);
     sqlite3_free(rules);
-    if (!are_read) sqlite3_result_error(context, "uca_load: a file could not be read", -1);
-    else if (status != UCA_OK) report(context, "uca_load", status, &fault);
     return are_read && status == UCA_OK;
 }
 
