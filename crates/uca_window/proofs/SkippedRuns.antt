@@ -7,7 +7,7 @@ use Rattle.std.specs.Str.{IsCharBoundary}
 use Rattle.ucd_normal.specs.declared.forms.Form.TheVariants.{Nfd}
 use Rattle.unicode_normalization.specs.Decompose.{decompose_canonical}
 use Rattle.unicode_normalization.proofs.LengthLemmas.{length-decompose}
-use Rattle.uca_weights.specs.declared.limits.TheConstants.{MAX_RUN, MAX_DECOMPOSITION}
+use Rattle.uca_weights.specs.declared.limits.TheConstants.{MAX_RUN}
 use Rattle.uca_model.specs.SafeText.{longest_run_after, IsSafe}
 use Rattle.uca_model.proofs.SafeLemmas.{run_after, stands_over}
 use Rattle.uca_window.specs.Passing.{is_passed, ending, Passes, Skips}
@@ -42,7 +42,7 @@ short_safe bs utf8 few =
     (scanned_few [] (chars bs) 0 scanned_none (omega arith)).1.safe
 
 -- a passed character ends in few nonstarters
-ending-short : (last run : ℕ) → is_passed last ≡ true → ending last run ≤ MAX_DECOMPOSITION
+ending-short : (last run : ℕ) → is_passed last ≡ true → ending last run ≤ 4
 ending-short last run passed =
     let is : ending last run ≡ run_after 0 (decompose_canonical last) = ending-passed last run passed in
     omega (arith, run-longest 0 (decompose_canonical last), longest-short 0 (decompose_canonical last), decompose-short last)
@@ -50,7 +50,7 @@ ending-short last run passed =
 -- past a passed character that is close to another
 pub scanned_skip : (text rest others : List ℕ) (last end run : ℕ) → ScannedTo text rest (ending last run) → Skips rest last others end → ScannedTo text others (ending end run)
 scanned_skip text rest others last end run at s =
-    let short : ending last run ≤ MAX_DECOMPOSITION = ending-short last run s.after in
+    let short : ending last run ≤ 4 = ending-short last run s.after in
     let few = scanned_few at.front s.between (ending last run) at.scan (omega (arith, s.few)) in
     record {
       front = at.front ++ (s.between ++ end ∷ []);
@@ -78,9 +78,9 @@ skips_shorter bytes others more last end next p s =
     omega (arith, (len_utf8_bounds next).0)
 
 -- a text is safe that ends soon after a passed character
-pub safe_end : (text rest : List ℕ) (last run : ℕ) → ScannedTo text rest (ending last run) → IsUtf8 text → IsUtf8 rest → is_passed last ≡ true → MAX_DECOMPOSITION + 2 * length rest ≤ MAX_RUN → IsSafe (chars text)
+pub safe_end : (text rest : List ℕ) (last run : ℕ) → ScannedTo text rest (ending last run) → IsUtf8 text → IsUtf8 rest → is_passed last ≡ true → 4 + 2 * length rest ≤ MAX_RUN → IsSafe (chars text)
 safe_end text rest last run at utf8 more passed few =
-    let short : ending last run ≤ MAX_DECOMPOSITION = ending-short last run passed in
+    let short : ending last run ≤ 4 = ending-short last run passed in
     let spelt : encode_utf8_all (chars rest) ≡ rest = encodes-chars rest more in
     let size : length (encode_utf8_all (chars rest)) ≡ length rest = ap length spelt in
     let end = scanned_few at.front (chars rest) (ending last run) at.scan (omega arith) in
@@ -92,7 +92,7 @@ safe_end text rest last run at utf8 more passed few =
     all_safe text [] end.0 whole utf8 refl
 
 -- a passed character at a place in the text
-pub skips_at : (text from others : List ℕ) (last end n : ℕ) → IsUtf8 text → IsCharBoundary text n → n ≤ length text → from ≡ drop n text → from ≡ encode_utf8 end ++ others → MAX_DECOMPOSITION + 2 * n ≤ MAX_RUN → is_passed last ≡ true → is_passed end ≡ true
+pub skips_at : (text from others : List ℕ) (last end n : ℕ) → IsUtf8 text → IsCharBoundary text n → n ≤ length text → from ≡ drop n text → from ≡ encode_utf8 end ++ others → 4 + 2 * n ≤ MAX_RUN → is_passed last ≡ true → is_passed end ≡ true
     → Skips text last others end
 skips_at text from others last end n utf8 edge within is first few after passed =
     let front : IsUtf8 (take n text) = IsUtf8-take text n utf8 edge in

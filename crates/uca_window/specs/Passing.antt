@@ -1,7 +1,7 @@
 -- Characters that a scan passes without a look at their decompositions, and the bytes at which it looks.
 use Rattle.std.specs.Prelude.{◌≡◌, ℕ, ◌+◌, ◌*◌, ◌≤◌, length, true, Bool, ◌&&◌, ◌||◌, ◌==◌, nat_lt, nat_le, List, [], ◌∷◌, ◌++◌, encode_utf8_all, if◌then◌else◌}
 use Rattle.std.specs.List.{list_all}
-use Rattle.uca_weights.specs.declared.limits.TheConstants.{MAX_RUN, MAX_DECOMPOSITION}
+use Rattle.uca_weights.specs.declared.limits.TheConstants.{MAX_RUN}
 use Rattle.unicode_normalization.specs.Decompose.{decompose_canonical}
 use Rattle.uca_model.proofs.SafeLemmas.{run_after}
 
@@ -48,7 +48,7 @@ pub record Passes (bytes : List ℕ) (last : ℕ) (others : List ℕ) (end : ℕ
 pub record Skips (bytes : List ℕ) (last : ℕ) (others : List ℕ) (end : ℕ) : Type 0 where
   pub between : List ℕ
   pub parts : bytes ≡ encode_utf8_all (between ++ end ∷ []) ++ others
-  pub few : MAX_DECOMPOSITION + 2 * length (encode_utf8_all between) ≤ MAX_RUN
+  pub few : 4 + 2 * length (encode_utf8_all between) ≤ MAX_RUN
   pub after : is_passed last ≡ true
   pub passed : is_passed end ≡ true
 

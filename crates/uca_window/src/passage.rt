@@ -80,14 +80,33 @@ impl<'t> Passage<'t> {
         }
     }
 
-    /// The text that bytes are after a look for faults. It is not inlined, so that a text in ASCII does not pay for its stack frame.
-    #[inline(never)]
+    /// The text that bytes are after a look for faults.
     fn of_any(bytes: &'t [u8]) -> Result<Passage<'t>, TextFault>
         ensures { MatchResult result (λ p. IsTextLine bytes.now × (text_of p ≡ chars bytes.now)) (IsFault bytes.now) }
     {
-        if bytes.len() >= BLOCK_FROM && is_utf8(bytes) {
+        if bytes.len() >= BLOCK_FROM {
+            Passage::of_many(bytes)
+        } else {
+            Passage::of_each(bytes)
+        }
+    }
+
+    /// The text that many bytes are, looked at in blocks. It is not inlined, so that a short text does not pay for its stack frame.
+    #[inline(never)]
+    fn of_many(bytes: &'t [u8]) -> Result<Passage<'t>, TextFault>
+        ensures { MatchResult result (λ p. IsTextLine bytes.now × (text_of p ≡ chars bytes.now)) (IsFault bytes.now) }
+    {
+        if is_utf8(bytes) {
             return Passage::of_text(unsafe { from_utf8_unchecked(bytes) });
         }
+        Passage::of_each(bytes)
+    }
+
+    /// The text that bytes are, or the first fault in them. It is not inlined, so that a text in ASCII does not pay for its stack frame.
+    #[inline(never)]
+    fn of_each(bytes: &'t [u8]) -> Result<Passage<'t>, TextFault>
+        ensures { MatchResult result (λ p. IsTextLine bytes.now × (text_of p ≡ chars bytes.now)) (IsFault bytes.now) }
+    {
         match from_utf8(bytes) {
             Ok(text) => Passage::of_text(text),
             Err(error) => Err(TextFault::NotUtf8(error.valid_up_to())),
@@ -150,6 +169,9 @@ fn scan(text: &str) -> Result<(), LongRun>
             return Ok(());
         };
         if let Some((more, passed)) = skip(others, end) {
+            if more.len() <= STRIDE {
+                return Ok(());
+            }
             rest = more;
             last = passed;
             continue;

@@ -5,14 +5,17 @@ ghost use Rattle.std.specs.Simd.Lanes.{chunk, mask_l};
 ghost use Rattle.uca_window.specs.Passing.{is_passed, is_passed_outside, is_passed_between, is_stop, Passes, Skips};
 
 use std::simd::prelude::*;
-use uca_weights::{MAX_DECOMPOSITION, MAX_RUN};
+use uca_weights::MAX_RUN;
 
 /// How many bytes are looked at together.
 const LANES: usize = 32;
 
+/// The NFD of a character is no longer than this.
+const LONGEST_NFD: usize = 4;
+
 /// How many bytes may follow a passed character, whatever they spell: the NFD of that character ends in fewer than
-/// `MAX_DECOMPOSITION` nonstarters, and each byte brings at most two more.
-pub(crate) const STRIDE: usize = (MAX_RUN - MAX_DECOMPOSITION) / 2;
+/// `LONGEST_NFD` nonstarters, and each byte brings at most two more.
+pub(crate) const STRIDE: usize = (MAX_RUN - LONGEST_NFD) / 2;
 
 /// Whether a character before Hebrew or after Lao is of a range in which each NFD begins with a starter: Latin, Greek and
 /// Cyrillic letters, Han, kana, Hangul, punctuation and symbols.

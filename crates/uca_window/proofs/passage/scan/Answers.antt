@@ -17,6 +17,15 @@ returns-then-is_passed-clause-safe c = (
   λ _. refl,
 )
 
+pub returns-then-more-le-STRIDE-clause-safe : goal.returns-then-more-le-STRIDE-clause-safe
+returns-then-more-le-STRIDE-clause-safe c =
+    let others = c.pass-end.result.0.now in
+    let at : ScannedTo c.args.text.now others (ending c.pass-end.result.1 c.loop-rest.run) = scanned_pass c.args.text.now c.loop-rest.rest.now others c.loop-rest.last c.pass-end.result.1 c.loop-rest.run c.loop-rest.invariant.1 c.pass-end.ensures in
+    let to : ScannedTo c.args.text.now c.in-Some-skip.more.now (ending c.in-Some-skip.passed c.loop-rest.run) = scanned_skip c.args.text.now others c.in-Some-skip.more.now c.pass-end.result.1 c.in-Some-skip.passed c.loop-rest.run at c.in-Some-skip.ensures in (
+      λ _. safe_end c.args.text.now c.in-Some-skip.more.now c.in-Some-skip.passed c.loop-rest.run to c.utf8.text (utf8_left c.args.text.now c.in-Some-skip.more.now _ to c.utf8.text) c.in-Some-skip.ensures.passed (omega (arith, c.if-more-le-STRIDE.true)),
+      λ _. refl,
+    )
+
 pub loop-rest-smaller-in-Some-skip : goal.loop-rest-smaller-in-Some-skip
 loop-rest-smaller-in-Some-skip c = skips_shorter c.loop-rest.rest.now c.pass-end.result.0.now c.in-Some-skip.more.now c.loop-rest.last c.pass-end.result.1 c.in-Some-skip.passed c.pass-end.ensures c.in-Some-skip.ensures
 
