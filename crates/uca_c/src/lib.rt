@@ -191,8 +191,8 @@ pub extern "C" fn uca_write_key(
 }
 
 /// Puts the two ends of the keys of all texts whose primary weights begin with those of a text into the fronts of two buffers, or
-/// as many of their bytes as fit, and reports how many they have. An upper end that is there has at least one byte; where there is none, it is
-/// reported to have 0.
+/// as many of their bytes as fit, and reports how many they have. An upper end that is there has at least one byte; where there is
+/// none, it is reported to have 0.
 #[unsafe(no_mangle)]
 pub extern "C" fn uca_prefix_bounds(
     alloc: Global,

@@ -65,5 +65,7 @@ pub(crate) fn tailored_in<U: Reader>(
     ensures err { IfErr result (StopsTailoring (U.state reader.old) (U.state reader.new) t) }
     ensures calls { U.calls reader.new ≤ U.calls reader.old + (MAX_RULES + 1) }
 {
-    tailored_by(alloc, &t, reader)
+    let mut base = t;
+    base.forget_characters(alloc);
+    tailored_by(alloc, &base, reader)
 }

@@ -13,7 +13,8 @@ use std::marker::Model;
 use std::ptr::null_mut;
 use std::sync::Arc;
 
-/// A table on the heap, with a count of its owners, behind a pointer without a type; or none. Letting a handle go does not free the table: a collator does that first.
+/// A table on the heap, with a count of its owners, behind a pointer without a type; or none. Letting a handle go does not free the
+/// table: a collator does that first.
 #[repr(C)]
 #[derive(Drop)]
 pub struct Handle {

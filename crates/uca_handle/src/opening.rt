@@ -33,10 +33,11 @@ fn tailored_by(alloc: Global, base: &Table, rules: &[u8]) -> Result<Table, OpenF
 pub(crate) fn table_of(alloc: Global, table: &[u8], rules: &[u8]) -> Result<Table, OpenFault>
     ensures { MatchResult result (SaysTable table.now rules.now) (RefusesTable table.now rules.now) }
 {
-    let base = base_of(alloc, table)?;
+    let mut base = base_of(alloc, table)?;
     // Without rules it is the table, which need not be copied.
     if rules.is_empty() {
         return Ok(base);
     }
+    base.forget_characters(alloc);
     tailored_by(alloc, &base, rules)
 }

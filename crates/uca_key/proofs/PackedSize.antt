@@ -11,9 +11,9 @@ use Rattle.uca_model.specs.LevelWeights.{level_weights}
 use Rattle.uca_model.specs.SortKey.{weight_bytes, code_point_bytes}
 use Rattle.uca_model.proofs.LevelLemmas.{levels-within}
 use Rattle.uca_key.specs.PrimaryCode.{CodeState, PrimaryCode, after_lead, after_slot, has_page, is_common, is_in_window, is_single, letter_bytes, primary_bytes, primary_level, second_bytes, start, state_after}
-use Rattle.uca_key.specs.PackedKey.{above_bytes, below_bytes, common_weight, runs_after, packed_key_by, packed_later}
+use Rattle.uca_key.specs.PackedKey.{above_bytes, below_bytes, common_weight, later_levels, packed_key_by, packed_later, runs_after}
 use Rattle.uca_key.proofs.KeySize.{bytes_few, elements_few, length-weighted_after, point_few, short_text, weights_few}
-use Rattle.uca_key.proofs.PackedPieces.{later_levels, packed-levels}
+use Rattle.uca_key.proofs.PackedPieces.{packed-levels}
 
 cond_few : (b : Bool) (xs ys : List ℕ) (n : ℕ) → length xs ≤ n → length ys ≤ n → length (cond b xs ys) ≤ n
 cond_few true xs ys n h k = h

@@ -9,7 +9,7 @@ use Rattle.uca_weights.specs.VariableWeighting.{unchanged, weighted}
 use Rattle.uca_model.specs.LevelWeights.{level_weights}
 use Rattle.uca_key.specs.Runs.{AreCounted}
 use Rattle.uca_key.specs.PackedKey.{common_weight, runs_after}
-use Rattle.uca_levels.proofs.UnchangedWeights.{level_weights-both}
+use Rattle.uca_key.proofs.UnchangedWeights.{level_weights-both}
 
 -- one more
 one-common : (common run : ℕ) (ws : List ℕ) → run + 1 < 62 → runs_after common (run + 1) ws ≡ runs_after common run (common ∷ ws)

@@ -1,16 +1,19 @@
 -- The weights and the bytes of a level of elements that keep their weights: of two lists, one after the other.
-use Rattle.std.proofs.Common.{◌≡◌, ℕ, suc, ◌+◌, ◌-◌, ◌<◌, ◌==◌, not, List, [], ◌∷◌, ◌++◌, map, filter, flat_map, slice_index, length, drop, get_or, refl, sym, ap, ap₂, ◌∙◌, arith, append_assoc}
+use Rattle.std.proofs.Common.{◌≡◌, ℕ, suc, ◌+◌, ◌<◌, ◌==◌, not, List, [], ◌∷◌, ◌++◌, map, filter, flat_map, length, drop, get_or, refl, sym, ap, ap₂, ◌∙◌, arith, append_assoc}
 use Rattle.std.proofs.Math.Seq.{drop-cons}
 use Rattle.std.proofs.lemmas.Grind.{flat_map-append}
 use Rattle.std.proofs.lemmas.List.{map-append}
 use Rattle.uca_weights.specs.declared.element.Element.{Element}
+use Rattle.uca_weights.specs.declared.settings.Variable.{Variable}
 use Rattle.uca_weights.specs.declared.settings.Variable.TheVariants.{NonIgnorable}
 use Rattle.uca_weights.specs.VariableWeighting.{unchanged, weighted, weights}
 use Rattle.uca_weights.specs.Weigher.{WeigherState, after_element, weighted_from}
 use Rattle.uca_model.specs.LevelWeights.{level_weights}
 use Rattle.uca_model.specs.SortKey.{level_bytes, weight_bytes}
+use Rattle.uca_levels.specs.Primaries.{primary_of}
 use Rattle.uca_levels.specs.Streams.{weights_from}
-use Rattle.uca_levels.proofs.UnchangedWeights.{weighted-unchanged, level_weights-append, level_weights-both}
+use Rattle.uca_levels.proofs.PrimarySteps.{primaries-are, primaries-both}
+use Rattle.uca_key.proofs.UnchangedWeights.{weighted-unchanged, level_weights-append, level_weights-both}
 
 -- the weights from one element on: its own, and those after it
 pub kept-one : (level i : ℕ) (es : List Element) (d : Element) (ws : List ℕ) → i < length es
@@ -22,11 +25,17 @@ kept-one level i es d ws within =
     ∙ ap (λ l. l ++ ws) (level_weights-both level (get_or es i d ∷ []) (drop (i + 1) es))
     ∙ append_assoc (level_weights level (unchanged (get_or es i d) 0 ∷ [])) (level_weights level (weighted NonIgnorable (drop (i + 1) es))) ws
 
--- the same of its first weight
-pub kept-first : (i w : ℕ) (es : List Element) (d : Element) (ws : List ℕ) → i < length es → w ≡ slice_index (unchanged (get_or es i d) 0) 0
-    → level_weights 1 (weighted NonIgnorable (drop i es)) ++ ws ≡ filter (λ x. not (x == 0)) (w ∷ []) ++ (level_weights 1 (weighted NonIgnorable (drop (i + 1) es)) ++ ws)
-kept-first i w es d ws within is =
-    kept-one 1 i es d ws within ∙ ap (λ (x : ℕ). filter (λ (y : ℕ). not (y == 0)) (x ∷ []) ++ (level_weights 1 (weighted NonIgnorable (drop (i + 1) es)) ++ ws)) (sym is)
+-- the primary weights from one element on, under an option
+pub primary-one : (v : Variable) (i w : ℕ) (es : List Element) (d : Element) (ws : List ℕ) → i < length es → w ≡ primary_of v (get_or es i d)
+    → level_weights 1 (weighted v (drop i es)) ++ ws ≡ filter (λ x. not (x == 0)) (w ∷ []) ++ (level_weights 1 (weighted v (drop (i + 1) es)) ++ ws)
+primary-one v i w es d ws within is =
+    let next : i + 1 ≡ suc i = omega arith in
+    let e : Element = get_or es i d in let rest : List ℕ = level_weights 1 (weighted v (drop (i + 1) es)) in
+    let first : drop i es ≡ e ∷ drop (i + 1) es = drop-cons es i d within ∙ ap (λ n. e ∷ drop n es) (sym next) in
+    let own : level_weights 1 (weighted v (e ∷ [])) ≡ filter (λ x. not (x == 0)) (w ∷ []) = primaries-are v (e ∷ []) ∙ ap (λ (x : ℕ). filter (λ (y : ℕ). not (y == 0)) (x ∷ [])) (sym is) in
+    ap (λ l. level_weights 1 (weighted v l) ++ ws) first
+    ∙ ap (λ l. l ++ ws) (primaries-both v (e ∷ []) (drop (i + 1) es) ∙ ap (λ l. l ++ rest) own)
+    ∙ append_assoc (filter (λ (x : ℕ). not (x == 0)) (w ∷ [])) rest ws
 
 -- ---- elements that a weigher sees later
 

@@ -1,5 +1,5 @@
 -- Packed sort keys: sort keys (UTS #10, 7.3) with a code of primary weights, and with runs of common weights at the later levels. A form of this project.
-use Rattle.std.specs.Prelude.{ℕ, ◌+◌, ◌*◌, ◌-◌, ◌==◌, nat_lt, List, [], ◌∷◌, ◌++◌, flat_map, take, if◌then◌else◌}
+use Rattle.std.specs.Prelude.{ℕ, zero, suc, ◌+◌, ◌*◌, ◌-◌, ◌==◌, nat_lt, List, [], ◌∷◌, ◌++◌, flat_map, take, if◌then◌else◌}
 use Rattle.std.specs.List.{concat}
 use Rattle.unicode_normalization.specs.Forms.{nfd}
 use Rattle.uca_weights.specs.declared.settings.Settings.{Settings}
@@ -45,6 +45,11 @@ packed_level ws level = runs_after (common_weight level) 0 (level_weights level 
 -- the bytes of a later level, from 2 to 5: the fifth is as in a sort key
 abbrev pub packed_later : List (List ℕ) → List ℕ → ℕ → List ℕ
 packed_later ws decomposed level = if level == 5 then flat_map code_point_bytes decomposed else packed_level ws level
+
+-- so many later levels from one on
+abbrev pub later_levels : ℕ → ℕ → List (List ℕ) → List ℕ → List ℕ
+later_levels zero level ws decomposed = []
+later_levels (suc n) level ws decomposed = packed_later ws decomposed level ++ later_levels n (level + 1) ws decomposed
 
 -- the bytes of all five levels, each of which ends itself
 abbrev pub packed_levels : PrimaryCode → List (List ℕ) → List ℕ → List (List ℕ)

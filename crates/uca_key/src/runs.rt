@@ -192,6 +192,7 @@ fn pack_unchanged(key: &mut [u8], before: Counted, elements: &[Element], level: 
 }
 
 // Packs the weights of some elements, at a level from 2 to 4, by their variable weighting. The weigher has seen those before them.
+#[inline(always)]
 fn pack_weighted(
     key: &mut [u8],
     before: Counted,
@@ -216,30 +217,32 @@ fn pack_weighted(
     packed
 }
 
-// Packs the weights of some elements into the front of a piece, at a level from 2 to 4, after a run of common weights.
+// Packs the weights of some elements, at a level from 2 to 4. Each level has a loop of its own, which asks for no level.
 fn pack(
     key: &mut [u8],
-    run: u8,
+    before: Counted,
     v: Variable,
     weigher: &mut Weigher,
     elements: &[Element],
     level: u8,
 ) -> Counted
-    requires few { run < 62 }
+    requires few { before.run < 62 }
     requires first { 2 ≤ level }
     requires last { level ≤ 4 }
     requires option { weigher.old.weighting ≡ v }
-    requires room { 4 * length elements.now ≤ length key.old }
-    ensures bytes { (es : List Element) → take result.at key.new ++ runs_after (common_weight level) result.run (weights_from weigher.new level es) ≡ runs_after (common_weight level) run (weights_from weigher.old level (elements.now ++ es)) }
+    requires room { before.at + 4 * length elements.now ≤ length key.old }
+    ensures bytes { (es : List Element) → take result.at key.new ++ runs_after (common_weight level) result.run (weights_from weigher.new level es) ≡ take before.at key.old ++ runs_after (common_weight level) before.run (weights_from weigher.old level (elements.now ++ es)) }
     ensures few { result.run < 62 }
-    ensures within { result.at ≤ 4 * length elements.now }
+    ensures within { result.at ≤ before.at + 4 * length elements.now }
     ensures option { weigher.new.weighting ≡ v }
+    ensures size { length key.new ≡ length key.old }
 {
-    let before = Counted { at: 0, run };
     match (v, level) {
         (Variable::NonIgnorable, 2) => pack_unchanged(key, before, elements, 2),
         (Variable::NonIgnorable, 3) => pack_unchanged(key, before, elements, 3),
-        _ => pack_weighted(key, before, weigher, elements, level),
+        (_, 2) => pack_weighted(key, before, weigher, elements, 2),
+        (_, 3) => pack_weighted(key, before, weigher, elements, 3),
+        _ => pack_weighted(key, before, weigher, elements, 4),
     }
 }
 
@@ -262,16 +265,14 @@ fn count_common(elements: &[Element]) -> u8
     n as u8
 }
 
-/// How many of the first weights of a text that was read into room are common at the levels 2 and 3, as far as that is known before
-/// they are put.
-pub(crate) fn count_held(v: Variable, reading: &TextReading, room: &[Element]) -> u8
-    requires { HoldsElements reading.now room.now }
+/// How many of the first weights of some elements are common at the levels 2 and 3, as far as that is known before they are put.
+pub(crate) fn count_first(v: Variable, elements: &[Element]) -> u8
     ensures few { result < 62 }
-    ensures second { AreCounted v 2 result (elements_of reading.now) }
-    ensures third { AreCounted v 3 result (elements_of reading.now) }
+    ensures second { AreCounted v 2 result elements.now }
+    ensures third { AreCounted v 3 result elements.now }
 {
-    match (v, reading.held) {
-        (Variable::NonIgnorable, Some(held)) => count_common(&room[..held]),
+    match v {
+        Variable::NonIgnorable => count_common(elements),
         _ => 0,
     }
 }
@@ -302,6 +303,39 @@ impl RunsLevel {
     }
 }
 
+/// Puts a level, from 2 to 4, of some elements into a buffer. So many of their first weights are common.
+pub(crate) fn put_whole(
+    v: Variable,
+    level: u8,
+    common: u8,
+    elements: &[Element],
+    at: usize,
+    key: &mut [u8],
+) -> usize
+    requires first { 2 ≤ level }
+    requires last { level ≤ 4 }
+    requires few { common < 62 }
+    requires counted { AreCounted v level common elements.now }
+    requires room { at + 4 * length elements.now + 1 ≤ length key.old }
+    ensures bytes { take result key.new ≡ take at key.old ++ packed_level (weighted v elements.now) level }
+    ensures within { result ≤ at + 4 * length elements.now + 1 }
+    ensures size { length key.new ≡ length key.old }
+{
+    if common as usize == elements.len() {
+        key[at] = 2 * common;
+        return at + 1;
+    }
+    let mut state = RunsLevel::new(v, at, common);
+    let before = Counted {
+        at: state.next,
+        run: state.run,
+    };
+    let (_, left) = elements.split_at(common as usize);
+    let packed = pack(key, before, v, &mut state.weigher, left, level);
+    key[packed.at] = 2 * packed.run;
+    packed.at + 1
+}
+
 // Packs the weights of some elements at a level from 2 to 4, a piece at a time.
 fn put_elements(v: Variable, level: u8, state: &mut RunsLevel, elements: &[Element], out: &mut [u8])
     requires few { state.old.run < 62 }
@@ -318,7 +352,11 @@ fn put_elements(v: Variable, level: u8, state: &mut RunsLevel, elements: &[Eleme
     'pieces: while !left.is_empty() {
         let mut bytes = [0; OTHER * PIECE];
         let (piece, rest) = left.split_at(left.len().min(PIECE));
-        let packed = pack(&mut bytes, state.run, v, &mut state.weigher, piece, level);
+        let before = Counted {
+            at: 0,
+            run: state.run,
+        };
+        let packed = pack(&mut bytes, before, v, &mut state.weigher, piece, level);
         state.next = put_bytes(&bytes[..packed.at], state.next, out);
         state.run = packed.run;
         left = rest;
@@ -361,11 +399,10 @@ fn put_level_again(
     }
 }
 
-// Puts a level, from 2 to 4, of a text that was read into room. So many of its first weights are common.
+// Puts a level, from 2 to 4, of a text that was read into room.
 fn put_level(
     v: Variable,
     level: u8,
-    common: u8,
     reading: &TextReading,
     room: &mut [Element],
     at: usize,
@@ -376,27 +413,23 @@ fn put_level(
     requires some { 0 < length room.old }
     requires holds { HoldsElements reading.now room.old }
     requires size { length out.old < 2 ^ 64 }
-    requires few { common < 62 }
-    requires counted { AreCounted v level common (elements_of reading.now) }
     ensures bytes { PutsAt at (packed_level (weighted v (elements_of reading.now)) level) out.old out.new result }
     ensures holds { HoldsElements reading.now room.new }
     ensures room { length room.new ≡ length room.old }
 {
     if let Some(held) = reading.held {
-        let mut state = RunsLevel::new(v, at, common);
-        put_elements(v, level, &mut state, &room[common as usize..held], out);
+        let mut state = RunsLevel::new(v, at, 0);
+        put_elements(v, level, &mut state, &room[..held], out);
         return put_end(&state, out);
     }
     put_level_again(v, level, reading, room, at, out)
 }
 
-/// Puts a later level of a text that was read into room, from 2 to 5. So many of its first weights are common, if there is no more to
-/// it than weights.
+/// Puts a later level of a text that was read into room, from 2 to 5.
 pub(crate) fn put_later(
     reading: &TextReading,
     v: Variable,
     level: u8,
-    common: u8,
     room: &mut [Element],
     at: usize,
     out: &mut [u8],
@@ -406,8 +439,6 @@ pub(crate) fn put_later(
     requires some { 0 < length room.old }
     requires holds { HoldsElements reading.now room.old }
     requires size { length out.old < 2 ^ 64 }
-    requires few { common < 62 }
-    requires counted { level ≤ 4 → AreCounted v level common (elements_of reading.now) }
     ensures bytes { PutsAt at (packed_later (weighted v (elements_of reading.now)) (nfd (chars reading.now.text.now)) level) out.old out.new result }
     ensures holds { HoldsElements reading.now room.new }
     ensures room { length room.new ≡ length room.old }
@@ -415,5 +446,5 @@ pub(crate) fn put_later(
     if level == 5 {
         return put_text(reading.table, v, reading.text, at, out);
     }
-    put_level(v, level, common, reading, room, at, out)
+    put_level(v, level, reading, room, at, out)
 }

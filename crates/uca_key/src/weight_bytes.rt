@@ -1,11 +1,9 @@
 // The first level of a packed key, put into a buffer piece by piece.
 ghost use Rattle.std.specs.Prelude.{◌≡◌, ◌==◌, ◌≤◌, ◌<◌, ◌+◌, ◌*◌, ◌-◌, ◌^◌, ◌/◌, ◌%◌, ◌++◌, ◌∷◌, [], ℕ, List, if◌then◌else◌, nat_lt, not, filter, length, take, drop, true, false, IsTrue};
 ghost use Rattle.uca_weights.specs.declared.element.Element.{Element};
-ghost use Rattle.uca_weights.specs.declared.settings.Variable.TheVariants.{NonIgnorable};
 ghost use Rattle.uca_weights.specs.VariableWeighting.{weighted};
 ghost use Rattle.uca_model.specs.LevelWeights.{level_weights};
 ghost use Rattle.uca_model.specs.SortKey.{weight_bytes};
-ghost use Rattle.uca_levels.specs.Streams.{weights_from};
 ghost use Rattle.uca_key.specs.Reach.{first_left, state_of};
 ghost use Rattle.uca_key.specs.Pieces.{HoldsElements, elements_of};
 ghost use Rattle.uca_key.specs.Placing.{IsPutting, PutsAt};
@@ -14,7 +12,8 @@ ghost use Rattle.uca_key.specs.PrimaryCode.{after_slot, base_after, has_page, is
 use crate::packed_code::{PackedCode, Single, Window};
 use crate::pieces::{PIECE, TextReading};
 use crate::placing::put_bytes;
-use uca_weights::{Element, Variable, Weigher};
+use uca_levels::primary_weight;
+use uca_weights::{Element, Variable};
 
 // How many slots a window has.
 const WINDOW: u8 = 119;
@@ -346,14 +345,20 @@ struct Letters {
     done: usize,
 }
 
-// Puts the weights of elements that keep them as long as they are letters, spaces or zero. Most of a text is put here, so it asks little.
+// Puts the weights of elements as long as they are letters, spaces or zero. Most of a text is put here, so it asks little.
 #[inline(always)]
-fn put_letters(code: &PackedCode, before: Placed, elements: &[Element], key: &mut [u8]) -> Letters
+fn put_letters(
+    code: &PackedCode,
+    v: Variable,
+    before: Placed,
+    elements: &[Element],
+    key: &mut [u8],
+) -> Letters
     requires slot { before.reach.window.slot ≡ slot code.now before.reach.window.base }
     requires lead { before.reach.window.lead ≡ lead code.now before.reach.window.base }
     requires most { before.reach.window.lead ≤ 135 }
     requires room { before.at + length elements.now ≤ length key.old }
-    ensures bytes { (ws : List ℕ) → take result.at key.new ++ primary_level code.now (state_of before.reach) (level_weights 1 (weighted NonIgnorable (drop result.done elements.now)) ++ ws) ≡ take before.at key.old ++ primary_level code.now (state_of before.reach) (level_weights 1 (weighted NonIgnorable elements.now) ++ ws) }
+    ensures bytes { (ws : List ℕ) → take result.at key.new ++ primary_level code.now (state_of before.reach) (level_weights 1 (weighted v (drop result.done elements.now)) ++ ws) ≡ take before.at key.old ++ primary_level code.now (state_of before.reach) (level_weights 1 (weighted v elements.now) ++ ws) }
     ensures within { result.at ≤ before.at + result.done }
     ensures some { result.done ≤ length elements.now }
     ensures size { length key.new ≡ length key.old }
@@ -365,7 +370,7 @@ fn put_letters(code: &PackedCode, before: Placed, elements: &[Element], key: &mu
         return Letters { at: next, done };
     }
     'each: while done < elements.len() {
-        let w = elements[done].weight(1);
+        let w = primary_weight(v, &elements[done]);
         if is_letter(code, before.reach.window, w) {
             next = put_letter(code, before.reach, w, key, next);
             done += 1;
@@ -384,13 +389,19 @@ fn put_letters(code: &PackedCode, before: Placed, elements: &[Element], key: &mu
     Letters { at: next, done }
 }
 
-// Puts the weight of the first of some elements that keep them, if there is one.
-fn put_next(code: &PackedCode, before: Placed, elements: &[Element], key: &mut [u8]) -> Placed
+// Puts the weight of the first of some elements, if there is one.
+fn put_next(
+    code: &PackedCode,
+    v: Variable,
+    before: Placed,
+    elements: &[Element],
+    key: &mut [u8],
+) -> Placed
     requires slot { before.reach.window.slot ≡ slot code.now before.reach.window.base }
     requires lead { before.reach.window.lead ≡ lead code.now before.reach.window.base }
     requires most { before.reach.window.lead ≤ 135 }
     requires room { before.at + 3 * length elements.now ≤ length key.old }
-    ensures bytes { (ws : List ℕ) → take result.at key.new ++ primary_level code.now (state_of result.reach) (level_weights 1 (weighted NonIgnorable (drop 1 elements.now)) ++ ws) ≡ take before.at key.old ++ primary_level code.now (state_of before.reach) (level_weights 1 (weighted NonIgnorable elements.now) ++ ws) }
+    ensures bytes { (ws : List ℕ) → take result.at key.new ++ primary_level code.now (state_of result.reach) (level_weights 1 (weighted v (drop 1 elements.now)) ++ ws) ≡ take before.at key.old ++ primary_level code.now (state_of before.reach) (level_weights 1 (weighted v elements.now) ++ ws) }
     ensures slot { result.reach.window.slot ≡ slot code.now result.reach.window.base }
     ensures lead { result.reach.window.lead ≡ lead code.now result.reach.window.base }
     ensures most { result.reach.window.lead ≤ 135 }
@@ -398,18 +409,25 @@ fn put_next(code: &PackedCode, before: Placed, elements: &[Element], key: &mut [
     ensures size { length key.new ≡ length key.old }
 {
     match elements {
-        [first, ..] => put_some(code, before, first.weight(1), key),
+        [first, ..] => put_some(code, before, primary_weight(v, first), key),
         [] => before,
     }
 }
 
-// Puts the weights of elements that keep them, letters together and others one by one.
-fn put_kept(code: &PackedCode, before: Placed, elements: &[Element], key: &mut [u8]) -> Placed
+// Puts the weights of elements, letters together and others one by one.
+#[inline(always)]
+fn put_each(
+    code: &PackedCode,
+    v: Variable,
+    before: Placed,
+    elements: &[Element],
+    key: &mut [u8],
+) -> Placed
     requires slot { before.reach.window.slot ≡ slot code.now before.reach.window.base }
     requires lead { before.reach.window.lead ≡ lead code.now before.reach.window.base }
     requires most { before.reach.window.lead ≤ 135 }
     requires room { before.at + 3 * length elements.now ≤ length key.old }
-    ensures bytes { (ws : List ℕ) → take result.at key.new ++ primary_level code.now (state_of result.reach) ws ≡ take before.at key.old ++ primary_level code.now (state_of before.reach) (level_weights 1 (weighted NonIgnorable elements.now) ++ ws) }
+    ensures bytes { (ws : List ℕ) → take result.at key.new ++ primary_level code.now (state_of result.reach) ws ≡ take before.at key.old ++ primary_level code.now (state_of before.reach) (level_weights 1 (weighted v elements.now) ++ ws) }
     ensures slot { result.reach.window.slot ≡ slot code.now result.reach.window.base }
     ensures lead { result.reach.window.lead ≡ lead code.now result.reach.window.base }
     ensures most { result.reach.window.lead ≤ 135 }
@@ -419,24 +437,24 @@ fn put_kept(code: &PackedCode, before: Placed, elements: &[Element], key: &mut [
     let mut placed = before;
     let mut left = elements;
     'each: while !left.is_empty() {
-        let letters = put_letters(code, placed, left, key);
+        let letters = put_letters(code, v, placed, left, key);
         let (_, after) = left.split_at(letters.done);
         let here = Placed {
             at: letters.at,
             reach: placed.reach,
         };
-        placed = put_next(code, here, after, key);
+        placed = put_next(code, v, here, after, key);
         let (_, rest) = after.split_at(after.len().min(1));
         left = rest;
     }
     placed
 }
 
-// Puts the weights of some elements by their variable weighting. The weigher has seen those before them.
-fn put_weighted(
+// The same. Elements that keep their weights have a loop of their own, which does not ask whether one is variable.
+fn put_weights(
     code: &PackedCode,
+    v: Variable,
     before: Placed,
-    weigher: &mut Weigher,
     elements: &[Element],
     key: &mut [u8],
 ) -> Placed
@@ -444,107 +462,93 @@ fn put_weighted(
     requires lead { before.reach.window.lead ≡ lead code.now before.reach.window.base }
     requires most { before.reach.window.lead ≤ 135 }
     requires room { before.at + 3 * length elements.now ≤ length key.old }
-    ensures bytes { (es : List Element) → take result.at key.new ++ primary_level code.now (state_of result.reach) (weights_from weigher.new 1 es) ≡ take before.at key.old ++ primary_level code.now (state_of before.reach) (weights_from weigher.old 1 (elements.now ++ es)) }
+    ensures bytes { (ws : List ℕ) → take result.at key.new ++ primary_level code.now (state_of result.reach) ws ≡ take before.at key.old ++ primary_level code.now (state_of before.reach) (level_weights 1 (weighted v elements.now) ++ ws) }
     ensures slot { result.reach.window.slot ≡ slot code.now result.reach.window.base }
     ensures lead { result.reach.window.lead ≡ lead code.now result.reach.window.base }
     ensures most { result.reach.window.lead ≤ 135 }
     ensures within { result.at ≤ before.at + 3 * length elements.now }
-    ensures option { weigher.new.weighting ≡ weigher.old.weighting }
+    ensures size { length key.new ≡ length key.old }
 {
-    let mut placed = before;
-    for element in elements {
-        placed = put_some(code, placed, weigher.weigh_at(*element, 1), key);
-    }
-    placed
-}
-
-// Puts the weights of some elements into the front of a piece.
-fn put_piece(
-    code: &PackedCode,
-    reach: Reach,
-    v: Variable,
-    weigher: &mut Weigher,
-    elements: &[Element],
-    key: &mut [u8],
-) -> Placed
-    requires slot { reach.window.slot ≡ slot code.now reach.window.base }
-    requires lead { reach.window.lead ≡ lead code.now reach.window.base }
-    requires most { reach.window.lead ≤ 135 }
-    requires option { weigher.old.weighting ≡ v }
-    requires room { 3 * length elements.now ≤ length key.old }
-    ensures bytes { (es : List Element) → take result.at key.new ++ primary_level code.now (state_of result.reach) (weights_from weigher.new 1 es) ≡ primary_level code.now (state_of reach) (weights_from weigher.old 1 (elements.now ++ es)) }
-    ensures slot { result.reach.window.slot ≡ slot code.now result.reach.window.base }
-    ensures lead { result.reach.window.lead ≡ lead code.now result.reach.window.base }
-    ensures most { result.reach.window.lead ≤ 135 }
-    ensures within { result.at ≤ 3 * length elements.now }
-    ensures option { weigher.new.weighting ≡ v }
-{
-    let before = Placed { at: 0, reach };
     match v {
-        Variable::NonIgnorable => put_kept(code, before, elements, key),
-        _ => put_weighted(code, before, weigher, elements, key),
+        Variable::NonIgnorable => put_each(code, Variable::NonIgnorable, before, elements, key),
+        _ => put_each(code, v, before, elements, key),
     }
 }
 
-// How far a first level is put: the place after its bytes, what its weights leave to the next one, and the weigher of the elements
-// that follow.
-#[derive(Drop)]
+// What the weights before the first one leave to it.
+fn first_reach(code: &PackedCode) -> Reach
+    ensures slot { result.window.slot ≡ slot code.now result.window.base }
+    ensures lead { result.window.lead ≡ lead code.now result.window.base }
+    ensures most { result.window.lead ≤ 135 }
+    ensures state { state_of result ≡ start code.now }
+{
+    Reach {
+        window: code.first_window(),
+        second: false,
+    }
+}
+
+// How far a first level is put: the place after its bytes, and what its weights leave to the next one.
+#[derive(Clone, Copy)]
 struct FirstLevel {
     next: usize,
     reach: Reach,
-    weigher: Weigher,
-}
-
-impl FirstLevel {
-    // A level that begins at a place.
-    fn new(code: &PackedCode, v: Variable, at: usize) -> FirstLevel
-        ensures next { result.next ≡ at }
-        ensures slot { result.reach.window.slot ≡ slot code.now result.reach.window.base }
-        ensures lead { result.reach.window.lead ≡ lead code.now result.reach.window.base }
-        ensures most { result.reach.window.lead ≤ 135 }
-        ensures option { result.weigher.weighting ≡ v }
-        ensures left { (es : List Element) → first_left code.now result es ≡ primary_level code.now (start code.now) (level_weights 1 (weighted v es)) }
-    {
-        FirstLevel {
-            next: at,
-            reach: Reach {
-                window: code.first_window(),
-                second: false,
-            },
-            weigher: Weigher::new(v),
-        }
-    }
 }
 
 // Puts the weights of some elements, a piece at a time.
 fn put_elements(
     code: &PackedCode,
     v: Variable,
-    state: &mut FirstLevel,
+    before: FirstLevel,
     elements: &[Element],
     out: &mut [u8],
-)
-    requires slot { state.old.reach.window.slot ≡ slot code.now state.old.reach.window.base }
-    requires lead { state.old.reach.window.lead ≡ lead code.now state.old.reach.window.base }
-    requires most { state.old.reach.window.lead ≤ 135 }
-    requires option { state.old.weigher.weighting ≡ v }
+) -> FirstLevel
+    requires slot { before.reach.window.slot ≡ slot code.now before.reach.window.base }
+    requires lead { before.reach.window.lead ≡ lead code.now before.reach.window.base }
+    requires most { before.reach.window.lead ≤ 135 }
     requires size { length out.old < 2 ^ 64 }
-    ensures bytes { (at : ℕ) (before whole : List ℕ) (es : List Element) → IsPutting at before state.old.next out.old whole (first_left code.now state.old (elements.now ++ es)) → IsPutting at before state.new.next out.new whole (first_left code.now state.new es) }
-    ensures slot { state.new.reach.window.slot ≡ slot code.now state.new.reach.window.base }
-    ensures lead { state.new.reach.window.lead ≡ lead code.now state.new.reach.window.base }
-    ensures most { state.new.reach.window.lead ≤ 135 }
-    ensures option { state.new.weigher.weighting ≡ v }
+    ensures bytes { (at : ℕ) (front whole : List ℕ) (es : List Element) → IsPutting at front before.next out.old whole (first_left code.now v before (elements.now ++ es)) → IsPutting at front result.next out.new whole (first_left code.now v result es) }
+    ensures slot { result.reach.window.slot ≡ slot code.now result.reach.window.base }
+    ensures lead { result.reach.window.lead ≡ lead code.now result.reach.window.base }
+    ensures most { result.reach.window.lead ≤ 135 }
     ensures size { length out.new ≡ length out.old }
 {
     let mut bytes = [0; LETTER * PIECE];
+    let mut state = before;
     let mut left = elements;
     'pieces: while !left.is_empty() {
         let (piece, rest) = left.split_at(left.len().min(PIECE));
-        let placed = put_piece(code, state.reach, v, &mut state.weigher, piece, &mut bytes);
+        let front = Placed {
+            at: 0,
+            reach: state.reach,
+        };
+        let placed = put_weights(code, v, front, piece, &mut bytes);
         state.next = put_bytes(&bytes[..placed.at], state.next, out);
         state.reach = placed.reach;
         left = rest;
     }
+    state
+}
+
+/// Puts the first level of some elements into the front of a buffer. It ends itself.
+pub(crate) fn put_whole(
+    code: &PackedCode,
+    v: Variable,
+    elements: &[Element],
+    key: &mut [u8],
+) -> usize
+    requires room { 3 * length elements.now + 1 ≤ length key.old }
+    ensures bytes { take result key.new ≡ primary_level code.now (start code.now) (level_weights 1 (weighted v elements.now)) }
+    ensures within { result ≤ 3 * length elements.now + 1 }
+    ensures size { length key.new ≡ length key.old }
+{
+    let front = Placed {
+        at: 0,
+        reach: first_reach(code),
+    };
+    let placed = put_weights(code, v, front, elements, key);
+    key[placed.at] = 0;
+    placed.at + 1
 }
 
 // Puts a first level of a text that the room does not hold, as it is read once more.
@@ -562,14 +566,17 @@ fn put_first_again(
     ensures bytes { PutsAt at (primary_level code.now (start code.now) (level_weights 1 (weighted v (elements_of reading.now)))) out.old out.new result }
     ensures room { length room.new ≡ length room.old }
 {
-    let mut state = FirstLevel::new(code, v, at);
+    let mut state = FirstLevel {
+        next: at,
+        reach: first_reach(code),
+    };
     let mut left = reading.again();
     'each: loop {
         let n = left.read(room);
         if n == 0 {
             return put_bytes(&[0], state.next, out);
         }
-        put_elements(code, v, &mut state, &room[..n], out);
+        state = put_elements(code, v, state, &room[..n], out);
     }
 }
 
@@ -590,8 +597,11 @@ pub(crate) fn put_first(
     ensures room { length room.new ≡ length room.old }
 {
     if let Some(held) = reading.held {
-        let mut state = FirstLevel::new(code, v, at);
-        put_elements(code, v, &mut state, &room[..held], out);
+        let before = FirstLevel {
+            next: at,
+            reach: first_reach(code),
+        };
+        let state = put_elements(code, v, before, &room[..held], out);
         return put_bytes(&[0], state.next, out);
     }
     put_first_again(code, v, reading, room, at, out)

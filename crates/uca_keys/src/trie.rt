@@ -1,4 +1,4 @@
-ghost use Rattle.std.specs.Prelude.{◌≡◌, ℕ, ◌+◌, ◌-◌, ◌<◌, ◌≤◌, ◌^◌, ◌++◌, ◌∷◌, [], length, take, drop, get_or, option_copied, IfOk, IfSome, IfNone, OnOk, true, false};
+ghost use Rattle.std.specs.Prelude.{◌≡◌, ℕ, ◌+◌, ◌-◌, ◌<◌, ◌≤◌, ◌^◌, ◌++◌, ◌∷◌, [], length, take, drop, get_or, option_copied, IfOk, IfSome, IfNone, IsTrue, OnOk, true, false};
 ghost use Rattle.std.specs.FinMap.{find};
 ghost use Rattle.uca_model.specs.Table.{key_cmp};
 ghost use Rattle.uca_keys.specs.Fronts.{begins_entry};
@@ -199,6 +199,15 @@ impl Trie {
             Ok(at) => Some(children[at].node),
             Err(_) => None,
         }
+    }
+
+    /// Whether no code point leads on from a node.
+    pub fn is_leaf(&self, node: NodeNumber) -> bool
+        requires { node.number ≤ length self.now.nodes }
+        ensures { IsTrue result → (point : ℕ) → begins_entry (entries_of self.now) (path_at self.now node.number ++ point ∷ []) ≡ false }
+    {
+        let _known = &self.nodes;
+        self.children_of(node).is_empty()
     }
 
     /// The same as [`Trie::child`]. Where it is called for one node and code points that ascend, with the same `near`, it goes

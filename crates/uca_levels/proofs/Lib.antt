@@ -7,5 +7,4 @@ pub mod CommonFront
 pub mod FirstWeight
 pub mod PrimaryLemmas
 pub mod StreamLemmas
-pub mod UnchangedWeights
-mod PrimarySteps
+pub mod PrimarySteps

@@ -16,12 +16,13 @@ mod first_weight;
 mod joined_weights;
 mod level_order;
 pub mod points;
-mod primaries;
+pub mod primaries;
 mod stream;
 pub mod text_order;
 pub mod weights;
 
 pub use comparison::compare_sources;
 pub use points::Points;
+pub use primaries::primary_weight;
 pub use text_order::compare;
 pub use weights::Weights;

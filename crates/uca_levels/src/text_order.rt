@@ -54,7 +54,9 @@ fn order_of_cells(t: &Table, v: Variable, level: u8, a: &str, b: &str) -> Option
 }
 
 // The order of two texts at a level of weights. `None`: many characters join each other. The first level of elements that keep their
-// weights has a loop of its own, which asks for neither: there most comparisons end.
+// weights has a loop of its own, which asks for neither. It is not inlined, so that a comparison that ends before it does not pay for
+// its stack frame.
+#[inline(never)]
 fn order_of_weights(t: &Table, v: Variable, level: u8, a: &str, b: &str) -> Option<Ordering>
     requires first { 1 ≤ level }
     requires last { level ≤ 4 }
@@ -68,7 +70,7 @@ fn order_of_weights(t: &Table, v: Variable, level: u8, a: &str, b: &str) -> Opti
     }
 }
 
-// The order of two texts at the first level. `None`: many characters join each other. Most characters have one primary weight, and most
+// The order of two texts at the first level. `None`: many characters join each other. The letters of most scripts stand alone, and most
 // texts differ in one soon.
 #[inline(always)]
 fn order_at_first(t: &Table, v: Variable, a: &str, b: &str) -> Option<Ordering>

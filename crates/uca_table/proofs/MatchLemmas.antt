@@ -1,11 +1,13 @@
 -- The discontiguous match nonstarter after nonstarter, and the keys that are looked up.
-use Rattle.std.proofs.Common.{◌≡◌, ℕ, suc, zero, ◌+◌, ◌-◌, ◌≤◌, ◌<◌, max, Bool, true, false, cond, not, ◌&&◌, ◌||◌, nat_le, nat_lt, List, [], ◌∷◌, ◌++◌, length, take, drop, get_or, sym, ap, ap₂, subst, ◌∙◌, arith, inl, inr, append-nil}
+use Rattle.std.proofs.Common.{◌≡◌, ℕ, suc, zero, ◌+◌, ◌-◌, ◌≤◌, ◌<◌, max, Bool, true, false, cond, not, ◌&&◌, ◌||◌, nat_le, nat_lt, List, [], ◌∷◌, ◌++◌, length, take, drop, get_or, sym, ap, ap₂, subst, ◌∙◌, arith, inl, inr, append_assoc, append-nil}
 use Rattle.std.proofs.lemmas.Bool.{cases_Bool, cases_lt, lt-ltb, le-ltb, le-leb, lt-leb}
 use Rattle.std.proofs.lemmas.List.{length-take-le, drop_all, get_or_read}
+use Rattle.std.proofs.Math.Bool.{and-false}
 use Rattle.std.proofs.Math.Nat.{pos_of_ne-zero}
 use Rattle.unicode.specs.CanonicalCombiningClass.{canonical_combining_class as ccc}
+use Rattle.unicode_normalization.specs.Order.{is_starter}
 use Rattle.uca_model.specs.Table.{ElementTable, is_key, longest}
-use Rattle.uca_model.specs.Match.{took, greatest, longest_match_len, is_blocked, discontiguous_match}
+use Rattle.uca_model.specs.Match.{Step, took, greatest, longest_match_len, is_blocked, discontiguous_match}
 use Rattle.uca_model.proofs.LongestKey.{longest-covers}
 use Rattle.uca_model.proofs.MatchingLemmas.{extended_ends, extended_takes, extended_passes, extended_done}
 use Rattle.uca_table.specs.Running.{brought_forward, highest_class, passed_over, IsExtending}
@@ -61,6 +63,22 @@ pub taken_as : (is_key : List ℕ → Bool) (s passed : List ℕ) (high x class 
 taken_as is_key s passed high x class taken highest e mark t =
     let above : 0 < ccc x = pos_of_ne-zero (λ z. mark (e ∙ z)) in
     t ∙ ap (λ b. b && is_key (s ++ x ∷ [])) (ap (λ h. nat_lt h (ccc x)) highest ∙ sym (not_blocked passed x above))
+
+-- nothing is taken where no code point makes a longer key
+pub none_taken : (is_key : List ℕ → Bool) (s passed cs : List ℕ) → ((c : ℕ) → is_key (s ++ c ∷ []) ≡ false) → discontiguous_match is_key s passed cs ≡ took s (passed ++ cs)
+unfolding discontiguous_match
+none_taken is_key s passed [] none = ap (took s) (sym (append-nil passed))
+none_taken is_key s passed (c ∷ cs) none =
+    let kept : Step = discontiguous_match is_key s (passed ++ c ∷ []) cs in
+    let ends : Step = took s (passed ++ c ∷ cs) in
+    let later : kept ≡ ends = none_taken is_key s (passed ++ c ∷ []) cs none ∙ ap (took s) (append_assoc passed (c ∷ []) cs) in
+    let other : Step = discontiguous_match is_key (s ++ c ∷ []) passed cs in
+    elim (cases_Bool (is_starter c)) [
+      | inl starts ↦ ap (λ b. cond b ends (cond (not (is_blocked passed c) && is_key (s ++ c ∷ [])) other kept)) starts
+      | inr mark ↦
+          let fails : (not (is_blocked passed c) && is_key (s ++ c ∷ [])) ≡ false = ap (λ b. not (is_blocked passed c) && b) (none c) ∙ and-false (not (is_blocked passed c)) in
+          ap (λ b. cond b ends (cond (not (is_blocked passed c) && is_key (s ++ c ∷ [])) other kept)) mark ∙ ap (λ b. cond b other kept) fails ∙ later
+    ]
 
 module _ (is_key : List ℕ → Bool) (start : ℕ) (old : List ℕ) where
   -- nothing was passed over at the start

@@ -109,6 +109,8 @@ impl TableBuilder {
             ideographs: Vec::new(self.alloc),
             longest_key,
         };
+        // The entries have been copied, and take more than what is kept about characters.
+        drop(self.entries);
         Ok(Table::of(self.alloc, stored))
     }
 }

@@ -78,6 +78,9 @@ fn extend(walk: &mut Walk<'_>, text: &mut [char], start: usize) -> usize
     ensures path { path_of walk.new ≡ take result text.new }
     ensures table { table_of_walk walk.new ≡ table_of_walk walk.old }
 {
+    if walk.is_leaf() {
+        return start;
+    }
     let mut end = start;
     let mut high = 0;
     for at in start..text.len() {

@@ -166,6 +166,13 @@ impl Table {
         Table { stored, cells }
     }
 
+    /// Frees what is kept about single characters, by which texts are read fast. A table that is only tailored does without it.
+    pub fn forget_characters(&mut self, alloc: Global)
+        ensures { self.new ≡ self.old }
+    {
+        self.cells = Cells::none(alloc);
+    }
+
     /// The entries and ranges, for matching code point by code point.
     pub fn stored(&self) -> &Stored
         ensures { result.now ≡ self.now }

@@ -1,4 +1,4 @@
-ghost use Rattle.std.specs.Prelude.{◌≡◌, ◌++◌, ◌∷◌, [], ◌<◌, ◌≤◌, cond, true, length, All, option_copied, IfSome};
+ghost use Rattle.std.specs.Prelude.{◌≡◌, ◌++◌, ◌∷◌, [], ◌<◌, ◌≤◌, ℕ, cond, true, false, length, All, option_copied, IfSome, IsTrue};
 ghost use Rattle.std.specs.Coded.{Coded-set};
 ghost use Rattle.std.specs.FinMap.{entries};
 ghost use Rattle.uca_model.specs.Table.{IsTable};
@@ -72,6 +72,13 @@ impl<'t> Walk<'t> {
             depth: self.depth + 1,
         };
         true
+    }
+
+    /// Whether no key goes on from the path.
+    pub fn is_leaf(&self) -> bool
+        ensures { IsTrue result → (c : ℕ) → begins_key (table_of_walk self.now) (path_of self.now ++ c ∷ []) ≡ false }
+    {
+        self.keys.is_leaf(self.node)
     }
 
     /// How many code points were stepped. If there are any, some key begins with them.

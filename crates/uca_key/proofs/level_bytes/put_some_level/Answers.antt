@@ -8,7 +8,7 @@ use Rattle.uca_model.specs.LevelWeights.{level_weights}
 use Rattle.uca_model.specs.SortKey.{level_bytes, weight_bytes}
 use Rattle.uca_key.specs.Placing.{PutsAt}
 use Rattle.uca_key.proofs.PlacingLemmas.{PutsAt-more}
-use Rattle.uca_levels.proofs.UnchangedWeights.{level_weights-both}
+use Rattle.uca_key.proofs.UnchangedWeights.{level_weights-both}
 use Rattle.uca_key.proofs.level_bytes.put_some_level.Goals as goal
 
 more : (level : _) (xs : List Element) (e : Element) → level_bytes (weighted NonIgnorable (xs ++ e ∷ [])) level ≡ level_bytes (weighted NonIgnorable xs) level ++ level_bytes (unchanged e 0 ∷ []) level

@@ -6,7 +6,7 @@ use Rattle.uca_weights.specs.VariableWeighting.{weighted}
 use Rattle.uca_model.specs.LevelWeights.{level_weights}
 use Rattle.uca_model.specs.SortKey.{level_bytes, weight_bytes}
 use Rattle.uca_key.proofs.PlacingLemmas.{IsPutting-ends, IsPutting-more, IsPutting-start}
-use Rattle.uca_levels.proofs.UnchangedWeights.{level_weights-both}
+use Rattle.uca_key.proofs.UnchangedWeights.{level_weights-both}
 use Rattle.uca_key.proofs.level_bytes.put_unchanged_level.Goals as goal
 
 -- the bytes of two lists, one after the other

@@ -6,10 +6,13 @@ use Rattle.uca_model.specs.CollationElements.{elements}
 use Rattle.uca_model.specs.LevelWeights.{level_weights}
 use Rattle.uca_model.proofs.LevelLemmas.{levels-within}
 use Rattle.uca_key.specs.PrimaryCode.{primary_level, start}
-use Rattle.uca_key.specs.PackedKey.{packed_key_by, packed_later}
+use Rattle.uca_key.specs.PackedKey.{later_levels, packed_key_by, packed_later}
 use Rattle.uca_key.proofs.PlacingLemmas.{IsPutting-start, IsPutting-more}
-use Rattle.uca_key.proofs.PackedPieces.{later_levels, packed-levels}
+use Rattle.uca_key.proofs.PackedPieces.{packed-levels}
 use Rattle.uca_key.proofs.packed_levels.put_packed_levels.Goals as goal
+
+pub slice_bounds-put_few-end : goal.slice_bounds-put_few-end
+slice_bounds-put_few-end c = (c.requires.holds c.in-Some.held c.in-Some.is).0
 
 pub each-init : goal.each-init
 each-init c =
@@ -22,9 +25,6 @@ each-init c =
       last = (levels-within c.args.s.strength).0;
       holds = c.put_first-next.ensures.holds;
       size = c.put_first-next.ensures.room;
-      few = c.count_held-common.ensures.few;
-      second = c.count_held-common.ensures.second;
-      third = c.count_held-common.ensures.third;
       putting = IsPutting-more _ _ _ _ _ _ (IsPutting-start c.args.at c.args.out.now (packed_key_by k c.args.reading.now.table.now c.args.s text) _ c.ranges.at.fits refl) _ _ own (later_levels (levels c.args.s.strength - 1) 2 ws (nfd text)) c.requires.size (packed-levels k c.args.reading.now.table.now c.args.s text) puts;
     }
 
@@ -41,8 +41,5 @@ each-preserved c =
       last = omega (arith, c.each.invariant.last, c.levels-last.ensures, c.each-test.true);
       holds = c.put_later-next.ensures.holds;
       size = c.put_later-next.ensures.room ∙ c.each.invariant.size;
-      few = c.each.invariant.few;
-      second = c.each.invariant.second;
-      third = c.each.invariant.third;
       putting = IsPutting-more _ _ _ _ _ _ c.each.invariant.putting _ _ (packed_later ws (nfd text) (at + 1)) _ c.requires.size split puts;
     }

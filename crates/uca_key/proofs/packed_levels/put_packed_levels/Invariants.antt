@@ -1,13 +1,11 @@
-use Rattle.std.proofs.Common.{◌≡◌, ◌+◌, ◌-◌, ◌≤◌, ◌<◌, chars, length}
+use Rattle.std.proofs.Common.{◌≡◌, ◌+◌, ◌-◌, ◌≤◌, chars, length}
 use Rattle.unicode_normalization.specs.Forms.{nfd}
 use Rattle.uca_weights.specs.Settings.{levels}
 use Rattle.uca_weights.specs.VariableWeighting.{weighted}
 use Rattle.uca_model.specs.CollationElements.{elements}
-use Rattle.uca_key.specs.Pieces.{HoldsElements, elements_of}
-use Rattle.uca_key.specs.Runs.{AreCounted}
+use Rattle.uca_key.specs.Pieces.{HoldsElements}
 use Rattle.uca_key.specs.Placing.{IsPutting}
-use Rattle.uca_key.specs.PackedKey.{packed_key_by}
-use Rattle.uca_key.proofs.PackedPieces.{later_levels}
+use Rattle.uca_key.specs.PackedKey.{later_levels, packed_key_by}
 use Rattle.uca_key.proofs.packed_levels.put_packed_levels.Given as goal
 
 abbrev pub invariant-each : goal.invariant-each
@@ -16,9 +14,6 @@ invariant-each l = record {
   last : l.level ≤ levels l.s.strength;
   holds : HoldsElements l.reading l.room;
   size : length l.room ≡ length l.fn.room;
-  few : l.common < 62;
-  second : AreCounted l.s.weighting 2 l.common (elements_of l.reading);
-  third : AreCounted l.s.weighting 3 l.common (elements_of l.reading);
   putting : IsPutting l.fn.at l.fn.out l.next l.out (packed_key_by l.code l.reading.table.now l.s (chars l.reading.text.now)) (later_levels (levels l.s.strength - l.level) (l.level + 1) (weighted l.s.weighting (elements l.reading.table.now (nfd (chars l.reading.text.now)))) (nfd (chars l.reading.text.now)));
 }
 

@@ -5,7 +5,7 @@ use Rattle.uca_weights.specs.VariableWeighting.{weighted}
 use Rattle.uca_model.specs.LevelWeights.{level_weights}
 use Rattle.uca_key.specs.PackedKey.{common_weight, runs_after}
 use Rattle.uca_key.proofs.RunsLemmas.{four-common}
-use Rattle.uca_levels.proofs.UnchangedWeights.{level_weights-both}
+use Rattle.uca_key.proofs.UnchangedWeights.{level_weights-both}
 use Rattle.uca_key.proofs.runs.pack_unchanged.Goals as goal
 
 abbrev weights_of : ℕ → List Element → List ℕ

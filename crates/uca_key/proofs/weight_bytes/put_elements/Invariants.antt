@@ -10,10 +10,9 @@ invariant-pieces l = record {
   slot : l.state.reach.window.slot ≡ slot l.code l.state.reach.window.base;
   lead : l.state.reach.window.lead ≡ lead l.code l.state.reach.window.base;
   most : l.state.reach.window.lead ≤ 135;
-  option : l.state.weigher.weighting ≡ l.v;
   size : length l.out ≡ length l.fn.out;
   bytes : length l.bytes ≡ 192;
-  putting : (at : ℕ) (before whole : List ℕ) (es : List Element) → IsPutting at before l.fn.state.next l.fn.out whole (first_left l.code l.fn.state (l.elements ++ es)) → IsPutting at before l.state.next l.out whole (first_left l.code l.state (l.left ++ es));
+  putting : (at : ℕ) (front whole : List ℕ) (es : List Element) → IsPutting at front l.fn.before.next l.fn.out whole (first_left l.code l.v l.fn.before (l.elements ++ es)) → IsPutting at front l.state.next l.out whole (first_left l.code l.v l.state (l.left ++ es));
 }
 
 abbrev pub decreases-pieces : goal.decreases-pieces

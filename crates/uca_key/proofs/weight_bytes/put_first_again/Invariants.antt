@@ -13,10 +13,9 @@ invariant-each l = record {
   slot : l.state.reach.window.slot ≡ slot l.code l.state.reach.window.base;
   lead : l.state.reach.window.lead ≡ lead l.code l.state.reach.window.base;
   most : l.state.reach.window.lead ≤ 135;
-  option : l.state.weigher.weighting ≡ l.v;
   size : length l.room ≡ length l.fn.room;
   out : length l.out ≡ length l.fn.out;
-  putting : IsPutting l.at l.fn.out l.state.next l.out (primary_level l.code (start l.code) (level_weights 1 (weighted l.v (elements_of l.reading)))) (first_left l.code l.state (elements_left l.left));
+  putting : IsPutting l.at l.fn.out l.state.next l.out (primary_level l.code (start l.code) (level_weights 1 (weighted l.v (elements_of l.reading)))) (first_left l.code l.v l.state (elements_left l.left));
 }
 
 abbrev pub decreases-each : goal.decreases-each

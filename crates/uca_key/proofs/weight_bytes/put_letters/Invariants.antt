@@ -1,5 +1,4 @@
 use Rattle.std.proofs.Common.{◌≡◌, ◌+◌, ◌-◌, ◌≤◌, ◌++◌, ℕ, List, length, take, drop}
-use Rattle.uca_weights.specs.declared.settings.Variable.TheVariants.{NonIgnorable}
 use Rattle.uca_weights.specs.VariableWeighting.{weighted}
 use Rattle.uca_model.specs.LevelWeights.{level_weights}
 use Rattle.uca_key.specs.PrimaryCode.{primary_level}
@@ -12,7 +11,7 @@ invariant-each l = record {
   some : l.done ≤ length l.elements;
   within : l.next ≤ l.before.at + l.done;
   size : length l.key ≡ length l.fn.key;
-  same : (ws : List ℕ) → take l.next l.key ++ primary_level l.code (state_of l.before.reach) (level_weights 1 (weighted NonIgnorable (drop l.done l.elements)) ++ ws) ≡ take l.before.at l.fn.key ++ primary_level l.code (state_of l.before.reach) (level_weights 1 (weighted NonIgnorable l.elements) ++ ws);
+  same : (ws : List ℕ) → take l.next l.key ++ primary_level l.code (state_of l.before.reach) (level_weights 1 (weighted l.v (drop l.done l.elements)) ++ ws) ≡ take l.before.at l.fn.key ++ primary_level l.code (state_of l.before.reach) (level_weights 1 (weighted l.v l.elements) ++ ws);
 }
 
 abbrev pub decreases-each : goal.decreases-each

@@ -1,12 +1,19 @@
-use Rattle.std.proofs.Common.{◌≡◌, ◌+◌, ◌++◌, ◌∷◌, [], ◌&&◌, cond, nat_lt, ℕ, take, get_or, sym, ap, ap₂, ◌∙◌, arith}
+use Rattle.std.proofs.Common.{◌≡◌, ◌+◌, ◌++◌, ◌∷◌, [], ◌&&◌, cond, nat_lt, ℕ, List, take, drop, get_or, sym, ap, ap₂, ◌∙◌, arith}
 use Rattle.std.proofs.lemmas.List.{get_or_read}
 use Rattle.unicode.specs.CanonicalCombiningClass.{canonical_combining_class}
 use Rattle.uca_model.specs.Table.{is_key}
 use Rattle.uca_table.specs.Walk.{path_of, table_of_walk}
 use Rattle.uca_table.proofs.MovedForward.{brought-front}
-use Rattle.uca_table.proofs.MatchLemmas.{IsExtending-takes, IsExtending-passes, IsExtending-stops, IsExtending-ends, IsExtending-as}
+use Rattle.uca_table.specs.Fronts.{begins_key}
+use Rattle.uca_table.proofs.WalkLemmas.{no_key-there}
+use Rattle.uca_table.proofs.MatchLemmas.{none_taken, IsExtending-takes, IsExtending-passes, IsExtending-stops, IsExtending-ends, IsExtending-as}
 use Rattle.uca_table.proofs.matching.extend.Goals as goal
 use Rattle.uca_table.proofs.matching.extend.Goals.{then-takes, else-takes}
+
+pub returns-then-is_leaf-clause-taken : goal.returns-then-is_leaf-clause-taken
+returns-then-is_leaf-clause-taken c =
+    let t = table_of_walk c.args.walk.now in let front : List ℕ = take c.args.start c.args.text.now in
+    none_taken (is_key t) front [] (drop c.args.start c.args.text.now) (λ x. no_key-there t (front ++ x ∷ []) (ap (λ p. begins_key t (p ++ x ∷ [])) (sym c.requires.path) ∙ c.is_leaf.ensures c.if-is_leaf.true x))
 
 pub returns-then-class-eq0-clause-taken : goal.returns-then-class-eq0-clause-taken
 returns-then-class-eq0-clause-taken c =

@@ -1,10 +1,9 @@
 use Rattle.std.proofs.Common.{◌≡◌, ◌+◌, ◌*◌, ◌≤◌, ◌++◌, ℕ, List, length, take}
-use Rattle.uca_weights.specs.declared.settings.Variable.TheVariants.{NonIgnorable}
 use Rattle.uca_weights.specs.VariableWeighting.{weighted}
 use Rattle.uca_model.specs.LevelWeights.{level_weights}
 use Rattle.uca_key.specs.PrimaryCode.{lead, primary_level, slot}
 use Rattle.uca_key.specs.Reach.{state_of}
-use Rattle.uca_key.proofs.weight_bytes.put_kept.Given as goal
+use Rattle.uca_key.proofs.weight_bytes.put_each.Given as goal
 
 -- what is put, what is left and what follows are put as all is
 abbrev pub invariant-each : goal.invariant-each
@@ -14,7 +13,7 @@ invariant-each l = record {
   most : l.placed.reach.window.lead ≤ 135;
   within : l.placed.at + 3 * length l.left ≤ l.fn.before.at + 3 * length l.elements;
   size : length l.key ≡ length l.fn.key;
-  same : (ws : List ℕ) → take l.placed.at l.key ++ primary_level l.code (state_of l.placed.reach) (level_weights 1 (weighted NonIgnorable l.left) ++ ws) ≡ take l.fn.before.at l.fn.key ++ primary_level l.code (state_of l.fn.before.reach) (level_weights 1 (weighted NonIgnorable l.elements) ++ ws);
+  same : (ws : List ℕ) → take l.placed.at l.key ++ primary_level l.code (state_of l.placed.reach) (level_weights 1 (weighted l.v l.left) ++ ws) ≡ take l.fn.before.at l.fn.key ++ primary_level l.code (state_of l.fn.before.reach) (level_weights 1 (weighted l.v l.elements) ++ ws);
 }
 
 abbrev pub decreases-each : goal.decreases-each

@@ -1,0 +1,7 @@
+use Rattle.std.proofs.Common.{ap, sym, ◌∙◌, ◌++◌, ◌∷◌, []}
+use Rattle.uca_keys.specs.Fronts.{begins_entry}
+use Rattle.uca_table.specs.Walk.{path_of}
+use Rattle.uca_table.proofs.walk.Walk.is_leaf.Goals as goal
+
+pub returns : goal.returns
+returns c = λ leaf point. let w = c.args.self.now in ap (λ es. begins_entry es (path_of w ++ point ∷ [])) (sym w.same) ∙ c.is_leaf.ensures leaf point
