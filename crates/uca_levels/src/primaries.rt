@@ -1,4 +1,4 @@
-//! Primary weights of characters that stand alone and have at most two: by these most comparisons are decided.
+//! Primary weights of characters that stand alone and have at most one: by these most comparisons are decided.
 ghost use Rattle.std.specs.Prelude.{◌≡◌, [], ◌<◌, ◌≤◌, chars, length, IfErr, IfSome, MatchResult};
 ghost use Rattle.uca_weights.specs.VariableWeighting.{weighted};
 ghost use Rattle.uca_model.specs.DecidingLevel.{OrdersLevel};
@@ -8,7 +8,7 @@ ghost use Rattle.uca_match.specs.Yields.{YieldsFirst};
 ghost use Rattle.uca_levels.specs.Decides.{IsOfLevel};
 ghost use Rattle.uca_levels.specs.Primaries.{primary_of};
 ghost use Rattle.uca_levels.specs.Reads.{InStep};
-ghost use Rattle.uca_levels.specs.Streams.{given_before, weight_before};
+ghost use Rattle.uca_levels.specs.Streams.{weight_before};
 
 use crate::decided::{decided, widened};
 use std::cmp::Ordering;
@@ -20,16 +20,6 @@ use uca_weights::{Element, Variable};
 pub(crate) struct Rest<'t> {
     pub(crate) a: &'t str,
     pub(crate) b: &'t str,
-}
-
-/// The next primary weights of a text: those of one character, which has two where its weights are implicit.
-#[derive(Clone, Copy)]
-struct Next<'t> {
-    /// `None` at the end of the text.
-    first: Option<u16>,
-    second: Option<u16>,
-    /// What is left of the text after that character.
-    rest: &'t str,
 }
 
 /// The weight of an element at the first level, whatever comes before it (UTS #10, section 4, Variable Weighting).
@@ -44,61 +34,44 @@ pub fn primary_weight(v: Variable, e: &Element) -> u16
     }
 }
 
-// The primary weight of elements, or zero, and a second one that follows one that is not zero. `None`: they have others.
+// The primary weight of elements of which only the first may have one, or zero. `None`: others may have one.
 #[inline(always)]
-fn own_primaries(v: Variable, elements: &[Element]) -> Option<(u16, Option<u16>)>
-    ensures weights { IfSome result (λ own. level_weights 1 (weighted v elements.now) ≡ weight_before own.0 (given_before own.1 [])) }
-    ensures second { IfSome result (λ own. IfSome own.1 (λ w. IsOfLevel 1 w × (0 < own.0))) }
+fn only_primary(v: Variable, elements: &[Element]) -> Option<u16>
+    ensures { IfSome result (λ w. level_weights 1 (weighted v elements.now) ≡ weight_before w []) }
 {
     match elements {
-        [e] => Some((primary_weight(v, e), None)),
-        [e, other] => {
-            let (first, second) = (primary_weight(v, e), primary_weight(v, other));
-            if second == 0 {
-                return Some((first, None));
-            }
-            if first == 0 {
-                return None;
-            }
-            Some((first, Some(second)))
-        }
+        [e] => Some(primary_weight(v, e)),
+        [e, mark] if primary_weight(v, mark) == 0 => Some(primary_weight(v, e)),
         _ => None,
     }
 }
 
-// The next primary weights of a text. `None`: they are not known without a look at more than one character at a time.
+// The next primary weight of a text, or that there is none, and what is left of the text. `None`: that is not known without a look at
+// more than one character at a time.
 #[inline(always)]
-fn next_primaries<'t>(t: &Table, v: Variable, text: &'t str) -> Option<Next<'t>>
+fn next_primary<'t>(t: &Table, v: Variable, text: &'t str) -> Option<(Option<u16>, &'t str)>
     requires { IsSafe (chars text.now) }
-    ensures first { IfSome result (λ next. YieldsFirst (level_list t.now v (chars text.now) 1) next.first (given_before next.second (level_list t.now v (chars next.rest.now) 1))) }
-    ensures weights { IfSome result (λ next. IfSome next.first (IsOfLevel 1) × IfSome next.second (IsOfLevel 1)) }
-    ensures safe { IfSome result (λ next. IsSafe (chars next.rest.now)) }
-    ensures shorter { IfSome result (λ next. IfSome next.first (λ _. length next.rest.now < length text.now)) }
+    ensures first { IfSome result (λ r. YieldsFirst (level_list t.now v (chars text.now) 1) r.0 (level_list t.now v (chars r.1.now) 1)) }
+    ensures weight { IfSome result (λ r. IfSome r.0 (IsOfLevel 1)) }
+    ensures safe { IfSome result (λ r. IsSafe (chars r.1.now)) }
+    ensures shorter { IfSome result (λ r. IfSome r.0 (λ _. length r.1.now < length text.now)) }
 {
     let mut left = text;
     'characters: loop {
         let mut characters = left.chars();
         let Some(c) = characters.next() else {
-            return Some(Next {
-                first: None,
-                second: None,
-                rest: left,
-            });
+            return Some((None, left));
         };
         let rest = characters.as_str();
-        let (weight, second) = own_primaries(v, t.alone_before(c, rest)?)?;
+        let weight = only_primary(v, t.alone_before(c, rest)?)?;
         if weight != 0 {
-            return Some(Next {
-                first: Some(weight),
-                second,
-                rest,
-            });
+            return Some((Some(weight), rest));
         }
         left = rest;
     }
 }
 
-/// The order of two texts at the first level, as far as it is known from one character at a time. If that is not so up to where
+/// The order of two texts at the first level, as far as their primary weights come one from a character. If that is not so up to where
 /// the texts differ, what is left has the order of the texts.
 #[inline(always)]
 pub(crate) fn order_of_primaries<'t>(
@@ -116,29 +89,18 @@ pub(crate) fn order_of_primaries<'t>(
 {
     let mut left = Rest { a, b };
     'weights: loop {
-        let Some(x) = next_primaries(t, v, left.a) else {
+        let Some((x, rest_a)) = next_primary(t, v, left.a) else {
             return Err(left);
         };
-        let Some(y) = next_primaries(t, v, left.b) else {
+        let Some((y, rest_b)) = next_primary(t, v, left.b) else {
             return Err(left);
         };
-        if let Some(order) = decided(widened(x.first), widened(y.first)) {
+        if let Some(order) = decided(widened(x), widened(y)) {
             return Ok(order);
         }
-        let rest = Rest {
-            a: x.rest,
-            b: y.rest,
+        left = Rest {
+            a: rest_a,
+            b: rest_b,
         };
-        if x.second.is_none() && y.second.is_none() {
-            left = rest;
-            continue;
-        }
-        if x.second.is_none() || y.second.is_none() {
-            return Err(left);
-        }
-        if let Some(order) = decided(widened(x.second), widened(y.second)) {
-            return Ok(order);
-        }
-        left = rest;
     }
 }

@@ -54,9 +54,7 @@ fn order_of_cells(t: &Table, v: Variable, level: u8, a: &str, b: &str) -> Option
 }
 
 // The order of two texts at a level of weights. `None`: many characters join each other. The first level of elements that keep their
-// weights has a loop of its own, which asks for neither. It is not inlined, so that a comparison that ends before it does not pay for
-// its stack frame.
-#[inline(never)]
+// weights has a loop of its own, which asks for neither: there most comparisons end.
 fn order_of_weights(t: &Table, v: Variable, level: u8, a: &str, b: &str) -> Option<Ordering>
     requires first { 1 ≤ level }
     requires last { level ≤ 4 }
@@ -70,8 +68,8 @@ fn order_of_weights(t: &Table, v: Variable, level: u8, a: &str, b: &str) -> Opti
     }
 }
 
-// The order of two texts at the first level. `None`: many characters join each other. The letters of most scripts stand alone, and most
-// texts differ in one soon.
+// The order of two texts at the first level. `None`: many characters join each other. The letters of most scripts have one primary
+// weight, and most texts differ in one soon.
 #[inline(always)]
 fn order_at_first(t: &Table, v: Variable, a: &str, b: &str) -> Option<Ordering>
     requires safe_a { IsSafe (chars a.now) }

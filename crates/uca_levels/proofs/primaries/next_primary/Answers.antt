@@ -8,7 +8,7 @@ use Rattle.uca_match.proofs.TextLemmas.{IsSafe-rest}
 use Rattle.uca_weights.specs.VariableWeighting.{weighted}
 use Rattle.uca_model.specs.LevelWeights.{level_weights}
 use Rattle.uca_levels.proofs.PrimarySteps.{first-weight, no-weight}
-use Rattle.uca_levels.proofs.primaries.next_primaries.Goals as goal
+use Rattle.uca_levels.proofs.primaries.next_primary.Goals as goal
 
 pub returns-in_default-clause-first : goal.returns-in_default-clause-first
 returns-in_default-clause-first c =
@@ -21,7 +21,7 @@ pub returns-then-weight-ne0-clause-first : goal.returns-then-weight-ne0-clause-f
 returns-then-weight-ne0-clause-first c =
     let step : c.characters.left.now ≡ encode_utf8 c.in-Some.c ++ c.as_str-rest.result.now = sym c.chars-characters.ensures.rest ∙ c.in-Some.ensures.steps.0 ∙ ap (λ u. encode_utf8 c.in-Some.c ++ u) (sym c.as_str-rest.ensures) in
     c.characters.invariant.2 ∙ ap (λ cs. level_list c.args.t.now c.args.v cs 1) (chars_past_char c.characters.left.now c.as_str-rest.result.now c.in-Some.c (search rules) step)
-    ∙ first-weight c.args.t.now c.args.v c.in-Some.c c.in_ok-weight.weight c.in_ok-weight.second (chars c.as_str-rest.result.now) _ c.in_ok-alone_before.ensures c.in_ok-weight.ensures.weights c.if-weight-ne0.true
+    ∙ first-weight c.args.t.now c.args.v c.in-Some.c c.in_ok-weight.weight (chars c.as_str-rest.result.now) _ c.in_ok-alone_before.ensures c.in_ok-weight.ensures c.if-weight-ne0.true
 
 pub returns-then-weight-ne0-clause-safe : goal.returns-then-weight-ne0-clause-safe
 returns-then-weight-ne0-clause-safe c =
@@ -35,6 +35,6 @@ characters-preserved c =
       c.as_str-rest.utf8,
       IsSafe-rest (c.in-Some.c ∷ []) (chars c.as_str-rest.result.now) (subst IsSafe first c.characters.invariant.1),
       c.characters.invariant.2 ∙ ap (λ cs. level_list c.args.t.now c.args.v cs 1) first
-          ∙ no-weight c.args.t.now c.args.v c.in-Some.c c.in_ok-weight.weight c.in_ok-weight.second (chars c.as_str-rest.result.now) _ c.in_ok-alone_before.ensures c.in_ok-weight.ensures.weights (search rules) c.in_ok-weight.ensures.second,
+          ∙ no-weight c.args.t.now c.args.v c.in-Some.c c.in_ok-weight.weight (chars c.as_str-rest.result.now) _ c.in_ok-alone_before.ensures c.in_ok-weight.ensures (search rules),
       search (arith, rules),
     )

@@ -3,7 +3,7 @@ use denote.Text.{Utf8}
 use denote.Shadow.{shadow}
 use Rattle.uca_model.specs.LevelWeights.{level_list}
 use Rattle.uca_model.specs.SafeText.{IsSafe}
-use Rattle.uca_levels.proofs.primaries.next_primaries.Given as goal
+use Rattle.uca_levels.proofs.primaries.next_primary.Given as goal
 
 -- the characters so far have no primary weight
 abbrev pub invariant-characters : goal.invariant-characters
