@@ -116,6 +116,11 @@ some_entry es p n (m ∷ ns) full =
       | inr some ↦ subst (λ l. 0 < length l) (sym (ap (λ b. cond b (entries_after es q (m ∷ ns)) ((q, elements_in es n) ∷ entries_after es q (m ∷ ns))) some)) (omega arith)
     ]
 
+-- nodes without entries are none
+pub no_nodes : (es : List Element) (p : List ℕ) (ns : List Node) → AreFull ns → entries_after es p ns ≡ [] → ns ≡ []
+no_nodes es p [] full none = refl
+no_nodes es p (n ∷ ns) full none = absurd (omega (arith, some_entry es p n ns full, ap length none))
+
 -- the last path is the last key
 pub last_path-key : (es : List Element) (p : List ℕ) (n : Node) (ns : List Node) → AreFull (n ∷ ns) → last_path p (n ∷ ns) ≡ last_key (entries_after es p (n ∷ ns))
 last_path-key es p n [] full = ap last_key (sym (ap (λ b. cond b [] ((path_after p n, elements_in es n) ∷ [])) (ne_eqb n.count 0 (omega (arith, full)))))
@@ -208,7 +213,7 @@ first_begins es p n (m ∷ ns) next full =
           ∙ any_more (λ e. is_front (path_after q m) e.0) (λ e. is_front q e.0) (λ e h. front_of_front q (path_after q m) e.0 (ap (is_front q) path ∙ front_longer q (m.point ∷ [])) h) rest later
     ]
 
-full_rest : (n : Node) (ns : List Node) → AreFull (n ∷ ns) → AreFull ns
+pub full_rest : (n : Node) (ns : List Node) → AreFull (n ∷ ns) → AreFull ns
 full_rest n [] full = tt
 full_rest n (m ∷ ns) full = full.1
 

@@ -19,21 +19,22 @@ impl<'t> Model for Cursor<'t> {
     ghost use Rattle.std.specs.Prelude.{◌≤◌, take};
     ghost use Rattle.uca_weights.specs.declared.limits.TheConstants.{MAX_KEY};
     ghost use Rattle.uca_keys.specs.Cursor.{CursorState};
-    ghost use Rattle.uca_keys.specs.Nodes.{AreNext, entries_after};
+    ghost use Rattle.uca_keys.specs.Nodes.{AreFull, AreNext, entries_after};
 
     ghost Value = { CursorState };
 
     ghost view = { λ c. record { key = take c.len c.path; coming = entries_after c.elements.now (take c.len c.path) c.nodes.now } };
 
-    ghost invariant = { λ c. (c.len ≤ MAX_KEY) × AreNext c.elements.now (take c.len c.path) c.nodes.now };
+    ghost invariant = { λ c. (c.len ≤ MAX_KEY) × AreNext c.elements.now (take c.len c.path) c.nodes.now × AreFull c.nodes.now };
 }
 
 impl<'t> Cursor<'t> {
-    ghost use Rattle.uca_keys.specs.Nodes.{AreNext, entries_after};
+    ghost use Rattle.uca_keys.specs.Nodes.{AreFull, AreNext, entries_after};
 
     /// Before the first entry of the nodes of keys.
     pub(crate) fn new(nodes: &'t [Node], elements: &'t [Element]) -> Cursor<'t>
-        requires { AreNext elements.now [] nodes.now }
+        requires next { AreNext elements.now [] nodes.now }
+        requires full { AreFull nodes.now }
         ensures { result ≡ record { key = []; coming = entries_after elements.now [] nodes.now } }
     {
         Cursor {
@@ -52,10 +53,10 @@ impl<'t> Cursor<'t> {
         &self.path[..self.len]
     }
 
-    /// Goes to the next entry, and returns its elements.
+    /// Goes to the next entry, and returns its elements. After the last one it stays where it is.
     pub fn advance(&mut self) -> Option<&'t [Element]>
         ensures { MatchOption result
-            ((self.old.coming ≡ []) × (self.new.coming ≡ []))
+            ((self.old.coming ≡ []) × (self.new ≡ self.old))
             (λ es. self.old.coming ≡ (self.new.key, es.now) ∷ self.new.coming) }
     {
         while let Some((node, others)) = self.nodes.split_first() {

@@ -27,11 +27,12 @@ impl<'t> Model for Entries<'t> {
 }
 
 impl<'t> Entries<'t> {
-    ghost use Rattle.uca_keys.specs.Nodes.{AreNext, entries_after};
+    ghost use Rattle.uca_keys.specs.Nodes.{AreFull, AreNext, entries_after};
 
     /// Those of all nodes of keys.
     pub(crate) fn new(nodes: &'t [Node], elements: &'t [Element]) -> Entries<'t>
-        requires { AreNext elements.now [] nodes.now }
+        requires next { AreNext elements.now [] nodes.now }
+        requires full { AreFull nodes.now }
         ensures { result ≡ entries_after elements.now [] nodes.now }
     {
         Entries {
