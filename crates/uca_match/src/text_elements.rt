@@ -12,8 +12,12 @@ use std::alloc::AllocError;
 use uca_table::Table;
 use uca_weights::Element;
 
+// What a character bears after it that any text may follow.
+const ALL: u8 = 2;
+
 // Puts the elements of the first characters of a text into room from a place on, as far as each stands alone and its elements fit.
-// Returns the place after them, and the text after those characters. Most texts are read to their end here.
+// Returns the place after them, and the text after those characters. Most texts are read to their end here. Each character is looked up
+// once: whether it stands alone is seen at the next one, and what was settled before it is kept until then.
 #[inline(always)]
 fn put_alone<'t>(t: &Table, text: &'t str, room: &mut [Element], from: usize) -> (usize, &'t str)
     requires within { from ≤ length room.old }
@@ -25,24 +29,25 @@ fn put_alone<'t>(t: &Table, text: &'t str, room: &mut [Element], from: usize) ->
     ensures safe { IsSafe (chars result.1.now) }
     ensures size { length room.new ≡ length room.old }
 {
-    let mut at = from;
-    let mut rest = text;
-    'characters: while at < room.len() {
+    let mut settled = (from, text);
+    let (mut at, mut rest) = (from, text);
+    let mut bearing = ALL;
+    'characters: loop {
         let mut left = rest.chars();
         let Some(c) = left.next() else {
             return (at, rest);
         };
-        let after = left.as_str();
-        let Some(alone) = t.alone_before(c, after) else {
-            return (at, rest);
+        let Some(character) = t.character_after(bearing, c) else {
+            return if bearing < ALL { settled } else { (at, rest) };
         };
-        if alone.len() > room.len() - at {
-            return (at, rest);
+        settled = (at, rest);
+        if character.elements.len() > room.len() - at {
+            return settled;
         }
-        at = put_elements(alone, room, at);
-        rest = after;
+        at = put_elements(character.elements, room, at);
+        rest = left.as_str();
+        bearing = character.bearing;
     }
-    (at, rest)
 }
 
 /// Puts the collation elements of a safe text into room, from its front on (UTS #10, section 7.2, step S2). Returns how many, and

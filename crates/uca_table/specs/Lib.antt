@@ -6,6 +6,7 @@ pub mod Extents
 pub mod Bounds
 pub mod Running
 pub mod Cells
+pub mod Characters
 pub mod Marks
 pub mod Fronts
 pub mod Walk

@@ -7,6 +7,7 @@ ghost use Rattle.uca_model.specs.CollationElements.{elements};
 ghost use Rattle.uca_model.specs.SafeCut.{begins_apart, is_cut};
 ghost use Rattle.uca_model.specs.StandAlone.{begins, leads, joining_of, bearing_of, joining, bearing, ends_all_matches, ends_in_starter};
 ghost use Rattle.uca_table.specs.Cells.{IsCell, HoldsCells, Grows, unknown};
+ghost use Rattle.uca_table.specs.Characters.{IsCharacter};
 ghost use Rattle.uca_table.specs.Marks.{AreKnown, HoldsMarks, marks, place};
 
 use crate::collation::{push_found, push_matches};
@@ -48,6 +49,16 @@ pub(crate) struct Cell {
     bearing: u8,
     // Whether a text may be cut before it. `false`: that is not known.
     cut: bool,
+}
+
+/// A character by itself: its elements, and what it bears after it.
+#[derive(Clone, Copy)]
+pub struct Character<'t> {
+    /// Its collation elements where it stands alone (UTS #10, section 7.2).
+    pub elements: &'t [Element],
+    /// How text after it may join it, at most, for both to have their elements independently: 0 not at all, 1 in a key, from 2 on in
+    /// any way.
+    pub bearing: u8,
 }
 
 /// The cell of a character about which nothing is known.
@@ -581,6 +592,23 @@ impl Cells {
         ensures { IsTrue result → joining t.now c ≡ 0 }
     {
         self.joining(c) == 0
+    }
+
+    /// A character that joins the text before it no more than that bears. `None`: it may join it more, or its elements are not known.
+    #[inline(always)]
+    pub(crate) fn character_after(&self, t: &Stored, bearing: u8, c: char) -> Option<Character<'_>>
+        requires cells { HoldsCells t.now self.now }
+        ensures character { IfSome result (IsCharacter t.now c) }
+        ensures joins { IfSome result (λ _. joining t.now c ≤ bearing) }
+    {
+        let cell = self.cell(c)?;
+        if cell.joining > bearing {
+            return None;
+        }
+        Some(Character {
+            elements: self.elements_of(cell)?,
+            bearing: cell.bearing,
+        })
     }
 
     /// The elements of a character before other text, where they stand alone. That text is looked at only where they may depend on it.

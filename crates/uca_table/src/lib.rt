@@ -30,6 +30,7 @@ pub mod well_formed;
 
 pub use ascending::AscendingEntries;
 pub use builder::TableBuilder;
+pub use cells::Character;
 pub use fault::{AppendFault, FinishFault, InsertFault, RangeFault};
 pub use table::Table;
 pub use uca_keys::Entries;

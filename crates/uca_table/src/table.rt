@@ -3,7 +3,7 @@ ghost use Rattle.unicode_normalization.specs.Forms.{nfd};
 ghost use Rattle.uca_model.specs.CollationElements.{elements};
 ghost use Rattle.uca_model.specs.StandAlone.{joining, bearing};
 
-use crate::cells::{Cells, push_text};
+use crate::cells::{Cells, Character, push_text};
 use crate::fault::RangeFault;
 use crate::scan;
 use crate::stored::Stored;
@@ -40,6 +40,7 @@ impl Table {
     ghost use Rattle.uca_weights.specs.declared.limits.TheConstants.{MAX_KEY, MAX_ELEMENTS};
     ghost use Rattle.uca_model.specs.Table.{ElementTable, IsElement, IsTable, elements_at, longest, with_ideographs};
     ghost use Rattle.uca_model.specs.UnifiedIdeographs.{AreIdeographs};
+    ghost use Rattle.uca_table.specs.Characters.{IsCharacter};
     ghost use Rattle.uca_table.specs.Builder.{ideographs_fault, reported_range_fault, with_more_ideographs};
     ghost use Rattle.uca_model.specs.ImplicitWeights.{implicit};
     ghost use Rattle.uca_model.specs.Prefix.{is_closed, is_silent};
@@ -196,6 +197,16 @@ impl Table {
         ensures { IsTrue result → 3 ≤ bearing self.now c }
     {
         self.cells.bears_all(&self.stored, c)
+    }
+
+    /// The collation elements of a character after text that bears so much after it, and what the character bears (UTS #10, section
+    /// 7.2): the text before has its elements independently of it. It does not allocate. `None`: that is not known.
+    #[inline(always)]
+    pub fn character_after(&self, bearing: u8, c: char) -> Option<Character<'_>>
+        ensures character { IfSome result (IsCharacter self.now c) }
+        ensures joins { IfSome result (λ _. joining self.now c ≤ bearing) }
+    {
+        self.cells.character_after(&self.stored, bearing, c)
     }
 
     /// The collation elements of a character before other text, where that text does not change them (UTS #10, section 7.2).
