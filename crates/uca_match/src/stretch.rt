@@ -60,8 +60,7 @@ fn read_stretch<'t>(t: &Table, text: &'t str, points: &mut ArrayVec<char, ROOM>)
     None
 }
 
-/// Puts elements into room at a place, and returns the place after them. Most characters have one, letters with a mark two, and
-/// syllables of Hangul up to three.
+/// Puts elements into room at a place, and returns the place after them. Most characters have one, and letters with a mark two.
 #[inline(always)]
 pub(crate) fn put_elements(elements: &[Element], room: &mut [Element], at: usize) -> usize
     requires { at + length elements.now ≤ length room.old }
@@ -77,12 +76,6 @@ pub(crate) fn put_elements(elements: &[Element], room: &mut [Element], at: usize
         room[at] = *first;
         room[at + 1] = *second;
         return at + 2;
-    }
-    if let [first, second, third] = elements {
-        room[at] = *first;
-        room[at + 1] = *second;
-        room[at + 2] = *third;
-        return at + 3;
     }
     let end = at + elements.len();
     room[at..end].copy_from_slice(elements);
