@@ -383,5 +383,33 @@ fn characters_beyond_the_first_plane_have_cells(rt: HostRuntime) {
     assert_primary(&rt, table.always_alone('\u{1D165}'), None);
 }
 
+/// How much the text before a character bears, the character, and how much it bears itself, if it may follow.
+const FOLLOWERS: [(u8, char, Option<u8>); 7] = [
+    (0, 'z', Some(3)),
+    (0, 'c', Some(0)),
+    (0, 'h', None),
+    (1, 'h', Some(3)),
+    (1, '\u{301}', None),
+    (2, '\u{301}', Some(1)),
+    // It has no cell.
+    (2, '\u{4E00}', None),
+];
+
+fn borne_after(table: &Table, bearing: u8, c: char) -> Option<u8> {
+    match table.character_after(bearing, c) {
+        Some(character) => Some(character.bearing),
+        None => None,
+    }
+}
+
+#[test]
+fn a_character_follows_what_bears_how_it_joins(rt: HostRuntime) {
+    let mut table = small_table(&rt, rt.alloc());
+    assert!(rt; prepare(&mut table, rt.alloc()));
+    for (bearing, c, wanted) in &FOLLOWERS {
+        assert!(rt; borne_after(&table, *bearing, *c) == *wanted, "{c:?}");
+    }
+}
+
 mod ideographs;
 mod well_formed;
