@@ -60,30 +60,33 @@ fn read_stretch<'t>(t: &Table, text: &'t str, points: &mut ArrayVec<char, ROOM>)
     None
 }
 
-/// Puts elements into room at a place, and returns the place after them. Most characters have one, and letters with a mark two.
+// Puts elements into room at a place, and returns the place after them. Letters with a mark have two, and most syllables of Hangul three.
 #[inline(always)]
-pub(crate) fn put_elements(elements: &[Element], room: &mut [Element], at: usize) -> usize
+fn put_elements(elements: &[Element], room: &mut [Element], at: usize) -> usize
     requires { at + length elements.now ≤ length room.old }
     ensures elements { take result room.new ≡ take at room.old ++ elements.now }
     ensures place { result ≡ at + length elements.now }
     ensures size { length room.new ≡ length room.old }
 {
-    if let [element] = elements {
-        room[at] = *element;
-        return at + 1;
-    }
     if let [first, second] = elements {
         room[at] = *first;
         room[at + 1] = *second;
         return at + 2;
+    }
+    if let [first, second, third] = elements {
+        room[at] = *first;
+        room[at + 1] = *second;
+        room[at + 2] = *third;
+        return at + 3;
     }
     let end = at + elements.len();
     room[at..end].copy_from_slice(elements);
     end
 }
 
-// The same where they fit. `None`: they do not.
-fn put_fitting(elements: &[Element], room: &mut [Element], at: usize) -> Option<usize>
+/// Puts elements into room at a place, and returns the place after them. `None`: they do not fit. Most characters have one.
+#[inline(always)]
+pub(crate) fn put_fitting(elements: &[Element], room: &mut [Element], at: usize) -> Option<usize>
     requires { at ≤ length room.old }
     ensures elements { IfSome result (λ end. take end room.new ≡ take at room.old ++ elements.now) }
     ensures place { IfSome result (λ end. end ≡ at + length elements.now) }
@@ -91,6 +94,13 @@ fn put_fitting(elements: &[Element], room: &mut [Element], at: usize) -> Option<
     ensures none { IfNone result (take at room.new ≡ take at room.old) }
     ensures size { length room.new ≡ length room.old }
 {
+    if let [element] = elements {
+        if at == room.len() {
+            return None;
+        }
+        room[at] = *element;
+        return Some(at + 1);
+    }
     if elements.len() > room.len() - at {
         return None;
     }

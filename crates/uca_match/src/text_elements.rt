@@ -6,7 +6,7 @@ ghost use Rattle.uca_model.specs.CollationElements.{elements};
 ghost use Rattle.uca_model.specs.SafeText.{IsSafe};
 ghost use Rattle.uca_model.specs.Table.{longest};
 
-use crate::stretch::{put_elements, put_stretch};
+use crate::stretch::{put_fitting, put_stretch};
 use crate::text_window::TextWindow;
 use std::alloc::AllocError;
 use uca_table::Table;
@@ -41,10 +41,10 @@ fn put_alone<'t>(t: &Table, text: &'t str, room: &mut [Element], from: usize) ->
             return if bearing < ALL { settled } else { (at, rest) };
         };
         settled = (at, rest);
-        if character.elements.len() > room.len() - at {
+        let Some(next) = put_fitting(character.elements, room, at) else {
             return settled;
-        }
-        at = put_elements(character.elements, room, at);
+        };
+        at = next;
         rest = left.as_str();
         bearing = character.bearing;
     }

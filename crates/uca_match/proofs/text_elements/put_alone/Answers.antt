@@ -20,9 +20,9 @@ characters-preserved c =
     let longer : length rest ≡ length (encode_utf8 c.in-Some.c) + length after = ap length step ∙ length-append (encode_utf8 c.in-Some.c) after in
     let settled = i.ahead (λ n x e. let same : n ≡ c.in-Some.c = first-same _ _ _ _ (sym e ∙ first) in omega (arith, c.in-Some-character_after.ensures.joins, ap (joining t) same)) in
     let before : List Element = take c.characters.at c.characters.room in
-    let put = c.put_elements-at.ensures in
+    let put = c.in-Some-put_fitting.ensures in
     record {
-      settled = ap (λ l. l ++ of (chars rest)) (kept-before c.characters.at c.characters.at c.put_elements-at.result c.put_elements-at.new.room c.characters.room character.elements.now (omega arith) i.within (omega (arith, put.place)) put.elements) ∙ settled;
+      settled = ap (λ l. l ++ of (chars rest)) (kept-before c.characters.at c.characters.at c.in-Some-put_fitting.next c.put_fitting.new.room c.characters.room character.elements.now (omega arith) i.within (omega (arith, put.place)) put.elements) ∙ settled;
       ahead = λ joins. ap (λ l. l ++ of (chars after)) put.elements ∙ append_assoc before character.elements.now (of (chars after)) ∙ ap (λ l. before ++ l) (alone-before t c.in-Some.c (chars after) character.elements.now character.bearing is.elements is.bearing joins ∙ ap of (sym first)) ∙ settled;
       later_settled = omega (arith, i.later_settled, i.later);
       later = omega (arith, put.place);
