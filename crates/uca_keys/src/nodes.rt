@@ -167,11 +167,14 @@ impl Nodes {
         ensures { IfOk result (λ t. entries_of t ≡ self) }
     {
         let (children, starts) = links(alloc, self.nodes.as_slice())?;
-        Ok(Trie {
+        let mut trie = Trie {
             nodes: self.nodes,
             elements: self.elements,
             children,
             starts,
-        })
+            blocks: Vec::new(alloc),
+        };
+        trie.prepare(alloc)?;
+        Ok(trie)
     }
 }

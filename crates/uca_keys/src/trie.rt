@@ -35,7 +35,13 @@ pub struct Trie {
     pub(crate) children: Vec<Child>,
     // Where the children of each node begin, in the same order, and where those of the root end.
     pub(crate) starts: Vec<u32>,
+    // Among the children of the root, of which there are many, where those begin whose code points are in each block of `BLOCK`, or
+    // after it. Only the time of a search depends on it.
+    pub(crate) blocks: Vec<u32>,
 }
+
+/// How many code points a block has.
+const BLOCK: usize = 128;
 
 impl Model for Trie {
     ghost use Rattle.std.specs.Prelude.{[]};
@@ -148,6 +154,41 @@ fn first_from(children: &[Child], point: char, near: usize) -> usize {
     at
 }
 
+/// For each block of code points up to that of the last child, where the children begin that are in it or after it.
+fn block_starts(alloc: Global, children: &[Child]) -> Result<Vec<u32>, AllocError> {
+    let mut starts = Vec::new(alloc);
+    for at in 0..children.len() {
+        let block = children[at].point as usize / BLOCK;
+        if starts.len() <= block {
+            starts.resize(block + 1, numbered(at)?)?;
+        }
+    }
+    Ok(starts)
+}
+
+/// Where a code point is among children, if one has it and their code points have no gap before it.
+#[inline(always)]
+fn place_if_dense(children: &[Child], point: char) -> usize {
+    match children.first() {
+        Some(first) => (point as usize).wrapping_sub(first.point as usize),
+        None => usize::MAX,
+    }
+}
+
+/// Where a code point is among children, if one has it.
+fn place_of(children: &[Child], point: char) -> usize {
+    let at = place_if_dense(children, point);
+    if let Some(child) = children.get(at) {
+        if child.point == point {
+            return at;
+        }
+    }
+    match children.binary_search_by_key(&point, |child| child.point) {
+        Ok(at) => at,
+        Err(at) => at,
+    }
+}
+
 /// The node that no code point leads to.
 pub const ROOT: NodeNumber = NodeNumber { number: 0 };
 
@@ -185,8 +226,72 @@ impl Trie {
         &self.children[self.starts[at] as usize..self.starts[at + 1] as usize]
     }
 
+    /// Makes what searches among the children of the root begin with.
+    pub(crate) fn prepare(&mut self, alloc: Global) -> Result<(), AllocError>
+        ensures { OnOk result (self.new ≡ self.old) }
+    {
+        self.blocks = block_starts(alloc, self.children_of(ROOT))?;
+        Ok(())
+    }
+
+    // Where a code point is among the children of the root, if one of them has it.
+    fn place_below_root(&self, point: char) -> usize {
+        let block = point as usize / BLOCK;
+        let Some(start) = self.blocks.get(block) else {
+            return usize::MAX;
+        };
+        let start = *start as usize;
+        let children = self.children_of(ROOT);
+        let end = match self.blocks.get(block + 1) {
+            Some(end) => *end as usize,
+            None => children.len(),
+        };
+        match children.get(start..end) {
+            Some(of_block) => start.saturating_add(place_of(of_block, point)),
+            None => usize::MAX,
+        }
+    }
+
+    // The child at a place, if the code point leads to it.
+    #[inline(always)]
+    fn child_at(&self, node: NodeNumber, point: char, at: usize) -> Option<NodeNumber>
+        requires { node.number ≤ length self.now.nodes }
+        ensures within { IfSome result (λ child. child.number ≤ length self.now.nodes) }
+        ensures path { IfSome result (λ child. path_at self.now child.number ≡ path_at self.now node.number ++ point ∷ []) }
+        ensures some { IfSome result (λ child. begins_entry (entries_of self.now) (path_at self.now node.number ++ point ∷ []) ≡ true) }
+    {
+        let _known = &self.nodes;
+        let children = self.children_of(node);
+        if at >= children.len() {
+            return None;
+        }
+        if children[at].point != point {
+            return None;
+        }
+        Some(children[at].node)
+    }
+
     /// The node that a code point leads to from another node. `None`: no key goes on with it.
     pub fn child(&self, node: NodeNumber, point: char) -> Option<NodeNumber>
+        requires { node.number ≤ length self.now.nodes }
+        ensures within { IfSome result (λ child. child.number ≤ length self.now.nodes) }
+        ensures path { IfSome result (λ child. path_at self.now child.number ≡ path_at self.now node.number ++ point ∷ []) }
+        ensures some { IfSome result (λ child. begins_entry (entries_of self.now) (path_at self.now node.number ++ point ∷ []) ≡ true) }
+        ensures none { IfNone result (begins_entry (entries_of self.now) (path_at self.now node.number ++ point ∷ []) ≡ false) }
+    {
+        let at = if node.number == 0 {
+            self.place_below_root(point)
+        } else {
+            place_if_dense(self.children_of(node), point)
+        };
+        match self.child_at(node, point, at) {
+            Some(child) => Some(child),
+            None => self.search(node, point),
+        }
+    }
+
+    // The same as [`Trie::child`], by a search among all children.
+    fn search(&self, node: NodeNumber, point: char) -> Option<NodeNumber>
         requires { node.number ≤ length self.now.nodes }
         ensures within { IfSome result (λ child. child.number ≤ length self.now.nodes) }
         ensures path { IfSome result (λ child. path_at self.now child.number ≡ path_at self.now node.number ++ point ∷ []) }
@@ -221,15 +326,11 @@ impl Trie {
     {
         let _known = &self.nodes;
         let children = self.children_of(node);
-        let at = first_from(children, point, *near);
-        *near = at;
-        if at >= children.len() {
-            return self.child(node, point);
+        *near = first_from(children, point, *near);
+        match self.child_at(node, point, *near) {
+            Some(child) => Some(child),
+            None => self.search(node, point),
         }
-        if children[at].point != point {
-            return self.child(node, point);
-        }
-        Some(children[at].node)
     }
 
     /// The elements of the key that leads to a node. `None`: it is no key.

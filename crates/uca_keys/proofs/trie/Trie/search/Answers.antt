@@ -8,7 +8,7 @@ use Rattle.uca_keys.specs.Paths.{TrieState}
 use Rattle.uca_keys.proofs.ChildLemmas.{LacksPoint}
 use Rattle.uca_keys.proofs.FindLemmas.{Leads, children_rise, leads_nowhere, leads_to, no_child}
 use Rattle.uca_keys.proofs.SearchLemmas.{searched}
-use Rattle.uca_keys.proofs.trie.Trie.child.Goals as goal
+use Rattle.uca_keys.proofs.trie.Trie.search.Goals as goal
 
 pub returns-in-Ok-clause-within : goal.returns-in-Ok-clause-within
 returns-in-Ok-clause-within c =
