@@ -10,5 +10,6 @@ pub mod PassedCharacters
 pub mod PassedRuns
 pub mod PassedBytes
 pub mod PassedLanes
+pub mod AddedMarks
 pub mod SkippedRuns
 pub mod AsciiTexts

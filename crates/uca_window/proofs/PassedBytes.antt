@@ -100,7 +100,7 @@ by_width c r p q s false false true one two three free = three_bytes c (224 + c 
 by_width c r p q s false false false one two three free = absurd (not_both (240 + c / 262144) free (stop-high (240 + c / 262144) (omega arith)))
 
 -- a character that begins with no stop
-first-passed : (c : ℕ) (rest : List ℕ) → is_stop (get_or (encode c ++ rest) 0 0) ≡ false → is_passed c ≡ true
+pub first-passed : (c : ℕ) (rest : List ℕ) → is_stop (get_or (encode c ++ rest) 0 0) ≡ false → is_passed c ≡ true
 unfolding encode
 first-passed c rest free = by_width c rest _ _ _ (ltb c 128) (ltb c 2048) (ltb c 65536) refl refl refl free
 

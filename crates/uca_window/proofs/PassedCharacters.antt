@@ -1,5 +1,5 @@
--- The NFD of a passed code point begins with a starter, by the rows of the kit.
-use Rattle.std.proofs.Common.{◌≡◌, ℕ, zero, suc, ◌+◌, ◌-◌, ◌/◌, ◌%◌, ◌≤◌, ◌<◌, Bool, true, false, not, ◌||◌, ◌==◌, nat_le, List, [], ◌∷◌, ◌++◌, length, flat_map, refl, sym, ap, ◌∙◌, arith, inl, inr}
+-- The NFD of a passed code point begins with a starter, and that of most others adds one code point to a run, by the rows of the kit.
+use Rattle.std.proofs.Common.{◌≡◌, ℕ, zero, suc, ◌+◌, ◌-◌, ◌/◌, ◌%◌, ◌≤◌, ◌<◌, Bool, true, false, not, ◌||◌, ◌==◌, nat_le, List, [], ◌∷◌, ◌++◌, length, flat_map, cond, refl, sym, ap, ap₂, subst, ◌∙◌, arith, ◌⊎◌, inl, inr}
 use Rattle.std.proofs.lemmas.Bool.{cases_Bool, cases_eq, cond-false, or_left}
 use Rattle.std.proofs.lemmas.Bool.Decides.{nat_tests}
 use Rattle.ucd_table.proofs.Facts.{tree_value, tree_of, tree_value-tree_of}
@@ -17,7 +17,7 @@ use Rattle.unicode_normalization.specs.Hangul.{is_syllable, decompose_hangul}
 use Rattle.unicode_normalization.specs.Order.{is_nonstarter}
 use Rattle.unicode_normalization.proofs.DecomposeLemmas.{decompose-syllable}
 use Rattle.unicode_normalization.proofs.HangulLemmas.{is_syllable-true, decompose_hangul-two, decompose_hangul-three}
-use Rattle.uca_window.specs.Passing.{is_passed, is_passed_outside, is_passed_between}
+use Rattle.uca_window.specs.Passing.{is_passed, is_passed_outside, is_passed_between, is_pair}
 
 -- ---- the rows
 
@@ -54,6 +54,34 @@ unfolding entry_by_tree expand points_ok tables decomposition_stepped
 length-rows c some =
     ap (λ entry. nat_le (length (full entry c)) 4) same_entries
     ∙ Stepped-at_points decomposition decomposition_stepped (λ e. is_empty (if_canonical e)) (λ x e. nat_le (length (full entry_by_tree x)) 4) refl c some
+
+-- the classes, read by a tree
+class_by_tree : ℕ → ℕ
+unfolding tables points_ok values_ok canonical_combining_class_stepped
+class_by_tree = tree_value canonical_combining_class_stepped.default (tree_of ccc canonical_combining_class_stepped)
+
+same_classes : ccc ≡ class_by_tree
+unfolding class_by_tree
+same_classes = tree_value-tree_of ccc canonical_combining_class_stepped
+
+-- there is a first code point, and it is a starter
+abbrev pub starts : (ℕ → ℕ) → List ℕ → Bool
+starts class [] = false
+starts class (x ∷ xs) = class x == 0
+
+-- how many code points a decomposition has that begins with no starter
+abbrev pub joining : ℕ → ℕ
+joining c = cond (is_pair c) 2 1
+
+abbrev joins : (ℕ → ℕ) → ℕ → List ℕ → Bool
+joins class c points = starts class points || nat_le (length points) (joining c)
+
+-- a full decomposition begins with a starter, or is that short
+joining-rows : (c : ℕ) → is_empty (canonical_mapping c) ≡ false → joins ccc c (full decomposition c) ≡ true
+unfolding class_by_tree entry_by_tree expand points_ok tables decomposition_stepped canonical_combining_class_stepped
+joining-rows c some =
+    ap₂ (λ class entry. joins class c (full entry c)) same_classes same_entries
+    ∙ Stepped-at_points decomposition decomposition_stepped (λ e. is_empty (if_canonical e)) (λ x e. joins class_by_tree x (full entry_by_tree x)) refl c some
 
 -- ---- what follows from them
 
@@ -154,4 +182,43 @@ pub decompose-short : (c : ℕ) → length (decompose Nfd c) ≤ 4
 decompose-short c = elim (cases_Bool (is_syllable c)) [
   | inl syllable ↦ let e : length (decompose Nfd c) ≡ length (decompose_hangul c) = ap length (decompose-syllable Nfd c syllable) in omega (arith, hangul-short c)
   | inr other ↦ let e : length (decompose Nfd c) ≡ length (or_itself c (expand canonical_mapping 3 c)) = ap length (decompose-other c other) in omega (arith, itself-short c (expand canonical_mapping 3 c) (expand-short c))
+]
+
+-- ---- what joins a run
+
+-- it begins with a starter, or has few code points
+abbrev pub Joins : ℕ → List ℕ → Type 0
+Joins c points = (starts ccc points ≡ true) ⊎ (length points ≤ joining c)
+
+joining-one : (c : ℕ) → 1 ≤ joining c
+joining-one c = elim (cases_Bool (is_pair c)) [ inl two ↦ rw two (omega arith) | inr one ↦ rw one (omega arith) ]
+
+joins-either : (c : ℕ) (points : List ℕ) → joins ccc c points ≡ true → Joins c points
+joins-either c points h = elim (cases_Bool (starts ccc points)) [
+  | inl starter ↦ inl starter
+  | inr other ↦ let few : nat_le (length points) (joining c) ≡ true = ap (λ b. b || nat_le (length points) (joining c)) (sym other) ∙ h in inr (grind (arith, nat_tests))
+]
+
+itself-joins : (c : ℕ) (xs : List ℕ) → Joins c xs → Joins c (or_itself c xs)
+itself-joins c [] h = inr (joining-one c)
+itself-joins c (x ∷ xs) h = h
+
+expand-joins : (c : ℕ) → Joins c (expand canonical_mapping 3 c)
+expand-joins c = elim (cases_Bool (is_empty (canonical_mapping c))) [
+  | inl none ↦ inr (let e : length (expand canonical_mapping 3 c) ≡ 0 = ap length (expand-none c 3 (nothing (canonical_mapping c) none)) in omega arith)
+  | inr some ↦ joins-either c (expand canonical_mapping 3 c) (joining-rows c some)
+]
+
+pub starts-passed : (xs : List ℕ) → first_passed xs ≡ true → starts ccc xs ≡ true
+starts-passed [] h = h
+starts-passed (x ∷ xs) h = elim (cases_Bool (ccc x == 0)) [
+  | inl starter ↦ starter
+  | inr other ↦ let clash : not true ≡ true = ap not (sym h) ∙ class-rows x other in cc
+]
+
+-- a decomposition begins with a starter, or has few code points
+pub decompose-joins : (c : ℕ) → Joins c (decompose Nfd c)
+decompose-joins c = elim (cases_Bool (is_syllable c)) [
+  | inl syllable ↦ inl (ap (starts ccc) (decompose-syllable Nfd c syllable) ∙ starts-passed (decompose_hangul c) (hangul-passed c syllable))
+  | inr other ↦ subst (Joins c) (sym (decompose-other c other)) (itself-joins c (expand canonical_mapping 3 c) (expand-joins c))
 ]

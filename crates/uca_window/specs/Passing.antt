@@ -1,6 +1,6 @@
 -- Characters that a scan passes without a look at their decompositions, and the bytes at which it looks.
-use Rattle.std.specs.Prelude.{◌≡◌, ℕ, ◌+◌, ◌*◌, ◌≤◌, length, true, Bool, ◌&&◌, ◌||◌, ◌==◌, nat_lt, nat_le, List, [], ◌∷◌, ◌++◌, encode_utf8_all, if◌then◌else◌}
-use Rattle.std.specs.List.{list_all}
+use Rattle.std.specs.Prelude.{◌≡◌, ℕ, ◌+◌, ◌≤◌, length, true, Bool, ◌&&◌, ◌||◌, ◌==◌, nat_lt, nat_le, List, [], ◌∷◌, ◌++◌, encode_utf8_all, if◌then◌else◌}
+use Rattle.std.specs.List.{list_all, count_by}
 use Rattle.uca_weights.specs.declared.limits.TheConstants.{MAX_RUN}
 use Rattle.unicode_normalization.specs.Decompose.{decompose_canonical}
 use Rattle.uca_model.proofs.SafeLemmas.{run_after}
@@ -31,6 +31,18 @@ is_passed c = is_passed_outside c || is_passed_between c
 abbrev pub is_stop : ℕ → Bool
 is_stop b = is_within 0xCC 0xCE b || (b == 0xD2 || (is_within 0xD6 0xE4 b || (b == 0xEA || nat_le 0xEE b)))
 
+-- the four code points whose NFD is two nonstarters
+abbrev pub is_pair : ℕ → Bool
+is_pair c = c == 0x344 || (c == 0xF73 || (c == 0xF75 || c == 0xF81))
+
+-- a byte that one of these has in UTF-8: the first of U+0344, the second of the others
+abbrev pub is_of_pair : ℕ → Bool
+is_of_pair b = b == 0xCD || is_within 0xBD 0xBF b
+
+-- how many nonstarters some bytes add to a run at most: one for each stop, and one more for each pair
+abbrev pub added : List ℕ → ℕ
+added bytes = count_by is_stop bytes + count_by is_of_pair bytes
+
 -- the last of some code points, or another one where there are none
 abbrev pub last_of : ℕ → List ℕ → ℕ
 last_of c [] = c
@@ -44,11 +56,11 @@ pub record Passes (bytes : List ℕ) (last : ℕ) (others : List ℕ) (end : ℕ
   pub end_is : end ≡ last_of last front
 
 -- bytes without a passed character and the characters before it, which follow a passed character, and are so few bytes
--- that no run of nonstarters grows too long if each byte brings two
+-- that no run of nonstarters grows too long if each byte adds one
 pub record Skips (bytes : List ℕ) (last : ℕ) (others : List ℕ) (end : ℕ) : Type 0 where
   pub between : List ℕ
   pub parts : bytes ≡ encode_utf8_all (between ++ end ∷ []) ++ others
-  pub few : 4 + 2 * length (encode_utf8_all between) ≤ MAX_RUN
+  pub few : 3 + length (encode_utf8_all between) ≤ MAX_RUN
   pub after : is_passed last ≡ true
   pub passed : is_passed end ≡ true
 

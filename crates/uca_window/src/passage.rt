@@ -8,7 +8,7 @@ ghost use Rattle.uca_window.specs.Scan.{run_after, Fits};
 
 use crate::ascii::is_ascii;
 use crate::fault::TextFault;
-use crate::passing::{STRIDE, is_passed, pass, skip};
+use crate::passing::{STRIDE, adds_few, is_passed, pass, skip};
 use simdutf8::compat::from_utf8;
 use simdutf8::is_utf8;
 use std::str::from_utf8_unchecked;
@@ -17,12 +17,12 @@ use uca_weights::{MAX_DECOMPOSITION, MAX_RUN};
 use unicode_normalization::Form;
 use unicode_normalization::char::{canonical_combining_class, decomposition};
 
-/// The greatest length in bytes at which every text is safe: each byte brings at most two nonstarters.
-const SHORT: usize = MAX_RUN / 2;
+/// The greatest length in bytes at which every text is known to be safe: no more bytes than may follow a passed character.
+const SHORT: usize = STRIDE;
 
 /// From this length in bytes on, a look at a block of 64 bytes is faster than one at each character, which `from_utf8` takes of less
 /// than a block.
-const BLOCK_FROM: usize = 16;
+const BLOCK_FROM: usize = 8;
 
 /// A text is not safe: a run of nonstarters in its NFD is longer than `MAX_RUN`, or the NFD of a character is
 /// longer than `MAX_DECOMPOSITION` code points.
@@ -51,6 +51,9 @@ impl<'t> Passage<'t> {
         ensures long { IfErr result (λ e. IsLongRunAt (chars text.now) e.at) }
     {
         if text.len() <= SHORT {
+            return Ok(Passage::of_safe(text));
+        }
+        if adds_few(text.as_bytes()) {
             return Ok(Passage::of_safe(text));
         }
         scan(text)?;

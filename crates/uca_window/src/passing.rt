@@ -1,8 +1,8 @@
 //! Characters that a scan passes without a look at their decompositions.
-ghost use Rattle.std.specs.Prelude.{◌≡◌, ◌+◌, ◌≤◌, ◌<◌, ℕ, false, true, not, length, map, slice_index, IfSome};
+ghost use Rattle.std.specs.Prelude.{◌≡◌, ◌+◌, ◌≤◌, ◌<◌, ℕ, false, true, not, length, map, slice_index, IfSome, IsTrue};
 ghost use Rattle.std.specs.List.{prefix_len};
 ghost use Rattle.std.specs.Simd.Lanes.{chunk, mask_l};
-ghost use Rattle.uca_window.specs.Passing.{is_passed, is_passed_outside, is_passed_between, is_stop, Passes, Skips};
+ghost use Rattle.uca_window.specs.Passing.{is_passed, is_passed_outside, is_passed_between, is_stop, is_of_pair, added, Passes, Skips};
 
 use std::simd::prelude::*;
 use uca_weights::MAX_RUN;
@@ -14,8 +14,8 @@ const LANES: usize = 32;
 const LONGEST_NFD: usize = 4;
 
 /// How many bytes may follow a passed character, whatever they spell: the NFD of that character ends in fewer than
-/// `LONGEST_NFD` nonstarters, and each byte brings at most two more.
-pub(crate) const STRIDE: usize = (MAX_RUN - LONGEST_NFD) / 2;
+/// `LONGEST_NFD` nonstarters, and each byte adds at most one more.
+pub(crate) const STRIDE: usize = MAX_RUN - (LONGEST_NFD - 1);
 
 /// Whether a character before Hebrew or after Lao is of a range in which each NFD begins with a starter: Latin, Greek and
 /// Cyrillic letters, Han, kana, Hangul, punctuation and symbols.
@@ -129,6 +129,47 @@ fn passed_len(bytes: &[u8]) -> usize
         at += 1;
     }
     at
+}
+
+/// Which bytes of a block are those of which each character has one whose NFD is two nonstarters. It counts twice by that: once
+/// by its stop, and once more by this byte.
+#[inline(always)]
+fn of_pairs(block: u8x32) -> u64
+    ensures { result ≡ mask_l (map is_of_pair block) }
+{
+    (block.simd_eq(u8x32::splat(0xCD))
+        | (block - u8x32::splat(0xBD)).simd_lt(u8x32::splat(2))).to_bitmask()
+}
+
+/// How many nonstarters the bytes of a block add to a run at most.
+#[inline(always)]
+fn added_in(bytes: &[u8], at: usize) -> usize
+    requires { at + LANES ≤ length bytes.now }
+    ensures { result ≡ added (chunk at 32 bytes.now) }
+{
+    let block = u8x32::from_slice(&bytes[at..]);
+    (stops(block).count_ones() + of_pairs(block).count_ones()) as usize
+}
+
+/// Whether a text adds so few nonstarters to a run that it is safe whatever it spells. The last block may begin in the one
+/// before it: what lies in both counts twice, so that the count is never too small.
+pub(crate) fn adds_few(bytes: &[u8]) -> bool
+    requires { LANES ≤ length bytes.now }
+    ensures { IsTrue result → added bytes.now ≤ STRIDE }
+{
+    let last = bytes.len() - LANES;
+    let mut at = 0;
+    let mut count = 0;
+    'each: loop {
+        count += added_in(bytes, at);
+        if count > STRIDE {
+            return false;
+        }
+        if at == last {
+            return true;
+        }
+        at = last.min(at + LANES);
+    }
 }
 
 /// What is left of a text after characters at its front that are all passed, and the last of these; `last` where there is

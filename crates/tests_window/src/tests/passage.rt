@@ -68,8 +68,8 @@ fn ascii_alone_is_taken_without_a_check(rt: HostRuntime) {
 
 #[test]
 fn one_byte_that_is_not_ascii_is_seen(rt: HostRuntime) {
-    let mut bytes = [b'a'; 70];
-    for n in 1..71 {
+    let mut bytes = [b'a'; 100];
+    for n in 1..101 {
         assert!(rt; Passage::of_ascii(&bytes[..n]).is_some(), "{n}");
         for at in 0..n {
             bytes[at] = 0x80;
@@ -190,6 +190,59 @@ fn runs_stand_among_letters_that_are_skipped(rt: HostRuntime) -> Result<(), Fail
             }
             let at = 3 * (before + 60);
             assert_sign_run(&rt, rt.alloc(), [before, 61, *after], Some(at))?;
+        }
+    }
+    Ok(())
+}
+
+/// A mark, how many of it a text may have in a row, and how many bytes these are.
+static MARKS: [(&str, u8, u8); 5] = [
+    ("\u{301}", 60, 120),
+    // These decompose to two nonstarters each.
+    ("\u{344}", 30, 60),
+    ("\u{F73}", 30, 90),
+    ("\u{F75}", 30, 90),
+    ("\u{F81}", 30, 90),
+];
+
+#[test]
+fn runs_begin_and_end_at_each_place_of_a_block(rt: HostRuntime) -> Result<(), Fail> {
+    // The last block that is counted begins in the one before it, by as much as the letters say.
+    for (mark, most, len) in &MARKS {
+        let most = usize::from(*most);
+        for before in 0..34 {
+            for after in &[0, 1, 40] {
+                let fits = [("a", before), (*mark, most), ("b", *after)];
+                assert_refused_at(&rt, rt.alloc(), &fits, None)?;
+                let longer = [("a", before), (*mark, most + 1), ("b", *after)];
+                let at = before + usize::from(*len);
+                assert_refused_at(&rt, rt.alloc(), &longer, Some(at))?;
+            }
+        }
+    }
+    Ok(())
+}
+
+/// A letter with marks, how many bytes these are, and how many marks more may follow them.
+static LETTERS_WITH_MARKS: [(&str, u8, u8); 4] = [
+    ("a\u{301}", 3, 59),
+    ("\u{E01}\u{E38}", 6, 59),
+    ("a\u{344}", 3, 58),
+    ("\u{1F82}\u{301}", 5, 56),
+];
+
+#[test]
+fn marks_among_letters_are_accepted(rt: HostRuntime) -> Result<(), Fail> {
+    // From one of these to more than a count in blocks lets through.
+    for (letter, len, most) in &LETTERS_WITH_MARKS {
+        let most = usize::from(*most);
+        for n in 1..70 {
+            assert_refused_at(&rt, rt.alloc(), &[(*letter, n)], None)?;
+            let fits = [(*letter, n), ("\u{301}", most)];
+            assert_refused_at(&rt, rt.alloc(), &fits, None)?;
+            let longer = [(*letter, n), ("\u{301}", most + 1)];
+            let at = n * usize::from(*len) + 2 * most;
+            assert_refused_at(&rt, rt.alloc(), &longer, Some(at))?;
         }
     }
     Ok(())

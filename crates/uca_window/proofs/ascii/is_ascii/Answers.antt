@@ -35,6 +35,6 @@ each-preserved c =
     let room : c.each.at + 8 ≤ length c.args.bytes.now = omega (arith, c.each.invariant.end, c.each.invariant.within) in
     record {
       end = c.each.invariant.end;
-      within = omega (arith, c.min-at.ensures);
-      ascii = λ k h. joined c.args.bytes.now c.each.at c.ascii_in.result room c.each.invariant.ascii c.ascii_in.ensures c.if-ascii_in-lt-LANES.false k (omega (arith, h, c.min-at.ensures));
+      within = omega (arith, c.min-at-in-each.ensures);
+      ascii = λ k h. joined c.args.bytes.now c.each.at c.ascii_in.result room c.each.invariant.ascii c.ascii_in.ensures c.if-ascii_in-lt-LANES.false k (omega (arith, h, c.min-at-in-each.ensures));
     }

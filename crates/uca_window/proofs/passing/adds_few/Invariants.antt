@@ -1,0 +1,15 @@
+use Rattle.std.proofs.Common.{◌≡◌, ◌+◌, ◌-◌, ◌≤◌, length, take}
+use Rattle.uca_window.specs.Passing.{added}
+use Rattle.uca_window.specs.declared.passing.TheConstants.{STRIDE}
+use Rattle.uca_window.proofs.passing.adds_few.Given as goal
+
+abbrev pub invariant-each : goal.invariant-each
+invariant-each l = record {
+  end : l.last + 32 ≡ length l.bytes;
+  within : l.at ≤ l.last;
+  counted : added (take l.at l.bytes) ≤ l.count;
+  few : l.count ≤ STRIDE;
+}
+
+abbrev pub decreases-each : goal.decreases-each
+decreases-each l = l.last - l.at
