@@ -1,4 +1,5 @@
-ghost use Rattle.std.specs.Prelude.{◌≡◌, IsTrue, ◌+◌, ◌*◌, ◌==◌, ◌≤◌, ◌<◌, ◌^◌, ◌++◌, ◌∷◌, [], List, not, length, filter, flat_map};
+ghost use Rattle.std.specs.Prelude.{◌≡◌, IsTrue, ◌+◌, ◌*◌, ◌==◌, ◌≤◌, ◌<◌, ◌^◌, ◌++◌, ◌∷◌, [], List, not, length, filter, flat_map, get_or};
+ghost use Rattle.std.specs.Int.{to_be_bytes, w16};
 ghost use Rattle.uca_weights.specs.declared.element.Element.{Element};
 ghost use Rattle.uca_weights.specs.declared.settings.Variable.TheVariants.{NonIgnorable};
 ghost use Rattle.uca_weights.specs.VariableWeighting.{unchanged, weighted};
@@ -30,17 +31,27 @@ fn put_pair(pair: [u8; 2], at: usize, out: &mut [u8]) -> usize
     at + 2
 }
 
-// Puts a weight at a place of a key, where it fits, unless it is zero, and returns where the next one goes.
+// A weight, or where it is zero, the two bytes that a key has at a place.
+#[inline(always)]
+fn or_kept(weight: u16, at: usize, out: &[u8]) -> u16
+    requires { at + 2 ≤ length out.now }
+    ensures kept { weight ≡ 0 → to_be_bytes w16 result ≡ get_or out.now at 0 ∷ get_or out.now (at + 1) 0 ∷ [] }
+    ensures other { 0 < weight → result ≡ weight }
+{
+    let kept = u16::from_be_bytes([out[at], out[at + 1]]);
+    if weight == 0 { kept } else { weight }
+}
+
+// Puts a weight at a place of a key, where it fits, unless it is zero, and returns where the next one goes. For a zero it puts what is
+// there already: no branch depends on a weight, since which ones are zero cannot be predicted.
 #[inline(always)]
 fn put_weight(weight: u16, at: usize, out: &mut [u8]) -> usize
     requires { at + 2 ≤ length out.old }
     ensures puts { PutsAt at (flat_map weight_bytes (filter (λ w. not (w == 0)) (weight ∷ []))) out.old out.new result }
     ensures within { result ≤ at + 2 }
 {
-    if weight == 0 {
-        return at;
-    }
-    put_pair(weight.to_be_bytes(), at, out)
+    let end = put_pair(or_kept(weight, at, out).to_be_bytes(), at, out);
+    if weight == 0 { at } else { end }
 }
 
 // The same where it may not fit.

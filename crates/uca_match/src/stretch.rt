@@ -92,6 +92,7 @@ pub(crate) fn put_fitting(elements: &[Element], room: &mut [Element], at: usize)
     ensures place { IfSome result (λ end. end ≡ at + length elements.now) }
     ensures within { IfSome result (λ end. end ≤ length room.old) }
     ensures none { IfNone result (take at room.new ≡ take at room.old) }
+    ensures fits { IfNone result (length room.old < at + length elements.now) }
     ensures size { length room.new ≡ length room.old }
 {
     if let [element] = elements {
