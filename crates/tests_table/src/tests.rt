@@ -411,5 +411,6 @@ fn a_character_follows_what_bears_how_it_joins(rt: HostRuntime) {
     }
 }
 
+mod blocks;
 mod ideographs;
 mod well_formed;

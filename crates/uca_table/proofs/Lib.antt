@@ -13,7 +13,9 @@ pub mod ElementLemmas
 pub mod CellLemmas
 pub mod IdeographLemmas
 pub mod WalkLemmas
+pub mod SingleLemmas
 pub mod EntryMapLemmas
+pub mod NodeLemmas
 pub mod AscendingLemmas
 pub mod KeyLemmas
 pub mod PrimaryLemmas

@@ -13,7 +13,7 @@ use Rattle.uca_table.specs.Place.{BelongsAt}
 use Rattle.uca_table.specs.Stored.{longest_of}
 
 -- the other way round
-turned : (x q : List ℕ) (o : Ordering) → key_cmp x q ≡ o → key_cmp q x ≡ ordering_reverse o
+pub turned : (x q : List ℕ) (o : Ordering) → key_cmp x q ≡ o → key_cmp q x ≡ ordering_reverse o
 turned x q o e = nat_list_cmp_total.antisymm q x ∙ ap ordering_reverse e
 
 -- a key that none has is inserted between those that are lower and those that are higher
@@ -31,7 +31,7 @@ pub put_before : (es : List (List ℕ × List Element)) (i : ℕ) (q : List ℕ)
 put_before es i q v here = put_between es i q v here.within (λ k d before. here.parted.0 k d (omega (arith, here.within)) before) (λ k d behind inside. here.parted.1 k d behind inside)
 
 -- a greatest length is none below the one that it began with
-fold-some : (n : ℕ) (es : List (List ℕ × List Element)) → n ≤ fold (λ m e. max m (length e.0)) n es
+pub fold-some : (n : ℕ) (es : List (List ℕ × List Element)) → n ≤ fold (λ m e. max m (length e.0)) n es
 fold-some n [] = omega arith
 fold-some n (e ∷ es) = let h : max n (length e.0) ≤ fold (λ m f. max m (length f.0)) (max n (length e.0)) es = fold-some (max n (length e.0)) es in omega arith
 

@@ -13,7 +13,7 @@ use Rattle.uca_model.specs.Table.{key_cmp}
 use Rattle.uca_weights.specs.declared.element.Element.{Element}
 
 -- an answer that tests as `Less`
-less : (o : Ordering) → T (is_lt o) → o ≡ Less
+pub less : (o : Ordering) → T (is_lt o) → o ≡ Less
 less Less h = refl
 less Equal h = absurd h
 less Greater h = absurd h

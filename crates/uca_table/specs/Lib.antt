@@ -10,5 +10,6 @@ pub mod Characters
 pub mod Marks
 pub mod Fronts
 pub mod Walk
+pub mod SingleMap
 pub mod EntryMap
 pub mod Ascending

@@ -1,4 +1,5 @@
-ghost use Rattle.std.specs.Prelude.{◌≡◌, vec_len, vec_capacity, ◌<◌, ◌≤◌, ◌+◌, ◌∷◌, ◌++◌, [], length, max, map, take, drop, is_some, if◌then◌else◌, T, None, Some, IfOk, OnOk, OnErr, MatchResult};
+ghost use Rattle.std.specs.Prelude.{◌≡◌, vec_len, vec_capacity, ◌<◌, ◌≤◌, ◌+◌, ◌-◌, ◌∷◌, ◌++◌, [], ℕ, true, length, max, map, take, drop, is_some, if◌then◌else◌, T, None, Some, IfOk, OnOk, OnErr, MatchResult, SomeIff};
+ghost use Rattle.std.specs.Char.{IsScalar};
 ghost use Rattle.std.specs.BTreeMap.{insert_entry, is_at};
 ghost use Rattle.std.specs.FinMap.{find, is_sorted, put};
 ghost use Rattle.std.specs.List.{list_any, AllByRecursion};
@@ -10,10 +11,13 @@ ghost use Rattle.uca_keys.specs.Fronts.{last_key};
 ghost use Rattle.uca_table.specs.Stored.{longest_of};
 ghost use Rattle.uca_model.specs.Table.{key_cmp, IsEntry};
 ghost use Rattle.uca_table.specs.Builder.{known_fault, reported_fault};
-ghost use Rattle.uca_table.specs.EntryMap.{entry_in, is_key_at, pair_cmp, IsPlaced};
+ghost use Rattle.uca_table.specs.EntryMap.{entry_in, entries_in, is_key_at, pair_cmp, AreBelow, AreEntries};
+ghost use Rattle.uca_table.specs.SingleMap.{is_used, place_at, taken, with_point, with_points, IsSingleMap};
 ghost use Rattle.uca_table.specs.declared.fault.InsertFault.TheVariants.{Repeated};
 
 use crate::fault::InsertFault;
+use crate::marks::BLOCK;
+use crate::single_map::{Place, SingleMap};
 use arrayvec::ArrayVec;
 use std::alloc::{AllocError, Global};
 use std::collections::BTreeMap;
@@ -22,38 +26,34 @@ use std::marker::Model;
 use uca_keys::Nodes;
 use uca_weights::{Element, MAX_KEY};
 
-/// The first code point of a key, and the others. Most keys have no others, and need no allocation of their own.
+/// The first code point of a key of two or more, and the others.
 type Key = (char, Vec<char>);
 
-/// Where the elements of an entry lie among those of all entries.
-#[derive(Clone, Copy)]
-pub(crate) struct Place {
-    start: usize,
-    count: usize,
-}
-
-/// The entries of a builder by key order. Inserting one takes logarithmic time.
+/// The entries of a builder by key order. Inserting one takes logarithmic time, and constant time where the key is one code
+/// point, as most are.
 #[derive(Drop)]
 pub(crate) struct EntryMap {
-    places: BTreeMap<Key, Place>,
+    // Of the keys of one code point.
+    singles: SingleMap,
+    // Of all others.
+    longer: BTreeMap<Key, Place>,
     // Of all entries, in the order in which they came.
     elements: Vec<Element>,
 }
 
 impl Model for EntryMap {
-    ghost use Rattle.std.specs.Prelude.{ℕ, List, map, length};
-    ghost use Rattle.std.specs.List.{AllByRecursion};
+    ghost use Rattle.std.specs.Prelude.{ℕ, List};
     ghost use Rattle.uca_weights.specs.declared.element.Element.{Element};
     ghost use Rattle.uca_table.specs.Coded.{coded_entries};
-    ghost use Rattle.uca_table.specs.EntryMap.{entry_in, IsPlaced};
+    ghost use Rattle.uca_table.specs.EntryMap.{entries_in, AreEntries};
 
     ghost Value = { List (List ℕ × List Element) };
 
     ghost coded = { coded_entries };
 
-    ghost view = { λ m. map (entry_in m.elements.items) m.places.entries };
+    ghost view = { λ m. entries_in m.singles m.longer.entries m.elements.items };
 
-    ghost invariant = { λ m. AllByRecursion (IsPlaced (length m.elements.items)) m.places.entries };
+    ghost invariant = { λ m. AreEntries m.singles m.longer.entries m.elements.items };
 }
 
 impl EntryMap {
@@ -62,7 +62,8 @@ impl EntryMap {
         ensures { result ≡ [] }
     {
         EntryMap {
-            places: BTreeMap::new(alloc),
+            singles: SingleMap::new(alloc),
+            longer: BTreeMap::new(alloc),
             elements: Vec::new(alloc),
         }
     }
@@ -72,7 +73,10 @@ impl EntryMap {
         requires { 0 < length key.now }
         ensures { result ≡ is_some (find key_cmp key.now self.now) }
     {
-        has_key(&self.places, key)
+        if key.len() == 1 {
+            return self.singles.get(key[0] as usize).is_used();
+        }
+        has_key(&self.longer, key)
     }
 
     /// The fault of a key where an allocation failed.
@@ -101,14 +105,20 @@ impl EntryMap {
         let Ok(()) = self.elements.reserve(elements.len()) else {
             return Err(self.fault_of_allocation(key));
         };
+        let start = self.elements.len();
+        let place = Place {
+            start,
+            past: start + elements.len(),
+        };
+        if key.len() == 1 {
+            self.singles.insert(key[0], place)?;
+            push_reserved(&mut self.elements, elements);
+            return Ok(());
+        }
         let Ok(others) = key[1..].to_vec(alloc) else {
             return Err(self.fault_of_allocation(key));
         };
-        let place = Place {
-            start: self.elements.len(),
-            count: elements.len(),
-        };
-        put_new(&mut self.places, (key[0], others), place)?;
+        put_new(&mut self.longer, (key[0], others), place)?;
         push_reserved(&mut self.elements, elements);
         Ok(())
     }
@@ -118,7 +128,7 @@ impl EntryMap {
         requires { AllByRecursion IsEntry self.now }
         ensures { result ≡ longest_of self.now }
     {
-        longest_key(&self.places, &self.elements)
+        longest_key(&self.longer)
     }
 
     /// The nodes of the entries.
@@ -127,16 +137,16 @@ impl EntryMap {
         requires entries { AllByRecursion IsEntry self.now }
         ensures { IfOk result (λ n. n ≡ self.now) }
     {
-        nodes_of(alloc, &self.places, &self.elements)
+        nodes_of(alloc, &self.singles, &self.longer, &self.elements)
     }
 }
 
-/// Whether a map has a key. It looks at all keys, since a search would allocate for a key of two or more.
-fn has_key(places: &BTreeMap<Key, Place>, key: &[char]) -> bool
+/// Whether a map of longer keys has a key. It looks at all keys, since a search would allocate.
+fn has_key(longer: &BTreeMap<Key, Place>, key: &[char]) -> bool
     requires { 0 < length key.now }
-    ensures { result ≡ list_any (is_key_at key.now) places.now.entries }
+    ensures { result ≡ list_any (is_key_at key.now) longer.now.entries }
 {
-    for (other, _) in places.iter() {
+    for (other, _) in longer.iter() {
         if is_key(other.0, other.1.as_slice(), key) {
             return true;
         }
@@ -164,13 +174,13 @@ fn push_reserved(all: &mut Vec<Element>, elements: &[Element])
     let _fits = all.extend_from_slice(elements);
 }
 
-/// Gives a key its place, unless the map has the key.
-fn put_new(places: &mut BTreeMap<Key, Place>, key: Key, place: Place) -> Result<(), InsertFault>
-    ensures ok { OnOk result (places.new.entries ≡ insert_entry pair_cmp places.old.entries key place) }
-    ensures err { OnErr result (places.new.entries ≡ places.old.entries) }
-    ensures fault { let fault = if is_some (lookup (is_at (pair_cmp key)) places.old.entries) then Some Repeated else None in MatchResult result (λ _. fault ≡ None) (λ f. fault ≡ reported_fault f) }
+/// Gives a longer key its place, unless the map has the key.
+fn put_new(longer: &mut BTreeMap<Key, Place>, key: Key, place: Place) -> Result<(), InsertFault>
+    ensures ok { OnOk result (longer.new.entries ≡ insert_entry pair_cmp longer.old.entries key place) }
+    ensures err { OnErr result (longer.new.entries ≡ longer.old.entries) }
+    ensures fault { let fault = if is_some (lookup (is_at (pair_cmp key)) longer.old.entries) then Some Repeated else None in MatchResult result (λ _. fault ≡ None) (λ f. fault ≡ reported_fault f) }
 {
-    let Ok(entry) = places.entry(key) else {
+    let Ok(entry) = longer.entry(key) else {
         return Err(InsertFault::OutOfMemory);
     };
     match entry {
@@ -184,76 +194,140 @@ fn put_new(places: &mut BTreeMap<Key, Place>, key: Key, place: Place) -> Result<
 
 /// The elements at a place.
 fn elements_at(all: &[Element], place: Place) -> &[Element]
-    requires { place.start + place.count ≤ length all.now }
-    ensures { result.now ≡ take place.count (drop place.start all.now) }
+    requires used { place.start ≤ place.past }
+    requires inside { place.past ≤ length all.now }
+    ensures { result.now ≡ taken place all.now }
 {
-    &all[place.start..place.start + place.count]
+    &all[place.start..place.past]
 }
 
-/// The length of the longest key of a map, 1 where there is none.
-fn longest_key(places: &BTreeMap<Key, Place>, elements: &[Element]) -> usize
-    requires { AllByRecursion IsEntry (map (entry_in elements.now) places.now.entries) }
-    ensures { result ≡ longest_of (map (entry_in elements.now) places.now.entries) }
+/// The length of the longest key where these are longer than one code point, 1 where there is none.
+fn longest_key(longer: &BTreeMap<Key, Place>) -> usize
+    ensures { (es : _) → result ≡ longest_of (map (entry_in es) longer.now.entries) }
 {
     let mut longest = 1;
-    for (key, _) in places.iter() {
-        longest = longer(longest, key.1.len());
+    for (key, _) in longer.iter() {
+        longest = longest.max(key.1.len() + 1);
     }
     longest
 }
 
-/// The greater of a number and the length of a key with this many code points after its first.
-fn longer(longest: usize, others: usize) -> usize
-    requires { others < MAX_KEY }
-    ensures { result ≡ max longest (others + 1) }
-{
-    longest.max(others + 1)
-}
-
-/// How many code points a key has after the prefix that it shares with another.
-fn new_points(before: &Key, key: &Key) -> usize {
-    if before.0 != key.0 {
-        return key.1.len().saturating_add(1);
-    }
+/// How many code points a list has after those with which another begins too.
+fn new_points(before: &[char], points: &[char]) -> usize {
     let mut common = 0;
-    while common < before.1.len() && common < key.1.len() && before.1[common] == key.1[common] {
+    while common < before.len() && common < points.len() && before[common] == points[common] {
         common += 1;
     }
-    key.1.len() - common
+    points.len() - common
 }
 
-/// How many nodes the keys of a map have.
-fn count_nodes(places: &BTreeMap<Key, Place>) -> usize {
-    let mut nodes = 0_usize;
+/// How many nodes a longer key has that the one before it and its first code point have not.
+fn new_nodes(singles: &SingleMap, before: Option<&Key>, key: &Key) -> usize {
+    if let Some(last) = before
+        && last.0 == key.0
+    {
+        return new_points(last.1.as_slice(), key.1.as_slice());
+    }
+    if singles.get(key.0 as usize).is_used() {
+        return key.1.len();
+    }
+    key.1.len().saturating_add(1)
+}
+
+/// How many nodes the keys have.
+fn count_nodes(singles: &SingleMap, longer: &BTreeMap<Key, Place>) -> usize {
+    let mut nodes = singles.count();
     let mut before = None;
-    for (key, _) in places.iter() {
-        let new = match before {
-            Some(last) => new_points(last, key),
-            None => key.1.len().saturating_add(1),
-        };
-        nodes = nodes.saturating_add(new);
+    for (key, _) in longer.iter() {
+        nodes = nodes.saturating_add(new_nodes(singles, before, key));
         before = Some(key);
     }
     nodes
 }
 
-/// The nodes of the entries of a map.
+/// The nodes of the entries. Those of longer keys come after that of their first code point, in their order.
 fn nodes_of(
     alloc: Global,
-    places: &BTreeMap<Key, Place>,
+    singles: &SingleMap,
+    longer: &BTreeMap<Key, Place>,
     elements: &[Element],
 ) -> Result<Nodes, AllocError>
-    requires sorted { T (is_sorted key_cmp (map (entry_in elements.now) places.now.entries)) }
-    requires entries { AllByRecursion IsEntry (map (entry_in elements.now) places.now.entries) }
-    requires placed { AllByRecursion (IsPlaced (length elements.now)) places.now.entries }
-    ensures { IfOk result (λ n. n ≡ map (entry_in elements.now) places.now.entries) }
+    requires both { AreEntries singles.now longer.now.entries elements.now }
+    requires entries { AllByRecursion IsEntry (entries_in singles.now longer.now.entries elements.now) }
+    ensures { IfOk result (λ n. n ≡ entries_in singles.now longer.now.entries elements.now) }
 {
-    let mut nodes = Nodes::with_capacity(alloc, count_nodes(places), elements.len())?;
-    for (key, place) in places.iter() {
+    let mut nodes = Nodes::with_capacity(alloc, count_nodes(singles, longer), elements.len())?;
+    let mut next = 0;
+    for (key, place) in longer.iter() {
+        let end = key.0 as usize + 1;
+        push_singles(&mut nodes, singles, elements, next, end)?;
+        next = end;
         let of_key = elements_at(elements, *place);
         push_entry(&mut nodes, key.0, key.1.as_slice(), of_key)?;
     }
+    push_singles(&mut nodes, singles, elements, next, singles.end())?;
     Ok(nodes)
+}
+
+/// Appends the entries of the code points from one number up to another, to others with lower keys.
+fn push_singles(
+    entries: &mut Nodes,
+    singles: &SingleMap,
+    elements: &[Element],
+    from: usize,
+    end: usize,
+) -> Result<(), AllocError>
+    requires map { IsSingleMap singles.now }
+    requires inside { (p : ℕ) → (place_at singles.now p).past ≤ length elements.now }
+    requires entries { (p : ℕ) → is_used (place_at singles.now p) ≡ true → IsEntry (p ∷ [], taken (place_at singles.now p) elements.now) }
+    requires below { AreBelow (from ∷ []) entries.old }
+    ensures below { OnOk result (AreBelow (max from end ∷ []) entries.new) }
+    ensures pushed { OnOk result ((base : _) → entries.old ≡ with_points (place_at singles.now) elements.now from base → entries.new ≡ with_points (place_at singles.now) elements.now (max from end) base) }
+{
+    let mut point = from;
+    while point < end {
+        if singles.has_block(point) {
+            push_single(entries, singles, elements, point)?;
+            point += 1;
+        } else {
+            point = end.min((point / BLOCK + 1).saturating_mul(BLOCK));
+        }
+    }
+    Ok(())
+}
+
+/// Appends the entry of a code point, where it is a key, to others with lower keys.
+fn push_single(
+    entries: &mut Nodes,
+    singles: &SingleMap,
+    elements: &[Element],
+    point: usize,
+) -> Result<(), AllocError>
+    requires inside { (place_at singles.now point).past ≤ length elements.now }
+    requires entry { is_used (place_at singles.now point) ≡ true → IsEntry (point ∷ [], taken (place_at singles.now point) elements.now) }
+    requires below { AreBelow (point ∷ []) entries.old }
+    ensures below { OnOk result (AreBelow ((point + 1) ∷ []) entries.new) }
+    ensures pushed { OnOk result (entries.new ≡ with_point (place_at singles.now) elements.now point entries.old) }
+{
+    let place = singles.get(point);
+    if !place.is_used() {
+        return Ok(());
+    }
+    let Some(c) = character(point) else {
+        // A key has none but characters.
+        return Ok(());
+    };
+    entries.push(&[c], elements_at(elements, place))
+}
+
+/// The character of a number, where it has one.
+fn character(number: usize) -> Option<char>
+    ensures { SomeIff result (IsScalar number) number }
+{
+    match u32::try_from(number) {
+        Ok(code) => char::from_u32(code),
+        Err(_) => None,
+    }
 }
 
 /// Appends an entry to others, which all have lower keys.
@@ -267,9 +341,6 @@ fn push_entry(
     requires entry { IsEntry (first ∷ others.now, elements.now) }
     ensures { OnOk result (entries.new ≡ entries.old ++ (first ∷ others.now, elements.now) ∷ []) }
 {
-    if others.is_empty() {
-        return entries.push(&[first], elements);
-    }
     let mut key: ArrayVec<char, MAX_KEY> = ArrayVec::new();
     let _has_room = key.try_push(first);
     let _fits = key.try_extend_from_slice(others);

@@ -23,6 +23,7 @@ mod primaries;
 mod range_map;
 mod ranges;
 mod scan;
+mod single_map;
 pub mod stored;
 pub mod table;
 pub mod walk;

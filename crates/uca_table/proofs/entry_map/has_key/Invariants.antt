@@ -7,4 +7,4 @@ abbrev pub invariant-loop-other : goal.invariant-loop-other
 invariant-loop-other l =
     (goal.iterator-loop-other).can_next l.other-iterator ×
     ((goal.iterator-loop-other).is_finite l.other-iterator ×
-    (list_any (is_key_at l.key) l.places.entries ≡ list_any (is_key_at l.key) l.other-iterator))
+    (list_any (is_key_at l.key) l.longer.entries ≡ list_any (is_key_at l.key) l.other-iterator))

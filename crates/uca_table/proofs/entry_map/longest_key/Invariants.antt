@@ -1,7 +1,5 @@
 use Rattle.std.proofs.Common.{◌≡◌, ℕ, List, fold, length, map, max}
-use Rattle.std.specs.List.{AllByRecursion}
 use Rattle.uca_weights.specs.declared.element.Element.{Element}
-use Rattle.uca_model.specs.Table.{IsEntry}
 use Rattle.uca_table.specs.EntryMap.{entry_in}
 use Rattle.uca_table.specs.Stored.{longest_of}
 use Rattle.uca_table.proofs.entry_map.longest_key.Given as goal
@@ -10,6 +8,5 @@ abbrev pub invariant-loop-key : goal.invariant-loop-key
 invariant-loop-key l = record {
   can : (goal.iterator-loop-key).can_next l.key-iterator;
   finite : (goal.iterator-loop-key).is_finite l.key-iterator;
-  longest : fold (λ k (e : List ℕ × List Element). max k (length e.0)) l.longest (map (entry_in l.elements) l.key-iterator) ≡ longest_of (map (entry_in l.elements) l.fn.places.entries);
-  left : AllByRecursion IsEntry (map (entry_in l.elements) l.key-iterator);
+  longest : (es : List Element) → fold (λ k (e : List ℕ × List Element). max k (length e.0)) l.longest (map (entry_in es) l.key-iterator) ≡ longest_of (map (entry_in es) l.fn.longer.entries);
 }
