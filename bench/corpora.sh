@@ -24,13 +24,13 @@ each() {
     awk -v a="$load" -v b="$loaded" -v n="$lines" 'BEGIN { printf "%.0f", 1e9 * (b - a) / n }'
 }
 
-# beside INPUT JOB [shifted]: ICU's nanoseconds of a line, and the ratio of uca's
+# beside INPUT JOB [shifted]: ICU's nanoseconds of a line, and the ratio of uca's: eleven runs in turn of both, without and with the input
 beside() {
-    local words=(--table "$published") icu ours
-    [ "${3:-}" = shifted ] && words+=(--variable shifted --strength quaternary)
-    icu=$(each "$1" "$work/peer" icu "$2" ${3:+"$3"})
-    ours=$(each "$1" "$uca" "$2" "${words[@]}")
-    awk -v a="$icu" -v b="$ours" 'BEGIN { printf " %d | %.2f |", a, b / a }'
+    local icu=("$work/peer" icu "$2" ${3:+"$3"}) ours=("$uca" "$2" --table "$published") seconds
+    [ "${3:-}" = shifted ] && ours+=(--variable shifted --strength quaternary)
+    seconds=$("$work/measured" 11 /dev/null /dev/null "${icu[@]}" -- "$1" /dev/null "${icu[@]}" -- /dev/null /dev/null "${ours[@]}" -- "$1" /dev/null "${ours[@]}") ||
+        refuses "$2 could not be run"
+    awk -v n="$(wc -l <"$1")" '{ s[NR] = $1 } END { printf " %d | %.2f |", 1e9 * (s[2] - s[1]) / n, (s[4] - s[3]) / (s[2] - s[1]) }' <<<"$seconds"
 }
 
 echo "ICU $(echo U_ICU_VERSION | gcc -E -include unicode/uvernum.h - | tail -n 1 | tr -d '"'); $(nproc) processors, load $(cut -d' ' -f1-3 /proc/loadavg)"
