@@ -9,6 +9,7 @@ ghost use Rattle.uca_key.specs.Placing.{PutsAt};
 
 use crate::placing::put_bytes;
 use crate::runs::common_weight;
+use std::mem::replace;
 use uca_weights::{Element, Variable, Weigher};
 
 // Whether a weight of each of so many elements fits between a place of a buffer and its end.
@@ -218,10 +219,13 @@ fn put_weighted_level(
     if !has_room(elements.len(), at, out.len()) {
         return put_some_weighted_level(weigher, elements, level, at, out);
     }
+    // In the loop it is a local, since what is written to the key could otherwise be a part of it.
+    let mut seen = replace(weigher, Weigher::new(Variable::NonIgnorable));
     let mut next = at;
     for element in elements {
-        next = put_weight(weigher.weigh_at(*element, level), next, out);
+        next = put_weight(seen.weigh_at(*element, level), next, out);
     }
+    *weigher = seen;
     next
 }
 

@@ -14,6 +14,7 @@ ghost use Rattle.uca_key.specs.Placing.{IsPutting, PutsAt};
 
 use crate::pieces::{PIECE, TextReading};
 use crate::placing::{put_bytes, put_text};
+use std::mem::replace;
 use uca_weights::{Element, Variable, Weigher};
 
 // How many common weights one byte counts, and that byte.
@@ -210,10 +211,13 @@ fn pack_weighted(
     ensures option { weigher.new.weighting ≡ weigher.old.weighting }
 {
     let common = common_weight(level);
+    // In the loop it is a local, since what is written to the key could otherwise be a part of it.
+    let mut seen = replace(weigher, Weigher::new(Variable::NonIgnorable));
     let mut packed = before;
     for element in elements {
-        packed = pack_weight(key, packed, common, weigher.weigh_at(*element, level));
+        packed = pack_weight(key, packed, common, seen.weigh_at(*element, level));
     }
+    *weigher = seen;
     packed
 }
 

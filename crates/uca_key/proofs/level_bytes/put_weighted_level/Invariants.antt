@@ -9,7 +9,7 @@ use Rattle.uca_key.proofs.level_bytes.put_weighted_level.Given as goal
 abbrev pub invariant-loop-element : goal.invariant-loop-element
 invariant-loop-element l = record {
   room : l.next + 2 * (length l.elements - l.element-index) ≤ length l.out;
-  option : l.weigher.weighting ≡ l.fn.weigher.weighting;
-  ahead : IsAhead l.fn.weigher l.level l.elements l.weigher (drop l.element-index l.elements);
-  putting : IsPutting l.at l.fn.out l.next l.out (flat_map weight_bytes (weights_from l.fn.weigher l.level l.elements)) (flat_map weight_bytes (weights_from l.weigher l.level (drop l.element-index l.elements)));
+  option : l.seen.weighting ≡ l.fn.weigher.weighting;
+  ahead : IsAhead l.fn.weigher l.level l.elements l.seen (drop l.element-index l.elements);
+  putting : IsPutting l.at l.fn.out l.next l.out (flat_map weight_bytes (weights_from l.fn.weigher l.level l.elements)) (flat_map weight_bytes (weights_from l.seen l.level (drop l.element-index l.elements)));
 }

@@ -10,6 +10,6 @@ invariant-loop-element l = record {
   few : l.packed.run < 62;
   within : l.packed.at ≤ l.fn.before.at + 4 * l.element-index;
   size : length l.key ≡ length l.fn.key;
-  option : l.weigher.weighting ≡ l.fn.weigher.weighting;
-  same : (es : List Element) → take l.packed.at l.key ++ runs_after l.common l.packed.run (weights_from l.weigher l.level (drop l.element-index l.elements ++ es)) ≡ take l.fn.before.at l.fn.key ++ runs_after l.common l.fn.before.run (weights_from l.fn.weigher l.level (l.elements ++ es));
+  option : l.seen.weighting ≡ l.fn.weigher.weighting;
+  same : (es : List Element) → take l.packed.at l.key ++ runs_after l.common l.packed.run (weights_from l.seen l.level (drop l.element-index l.elements ++ es)) ≡ take l.fn.before.at l.fn.key ++ runs_after l.common l.fn.before.run (weights_from l.fn.weigher l.level (l.elements ++ es));
 }
