@@ -4,9 +4,7 @@ pub mod BoundLemmas
 pub mod KeyPieces
 pub mod PieceLemmas
 pub mod PlacingLemmas
-pub mod UnchangedWeights
-pub mod UnchangedLevels
-pub mod WeightPieces
+pub mod WeighingLemmas
 pub mod KeyOrder
 pub mod PackedSlots
 pub mod PackedLevels

@@ -1,15 +1,14 @@
 -- Common weights that are counted together.
-use Rattle.std.proofs.Common.{◌≡◌, ℕ, ◌+◌, ◌<◌, ◌==◌, not, List, [], ◌∷◌, ◌++◌, drop, filter, slice_index, get_or, length, refl, sym, ap, ◌∙◌, arith, eq-eqb, ne_eqb}
+use Rattle.std.proofs.Common.{◌≡◌, ℕ, ◌+◌, ◌<◌, ◌==◌, not, List, [], ◌∷◌, ◌++◌, drop, filter, get_or, length, refl, sym, ap, ◌∙◌, arith, eq-eqb, ne_eqb}
 use Rattle.std.proofs.lemmas.Bool.{cond-true, cond-false}
 use Rattle.std.proofs.lemmas.List.{drop_more}
 use Rattle.uca_weights.specs.declared.element.Element.{Element}
 use Rattle.uca_weights.specs.declared.settings.Variable.{Variable}
-use Rattle.uca_weights.specs.declared.settings.Variable.TheVariants.{NonIgnorable}
-use Rattle.uca_weights.specs.VariableWeighting.{unchanged, weighted}
 use Rattle.uca_model.specs.LevelWeights.{level_weights}
 use Rattle.uca_key.specs.Runs.{AreCounted}
 use Rattle.uca_key.specs.PackedKey.{common_weight, runs_after}
-use Rattle.uca_key.proofs.UnchangedWeights.{level_weights-both}
+use Rattle.uca_key.specs.Weighing.{all_own}
+use Rattle.uca_key.proofs.WeighingLemmas.{own_weights-both}
 
 -- one more
 one-common : (common run : ℕ) (ws : List ℕ) → run + 1 < 62 → runs_after common (run + 1) ws ≡ runs_after common run (common ∷ ws)
@@ -30,18 +29,18 @@ pub counted-none : (v : Variable) (level : ℕ) (es : List Element) → AreCount
 counted-none v level es = record { some = omega arith; run = refl }
 
 -- a common weight more, after those that are counted
-counted-more : (level n : ℕ) (es : List Element) (d : Element) → n + 1 < 62 → n < length es → level_weights level (weighted NonIgnorable (get_or es n d ∷ [])) ≡ common_weight level ∷ [] → AreCounted NonIgnorable level n es → AreCounted NonIgnorable level (n + 1) es
-counted-more level n es d few within own counted =
+counted-more : (v : Variable) (level n : ℕ) (es : List Element) (d : Element) → n + 1 < 62 → n < length es → level_weights level (all_own v (get_or es n d ∷ [])) ≡ common_weight level ∷ [] → AreCounted v level n es → AreCounted v level (n + 1) es
+counted-more v level n es d few within own counted =
     let common : ℕ = common_weight level in let e : Element = get_or es n d in let left : List Element = drop (n + 1) es in
-    let weights_of : List Element → List ℕ = λ l. level_weights level (weighted NonIgnorable l) in
-    let here : common ∷ weights_of left ≡ weights_of (drop n es) = ap (λ l. l ++ weights_of left) (sym own) ∙ sym (level_weights-both level (e ∷ []) left) ∙ ap weights_of (sym (drop_more es n d within)) in
+    let weights : List Element → List ℕ = λ l. level_weights level (all_own v l) in
+    let here : common ∷ weights left ≡ weights (drop n es) = ap (λ l. l ++ weights left) (sym own) ∙ sym (own_weights-both v level (e ∷ []) left) ∙ ap weights (sym (drop_more es n d within)) in
     record {
       some = omega arith;
-      run = one-common common n (weights_of left) few ∙ ap (runs_after common n) here ∙ counted.run;
+      run = one-common common n (weights left) few ∙ ap (runs_after common n) here ∙ counted.run;
     }
 
-pub counted-second : (n w : ℕ) (es : List Element) (d : Element) → n + 1 < 62 → n < length es → w ≡ slice_index (unchanged (get_or es n d) 0) 1 → w ≡ 32 → AreCounted NonIgnorable 2 n es → AreCounted NonIgnorable 2 (n + 1) es
-counted-second n w es d few within is common counted = counted-more 2 n es d few within (ap (λ (x : ℕ). filter (λ (y : ℕ). not (y == 0)) (x ∷ [])) (sym is ∙ common)) counted
+pub counted-second : (v : Variable) (n : ℕ) (es : List Element) (d : Element) → n + 1 < 62 → n < length es → (get_or es n d).l2 ≡ 32 → AreCounted v 2 n es → AreCounted v 2 (n + 1) es
+counted-second v n es d few within common counted = counted-more v 2 n es d few within (ap (λ (x : ℕ). filter (λ (y : ℕ). not (y == 0)) (x ∷ [])) common) counted
 
-pub counted-third : (n w : ℕ) (es : List Element) (d : Element) → n + 1 < 62 → n < length es → w ≡ slice_index (unchanged (get_or es n d) 0) 2 → w ≡ 2 → AreCounted NonIgnorable 3 n es → AreCounted NonIgnorable 3 (n + 1) es
-counted-third n w es d few within is common counted = counted-more 3 n es d few within (ap (λ (x : ℕ). filter (λ (y : ℕ). not (y == 0)) (x ∷ [])) (sym is ∙ common)) counted
+pub counted-third : (v : Variable) (n : ℕ) (es : List Element) (d : Element) → n + 1 < 62 → n < length es → (get_or es n d).l3 ≡ 2 → AreCounted v 3 n es → AreCounted v 3 (n + 1) es
+counted-third v n es d few within common counted = counted-more v 3 n es d few within (ap (λ (x : ℕ). filter (λ (y : ℕ). not (y == 0)) (x ∷ [])) common) counted

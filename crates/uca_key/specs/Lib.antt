@@ -1,6 +1,7 @@
 pub mod Faults
 pub mod Form
 pub mod Runs
+pub mod Weighing
 pub mod Pieces
 pub mod Placing
 pub mod PrimaryCode

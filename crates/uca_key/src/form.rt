@@ -2,7 +2,7 @@
 ghost use Rattle.std.specs.Prelude.{◌≡◌, ◌<◌, ◌≤◌, ◌+◌, ◌-◌, ◌^◌, ◌++◌, chars, length, min, take, IfOk, OnOk};
 ghost use Rattle.uca_window.specs.Passage.{text_of};
 ghost use Rattle.uca_key.specs.Form.{key_in};
-ghost use Rattle.uca_key.specs.Pieces.{HoldsElements};
+ghost use Rattle.uca_key.specs.Pieces.{HoldsWeights};
 ghost use Rattle.uca_key.specs.Placing.{PutsAt};
 
 use crate::packed_code::PackedCode;
@@ -54,10 +54,11 @@ fn put(
     out: &mut [u8],
 ) -> usize
     requires some { 0 < length room.old }
-    requires holds { HoldsElements reading.now room.old }
+    requires option { s.weighting ≡ reading.now.weighting }
+    requires holds { HoldsWeights reading.now room.old }
     requires size { length out.old < 2 ^ 64 }
     ensures bytes { PutsAt at (key_in form.entry reading.now.table.now s (chars reading.now.text.now)) out.old out.new result }
-    ensures holds { HoldsElements reading.now room.new }
+    ensures holds { HoldsWeights reading.now room.new }
     ensures room { length room.new ≡ length room.old }
 {
     match form {
@@ -77,14 +78,15 @@ fn put_into(
     keys: &mut Vec<u8>,
 ) -> Result<usize, AllocError>
     requires some { 0 < length room.old }
-    requires holds { HoldsElements reading.now room.old }
+    requires option { s.weighting ≡ reading.now.weighting }
+    requires holds { HoldsWeights reading.now room.old }
     requires place { at ≤ length keys.old.items }
     requires size { at ≤ size }
     ensures end { IfOk result (λ end. end ≡ min (at + length (key_in form.entry reading.now.table.now s (chars reading.now.text.now))) (2 ^ 64 - 1)) }
     ensures key { IfOk result (λ end. end ≤ length keys.new.items → take end keys.new.items ≡ take at keys.old.items ++ key_in form.entry reading.now.table.now s (chars reading.now.text.now)) }
     ensures front { OnOk result (take at keys.new.items ≡ take at keys.old.items) }
     ensures size { OnOk result (length keys.new.items ≡ size) }
-    ensures holds { HoldsElements reading.now room.new }
+    ensures holds { HoldsWeights reading.now room.new }
     ensures room { length room.new ≡ length room.old }
 {
     keys.resize(size, 0)?;
@@ -103,7 +105,7 @@ pub(crate) fn push(
     requires { 0 < length room.old }
     ensures { OnOk result (keys.new.items ≡ keys.old.items ++ key_in form.entry t.now s (text_of p.now)) }
 {
-    let reading = TextReading::new(t, p.as_str(), room);
+    let reading = TextReading::new(t, s.weighting, p.as_str(), room);
     let held = reading.held.is_some();
     let start = keys.len();
     let size = start.saturating_add(expected_bytes(form, s, &reading));

@@ -1,16 +1,13 @@
-ghost use Rattle.std.specs.Prelude.{◌≡◌, IsTrue, ◌+◌, ◌*◌, ◌==◌, ◌≤◌, ◌<◌, ◌^◌, ◌++◌, ◌∷◌, [], List, not, length, filter, flat_map, get_or};
+ghost use Rattle.std.specs.Prelude.{◌≡◌, IsTrue, ◌+◌, ◌*◌, ◌==◌, ◌≤◌, ◌<◌, ◌^◌, ◌∷◌, [], not, length, filter, flat_map, get_or};
 ghost use Rattle.std.specs.Int.{to_be_bytes, w16};
-ghost use Rattle.uca_weights.specs.declared.element.Element.{Element};
-ghost use Rattle.uca_weights.specs.declared.settings.Variable.TheVariants.{NonIgnorable};
-ghost use Rattle.uca_weights.specs.VariableWeighting.{unchanged, weighted};
 ghost use Rattle.uca_model.specs.SortKey.{weight_bytes, level_bytes};
-ghost use Rattle.uca_levels.specs.Streams.{weights_from};
 ghost use Rattle.uca_key.specs.Placing.{PutsAt};
+ghost use Rattle.uca_key.specs.Weighing.{all_own, own_weights};
 
 use crate::placing::put_bytes;
 use crate::runs::common_weight;
-use std::mem::replace;
-use uca_weights::{Element, Variable, Weigher};
+use crate::weighing::own_weight;
+use uca_weights::{Element, Variable};
 
 // Whether a weight of each of so many elements fits between a place of a buffer and its end.
 #[inline(always)]
@@ -65,55 +62,55 @@ fn put_some_weight(weight: u16, at: usize, out: &mut [u8]) -> usize
     at
 }
 
-// Puts the weight of an element as the table has it, at a level from 1 to 3, where it fits, unless it is zero.
+// Puts the weight of an element at a level, where it fits, unless it is zero.
 #[inline(always)]
-fn put_unchanged(element: &Element, level: u8, at: usize, out: &mut [u8]) -> usize
+fn put_own(v: Variable, element: &Element, level: u8, at: usize, out: &mut [u8]) -> usize
     requires first { 1 ≤ level }
-    requires last { level ≤ 3 }
+    requires last { level ≤ 4 }
     requires room { at + 2 ≤ length out.old }
-    ensures puts { PutsAt at (level_bytes (unchanged element.now 0 ∷ []) level) out.old out.new result }
+    ensures puts { PutsAt at (level_bytes (own_weights v element.now ∷ []) level) out.old out.new result }
     ensures within { result ≤ at + 2 }
 {
-    put_weight(element.weight(level), at, out)
+    put_weight(own_weight(v, element, level), at, out)
 }
 
 // The same where it may not fit.
-fn put_some_unchanged(element: &Element, level: u8, at: usize, out: &mut [u8]) -> usize
+fn put_some_own(v: Variable, element: &Element, level: u8, at: usize, out: &mut [u8]) -> usize
     requires first { 1 ≤ level }
-    requires last { level ≤ 3 }
-    ensures { PutsAt at (level_bytes (unchanged element.now 0 ∷ []) level) out.old out.new result }
+    requires last { level ≤ 4 }
+    ensures { PutsAt at (level_bytes (own_weights v element.now ∷ []) level) out.old out.new result }
 {
-    put_some_weight(element.weight(level), at, out)
+    put_some_weight(own_weight(v, element, level), at, out)
 }
 
-// Puts the bytes of one level, from 1 to 3, of elements that keep their weights, and that may not fit.
+// Puts the bytes of one level of elements that may not fit.
 #[inline(never)]
-fn put_some_level(elements: &[Element], level: u8, at: usize, out: &mut [u8]) -> usize
+fn put_some_level(v: Variable, elements: &[Element], level: u8, at: usize, out: &mut [u8]) -> usize
     requires first { 1 ≤ level }
-    requires last { level ≤ 3 }
+    requires last { level ≤ 4 }
     requires size { length out.old < 2 ^ 64 }
-    ensures { PutsAt at (level_bytes (weighted NonIgnorable elements.now) level) out.old out.new result }
+    ensures { PutsAt at (level_bytes (all_own v elements.now) level) out.old out.new result }
 {
     let mut next = at;
     for element in elements {
-        next = put_some_unchanged(element, level, next, out);
+        next = put_some_own(v, element, level, next, out);
     }
     next
 }
 
-// Puts the bytes of one level, from 1 to 3, of elements that keep their weights, where they fit.
+// Puts the bytes of one level of elements, where they fit, one after the other.
 #[inline(always)]
-fn put_each(elements: &[Element], level: u8, at: usize, out: &mut [u8]) -> usize
+fn put_each(v: Variable, elements: &[Element], level: u8, at: usize, out: &mut [u8]) -> usize
     requires first { 1 ≤ level }
-    requires last { level ≤ 3 }
+    requires last { level ≤ 4 }
     requires room { at + 2 * length elements.now ≤ length out.old }
     requires size { length out.old < 2 ^ 64 }
-    ensures puts { PutsAt at (level_bytes (weighted NonIgnorable elements.now) level) out.old out.new result }
+    ensures puts { PutsAt at (level_bytes (all_own v elements.now) level) out.old out.new result }
     ensures within { result ≤ at + 2 * length elements.now }
 {
     let mut next = at;
     for element in elements {
-        next = put_unchanged(element, level, next, out);
+        next = put_own(v, element, level, next, out);
     }
     next
 }
@@ -129,132 +126,71 @@ fn put_eight(bytes: [u8; 8], at: usize, out: &mut [u8]) -> usize
     at + 8
 }
 
-// Puts the bytes of a level 2 or 3 of at most four elements that keep their weights, where they fit. Four common weights, as most
-// are, are put together.
+// Puts the bytes of a level from 2 to 4 of at most four elements, where they fit. Four common weights, as most are, are put together.
 #[inline(always)]
-fn put_few(elements: &[Element], level: u8, at: usize, out: &mut [u8]) -> usize
+fn put_few(v: Variable, elements: &[Element], level: u8, at: usize, out: &mut [u8]) -> usize
     requires first { 2 ≤ level }
-    requires last { level ≤ 3 }
+    requires last { level ≤ 4 }
     requires room { at + 2 * length elements.now ≤ length out.old }
     requires size { length out.old < 2 ^ 64 }
-    ensures puts { PutsAt at (level_bytes (weighted NonIgnorable elements.now) level) out.old out.new result }
+    ensures puts { PutsAt at (level_bytes (all_own v elements.now) level) out.old out.new result }
     ensures within { result ≤ at + 2 * length elements.now }
 {
     if let [a, b, c, d] = elements {
         let common = common_weight(level);
-        let (first, second) = (a.weight(level), b.weight(level));
-        let (third, fourth) = (c.weight(level), d.weight(level));
+        let (first, second) = (own_weight(v, a, level), own_weight(v, b, level));
+        let (third, fourth) = (own_weight(v, c, level), own_weight(v, d, level));
         if first == common && second == common && third == common && fourth == common {
             let [high, low] = common.to_be_bytes();
             return put_eight([high, low, high, low, high, low, high, low], at, out);
         }
     }
-    put_each(elements, level, at, out)
+    put_each(v, elements, level, at, out)
 }
 
-// Puts the bytes of one level, from 1 to 3, of elements that keep their weights. It is a loop of its own, since most texts
-// come this way.
+// Puts the bytes of one level of elements.
 #[inline(always)]
-fn put_unchanged_level(elements: &[Element], level: u8, at: usize, out: &mut [u8]) -> usize
+fn put_whole(v: Variable, elements: &[Element], level: u8, at: usize, out: &mut [u8]) -> usize
     requires first { 1 ≤ level }
-    requires last { level ≤ 3 }
+    requires last { level ≤ 4 }
     requires size { length out.old < 2 ^ 64 }
-    ensures { PutsAt at (level_bytes (weighted NonIgnorable elements.now) level) out.old out.new result }
+    ensures { PutsAt at (level_bytes (all_own v elements.now) level) out.old out.new result }
 {
     if !has_room(elements.len(), at, out.len()) {
-        return put_some_level(elements, level, at, out);
+        return put_some_level(v, elements, level, at, out);
     }
     if level == 1 {
-        return put_each(elements, level, at, out);
+        return put_each(v, elements, level, at, out);
     }
     let mut next = at;
     let mut left = elements;
     'fours: while left.len() >= 4 {
         let (four, rest) = left.split_at(4);
-        next = put_few(four, level, next, out);
+        next = put_few(v, four, level, next, out);
         left = rest;
     }
-    put_each(left, level, next, out)
+    put_each(v, left, level, next, out)
 }
 
-// Puts the bytes of one level, from 1 to 4, of elements by their variable weighting, where they may not fit.
-#[inline(never)]
-fn put_some_weighted_level(
-    weigher: &mut Weigher,
-    elements: &[Element],
-    level: u8,
-    at: usize,
-    out: &mut [u8],
-) -> usize
-    requires first { 1 ≤ level }
-    requires last { level ≤ 4 }
-    requires size { length out.old < 2 ^ 64 }
-    ensures bytes { PutsAt at (flat_map weight_bytes (weights_from weigher.old level elements.now)) out.old out.new result }
-    ensures seen { (es : List Element) → weights_from weigher.old level (elements.now ++ es) ≡ weights_from weigher.old level elements.now ++ weights_from weigher.new level es }
-    ensures option { weigher.new.weighting ≡ weigher.old.weighting }
-{
-    let mut next = at;
-    for element in elements {
-        next = put_some_weight(weigher.weigh_at(*element, level), next, out);
-    }
-    next
-}
-
-// Puts the bytes of one level, from 1 to 4, of elements by their variable weighting.
-#[inline(always)]
-fn put_weighted_level(
-    weigher: &mut Weigher,
-    elements: &[Element],
-    level: u8,
-    at: usize,
-    out: &mut [u8],
-) -> usize
-    requires first { 1 ≤ level }
-    requires last { level ≤ 4 }
-    requires size { length out.old < 2 ^ 64 }
-    ensures bytes { PutsAt at (flat_map weight_bytes (weights_from weigher.old level elements.now)) out.old out.new result }
-    ensures seen { (es : List Element) → weights_from weigher.old level (elements.now ++ es) ≡ weights_from weigher.old level elements.now ++ weights_from weigher.new level es }
-    ensures option { weigher.new.weighting ≡ weigher.old.weighting }
-{
-    if !has_room(elements.len(), at, out.len()) {
-        return put_some_weighted_level(weigher, elements, level, at, out);
-    }
-    // In the loop it is a local, since what is written to the key could otherwise be a part of it.
-    let mut seen = replace(weigher, Weigher::new(Variable::NonIgnorable));
-    let mut next = at;
-    for element in elements {
-        next = put_weight(seen.weigh_at(*element, level), next, out);
-    }
-    *weigher = seen;
-    next
-}
-
-/// Puts the bytes of one level, from 1 to 4, of some elements at a place of a key, and returns the place after them (UTS #10,
-/// section 7.3, step S3). The weigher has seen the elements before them. Each level of elements that keep their weights
-/// has a loop of its own, which asks for no level.
+/// Puts the bytes of one level, from 1 to 4, of elements that were weighed at a place of a key, and returns the place after them
+/// (UTS #10, section 7.3, step S3). Each level has a loop of its own, which asks for no level.
 pub(crate) fn put_level(
     v: Variable,
-    weigher: &mut Weigher,
     elements: &[Element],
     level: u8,
     at: usize,
     out: &mut [u8],
 ) -> usize
-    requires option { weigher.old.weighting ≡ v }
     requires first { 1 ≤ level }
     requires last { level ≤ 4 }
     requires size { length out.old < 2 ^ 64 }
-    ensures bytes { PutsAt at (flat_map weight_bytes (weights_from weigher.old level elements.now)) out.old out.new result }
-    ensures seen { (es : List Element) → weights_from weigher.old level (elements.now ++ es) ≡ weights_from weigher.old level elements.now ++ weights_from weigher.new level es }
-    ensures option { weigher.new.weighting ≡ v }
+    ensures { PutsAt at (level_bytes (all_own v elements.now) level) out.old out.new result }
 {
     match (v, level) {
-        (Variable::NonIgnorable, 1) => put_unchanged_level(elements, 1, at, out),
-        (Variable::NonIgnorable, 2) => put_unchanged_level(elements, 2, at, out),
-        (Variable::NonIgnorable, 3) => put_unchanged_level(elements, 3, at, out),
-        (_, 1) => put_weighted_level(weigher, elements, 1, at, out),
-        (_, 2) => put_weighted_level(weigher, elements, 2, at, out),
-        (_, 3) => put_weighted_level(weigher, elements, 3, at, out),
-        _ => put_weighted_level(weigher, elements, 4, at, out),
+        (Variable::NonIgnorable, 1) => put_whole(Variable::NonIgnorable, elements, 1, at, out),
+        (_, 1) => put_whole(v, elements, 1, at, out),
+        (_, 2) => put_whole(v, elements, 2, at, out),
+        (_, 3) => put_whole(v, elements, 3, at, out),
+        _ => put_whole(v, elements, 4, at, out),
     }
 }

@@ -20,6 +20,7 @@ mod pieces;
 pub mod placing;
 mod runs;
 pub mod streaming;
+mod weighing;
 mod weight_bytes;
 
 pub use bounds::{PrefixBounds, prefix_bounds};

@@ -124,7 +124,7 @@ pub fn put_packed_key(
     // Shows that the table is one.
     let _longest = t.longest();
     let mut room = [Element::default(); ROOM];
-    let reading = TextReading::new(t, p.as_str(), &mut room);
+    let reading = TextReading::new(t, s.weighting, p.as_str(), &mut room);
     put_packed_levels(code, &reading, s, &mut room, 0, out)
 }
 

@@ -2,10 +2,11 @@
 ghost use Rattle.std.specs.Prelude.{◌≡◌, ◌+◌, ◌*◌, ◌-◌, ◌^◌, ◌<◌, ◌≤◌, ◌++◌, ℕ, List, chars, length, take};
 ghost use Rattle.uca_weights.specs.VariableWeighting.{weighted};
 ghost use Rattle.uca_model.specs.LevelWeights.{level_weights};
-ghost use Rattle.uca_key.specs.Pieces.{HoldsElements, elements_of};
+ghost use Rattle.uca_key.specs.Pieces.{HoldsWeights, elements_of};
 ghost use Rattle.uca_key.specs.Placing.{PutsAt};
 ghost use Rattle.uca_key.specs.PackedKey.{later_levels, packed_key_by};
 ghost use Rattle.uca_key.specs.PrimaryCode.{primary_level, start};
+ghost use Rattle.uca_key.specs.Weighing.{all_own};
 
 use crate::packed_code::PackedCode;
 use crate::pieces::TextReading;
@@ -30,11 +31,11 @@ fn put_weights(
     requires first { 1 ≤ last }
     requires last { last ≤ 4 }
     requires room { 15 * length elements.now + 4 ≤ length key.old }
-    ensures bytes { (decomposed : List ℕ) → take result key.new ≡ primary_level code.now (start code.now) (level_weights 1 (weighted v elements.now)) ++ later_levels (last - 1) 2 (weighted v elements.now) decomposed }
+    ensures bytes { (decomposed : List ℕ) → take result key.new ≡ primary_level code.now (start code.now) (level_weights 1 (all_own v elements.now)) ++ later_levels (last - 1) 2 (all_own v elements.now) decomposed }
     ensures within { result ≤ length key.new }
 {
     let mut next = weight_bytes::put_whole(code, v, elements, key);
-    let common = runs::count_first(v, elements);
+    let common = runs::count_common(elements);
     let mut level = 1;
     'levels: while level < last {
         level += 1;
@@ -53,7 +54,7 @@ fn put_few(
     at: usize,
     out: &mut [u8],
 ) -> usize
-    requires elements { elements.now ≡ elements_of reading.now }
+    requires elements { all_own s.weighting elements.now ≡ weighted s.weighting (elements_of reading.now) }
     requires few { length elements.now ≤ 64 }
     requires size { length out.old < 2 ^ 64 }
     ensures { PutsAt at (packed_key_by code.now reading.now.table.now s (chars reading.now.text.now)) out.old out.new result }
@@ -78,10 +79,11 @@ pub(crate) fn put_packed_levels(
     out: &mut [u8],
 ) -> usize
     requires some { 0 < length room.old }
-    requires holds { HoldsElements reading.now room.old }
+    requires option { s.weighting ≡ reading.now.weighting }
+    requires holds { HoldsWeights reading.now room.old }
     requires size { length out.old < 2 ^ 64 }
     ensures bytes { PutsAt at (packed_key_by code.now reading.now.table.now s (chars reading.now.text.now)) out.old out.new result }
-    ensures holds { HoldsElements reading.now room.new }
+    ensures holds { HoldsWeights reading.now room.new }
     ensures room { length room.new ≡ length room.old }
 {
     if let Some(held) = reading.held {
@@ -90,11 +92,11 @@ pub(crate) fn put_packed_levels(
         }
     }
     let last = s.levels();
-    let mut next = weight_bytes::put_first(code, s.weighting, reading, room, at, out);
+    let mut next = weight_bytes::put_first(code, reading, room, at, out);
     let mut level = 1;
     'each: while level < last {
         level += 1;
-        next = runs::put_later(reading, s.weighting, level, room, next, out);
+        next = runs::put_later(reading, level, room, next, out);
     }
     next
 }

@@ -1,55 +1,100 @@
-ghost use Rattle.std.specs.Prelude.{◌≡◌, ◌≤◌, chars, length};
+ghost use Rattle.std.specs.Prelude.{◌≡◌, ◌≤◌, ◌<◌, ◌++◌, [], chars, length, take};
+ghost use Rattle.uca_weights.specs.declared.settings.Variable.{Variable};
 ghost use Rattle.uca_model.specs.SafeText.{IsSafe};
+ghost use Rattle.uca_key.specs.Weighing.{all_own};
 
+use crate::weighing::weigh_all;
 use uca_match::{TextElements, read_text};
 use uca_table::Table;
-use uca_weights::Element;
+use uca_weights::{Element, Variable, Weigher};
 
 /// The most elements that are packed or sent together.
 pub(crate) const PIECE: usize = 64;
 
-/// The elements of a text, as often as they are asked for: held in room, or else read into it again each time.
+/// The elements of a text, weighed, as often as they are asked for: held in room, or else read into it again each time.
 #[derive(Drop)]
 pub(crate) struct TextReading<'t> {
     pub(crate) table: &'t Table,
     pub(crate) text: &'t str,
+    /// The option by which they are weighed.
+    pub(crate) weighting: Variable,
     /// How many elements the text has, where the room holds them all.
     pub(crate) held: Option<usize>,
     ghost safe: { IsSafe (chars text.now) },
 }
 
 impl<'t> TextReading<'t> {
-    ghost use Rattle.uca_key.specs.Pieces.{HoldsElements, elements_of};
-    ghost use Rattle.uca_match.specs.TextLeft.{elements_left};
+    ghost use Rattle.uca_key.specs.Pieces.{HoldsWeights, weights_left, weights_of};
 
     /// Reads a text into room.
     #[inline(always)]
-    pub(crate) fn new(t: &'t Table, text: &'t str, room: &mut [Element]) -> TextReading<'t>
+    pub(crate) fn new(
+        t: &'t Table,
+        v: Variable,
+        text: &'t str,
+        room: &mut [Element],
+    ) -> TextReading<'t>
         requires { IsSafe (chars text.now) }
         ensures table { result.table.now ≡ t.now }
         ensures text { result.text.now ≡ text.now }
-        ensures holds { HoldsElements result room.new }
+        ensures weighting { result.weighting ≡ v }
+        ensures holds { HoldsWeights result room.new }
         ensures size { length room.new ≡ length room.old }
     {
         let (read, rest) = read_text(t, text, room);
         if rest.is_empty() {
+            weigh_all(v, &mut Weigher::new(v), &mut room[..read]);
             return TextReading {
                 table: t,
                 text,
+                weighting: v,
                 held: Some(read),
             };
         }
         TextReading {
             table: t,
             text,
+            weighting: v,
             held: None,
         }
     }
 
     /// Reads the text once more.
-    pub(crate) fn again(&self) -> TextElements<'t>
-        ensures { elements_left result ≡ elements_of self.now }
+    pub(crate) fn again(&self) -> WeighedElements<'t>
+        ensures left { weights_left result ≡ weights_of self.now }
+        ensures weighting { result.weighting ≡ self.now.weighting }
     {
-        TextElements::new(self.table, self.text)
+        WeighedElements {
+            elements: TextElements::new(self.table, self.text),
+            weighting: self.weighting,
+            weigher: Weigher::new(self.weighting),
+        }
+    }
+}
+
+/// The elements of a text that are left, which are weighed as they are read.
+#[derive(Drop)]
+pub(crate) struct WeighedElements<'t> {
+    elements: TextElements<'t>,
+    weighting: Variable,
+    weigher: Weigher,
+    ghost same: { weigher.weighting ≡ weighting },
+}
+
+impl<'t> WeighedElements<'t> {
+    ghost use Rattle.uca_key.specs.Pieces.{weights_left};
+
+    /// Puts the next elements into room, from its front on, and returns how many: none only where none is left.
+    pub(crate) fn read(&mut self, room: &mut [Element]) -> usize
+        requires { 0 < length room.old }
+        ensures left { weights_left self.old ≡ all_own self.old.weighting (take result room.new) ++ weights_left self.new }
+        ensures weighting { self.new.weighting ≡ self.old.weighting }
+        ensures within { result ≤ length room.old }
+        ensures end { result ≡ 0 → weights_left self.old ≡ [] }
+        ensures size { length room.new ≡ length room.old }
+    {
+        let n = self.elements.read(room);
+        weigh_all(self.weighting, &mut self.weigher, &mut room[..n]);
+        n
     }
 }

@@ -1,20 +1,19 @@
 // Keys that are put into a buffer piece by piece, level after level.
 ghost use Rattle.std.specs.Prelude.{◌≡◌, ◌<◌, ◌≤◌, ◌-◌, ◌^◌, chars, length, min};
-ghost use Rattle.uca_weights.specs.VariableWeighting.{weighted};
 ghost use Rattle.uca_model.specs.DecidingLevel.{bytes_at};
 ghost use Rattle.uca_model.specs.LevelWeights.{level_list};
 ghost use Rattle.uca_model.specs.SafeText.{IsSafe};
 ghost use Rattle.uca_model.specs.SortKey.{code_point_bytes, level_bytes, sort_key};
 ghost use Rattle.uca_model.specs.Source.{unread};
 ghost use Rattle.uca_window.specs.Passage.{bytes_of, text_of};
-ghost use Rattle.uca_key.specs.Pieces.{HoldsElements, elements_of};
+ghost use Rattle.uca_key.specs.Pieces.{HoldsWeights, weights_of};
 ghost use Rattle.uca_key.specs.Placing.{PutsAt, with_front};
 
 use crate::level_bytes::put_level;
 use crate::pieces::TextReading;
 use uca_levels::Points;
 use uca_table::Table;
-use uca_weights::{Element, Settings, Variable, Weigher};
+use uca_weights::{Element, Settings, Variable};
 use uca_window::{Passage, PassageSource, Source};
 
 /// How many elements of a text are held where no memory is allocated for them.
@@ -52,7 +51,6 @@ fn put_point(point: char, at: usize, out: &mut [u8]) -> usize
 // Puts the weights of a level of elements that the room does not hold, as they are read once more.
 #[inline(never)]
 fn put_weights_again(
-    v: Variable,
     level: u8,
     reading: &TextReading,
     room: &mut [Element],
@@ -63,24 +61,22 @@ fn put_weights_again(
     requires last { level ≤ 4 }
     requires some { 0 < length room.old }
     requires size { length out.old < 2 ^ 64 }
-    ensures bytes { PutsAt at (level_bytes (weighted v (elements_of reading.now)) level) out.old out.new result }
+    ensures bytes { PutsAt at (level_bytes (weights_of reading.now) level) out.old out.new result }
     ensures room { length room.new ≡ length room.old }
 {
     let mut left = reading.again();
-    let mut weigher = Weigher::new(v);
     let mut next = at;
     'each: loop {
         let n = left.read(room);
         if n == 0 {
             return next;
         }
-        next = put_level(v, &mut weigher, &room[..n], level, next, out);
+        next = put_level(reading.weighting, &room[..n], level, next, out);
     }
 }
 
 // Puts the weights of a level of a text that was read into room.
-pub(crate) fn put_weights(
-    v: Variable,
+fn put_weights(
     level: u8,
     reading: &TextReading,
     room: &mut [Element],
@@ -90,17 +86,16 @@ pub(crate) fn put_weights(
     requires first { 1 ≤ level }
     requires last { level ≤ 4 }
     requires some { 0 < length room.old }
-    requires holds { HoldsElements reading.now room.old }
+    requires holds { HoldsWeights reading.now room.old }
     requires size { length out.old < 2 ^ 64 }
-    ensures bytes { PutsAt at (level_bytes (weighted v (elements_of reading.now)) level) out.old out.new result }
-    ensures holds { HoldsElements reading.now room.new }
+    ensures bytes { PutsAt at (level_bytes (weights_of reading.now) level) out.old out.new result }
+    ensures holds { HoldsWeights reading.now room.new }
     ensures room { length room.new ≡ length room.old }
 {
     if let Some(held) = reading.held {
-        let mut weigher = Weigher::new(v);
-        return put_level(v, &mut weigher, &room[..held], level, at, out);
+        return put_level(reading.weighting, &room[..held], level, at, out);
     }
-    put_weights_again(v, level, reading, room, at, out)
+    put_weights_again(level, reading, room, at, out)
 }
 
 // Puts the code points in NFD, of what a source has not given yet.
@@ -131,7 +126,6 @@ pub(crate) fn put_text(t: &Table, v: Variable, text: &str, at: usize, out: &mut 
 // Puts one level of a text that was read into room.
 fn put_level_of(
     reading: &TextReading,
-    v: Variable,
     level: u8,
     room: &mut [Element],
     at: usize,
@@ -140,16 +134,16 @@ fn put_level_of(
     requires first { 1 ≤ level }
     requires last { level ≤ 5 }
     requires some { 0 < length room.old }
-    requires holds { HoldsElements reading.now room.old }
+    requires holds { HoldsWeights reading.now room.old }
     requires size { length out.old < 2 ^ 64 }
-    ensures bytes { PutsAt at (bytes_at level (level_list reading.now.table.now v (chars reading.now.text.now) level)) out.old out.new result }
-    ensures holds { HoldsElements reading.now room.new }
+    ensures bytes { PutsAt at (bytes_at level (level_list reading.now.table.now reading.now.weighting (chars reading.now.text.now) level)) out.old out.new result }
+    ensures holds { HoldsWeights reading.now room.new }
     ensures room { length room.new ≡ length room.old }
 {
     if level == 5 {
-        return put_text(reading.table, v, reading.text, at, out);
+        return put_text(reading.table, reading.weighting, reading.text, at, out);
     }
-    put_weights(v, level, reading, room, at, out)
+    put_weights(level, reading, room, at, out)
 }
 
 /// Puts the sort key of a text that was read into room at a place of a buffer, level after level.
@@ -161,17 +155,18 @@ pub(crate) fn put_levels(
     out: &mut [u8],
 ) -> usize
     requires some { 0 < length room.old }
-    requires holds { HoldsElements reading.now room.old }
+    requires option { s.weighting ≡ reading.now.weighting }
+    requires holds { HoldsWeights reading.now room.old }
     requires size { length out.old < 2 ^ 64 }
     ensures bytes { PutsAt at (sort_key reading.now.table.now s (chars reading.now.text.now)) out.old out.new result }
-    ensures holds { HoldsElements reading.now room.new }
+    ensures holds { HoldsWeights reading.now room.new }
     ensures room { length room.new ≡ length room.old }
 {
     let last = s.levels();
     let mut level = 1;
     let mut next = at;
     'each: loop {
-        next = put_level_of(reading, s.weighting, level, room, next, out);
+        next = put_level_of(reading, level, room, next, out);
         if level == last {
             return next;
         }
@@ -191,6 +186,6 @@ pub fn put_key(t: &Table, s: Settings, p: &Passage, out: &mut [u8]) -> usize
     // Shows that the table is one.
     let _longest = t.longest();
     let mut room = [Element::default(); ROOM];
-    let reading = TextReading::new(t, p.as_str(), &mut room);
+    let reading = TextReading::new(t, s.weighting, p.as_str(), &mut room);
     put_levels(&reading, s, &mut room, 0, out)
 }

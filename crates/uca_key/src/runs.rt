@@ -1,21 +1,19 @@
 // The later levels of a packed key, with runs of common weights, put into a buffer piece by piece.
 ghost use Rattle.std.specs.Prelude.{◌≡◌, IsTrue, ◌≢◌, ◌==◌, ◌+◌, ◌*◌, ◌-◌, ◌^◌, ◌<◌, ◌≤◌, ◌++◌, ◌∷◌, [], ℕ, List, not, chars, filter, length, take};
 ghost use Rattle.unicode_normalization.specs.Forms.{nfd};
-ghost use Rattle.uca_weights.specs.declared.element.Element.{Element};
-ghost use Rattle.uca_weights.specs.declared.settings.Variable.TheVariants.{NonIgnorable};
-ghost use Rattle.uca_weights.specs.VariableWeighting.{weighted};
+ghost use Rattle.uca_weights.specs.declared.settings.Variable.{Variable};
 ghost use Rattle.uca_model.specs.LevelWeights.{level_weights};
 ghost use Rattle.uca_model.specs.SafeText.{IsSafe};
-ghost use Rattle.uca_levels.specs.Streams.{weights_from};
 ghost use Rattle.uca_key.specs.PackedKey.{common_weight, other_bytes, runs_after, packed_later, packed_level};
 ghost use Rattle.uca_key.specs.Runs.{AreCounted, bytes_left};
-ghost use Rattle.uca_key.specs.Pieces.{HoldsElements, elements_of};
+ghost use Rattle.uca_key.specs.Pieces.{HoldsWeights, weights_of};
 ghost use Rattle.uca_key.specs.Placing.{IsPutting, PutsAt};
+ghost use Rattle.uca_key.specs.Weighing.{all_own};
 
 use crate::pieces::{PIECE, TextReading};
 use crate::placing::{put_bytes, put_text};
-use std::mem::replace;
-use uca_weights::{Element, Variable, Weigher};
+use crate::weighing::own_weight;
+use uca_weights::{Element, Variable};
 
 // How many common weights one byte counts, and that byte.
 const FULL_RUN: u8 = 62;
@@ -129,14 +127,20 @@ fn pack_weight(key: &mut [u8], before: Counted, common: u16, weight: u16) -> Cou
     put_after_run(key, before, common, weight)
 }
 
-// Packs the weights of elements that keep them, at a level 2 or 3, one after the other.
+// Packs the weights of elements at a level, one after the other.
 #[inline(always)]
-fn pack_each(key: &mut [u8], before: Counted, elements: &[Element], level: u8) -> Counted
+fn pack_each(
+    key: &mut [u8],
+    before: Counted,
+    v: Variable,
+    elements: &[Element],
+    level: u8,
+) -> Counted
     requires few { before.run < 62 }
     requires first { 2 ≤ level }
-    requires last { level ≤ 3 }
+    requires last { level ≤ 4 }
     requires room { before.at + 4 * length elements.now ≤ length key.old }
-    ensures bytes { (ws : List ℕ) → take result.at key.new ++ runs_after (common_weight level) result.run ws ≡ take before.at key.old ++ runs_after (common_weight level) before.run (level_weights level (weighted NonIgnorable elements.now) ++ ws) }
+    ensures bytes { (ws : List ℕ) → take result.at key.new ++ runs_after (common_weight level) result.run ws ≡ take before.at key.old ++ runs_after (common_weight level) before.run (level_weights level (all_own v elements.now) ++ ws) }
     ensures few { result.run < 62 }
     ensures within { result.at ≤ before.at + 4 * length elements.now }
     ensures size { length key.new ≡ length key.old }
@@ -144,36 +148,41 @@ fn pack_each(key: &mut [u8], before: Counted, elements: &[Element], level: u8) -
     let common = common_weight(level);
     let mut packed = before;
     for element in elements {
-        packed = pack_weight(key, packed, common, element.weight(level));
+        packed = pack_weight(key, packed, common, own_weight(v, element, level));
     }
     packed
 }
 
-// Whether some elements are four, and their weights at a level 2 or 3 all the common one.
+// Whether some elements are four, and their weights at a level all the common one.
 #[inline(always)]
-fn are_four_common(elements: &[Element], level: u8) -> bool
+fn are_four_common(v: Variable, elements: &[Element], level: u8) -> bool
     requires first { 2 ≤ level }
-    requires last { level ≤ 3 }
-    ensures { IsTrue result → level_weights level (weighted NonIgnorable elements.now) ≡ common_weight level ∷ common_weight level ∷ common_weight level ∷ common_weight level ∷ [] }
+    requires last { level ≤ 4 }
+    ensures { IsTrue result → level_weights level (all_own v elements.now) ≡ common_weight level ∷ common_weight level ∷ common_weight level ∷ common_weight level ∷ [] }
 {
     let [a, b, c, d] = elements else {
         return false;
     };
     let common = common_weight(level);
-    let (first, second) = (a.weight(level), b.weight(level));
-    let (third, fourth) = (c.weight(level), d.weight(level));
+    let (first, second) = (own_weight(v, a, level), own_weight(v, b, level));
+    let (third, fourth) = (own_weight(v, c, level), own_weight(v, d, level));
     first == common && second == common && third == common && fourth == common
 }
 
-// Packs the weights of elements that keep them, at a level 2 or 3. It is a loop of its own, since most texts come this way: four
-// common weights, as most are, are counted together.
+// Packs the weights of elements at a level. Four common weights, as most are, are counted together.
 #[inline(always)]
-fn pack_unchanged(key: &mut [u8], before: Counted, elements: &[Element], level: u8) -> Counted
+fn pack_whole(
+    key: &mut [u8],
+    before: Counted,
+    v: Variable,
+    elements: &[Element],
+    level: u8,
+) -> Counted
     requires few { before.run < 62 }
     requires first { 2 ≤ level }
-    requires last { level ≤ 3 }
+    requires last { level ≤ 4 }
     requires room { before.at + 4 * length elements.now ≤ length key.old }
-    ensures bytes { (ws : List ℕ) → take result.at key.new ++ runs_after (common_weight level) result.run ws ≡ take before.at key.old ++ runs_after (common_weight level) before.run (level_weights level (weighted NonIgnorable elements.now) ++ ws) }
+    ensures bytes { (ws : List ℕ) → take result.at key.new ++ runs_after (common_weight level) result.run ws ≡ take before.at key.old ++ runs_after (common_weight level) before.run (level_weights level (all_own v elements.now) ++ ws) }
     ensures few { result.run < 62 }
     ensures within { result.at ≤ before.at + 4 * length elements.now }
     ensures size { length key.new ≡ length key.old }
@@ -182,129 +191,51 @@ fn pack_unchanged(key: &mut [u8], before: Counted, elements: &[Element], level: 
     let mut left = elements;
     while left.len() >= 4 {
         let (four, rest) = left.split_at(4);
-        if packed.run + 4 < FULL_RUN && are_four_common(four, level) {
+        if packed.run + 4 < FULL_RUN && are_four_common(v, four, level) {
             packed.run += 4;
         } else {
-            packed = pack_each(key, packed, four, level);
+            packed = pack_each(key, packed, v, four, level);
         }
         left = rest;
     }
-    pack_each(key, packed, left, level)
+    pack_each(key, packed, v, left, level)
 }
 
-// Packs the weights of some elements, at a level from 2 to 4, by their variable weighting. The weigher has seen those before them.
-#[inline(always)]
-fn pack_weighted(
-    key: &mut [u8],
-    before: Counted,
-    weigher: &mut Weigher,
-    elements: &[Element],
-    level: u8,
-) -> Counted
+// Packs the weights of elements, at a level from 2 to 4. Each level has a loop of its own, which asks for no level.
+fn pack(key: &mut [u8], before: Counted, v: Variable, elements: &[Element], level: u8) -> Counted
     requires few { before.run < 62 }
     requires first { 2 ≤ level }
     requires last { level ≤ 4 }
     requires room { before.at + 4 * length elements.now ≤ length key.old }
-    ensures bytes { (es : List Element) → take result.at key.new ++ runs_after (common_weight level) result.run (weights_from weigher.new level es) ≡ take before.at key.old ++ runs_after (common_weight level) before.run (weights_from weigher.old level (elements.now ++ es)) }
+    ensures bytes { (ws : List ℕ) → take result.at key.new ++ runs_after (common_weight level) result.run ws ≡ take before.at key.old ++ runs_after (common_weight level) before.run (level_weights level (all_own v elements.now) ++ ws) }
     ensures few { result.run < 62 }
     ensures within { result.at ≤ before.at + 4 * length elements.now }
-    ensures option { weigher.new.weighting ≡ weigher.old.weighting }
-{
-    let common = common_weight(level);
-    // In the loop it is a local, since what is written to the key could otherwise be a part of it.
-    let mut seen = replace(weigher, Weigher::new(Variable::NonIgnorable));
-    let mut packed = before;
-    for element in elements {
-        packed = pack_weight(key, packed, common, seen.weigh_at(*element, level));
-    }
-    *weigher = seen;
-    packed
-}
-
-// Packs the weights of some elements, at a level from 2 to 4. Each level has a loop of its own, which asks for no level.
-fn pack(
-    key: &mut [u8],
-    before: Counted,
-    v: Variable,
-    weigher: &mut Weigher,
-    elements: &[Element],
-    level: u8,
-) -> Counted
-    requires few { before.run < 62 }
-    requires first { 2 ≤ level }
-    requires last { level ≤ 4 }
-    requires option { weigher.old.weighting ≡ v }
-    requires room { before.at + 4 * length elements.now ≤ length key.old }
-    ensures bytes { (es : List Element) → take result.at key.new ++ runs_after (common_weight level) result.run (weights_from weigher.new level es) ≡ take before.at key.old ++ runs_after (common_weight level) before.run (weights_from weigher.old level (elements.now ++ es)) }
-    ensures few { result.run < 62 }
-    ensures within { result.at ≤ before.at + 4 * length elements.now }
-    ensures option { weigher.new.weighting ≡ v }
     ensures size { length key.new ≡ length key.old }
 {
-    match (v, level) {
-        (Variable::NonIgnorable, 2) => pack_unchanged(key, before, elements, 2),
-        (Variable::NonIgnorable, 3) => pack_unchanged(key, before, elements, 3),
-        (_, 2) => pack_weighted(key, before, weigher, elements, 2),
-        (_, 3) => pack_weighted(key, before, weigher, elements, 3),
-        _ => pack_weighted(key, before, weigher, elements, 4),
+    match level {
+        2 => pack_whole(key, before, v, elements, 2),
+        3 => pack_whole(key, before, v, elements, 3),
+        _ => pack_whole(key, before, v, elements, 4),
     }
 }
 
-// How many of the first of some elements have common weights at the levels 2 and 3. Most letters have, so both levels are asked
-// together, up to the longest run that is not yet put.
-fn count_common(elements: &[Element]) -> u8
+/// How many of the first of some elements have common weights at the levels 2 and 3. Most letters have, so both levels are asked
+/// together, up to the longest run that is not yet put.
+pub(crate) fn count_common(elements: &[Element]) -> u8
     ensures few { result < 62 }
-    ensures second { AreCounted NonIgnorable 2 result elements.now }
-    ensures third { AreCounted NonIgnorable 3 result elements.now }
+    ensures second { (v : Variable) → AreCounted v 2 result elements.now }
+    ensures third { (v : Variable) → AreCounted v 3 result elements.now }
 {
     let most = elements.len().min(FULL_RUN as usize - 1);
     let mut n = 0;
     'each: while n < most {
         let element = elements[n];
-        if element.weight(2) != common_weight(2) || element.weight(3) != common_weight(3) {
+        if element.l2 != common_weight(2) || element.l3 != common_weight(3) {
             return n as u8;
         }
         n += 1;
     }
     n as u8
-}
-
-/// How many of the first weights of some elements are common at the levels 2 and 3, as far as that is known before they are put.
-pub(crate) fn count_first(v: Variable, elements: &[Element]) -> u8
-    ensures few { result < 62 }
-    ensures second { AreCounted v 2 result elements.now }
-    ensures third { AreCounted v 3 result elements.now }
-{
-    match v {
-        Variable::NonIgnorable => count_common(elements),
-        _ => 0,
-    }
-}
-
-// How far a level is put: the place after its bytes, how many common weights were counted since, and the weigher of the elements that
-// follow.
-#[derive(Drop)]
-struct RunsLevel {
-    next: usize,
-    run: u8,
-    weigher: Weigher,
-}
-
-impl RunsLevel {
-    // A level that begins at a place, after a run of common weights.
-    fn new(v: Variable, at: usize, run: u8) -> RunsLevel
-        requires { run < 62 }
-        ensures next { result.next ≡ at }
-        ensures few { result.run < 62 }
-        ensures option { result.weigher.weighting ≡ v }
-        ensures left { (level : ℕ) (es : List Element) → bytes_left level result es ≡ runs_after (common_weight level) run (level_weights level (weighted v es)) }
-    {
-        RunsLevel {
-            next: at,
-            run,
-            weigher: Weigher::new(v),
-        }
-    }
 }
 
 /// Puts a level, from 2 to 4, of some elements into a buffer. So many of their first weights are common.
@@ -321,7 +252,7 @@ pub(crate) fn put_whole(
     requires few { common < 62 }
     requires counted { AreCounted v level common elements.now }
     requires room { at + 4 * length elements.now + 1 ≤ length key.old }
-    ensures bytes { take result key.new ≡ take at key.old ++ packed_level (weighted v elements.now) level }
+    ensures bytes { take result key.new ≡ take at key.old ++ packed_level (all_own v elements.now) level }
     ensures within { result ≤ at + 4 * length elements.now + 1 }
     ensures size { length key.new ≡ length key.old }
 {
@@ -329,56 +260,57 @@ pub(crate) fn put_whole(
         key[at] = 2 * common;
         return at + 1;
     }
-    let mut state = RunsLevel::new(v, at, common);
-    let before = Counted {
-        at: state.next,
-        run: state.run,
-    };
+    let before = Counted { at, run: common };
     let (_, left) = elements.split_at(common as usize);
-    let packed = pack(key, before, v, &mut state.weigher, left, level);
+    let packed = pack(key, before, v, left, level);
     key[packed.at] = 2 * packed.run;
     packed.at + 1
 }
 
 // Packs the weights of some elements at a level from 2 to 4, a piece at a time.
-fn put_elements(v: Variable, level: u8, state: &mut RunsLevel, elements: &[Element], out: &mut [u8])
-    requires few { state.old.run < 62 }
+fn put_elements(
+    v: Variable,
+    level: u8,
+    before: Counted,
+    elements: &[Element],
+    out: &mut [u8],
+) -> Counted
+    requires few { before.run < 62 }
     requires first { 2 ≤ level }
     requires last { level ≤ 4 }
-    requires option { state.old.weigher.weighting ≡ v }
     requires size { length out.old < 2 ^ 64 }
-    ensures bytes { (at : ℕ) (before whole : List ℕ) (es : List Element) → IsPutting at before state.old.next out.old whole (bytes_left level state.old (elements.now ++ es)) → IsPutting at before state.new.next out.new whole (bytes_left level state.new es) }
-    ensures few { state.new.run < 62 }
-    ensures option { state.new.weigher.weighting ≡ v }
+    ensures bytes { (at : ℕ) (front whole : List ℕ) (ws : List (List ℕ)) → IsPutting at front before.at out.old whole (bytes_left level before (all_own v elements.now ++ ws)) → IsPutting at front result.at out.new whole (bytes_left level result ws) }
+    ensures few { result.run < 62 }
     ensures size { length out.new ≡ length out.old }
 {
+    let mut state = before;
     let mut left = elements;
     'pieces: while !left.is_empty() {
         let mut bytes = [0; OTHER * PIECE];
         let (piece, rest) = left.split_at(left.len().min(PIECE));
-        let before = Counted {
+        let front = Counted {
             at: 0,
             run: state.run,
         };
-        let packed = pack(&mut bytes, before, v, &mut state.weigher, piece, level);
-        state.next = put_bytes(&bytes[..packed.at], state.next, out);
+        let packed = pack(&mut bytes, front, v, piece, level);
+        state.at = put_bytes(&bytes[..packed.at], state.at, out);
         state.run = packed.run;
         left = rest;
     }
+    state
 }
 
 // Puts the end of a level.
-fn put_end(state: &RunsLevel, out: &mut [u8]) -> usize
-    requires few { state.now.run < 62 }
-    ensures { (level : ℕ) → PutsAt state.now.next (bytes_left level state.now []) out.old out.new result }
+fn put_end(state: Counted, out: &mut [u8]) -> usize
+    requires few { state.run < 62 }
+    ensures { (level : ℕ) → PutsAt state.at (bytes_left level state []) out.old out.new result }
 {
-    put_bytes(&[2 * state.run], state.next, out)
+    put_bytes(&[2 * state.run], state.at, out)
 }
 
 // Puts a level, from 2 to 4, of a text that the room does not hold, as it is read once more.
 #[inline(never)]
 fn put_level_again(
-    v: Variable,
     level: u8,
     reading: &TextReading,
     room: &mut [Element],
@@ -389,23 +321,22 @@ fn put_level_again(
     requires last { level ≤ 4 }
     requires some { 0 < length room.old }
     requires size { length out.old < 2 ^ 64 }
-    ensures bytes { PutsAt at (packed_level (weighted v (elements_of reading.now)) level) out.old out.new result }
+    ensures bytes { PutsAt at (packed_level (weights_of reading.now) level) out.old out.new result }
     ensures room { length room.new ≡ length room.old }
 {
-    let mut state = RunsLevel::new(v, at, 0);
+    let mut state = Counted { at, run: 0 };
     let mut left = reading.again();
     'each: loop {
         let n = left.read(room);
         if n == 0 {
-            return put_end(&state, out);
+            return put_end(state, out);
         }
-        put_elements(v, level, &mut state, &room[..n], out);
+        state = put_elements(reading.weighting, level, state, &room[..n], out);
     }
 }
 
 // Puts a level, from 2 to 4, of a text that was read into room.
 fn put_level(
-    v: Variable,
     level: u8,
     reading: &TextReading,
     room: &mut [Element],
@@ -415,24 +346,23 @@ fn put_level(
     requires first { 2 ≤ level }
     requires last { level ≤ 4 }
     requires some { 0 < length room.old }
-    requires holds { HoldsElements reading.now room.old }
+    requires holds { HoldsWeights reading.now room.old }
     requires size { length out.old < 2 ^ 64 }
-    ensures bytes { PutsAt at (packed_level (weighted v (elements_of reading.now)) level) out.old out.new result }
-    ensures holds { HoldsElements reading.now room.new }
+    ensures bytes { PutsAt at (packed_level (weights_of reading.now) level) out.old out.new result }
+    ensures holds { HoldsWeights reading.now room.new }
     ensures room { length room.new ≡ length room.old }
 {
     if let Some(held) = reading.held {
-        let mut state = RunsLevel::new(v, at, 0);
-        put_elements(v, level, &mut state, &room[..held], out);
-        return put_end(&state, out);
+        let before = Counted { at, run: 0 };
+        let state = put_elements(reading.weighting, level, before, &room[..held], out);
+        return put_end(state, out);
     }
-    put_level_again(v, level, reading, room, at, out)
+    put_level_again(level, reading, room, at, out)
 }
 
 /// Puts a later level of a text that was read into room, from 2 to 5.
 pub(crate) fn put_later(
     reading: &TextReading,
-    v: Variable,
     level: u8,
     room: &mut [Element],
     at: usize,
@@ -441,14 +371,14 @@ pub(crate) fn put_later(
     requires first { 2 ≤ level }
     requires last { level ≤ 5 }
     requires some { 0 < length room.old }
-    requires holds { HoldsElements reading.now room.old }
+    requires holds { HoldsWeights reading.now room.old }
     requires size { length out.old < 2 ^ 64 }
-    ensures bytes { PutsAt at (packed_later (weighted v (elements_of reading.now)) (nfd (chars reading.now.text.now)) level) out.old out.new result }
-    ensures holds { HoldsElements reading.now room.new }
+    ensures bytes { PutsAt at (packed_later (weights_of reading.now) (nfd (chars reading.now.text.now)) level) out.old out.new result }
+    ensures holds { HoldsWeights reading.now room.new }
     ensures room { length room.new ≡ length room.old }
 {
     if level == 5 {
-        return put_text(reading.table, v, reading.text, at, out);
+        return put_text(reading.table, reading.weighting, reading.text, at, out);
     }
-    put_level(v, level, reading, room, at, out)
+    put_level(level, reading, room, at, out)
 }

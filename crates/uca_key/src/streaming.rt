@@ -1,17 +1,15 @@
-ghost use Rattle.std.specs.Prelude.{◌≡◌, ◌+◌, ◌<◌, ◌≤◌, ◌^◌, ◌++◌, [], ◌∷◌, List, chars, flat_map, length, MatchResult, OnOk};
-ghost use Rattle.uca_weights.specs.VariableWeighting.{weighted};
+ghost use Rattle.std.specs.Prelude.{◌≡◌, ◌+◌, ◌<◌, ◌≤◌, ◌^◌, [], ◌∷◌, chars, length, MatchResult};
 ghost use Rattle.uca_io.specs.OutputBuffer.{accepted, Accepts, FailsPartway};
 ghost use Rattle.uca_io.specs.Writer.{WritesAll, WritesFront};
 ghost use Rattle.uca_model.specs.LevelWeights.{level_list};
 ghost use Rattle.uca_model.specs.DecidingLevel.{bytes_at};
 ghost use Rattle.uca_model.specs.SafeText.{IsSafe};
-ghost use Rattle.uca_model.specs.SortKey.{code_point_bytes, level_bytes, sort_key, weight_bytes};
+ghost use Rattle.uca_model.specs.SortKey.{code_point_bytes, level_bytes, sort_key};
 ghost use Rattle.uca_model.specs.Source.{unread};
-ghost use Rattle.uca_levels.specs.Streams.{weights_from};
-ghost use Rattle.uca_weights.specs.declared.element.Element.{Element};
 ghost use Rattle.uca_window.specs.Passage.{text_of};
 ghost use Rattle.uca_key.specs.Faults.{write_fault};
-ghost use Rattle.uca_key.specs.Pieces.{HoldsElements, elements_of};
+ghost use Rattle.uca_key.specs.Pieces.{HoldsWeights, weights_of};
+ghost use Rattle.uca_key.specs.Weighing.{all_own};
 
 use crate::level_bytes::put_level;
 use crate::pieces::{PIECE, TextReading};
@@ -19,7 +17,7 @@ use crate::placing::ROOM;
 use uca_io::OutputBuffer;
 use uca_levels::Points;
 use uca_table::Table;
-use uca_weights::{Element, Settings, Variable, Weigher, WriteCause, WriteFault, Writer};
+use uca_weights::{Element, Settings, Variable, WriteCause, WriteFault, Writer};
 use uca_window::{Passage, PassageSource, Source};
 
 /// How far the bytes of a key came, and why they stopped.
@@ -71,30 +69,26 @@ fn send_separator<W: Writer>(w: &mut W, out: &mut OutputBuffer) -> Result<(), Wr
     out.write(w, &[0, 0])
 }
 
-// Has the weights of a level go out, of some elements, a piece at a time. The weigher has seen those before them.
+// Has the weights of a level go out, of some elements that were weighed, a piece at a time.
 fn send_elements<W: Writer>(
     w: &mut W,
     out: &mut OutputBuffer,
     v: Variable,
     level: u8,
-    weigher: &mut Weigher,
     elements: &[Element],
 ) -> Result<(), WriteFault>
     requires first { 1 ≤ level }
     requires last { level ≤ 4 }
-    requires option { weigher.old.weighting ≡ v }
-    requires count { accepted out.old + length (flat_map weight_bytes (weights_from weigher.old level elements.now)) < 2 ^ 128 }
-    ensures bytes { MatchResult result
-        (λ _. Accepts (W.state w.old) out.old (W.state w.new) out.new (flat_map weight_bytes (weights_from weigher.old level elements.now)))
-        (λ f. FailsPartway (W.state w.old) out.old (W.state w.new) (flat_map weight_bytes (weights_from weigher.old level elements.now)) f) }
-    ensures seen { OnOk result ((es : List Element) → weights_from weigher.old level (elements.now ++ es) ≡ weights_from weigher.old level elements.now ++ weights_from weigher.new level es) }
-    ensures option { weigher.new.weighting ≡ v }
+    requires count { accepted out.old + length (level_bytes (all_own v elements.now) level) < 2 ^ 128 }
+    ensures { MatchResult result
+        (λ _. Accepts (W.state w.old) out.old (W.state w.new) out.new (level_bytes (all_own v elements.now) level))
+        (λ f. FailsPartway (W.state w.old) out.old (W.state w.new) (level_bytes (all_own v elements.now) level) f) }
 {
     let mut bytes = [0; 2 * PIECE];
     let mut left = elements;
     'pieces: while !left.is_empty() {
         let (piece, rest) = left.split_at(left.len().min(PIECE));
-        let size = put_level(v, weigher, piece, level, 0, &mut bytes);
+        let size = put_level(v, piece, level, 0, &mut bytes);
         match out.write(w, &bytes[..size]) {
             Ok(()) => {}
             Err(fault) => return Err(fault),
@@ -109,7 +103,6 @@ fn send_elements<W: Writer>(
 fn send_weights_again<W: Writer>(
     w: &mut W,
     out: &mut OutputBuffer,
-    v: Variable,
     level: u8,
     reading: &TextReading,
     room: &mut [Element],
@@ -117,20 +110,19 @@ fn send_weights_again<W: Writer>(
     requires first { 1 ≤ level }
     requires last { level ≤ 4 }
     requires some { 0 < length room.old }
-    requires count { accepted out.old + length (level_bytes (weighted v (elements_of reading.now)) level) < 2 ^ 128 }
+    requires count { accepted out.old + length (level_bytes (weights_of reading.now) level) < 2 ^ 128 }
     ensures bytes { MatchResult result
-        (λ _. Accepts (W.state w.old) out.old (W.state w.new) out.new (level_bytes (weighted v (elements_of reading.now)) level))
-        (λ f. FailsPartway (W.state w.old) out.old (W.state w.new) (level_bytes (weighted v (elements_of reading.now)) level) f) }
+        (λ _. Accepts (W.state w.old) out.old (W.state w.new) out.new (level_bytes (weights_of reading.now) level))
+        (λ f. FailsPartway (W.state w.old) out.old (W.state w.new) (level_bytes (weights_of reading.now) level) f) }
     ensures room { length room.new ≡ length room.old }
 {
-    let mut weigher = Weigher::new(v);
     let mut left = reading.again();
     'each: loop {
         let n = left.read(room);
         if n == 0 {
             return Ok(());
         }
-        match send_elements(w, out, v, level, &mut weigher, &room[..n]) {
+        match send_elements(w, out, reading.weighting, level, &room[..n]) {
             Ok(()) => {}
             Err(fault) => return Err(fault),
         }
@@ -141,7 +133,6 @@ fn send_weights_again<W: Writer>(
 fn send_weights<W: Writer>(
     w: &mut W,
     out: &mut OutputBuffer,
-    v: Variable,
     level: u8,
     reading: &TextReading,
     room: &mut [Element],
@@ -149,19 +140,18 @@ fn send_weights<W: Writer>(
     requires first { 1 ≤ level }
     requires last { level ≤ 4 }
     requires some { 0 < length room.old }
-    requires holds { HoldsElements reading.now room.old }
-    requires count { accepted out.old + length (level_bytes (weighted v (elements_of reading.now)) level) < 2 ^ 128 }
+    requires holds { HoldsWeights reading.now room.old }
+    requires count { accepted out.old + length (level_bytes (weights_of reading.now) level) < 2 ^ 128 }
     ensures bytes { MatchResult result
-        (λ _. Accepts (W.state w.old) out.old (W.state w.new) out.new (level_bytes (weighted v (elements_of reading.now)) level))
-        (λ f. FailsPartway (W.state w.old) out.old (W.state w.new) (level_bytes (weighted v (elements_of reading.now)) level) f) }
-    ensures holds { HoldsElements reading.now room.new }
+        (λ _. Accepts (W.state w.old) out.old (W.state w.new) out.new (level_bytes (weights_of reading.now) level))
+        (λ f. FailsPartway (W.state w.old) out.old (W.state w.new) (level_bytes (weights_of reading.now) level) f) }
+    ensures holds { HoldsWeights reading.now room.new }
     ensures room { length room.new ≡ length room.old }
 {
     if let Some(held) = reading.held {
-        let mut weigher = Weigher::new(v);
-        return send_elements(w, out, v, level, &mut weigher, &room[..held]);
+        return send_elements(w, out, reading.weighting, level, &room[..held]);
     }
-    send_weights_again(w, out, v, level, reading, room)
+    send_weights_again(w, out, level, reading, room)
 }
 
 // Has the code points in NFD go out, of what a source has not given yet.
@@ -194,26 +184,25 @@ fn send_level<W: Writer>(
     w: &mut W,
     out: &mut OutputBuffer,
     reading: &TextReading,
-    v: Variable,
     level: u8,
     room: &mut [Element],
 ) -> Result<(), WriteFault>
     requires first { 1 ≤ level }
     requires last { level ≤ 5 }
     requires some { 0 < length room.old }
-    requires holds { HoldsElements reading.now room.old }
-    requires count { accepted out.old + length (bytes_at level (level_list reading.now.table.now v (chars reading.now.text.now) level)) < 2 ^ 128 }
+    requires holds { HoldsWeights reading.now room.old }
+    requires count { accepted out.old + length (bytes_at level (level_list reading.now.table.now reading.now.weighting (chars reading.now.text.now) level)) < 2 ^ 128 }
     ensures bytes { MatchResult result
-        (λ _. Accepts (W.state w.old) out.old (W.state w.new) out.new (bytes_at level (level_list reading.now.table.now v (chars reading.now.text.now) level)))
-        (λ f. FailsPartway (W.state w.old) out.old (W.state w.new) (bytes_at level (level_list reading.now.table.now v (chars reading.now.text.now) level)) f) }
-    ensures holds { HoldsElements reading.now room.new }
+        (λ _. Accepts (W.state w.old) out.old (W.state w.new) out.new (bytes_at level (level_list reading.now.table.now reading.now.weighting (chars reading.now.text.now) level)))
+        (λ f. FailsPartway (W.state w.old) out.old (W.state w.new) (bytes_at level (level_list reading.now.table.now reading.now.weighting (chars reading.now.text.now) level)) f) }
+    ensures holds { HoldsWeights reading.now room.new }
     ensures room { length room.new ≡ length room.old }
 {
     if level == 5 {
         let mut source = PassageSource::new(&Passage::of_safe(reading.text));
-        return send_points(w, out, reading.table, v, &mut source);
+        return send_points(w, out, reading.table, reading.weighting, &mut source);
     }
-    send_weights(w, out, v, level, reading, room)
+    send_weights(w, out, level, reading, room)
 }
 
 // Has the sort key of a text go out, level after level.
@@ -232,10 +221,10 @@ fn send_key<W: Writer>(
 {
     let last = s.levels();
     let mut room = [Element::default(); ROOM];
-    let reading = TextReading::new(t, text, &mut room);
+    let reading = TextReading::new(t, s.weighting, text, &mut room);
     let mut level = 1;
     'each: loop {
-        match send_level(w, out, &reading, s.weighting, level, &mut room) {
+        match send_level(w, out, &reading, level, &mut room) {
             Ok(()) => {}
             Err(fault) => return Err(fault),
         }

@@ -1,13 +1,13 @@
 // The first level of a packed key, put into a buffer piece by piece.
 ghost use Rattle.std.specs.Prelude.{◌≡◌, ◌==◌, ◌≤◌, ◌<◌, ◌+◌, ◌*◌, ◌-◌, ◌^◌, ◌/◌, ◌%◌, ◌++◌, ◌∷◌, [], ℕ, List, if◌then◌else◌, nat_lt, not, filter, length, take, drop, true, false, IsTrue};
-ghost use Rattle.uca_weights.specs.declared.element.Element.{Element};
 ghost use Rattle.uca_weights.specs.VariableWeighting.{weighted};
 ghost use Rattle.uca_model.specs.LevelWeights.{level_weights};
 ghost use Rattle.uca_model.specs.SortKey.{weight_bytes};
 ghost use Rattle.uca_key.specs.Reach.{first_left, state_of};
-ghost use Rattle.uca_key.specs.Pieces.{HoldsElements, elements_of};
+ghost use Rattle.uca_key.specs.Pieces.{HoldsWeights, weights_of};
 ghost use Rattle.uca_key.specs.Placing.{IsPutting, PutsAt};
 ghost use Rattle.uca_key.specs.PrimaryCode.{after_slot, base_after, has_page, is_common, is_in_window, is_single, lead, letter_bytes, primary_bytes, primary_level, second_bytes, slot, start, state_after};
+ghost use Rattle.uca_key.specs.Weighing.{all_own};
 
 use crate::packed_code::{PackedCode, Single, Window};
 use crate::pieces::{PIECE, TextReading};
@@ -205,7 +205,7 @@ struct Reach {
     second: bool,
 }
 
-// How far a first level is put into a piece: the place after its bytes, and what its weights leave to the next one.
+// How far a first level is put: the place after its bytes, and what its weights leave to the next one.
 #[derive(Clone, Copy)]
 struct Placed {
     at: usize,
@@ -488,26 +488,19 @@ fn first_reach(code: &PackedCode) -> Reach
     }
 }
 
-// How far a first level is put: the place after its bytes, and what its weights leave to the next one.
-#[derive(Clone, Copy)]
-struct FirstLevel {
-    next: usize,
-    reach: Reach,
-}
-
 // Puts the weights of some elements, a piece at a time.
 fn put_elements(
     code: &PackedCode,
     v: Variable,
-    before: FirstLevel,
+    before: Placed,
     elements: &[Element],
     out: &mut [u8],
-) -> FirstLevel
+) -> Placed
     requires slot { before.reach.window.slot ≡ slot code.now before.reach.window.base }
     requires lead { before.reach.window.lead ≡ lead code.now before.reach.window.base }
     requires most { before.reach.window.lead ≤ 135 }
     requires size { length out.old < 2 ^ 64 }
-    ensures bytes { (at : ℕ) (front whole : List ℕ) (es : List Element) → IsPutting at front before.next out.old whole (first_left code.now v before (elements.now ++ es)) → IsPutting at front result.next out.new whole (first_left code.now v result es) }
+    ensures bytes { (at : ℕ) (front whole ws : List ℕ) → IsPutting at front before.at out.old whole (first_left code.now before (level_weights 1 (all_own v elements.now) ++ ws)) → IsPutting at front result.at out.new whole (first_left code.now result ws) }
     ensures slot { result.reach.window.slot ≡ slot code.now result.reach.window.base }
     ensures lead { result.reach.window.lead ≡ lead code.now result.reach.window.base }
     ensures most { result.reach.window.lead ≤ 135 }
@@ -523,7 +516,7 @@ fn put_elements(
             reach: state.reach,
         };
         let placed = put_weights(code, v, front, piece, &mut bytes);
-        state.next = put_bytes(&bytes[..placed.at], state.next, out);
+        state.at = put_bytes(&bytes[..placed.at], state.at, out);
         state.reach = placed.reach;
         left = rest;
     }
@@ -538,7 +531,7 @@ pub(crate) fn put_whole(
     key: &mut [u8],
 ) -> usize
     requires room { 3 * length elements.now + 1 ≤ length key.old }
-    ensures bytes { take result key.new ≡ primary_level code.now (start code.now) (level_weights 1 (weighted v elements.now)) }
+    ensures bytes { take result key.new ≡ primary_level code.now (start code.now) (level_weights 1 (all_own v elements.now)) }
     ensures within { result ≤ 3 * length elements.now + 1 }
     ensures size { length key.new ≡ length key.old }
 {
@@ -555,7 +548,6 @@ pub(crate) fn put_whole(
 #[inline(never)]
 fn put_first_again(
     code: &PackedCode,
-    v: Variable,
     reading: &TextReading,
     room: &mut [Element],
     at: usize,
@@ -563,46 +555,45 @@ fn put_first_again(
 ) -> usize
     requires some { 0 < length room.old }
     requires size { length out.old < 2 ^ 64 }
-    ensures bytes { PutsAt at (primary_level code.now (start code.now) (level_weights 1 (weighted v (elements_of reading.now)))) out.old out.new result }
+    ensures bytes { PutsAt at (primary_level code.now (start code.now) (level_weights 1 (weights_of reading.now))) out.old out.new result }
     ensures room { length room.new ≡ length room.old }
 {
-    let mut state = FirstLevel {
-        next: at,
+    let mut state = Placed {
+        at,
         reach: first_reach(code),
     };
     let mut left = reading.again();
     'each: loop {
         let n = left.read(room);
         if n == 0 {
-            return put_bytes(&[0], state.next, out);
+            return put_bytes(&[0], state.at, out);
         }
-        state = put_elements(code, v, state, &room[..n], out);
+        state = put_elements(code, reading.weighting, state, &room[..n], out);
     }
 }
 
 /// Puts the first level of a text that was read into room. It ends itself.
 pub(crate) fn put_first(
     code: &PackedCode,
-    v: Variable,
     reading: &TextReading,
     room: &mut [Element],
     at: usize,
     out: &mut [u8],
 ) -> usize
     requires some { 0 < length room.old }
-    requires holds { HoldsElements reading.now room.old }
+    requires holds { HoldsWeights reading.now room.old }
     requires size { length out.old < 2 ^ 64 }
-    ensures bytes { PutsAt at (primary_level code.now (start code.now) (level_weights 1 (weighted v (elements_of reading.now)))) out.old out.new result }
-    ensures holds { HoldsElements reading.now room.new }
+    ensures bytes { PutsAt at (primary_level code.now (start code.now) (level_weights 1 (weights_of reading.now))) out.old out.new result }
+    ensures holds { HoldsWeights reading.now room.new }
     ensures room { length room.new ≡ length room.old }
 {
     if let Some(held) = reading.held {
-        let before = FirstLevel {
-            next: at,
+        let before = Placed {
+            at,
             reach: first_reach(code),
         };
-        let state = put_elements(code, v, before, &room[..held], out);
-        return put_bytes(&[0], state.next, out);
+        let state = put_elements(code, reading.weighting, before, &room[..held], out);
+        return put_bytes(&[0], state.at, out);
     }
-    put_first_again(code, v, reading, room, at, out)
+    put_first_again(code, reading, room, at, out)
 }

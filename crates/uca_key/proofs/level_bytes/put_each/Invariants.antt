@@ -1,8 +1,7 @@
 use Rattle.std.proofs.Common.{take, ◌+◌, ◌-◌, ◌*◌, ◌≤◌, length}
-use Rattle.uca_weights.specs.declared.settings.Variable.TheVariants.{NonIgnorable}
-use Rattle.uca_weights.specs.VariableWeighting.{weighted}
 use Rattle.uca_model.specs.SortKey.{level_bytes}
 use Rattle.uca_key.specs.Placing.{PutsAt}
+use Rattle.uca_key.specs.Weighing.{all_own}
 use Rattle.uca_key.proofs.level_bytes.put_each.Given as goal
 
 -- the bytes of the elements so far are put, and those of the others fit
@@ -10,5 +9,5 @@ abbrev pub invariant-loop-element : goal.invariant-loop-element
 invariant-loop-element l = record {
   within : l.next ≤ l.at + 2 * l.element-index;
   room : l.next + 2 * (length l.elements - l.element-index) ≤ length l.out;
-  puts : PutsAt l.at (level_bytes (weighted NonIgnorable (take l.element-index l.elements)) l.level) l.fn.out l.out l.next;
+  puts : PutsAt l.at (level_bytes (all_own l.v (take l.element-index l.elements)) l.level) l.fn.out l.out l.next;
 }

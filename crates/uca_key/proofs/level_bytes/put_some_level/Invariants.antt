@@ -1,10 +1,9 @@
 use Rattle.std.proofs.Common.{take}
-use Rattle.uca_weights.specs.declared.settings.Variable.TheVariants.{NonIgnorable}
-use Rattle.uca_weights.specs.VariableWeighting.{weighted}
 use Rattle.uca_model.specs.SortKey.{level_bytes}
 use Rattle.uca_key.specs.Placing.{PutsAt}
+use Rattle.uca_key.specs.Weighing.{all_own}
 use Rattle.uca_key.proofs.level_bytes.put_some_level.Given as goal
 
 -- the bytes of the elements so far are put
 abbrev pub invariant-loop-element : goal.invariant-loop-element
-invariant-loop-element l = PutsAt l.at (level_bytes (weighted NonIgnorable (take l.element-index l.elements)) l.level) l.fn.out l.out l.next
+invariant-loop-element l = PutsAt l.at (level_bytes (all_own l.v (take l.element-index l.elements)) l.level) l.fn.out l.out l.next

@@ -23,7 +23,7 @@ returns-then-last-eq5 c =
     let four : levels c.args.s.strength - 1 ≡ 4 = omega (arith, c.levels-last.ensures, c.if-last-eq5.true) in
     let put : List ℕ = take c.put_weights-end.result c.put_weights-end.new.key in
     let is : put ≡ own ++ later_levels 3 2 ws d =
-    c.put_weights-end.ensures.bytes d ∙ ap (λ es. primary_level k (start k) (level_weights 1 (weighted v es)) ++ later_levels (c.min.result - 1) 2 (weighted v es) d) c.requires.elements ∙ ap (λ n. own ++ later_levels n 2 ws d) three in
+    c.put_weights-end.ensures.bytes d ∙ ap (λ us. primary_level k (start k) (level_weights 1 us) ++ later_levels (c.min.result - 1) 2 us d) c.requires.elements ∙ ap (λ n. own ++ later_levels n 2 ws d) three in
     let split : whole ≡ put ++ packed_later ws d 5 =
     packed-levels k r.table.now c.args.s (chars r.text.now) ∙ ap (λ n. own ++ later_levels n 2 ws d) four ∙ ap (λ l. own ++ l) (and-fifth ws d) ∙ sym (append_assoc own (later_levels 3 2 ws d) (packed_later ws d 5)) ∙ ap (λ l. l ++ packed_later ws d 5) (sym is) in
     let one = IsPutting-more _ _ _ _ _ _ (IsPutting-start c.args.at c.args.out.now whole _ c.ranges.at.fits refl) _ _ put (packed_later ws d 5) c.requires.size split c.put_bytes-next.ensures in
@@ -40,6 +40,6 @@ returns c =
     ] in
     let same : c.min.result - 1 ≡ levels c.args.s.strength - 1 = omega (arith, c.min.ensures, c.levels-last.ensures) in
     let is =
-    c.put_weights-end.ensures.bytes d ∙ ap (λ es. primary_level k (start k) (level_weights 1 (weighted v es)) ++ later_levels (c.min.result - 1) 2 (weighted v es) d) c.requires.elements
+    c.put_weights-end.ensures.bytes d ∙ ap (λ us. primary_level k (start k) (level_weights 1 us) ++ later_levels (c.min.result - 1) 2 us d) c.requires.elements
     ∙ ap (λ n. own ++ later_levels n 2 ws d) same ∙ sym (packed-levels k r.table.now c.args.s (chars r.text.now)) in
     subst (λ bytes. PutsAt c.args.at bytes c.args.out.now c.put_bytes-next.new.out c.put_bytes-next.result) is c.put_bytes-next.ensures

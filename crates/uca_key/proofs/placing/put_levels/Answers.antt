@@ -1,8 +1,9 @@
-use Rattle.std.proofs.Common.{◌≡◌, ℕ, List, suc, ◌+◌, ◌-◌, [], ◌∷◌, ◌++◌, chars, refl, sym, ap, ◌∙◌, arith}
+use Rattle.std.proofs.Common.{◌≡◌, ℕ, List, suc, ◌+◌, ◌-◌, [], ◌∷◌, ◌++◌, chars, refl, sym, subst, ap, ◌∙◌, arith}
 use Rattle.uca_weights.specs.Settings.{levels}
 use Rattle.uca_model.specs.LevelWeights.{level_list}
 use Rattle.uca_model.specs.DecidingLevel.{bytes_at, key_from}
 use Rattle.uca_model.proofs.LevelLemmas.{sort_key-levels, levels-within}
+use Rattle.uca_key.specs.Placing.{PutsAt}
 use Rattle.uca_key.proofs.KeyPieces.{tail_of, key_from-split}
 use Rattle.uca_key.proofs.PlacingLemmas.{IsPutting-start, IsPutting-more, IsPutting-ends}
 use Rattle.uca_key.proofs.placing.put_levels.Goals as goal
@@ -23,7 +24,9 @@ returns-then-level-last-clause-bytes c =
     let at : ℕ = c.each.level in
     let top : ℕ = levels c.args.s.strength in
     let split = key_from-split (top - at) at lists (lists at) refl in
-    let puts = c.put_level_of-next.ensures.bytes in
+    let puts =
+    subst (λ v. PutsAt c.each.next (bytes_at at (level_list c.args.reading.now.table.now v (chars c.args.reading.now.text.now) at)) c.each.out c.put_level_of-next.new.out c.put_level_of-next.result) (sym c.requires.option)
+    c.put_level_of-next.ensures.bytes in
     let one = IsPutting-more _ _ _ _ _ _ c.each.invariant.putting _ _ (bytes_at at (lists at)) (tail_of (top - at) at lists) c.requires.size split puts in
     let none : top - at ≡ 0 = omega (arith, c.levels-last.ensures, c.if-level-last.true) in
     IsPutting-ends _ _ _ _ _ _ one (ap (λ n. tail_of n at lists) none)
@@ -34,7 +37,9 @@ each-preserved c =
     let at : ℕ = c.each.level in
     let top : ℕ = levels c.args.s.strength in
     let split = key_from-split (top - at) at lists (lists at) refl in
-    let puts = c.put_level_of-next.ensures.bytes in
+    let puts =
+    subst (λ v. PutsAt c.each.next (bytes_at at (level_list c.args.reading.now.table.now v (chars c.args.reading.now.text.now) at)) c.each.out c.put_level_of-next.new.out c.put_level_of-next.result) (sym c.requires.option)
+    c.put_level_of-next.ensures.bytes in
     let one = IsPutting-more _ _ _ _ _ _ c.each.invariant.putting _ _ (bytes_at at (lists at)) (tail_of (top - at) at lists) c.requires.size split puts in
     let some : top - at ≡ suc (top - (at + 1)) = omega (arith, c.each.invariant.last, c.levels-last.ensures, c.if-level-last.false) in
     let later : tail_of (top - at) at lists ≡ (0 ∷ 0 ∷ []) ++ key_from (top - (at + 1)) (at + 1) lists = ap (λ n. tail_of n at lists) some in

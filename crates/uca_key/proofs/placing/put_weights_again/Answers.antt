@@ -1,22 +1,20 @@
-use Rattle.std.proofs.Common.{flat_map, refl, ap, ◌∙◌}
-use Rattle.uca_model.specs.LevelWeights.{level_weights}
-use Rattle.uca_model.specs.SortKey.{weight_bytes}
-use Rattle.uca_levels.specs.Streams.{weights_from}
-use Rattle.uca_key.specs.Pieces.{elements_of}
+use Rattle.std.proofs.Common.{take, refl, ap, ◌∙◌}
+use Rattle.uca_model.specs.SortKey.{level_bytes}
+use Rattle.uca_key.specs.Pieces.{weights_left}
 use Rattle.uca_key.proofs.PlacingLemmas.{IsPutting-start, IsPutting-more}
-use Rattle.uca_key.proofs.WeightPieces.{bytes-passed}
+use Rattle.uca_key.proofs.WeighingLemmas.{bytes-read}
 use Rattle.uca_key.proofs.placing.put_weights_again.Goals as goal
 
 pub each-init : goal.each-init
 each-init c = record {
-  option = ap (λ w. w.weighting) c.new-weigher.ensures.value;
+  weighting = c.again-left.ensures.weighting;
   size = refl;
-  putting = IsPutting-start _ _ _ _ c.ranges.at.fits (ap (λ es. flat_map weight_bytes (weights_from c.new-weigher.result c.args.level es)) c.again-left.ensures ∙ ap (λ ws. flat_map weight_bytes (level_weights c.args.level ws)) (c.new-weigher.ensures.list (elements_of c.args.reading.now)));
+  putting = IsPutting-start _ _ _ _ c.ranges.at.fits (ap (λ ws. level_bytes ws c.args.level) c.again-left.ensures.left);
 }
 
 pub each-preserved : goal.each-preserved
 each-preserved c = record {
-  option = c.put_level-next.ensures.option;
+  weighting = c.read-n.ensures.weighting ∙ c.each.invariant.weighting;
   size = c.read-n.ensures.size ∙ c.each.invariant.size;
-  putting = IsPutting-more _ _ _ _ _ _ c.each.invariant.putting _ _ _ _ c.requires.size (bytes-passed _ _ _ _ _ _ c.read-n.ensures.left c.put_level-next.ensures.seen) c.put_level-next.ensures.bytes;
+  putting = IsPutting-more _ _ _ _ _ _ c.each.invariant.putting _ _ _ _ c.requires.size (bytes-read _ _ c.args.level (weights_left c.each.left) (weights_left c.read-n.new.self) (take c.read-n.result c.read-n.new.room) c.read-n.ensures.left c.each.invariant.weighting) c.put_level-next.ensures;
 }

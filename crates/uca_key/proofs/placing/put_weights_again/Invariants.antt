@@ -1,18 +1,15 @@
-use Rattle.std.proofs.Common.{◌≡◌, flat_map, length}
-use Rattle.uca_weights.specs.VariableWeighting.{weighted}
-use Rattle.uca_model.specs.SortKey.{level_bytes, weight_bytes}
-use Rattle.uca_levels.specs.Streams.{weights_from}
-use Rattle.uca_match.specs.TextLeft.{elements_left}
-use Rattle.uca_key.specs.Pieces.{elements_of}
+use Rattle.std.proofs.Common.{◌≡◌, length}
+use Rattle.uca_model.specs.SortKey.{level_bytes}
+use Rattle.uca_key.specs.Pieces.{weights_left, weights_of}
 use Rattle.uca_key.specs.Placing.{IsPutting}
 use Rattle.uca_key.proofs.placing.put_weights_again.Given as goal
 
 abbrev pub invariant-each : goal.invariant-each
 invariant-each l = record {
-  option : l.weigher.weighting ≡ l.v;
+  weighting : l.left.weighting ≡ l.reading.weighting;
   size : length l.room ≡ length l.fn.room;
-  putting : IsPutting l.at l.fn.out l.next l.out (level_bytes (weighted l.v (elements_of l.reading)) l.level) (flat_map weight_bytes (weights_from l.weigher l.level (elements_left l.left)));
+  putting : IsPutting l.at l.fn.out l.next l.out (level_bytes (weights_of l.reading) l.level) (level_bytes (weights_left l.left) l.level);
 }
 
 abbrev pub decreases-each : goal.decreases-each
-decreases-each l = length (elements_left l.left)
+decreases-each l = length (weights_left l.left)

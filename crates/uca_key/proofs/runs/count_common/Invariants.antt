@@ -1,13 +1,13 @@
 use Rattle.std.proofs.Common.{◌-◌, ◌<◌}
-use Rattle.uca_weights.specs.declared.settings.Variable.TheVariants.{NonIgnorable}
+use Rattle.uca_weights.specs.declared.settings.Variable.{Variable}
 use Rattle.uca_key.specs.Runs.{AreCounted}
 use Rattle.uca_key.proofs.runs.count_common.Given as goal
 
 abbrev pub invariant-each : goal.invariant-each
 invariant-each l = record {
   few : l.n < 62;
-  second : AreCounted NonIgnorable 2 l.n l.elements;
-  third : AreCounted NonIgnorable 3 l.n l.elements;
+  second : (v : Variable) → AreCounted v 2 l.n l.elements;
+  third : (v : Variable) → AreCounted v 3 l.n l.elements;
 }
 
 abbrev pub decreases-each : goal.decreases-each

@@ -1,4 +1,4 @@
-use Rattle.std.proofs.Common.{◌≡◌, ℕ, chars, List, ◌^◌, [], ◌∷◌, sym, ap₂, ◌∙◌, arith}
+use Rattle.std.proofs.Common.{◌≡◌, ℕ, chars, List, ◌^◌, [], ◌∷◌, sym, ap, ap₂, ◌∙◌, arith}
 use Rattle.uca_weights.specs.Settings.{levels}
 use Rattle.uca_weights.specs.declared.settings.Variable.{Variable}
 use Rattle.uca_model.specs.Table.{ElementTable}
@@ -8,8 +8,8 @@ use Rattle.uca_key.proofs.KeyPieces.{IsSending-start, IsSending-room, IsSending-
 use Rattle.uca_key.proofs.streaming.send_key.Goals as goal
 
 -- the weights of a level of the text that was read are those of the text
-own_list : (t u : ElementTable) (v : Variable) (text read : List ℕ) (level : ℕ) → u ≡ t → read ≡ text → level_list t v (chars text) level ≡ level_list u v (chars read) level
-own_list t u v text read level table same = sym (ap₂ (λ x y. level_list x v (chars y) level) table same)
+own_list : (t u : ElementTable) (v w : Variable) (text read : List ℕ) (level : ℕ) → u ≡ t → w ≡ v → read ≡ text → level_list t v (chars text) level ≡ level_list u w (chars read) level
+own_list t u v w text read level table weighting same = sym (ap₂ (λ x y. level_list x w (chars y) level) table same ∙ ap (λ x. level_list t x (chars text) level) weighting)
 
 pub each-init : goal.each-init
 each-init g c =
@@ -25,21 +25,21 @@ pub send_level-requires-clause-count : goal.send_level-requires-clause-count
 send_level-requires-clause-count g c =
     let lists : ℕ → List ℕ = level_list c.args.t.now c.args.s.weighting (chars c.args.text.now) in
     let top : ℕ = levels c.args.s.strength in
-    let same = own_list _ _ c.args.s.weighting _ _ c.each.level c.new-reading.ensures.table c.new-reading.ensures.text in
+    let same = own_list _ _ c.args.s.weighting _ _ _ c.each.level c.new-reading.ensures.table c.new-reading.ensures.weighting c.new-reading.ensures.text in
     level-room _ _ _ _ _ top c.each.level lists c.each.invariant.sending _ same (2 ^ 128) c.requires.room
 
 pub returns-in-Err : goal.returns-in-Err
 returns-in-Err g c =
     let lists : ℕ → List ℕ = level_list c.args.t.now c.args.s.weighting (chars c.args.text.now) in
     let top : ℕ = levels c.args.s.strength in
-    let same = own_list _ _ c.args.s.weighting _ _ c.each.level c.new-reading.ensures.table c.new-reading.ensures.text in
+    let same = own_list _ _ c.args.s.weighting _ _ _ c.each.level c.new-reading.ensures.table c.new-reading.ensures.weighting c.new-reading.ensures.text in
     level-stops _ _ _ _ _ top c.each.level lists c.each.invariant.sending _ same _ _ c.in-Err.ensures.bytes
 
 pub returns-then-level-last : goal.returns-then-level-last
 returns-then-level-last g c =
     let lists : ℕ → List ℕ = level_list c.args.t.now c.args.s.weighting (chars c.args.text.now) in
     let top : ℕ = levels c.args.s.strength in
-    let same = own_list _ _ c.args.s.weighting _ _ c.each.level c.new-reading.ensures.table c.new-reading.ensures.text in
+    let same = own_list _ _ c.args.s.weighting _ _ _ c.each.level c.new-reading.ensures.table c.new-reading.ensures.weighting c.new-reading.ensures.text in
     let one = level-sent _ _ _ _ _ top c.each.level lists c.each.invariant.sending _ same _ _ c.in-Ok.ensures.bytes in
     IsSending-ends _ _ _ _ _ _ one (tail-none top c.each.level lists (omega (arith, c.levels-last.ensures, c.if-level-last.true)))
 
@@ -47,7 +47,7 @@ pub send_separator-requires : goal.send_separator-requires
 send_separator-requires g c =
     let lists : ℕ → List ℕ = level_list c.args.t.now c.args.s.weighting (chars c.args.text.now) in
     let top : ℕ = levels c.args.s.strength in
-    let same = own_list _ _ c.args.s.weighting _ _ c.each.level c.new-reading.ensures.table c.new-reading.ensures.text in
+    let same = own_list _ _ c.args.s.weighting _ _ _ c.each.level c.new-reading.ensures.table c.new-reading.ensures.weighting c.new-reading.ensures.text in
     let one = level-sent _ _ _ _ _ top c.each.level lists c.each.invariant.sending _ same _ _ c.in-Ok.ensures.bytes in
     let later = tail-later top c.each.level lists (omega (arith, c.each.invariant.last, c.levels-last.ensures, c.if-level-last.false)) in
     IsSending-room _ _ _ _ _ _ one (0 ∷ 0 ∷ []) _ (2 ^ 128) later c.requires.room
@@ -56,7 +56,7 @@ pub returns-in-Err-send_separator : goal.returns-in-Err-send_separator
 returns-in-Err-send_separator g c =
     let lists : ℕ → List ℕ = level_list c.args.t.now c.args.s.weighting (chars c.args.text.now) in
     let top : ℕ = levels c.args.s.strength in
-    let same = own_list _ _ c.args.s.weighting _ _ c.each.level c.new-reading.ensures.table c.new-reading.ensures.text in
+    let same = own_list _ _ c.args.s.weighting _ _ _ c.each.level c.new-reading.ensures.table c.new-reading.ensures.weighting c.new-reading.ensures.text in
     let one = level-sent _ _ _ _ _ top c.each.level lists c.each.invariant.sending _ same _ _ c.in-Ok.ensures.bytes in
     let later = tail-later top c.each.level lists (omega (arith, c.each.invariant.last, c.levels-last.ensures, c.if-level-last.false)) in
     IsSending-stops _ _ _ _ _ _ one _ (0 ∷ 0 ∷ []) _ _ later c.in-Err-send_separator.ensures
@@ -65,7 +65,7 @@ pub each-preserved : goal.each-preserved
 each-preserved g c =
     let lists : ℕ → List ℕ = level_list c.args.t.now c.args.s.weighting (chars c.args.text.now) in
     let top : ℕ = levels c.args.s.strength in
-    let same = own_list _ _ c.args.s.weighting _ _ c.each.level c.new-reading.ensures.table c.new-reading.ensures.text in
+    let same = own_list _ _ c.args.s.weighting _ _ _ c.each.level c.new-reading.ensures.table c.new-reading.ensures.weighting c.new-reading.ensures.text in
     let one = level-sent _ _ _ _ _ top c.each.level lists c.each.invariant.sending _ same _ _ c.in-Ok.ensures.bytes in
     let later = tail-later top c.each.level lists (omega (arith, c.each.invariant.last, c.levels-last.ensures, c.if-level-last.false)) in
     record {

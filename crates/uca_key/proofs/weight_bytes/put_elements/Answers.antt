@@ -2,10 +2,11 @@ use Rattle.std.proofs.Common.{ap₂, ◌≡◌, ◌^◌, ◌<◌, ◌++◌, ℕ,
 use Rattle.uca_weights.specs.declared.element.Element.{Element}
 use Rattle.uca_weights.specs.VariableWeighting.{weighted}
 use Rattle.uca_model.specs.LevelWeights.{level_weights}
-use Rattle.uca_levels.proofs.PrimarySteps.{primaries-both}
 use Rattle.uca_key.specs.PrimaryCode.{primary_level}
-use Rattle.uca_key.specs.Reach.{first_left, state_of}
+use Rattle.uca_key.specs.Reach.{state_of}
+use Rattle.uca_key.specs.Weighing.{all_own}
 use Rattle.uca_key.proofs.PlacingLemmas.{IsPutting-more, IsPutting-size}
+use Rattle.uca_key.proofs.WeighingLemmas.{first_weights-own, own_weights-both}
 use Rattle.uca_key.proofs.weight_bytes.put_elements.Goals as goal
 
 pub pieces-preserved : goal.pieces-preserved
@@ -20,10 +21,12 @@ pieces-preserved c =
       most = c.put_weights-placed.ensures.most;
       size = c.put_bytes.auto.out ∙ i.size;
       bytes = c.put_weights-placed.ensures.size ∙ i.bytes;
-      putting = λ at front whole es h.
-          let now = i.putting at front whole es h in
+      putting = λ at front whole ws h.
+          let now = i.putting at front whole ws h in
           let small : length front < 2 ^ 64 = omega (arith, IsPutting-size _ _ _ _ _ _ h, c.requires.size) in
           let coded : List ℕ → List ℕ = primary_level c.args.code.now (state_of c.pieces.state.reach) in
-          let split = ap (first_left c.args.code.now v c.pieces.state) (ap (λ l. l ++ es) parts ∙ append_assoc piece rest es) ∙ ap coded (primaries-both v piece (rest ++ es)) ∙ sym (c.put_weights-placed.ensures.bytes (level_weights 1 (weighted v (rest ++ es)))) in
-          IsPutting-more _ _ _ _ _ _ now _ _ _ _ small split c.put_bytes.ensures;
+          let own : List Element → List ℕ = λ es. level_weights 1 (all_own v es) in
+          let both : own left ++ ws ≡ level_weights 1 (weighted v piece) ++ (own rest ++ ws) =
+          ap (λ es. own es ++ ws) parts ∙ ap (λ l. l ++ ws) (own_weights-both v 1 piece rest) ∙ append_assoc (own piece) (own rest) ws ∙ ap (λ l. l ++ (own rest ++ ws)) (sym (first_weights-own v piece)) in
+          IsPutting-more _ _ _ _ _ _ now _ _ _ _ small (ap coded both ∙ sym (c.put_weights-placed.ensures.bytes (own rest ++ ws))) c.put_bytes.ensures;
     }

@@ -3,7 +3,7 @@ use Rattle.uca_weights.specs.VariableWeighting.{weighted}
 use Rattle.uca_model.specs.LevelWeights.{level_weights}
 use Rattle.uca_key.specs.PrimaryCode.{primary_level}
 use Rattle.uca_key.specs.Reach.{state_of}
-use Rattle.uca_key.proofs.UnchangedLevels.{primary-one}
+use Rattle.uca_key.proofs.WeighingLemmas.{primary-one}
 use Rattle.uca_key.proofs.weight_bytes.put_letters.Goals as goal
 
 pub each-preserved-then-is_letter : goal.each-preserved-then-is_letter

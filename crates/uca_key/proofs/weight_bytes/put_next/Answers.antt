@@ -4,7 +4,7 @@ use Rattle.uca_model.specs.LevelWeights.{level_weights}
 use Rattle.std.specs.Prelude.{drop}
 use Rattle.uca_key.specs.PrimaryCode.{primary_level}
 use Rattle.uca_key.specs.Reach.{state_of}
-use Rattle.uca_key.proofs.UnchangedLevels.{primary-one}
+use Rattle.uca_key.proofs.WeighingLemmas.{primary-one}
 use Rattle.uca_key.proofs.weight_bytes.put_next.Goals as goal
 
 pub returns-in-len1-up-clause-bytes : goal.returns-in-len1-up-clause-bytes
