@@ -11,6 +11,7 @@ source bench/lists.bash
 bytes=20000000
 few=400000 # the bytes that perl has, which is slow
 steps=(1000000 4000000 16000000)
+declare -A turn
 
 # The programs to measure. ICU is first, since the others are compared with it.
 gather_programs() {
@@ -67,15 +68,34 @@ is_answered() {
     esac
 }
 
-# takes PROGRAM JOB INPUT: the figures of the fastest of five runs, for perl of one run; checks its work; leaves $lines, $seconds and $memory
+# takes PROGRAM JOB INPUT [RUNS]: the figures of the fastest of so many runs, or of five, for perl of one; checks its work; leaves $lines,
+# $seconds and $memory
 takes() {
-    local runs=5
+    local runs=${4:-5}
     [ "$1" = perl ] && runs=1
     does "$1" "$2"
     lines=$(wc -l <"$3")
     read -r seconds memory <<<"$(measured "$runs" "$3" "${command[@]}")"
     [ -n "${memory:-}" ] || refuses "$1 $2 could not be run"
     is_answered "$@"
+}
+
+# take_in_turn JOB: eleven runs in turn of ICU and of ours, without and with the lines, since their ratio is what counts: leaves the
+# seconds and the memory of both for each program in $turn
+take_in_turn() {
+    local program words=() figures
+    turn=()
+    for program in "${programs[@]}"; do
+        [[ $program =~ ^(ICU|before|uca)$ ]] || continue
+        does "$program" "$1"
+        words+=(-- /dev/null /dev/null "${command[@]}" -- "$work/$1" /dev/null "${command[@]}")
+    done
+    figures=$("$work/measured" 11 "${words[@]:1}") || refuses "$1 could not be run"
+    for program in "${programs[@]}"; do
+        [[ $program =~ ^(ICU|before|uca)$ ]] || continue
+        turn[$program]=$(head -n 2 <<<"$figures" | paste -sd' ')
+        figures=$(tail -n +3 <<<"$figures")
+    done
 }
 
 # said JOB: what the answers are
@@ -90,12 +110,18 @@ said() {
 # tells_job JOB: a row of the first table for each program
 tells_job() {
     local program input load load_memory seconds memory icu=(0 0 0)
+    take_in_turn "$1"
     for program in "${programs[@]}"; do
         does "$program" "$1" || continue
         input=$work/$1
         [ "$program" = perl ] && input=$work/$1.$few
-        read -r load load_memory <<<"$(measured 5 /dev/null "${command[@]}")"
-        takes "$program" "$1" "$input"
+        if [ -n "${turn[$program]:-}" ]; then
+            takes "$program" "$1" "$input" 1
+            read -r load load_memory seconds memory <<<"${turn[$program]}"
+        else
+            read -r load load_memory <<<"$(measured 5 /dev/null "${command[@]}")"
+            takes "$program" "$1" "$input"
+        fi
         [ "$program" = ICU ] && icu=("$(awk -v s="$seconds" -v l="$load" -v n="$lines" 'BEGIN { print (s - l) / n }')" "$memory" "$lines")
         awk -v name="$1 | $program" -v load="$load" -v held="$load_memory" -v lines="$lines" -v s="$seconds" -v memory="$memory" \
             -v icu="${icu[0]}" -v icu_memory="${icu[1]}" -v icu_lines="${icu[2]}" -v said="$(said "$1")" 'BEGIN {
