@@ -49,7 +49,13 @@ fn run_end(lines: &[KeyedLine], from: usize) -> usize
     lines.len()
 }
 
-// Sorts lines whose keys have the same bytes up to a round.
+// Whether each line comes after the one before it, or each before it. Lines of equal keys do.
+fn is_one_run(of: &KeyedLines<'_>, lines: &[KeyedLine]) -> bool {
+    lines.is_sorted_by(|a, b| of.compare_keys(a, b) != Ordering::Greater)
+        || lines.is_sorted_by(|a, b| of.compare_keys(a, b) == Ordering::Greater)
+}
+
+// Sorts lines whose keys have the same bytes up to a round. What is one run is sorted by whole keys at once.
 fn sort_round(
     alloc: Global,
     of: &KeyedLines<'_>,
@@ -63,7 +69,7 @@ fn sort_round(
     if lines.len() < 2 {
         return Ok(());
     }
-    if round >= ROUNDS {
+    if round >= ROUNDS || is_one_run(of, lines) {
         return sort_whole(alloc, of, lines);
     }
     take_fronts(of, lines, FRONT * round);
@@ -77,12 +83,6 @@ fn sort_round(
     Ok(())
 }
 
-// Whether each line comes after the one before it, or each before it.
-fn is_one_run(of: &KeyedLines<'_>, lines: &[KeyedLine]) -> bool {
-    lines.is_sorted_by(|a, b| of.compare_keys(a, b) != Ordering::Greater)
-        || lines.is_sorted_by(|a, b| of.compare_keys(a, b) == Ordering::Greater)
-}
-
 /// Sorts lines by their keys. Lines of equal keys stay in the order that they had.
 pub(crate) fn sort_lines(
     alloc: Global,
@@ -92,8 +92,5 @@ pub(crate) fn sort_lines(
     ensures len { length lines.new ≡ length lines.old }
     ensures sorts { OnOk result (SortsLines of.now lines.old lines.new) }
 {
-    if is_one_run(of, lines) {
-        return sort_whole(alloc, of, lines);
-    }
     sort_round(alloc, of, lines, 0)
 }
