@@ -1,9 +1,11 @@
 //! Primary weights of characters that stand alone and have at most one: by these most comparisons are decided.
-ghost use Rattle.std.specs.Prelude.{◌≡◌, [], ◌<◌, ◌≤◌, chars, length, IfErr, IfSome, MatchResult};
+ghost use Rattle.std.specs.Prelude.{◌≡◌, [], ◌<◌, ◌≤◌, chars, length, take, IfErr, IfSome, OnSome, MatchResult};
+ghost use Rattle.std.specs.Str.{IsCharBoundary};
 ghost use Rattle.uca_weights.specs.VariableWeighting.{weighted};
 ghost use Rattle.uca_model.specs.DecidingLevel.{OrdersLevel};
 ghost use Rattle.uca_model.specs.LevelWeights.{level_list, level_weights};
 ghost use Rattle.uca_model.specs.SafeText.{IsSafe};
+ghost use Rattle.uca_match.specs.JoinsNothing.{JoinsNothing};
 ghost use Rattle.uca_match.specs.Yields.{YieldsFirst};
 ghost use Rattle.uca_levels.specs.Decides.{IsOfLevel};
 ghost use Rattle.uca_levels.specs.Primaries.{primary_of};
@@ -12,6 +14,7 @@ ghost use Rattle.uca_levels.specs.Streams.{weight_before};
 
 use crate::decided::{decided, widened};
 use std::cmp::Ordering;
+use uca_match::ANY_TEXT;
 use uca_table::Table;
 use uca_weights::{Element, Variable};
 
@@ -69,6 +72,49 @@ fn next_primary<'t>(t: &Table, v: Variable, text: &'t str) -> Option<(Option<u16
         }
         left = rest;
     }
+}
+
+// The primary weight of the first character of a text, or that the text is empty, and what is left of the text. It joins nothing before
+// it, and no text after it changes its elements. `None`: that is not known, or it has no primary weight or several.
+#[inline(always)]
+fn own_primary<'t>(t: &Table, v: Variable, text: &'t str) -> Option<(Option<u16>, &'t str)>
+    ensures joins { OnSome result (JoinsNothing t.now (chars text.now)) }
+    ensures first { IfSome result (λ r. YieldsFirst (level_list t.now v (chars text.now) 1) r.0 (level_list t.now v (chars r.1.now) 1)) }
+    ensures weight { IfSome result (λ r. IfSome r.0 (IsOfLevel 1)) }
+{
+    let mut characters = text.chars();
+    let Some(c) = characters.next() else {
+        return Some((None, text));
+    };
+    let character = t.character_after(0, c)?;
+    if character.bearing < ANY_TEXT {
+        return None;
+    }
+    let weight = only_primary(v, character.elements)?;
+    if weight == 0 {
+        return None;
+    }
+    Some((Some(weight), characters.as_str()))
+}
+
+/// The order of two texts at the first level by the first characters after bytes that they have in common, where each has a primary
+/// weight by itself. Most texts differ in these. `None`: that is not known.
+#[inline(always)]
+pub(crate) fn order_at_once(
+    t: &Table,
+    v: Variable,
+    a: &str,
+    b: &str,
+    common: usize,
+) -> Option<Ordering>
+    requires in_a { IsCharBoundary a.now common }
+    requires in_b { IsCharBoundary b.now common }
+    requires common { take common a.now ≡ take common b.now }
+    ensures { IfSome result (OrdersLevel 1 (level_list t.now v (chars a.now) 1) (level_list t.now v (chars b.now) 1)) }
+{
+    let (x, _) = own_primary(t, v, a.split_at(common).1)?;
+    let (y, _) = own_primary(t, v, b.split_at(common).1)?;
+    decided(widened(x), widened(y))
 }
 
 /// The order of two texts at the first level, as far as their primary weights come one from a character. If that is not so up to where

@@ -1,4 +1,5 @@
 ghost use Rattle.std.specs.Prelude.{◌≡◌, ◌<◌, ◌≤◌, ◌^◌, IfSome, chars, take};
+ghost use Rattle.std.specs.Str.{IsCharBoundary};
 ghost use Rattle.uca_model.specs.LevelWeights.{level_list};
 ghost use Rattle.uca_model.specs.DecidingLevel.{OrdersLevel};
 ghost use Rattle.uca_model.specs.SafeText.{IsSafe};
@@ -12,7 +13,7 @@ use crate::cell_weights::CellWeights;
 use crate::comparison::compare_sources;
 use crate::cut::{apart_after, common_front, without_front};
 use crate::joined_weights::JoinedWeights;
-use crate::primaries::order_of_primaries;
+use crate::primaries::{order_at_once, order_of_primaries};
 use crate::stream::order_of;
 use std::cmp::Ordering;
 use uca_table::Table;
@@ -88,10 +89,17 @@ fn order_at_first(t: &Table, v: Variable, a: &str, b: &str) -> Option<Ordering>
 fn order_by_weights(t: &Table, s: Settings, a: &str, b: &str, common: usize) -> Option<Ordering>
     requires safe_a { IsSafe (chars a.now) }
     requires safe_b { IsSafe (chars b.now) }
+    requires in_a { IsCharBoundary a.now common }
+    requires in_b { IsCharBoundary b.now common }
     requires common { take common a.now ≡ take common b.now }
     ensures { IfSome result (λ order. order ≡ key_order (sort_key t.now s (chars a.now)) (sort_key t.now s (chars b.now))) }
 {
     let _longest = t.longest();
+    if let Some(order) = order_at_once(t, s.weighting, a, b, common) {
+        if order.is_ne() {
+            return Some(order);
+        }
+    }
     let (left_a, left_b) = apart_after(t, a, b, common);
     let order = order_at_first(t, s.weighting, left_a, left_b)?;
     if order.is_ne() {

@@ -1,5 +1,6 @@
 -- The elements of a text that are left: one step of its characters.
-use Rattle.std.proofs.Common.{◌≡◌, ℕ, ◌+◌, ◌-◌, ◌≤◌, true, append_assoc, append-nil, length-append, ap₂, max, length-take-le, take-take, take-append-drop, List, [], ◌∷◌, ◌++◌, length, take, drop, flat_map, All, chars, IsUtf8, refl, sym, ap, subst, ◌∙◌, arith, inl, inr}
+use Rattle.std.proofs.Common.{◌≡◌, ℕ, Option, Some, None, ◌+◌, ◌-◌, ◌≤◌, true, append_assoc, append-nil, length-append, ap₂, max, length-take-le, take-take, take-append-drop, List, [], ◌∷◌, ◌++◌, length, take, drop, flat_map, All, chars, IsUtf8, refl, sym, ap, subst, ◌∙◌, arith, inl, inr}
+use Rattle.std.specs.Prelude.{IfSome, IfNone}
 use Rattle.std.proofs.lemmas.Bool.{cases_Bool}
 use Rattle.std.proofs.lemmas.List.{drop_at, take-append-le}
 use Rattle.uca_weights.specs.declared.element.Element.{Element}
@@ -112,3 +113,8 @@ pub kept-before : (from at end : ℕ) (new old : List Element) (es : List Elemen
 kept-before from at end new old es first within last e =
     let size : length (take at old) ≡ at = length-take-le at old within in
     sym (take-take from end new last) ∙ ap (take from) e ∙ take-append-le from (take at old) es (omega (arith, size)) ∙ take-take from at old first
+
+-- the same where it did not fit
+pub kept-either : (r : Option ℕ) (at : ℕ) (new old es : List Element) → at ≤ length old → IfSome r (λ end. take end new ≡ take at old ++ es) → IfSome r (λ end. end ≡ at + length es) → IfNone r (take at new ≡ take at old) → take at new ≡ take at old
+kept-either None at new old es within put place none = none
+kept-either (Some end) at new old es within put place none = kept-before at at end new old es (omega arith) within (omega (arith, place)) put

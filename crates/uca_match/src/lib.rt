@@ -19,4 +19,4 @@ pub use elements::{Elements, elements_of};
 pub use keys::Keys;
 pub use matches::{Match, matches_of, matches_of_points};
 pub use stretch::{joins_nothing, put_stretch};
-pub use text_elements::{TextElements, read_text};
+pub use text_elements::{ANY_TEXT, TextElements, read_text};

@@ -155,6 +155,31 @@ fn put_matches(t: &Stored, points: &mut [char], room: &mut [Element], from: usiz
     Some(at)
 }
 
+// Puts the implicit elements of the first character of a text into room at a place, where no text after it changes them. Returns the
+// place after them, and the text after that character. `None`: that is not known, or they do not fit.
+fn put_implicit<'t>(
+    t: &Table,
+    text: &'t str,
+    room: &mut [Element],
+    at: usize,
+) -> Option<(usize, &'t str)>
+    requires within { at ≤ length room.old }
+    requires safe { IsSafe (chars text.now) }
+    ensures left { IfSome result (λ r. take r.0 room.new ++ elements t.now (nfd (chars r.1.now)) ≡ take at room.old ++ elements t.now (nfd (chars text.now))) }
+    ensures later { IfSome result (λ r. at ≤ r.0) }
+    ensures within { IfSome result (λ r. r.0 ≤ length room.old) }
+    ensures fewer { IfSome result (λ r. length r.1.now < length text.now) }
+    ensures safe { IfSome result (λ r. IsSafe (chars r.1.now)) }
+    ensures kept { take at room.new ≡ take at room.old }
+    ensures size { length room.new ≡ length room.old }
+{
+    let mut left = text.chars();
+    let c = left.next()?;
+    let elements = t.implicit_alone(c)?;
+    let end = put_fitting(&elements, room, at)?;
+    Some((end, left.as_str()))
+}
+
 /// Puts the elements of the first characters of a text, which may join each other, into room from a place on: of those up to the
 /// next place at which the text may be cut. Returns the place after the elements, and the text after those characters. `None`:
 /// the characters are many, or their elements do not fit. It does not allocate, and holds at most `MAX_LOOKAHEAD` code points.
@@ -175,6 +200,9 @@ pub fn put_stretch<'t>(
     ensures none { IfNone result (take from room.new ≡ take from room.old) }
     ensures size { length room.new ≡ length room.old }
 {
+    if let Some(put) = put_implicit(t, text, room, from) {
+        return Some(put);
+    }
     let mut points = ArrayVec::new();
     let rest = read_stretch(t, text, &mut points)?;
     let at = put_matches(t.stored(), points.as_mut_slice(), room, from)?;

@@ -12,8 +12,8 @@ use std::alloc::AllocError;
 use uca_table::Table;
 use uca_weights::Element;
 
-// What a character bears after it that any text may follow.
-const ALL: u8 = 2;
+/// What a character bears after it that any text may follow: its elements stay the same.
+pub const ANY_TEXT: u8 = 2;
 
 // Puts the elements of the first characters of a text into room from a place on, as far as each stands alone and its elements fit.
 // Returns the place after them, and the text after those characters. Most texts are read to their end here. Each character is looked up
@@ -31,14 +31,18 @@ fn put_alone<'t>(t: &Table, text: &'t str, room: &mut [Element], from: usize) ->
 {
     let mut settled = (from, text);
     let (mut at, mut rest) = (from, text);
-    let mut bearing = ALL;
+    let mut bearing = ANY_TEXT;
     'characters: loop {
         let mut left = rest.chars();
         let Some(c) = left.next() else {
             return (at, rest);
         };
         let Some(character) = t.character_after(bearing, c) else {
-            return if bearing < ALL { settled } else { (at, rest) };
+            return if bearing < ANY_TEXT {
+                settled
+            } else {
+                (at, rest)
+            };
         };
         settled = (at, rest);
         let Some(next) = put_fitting(character.elements, room, at) else {

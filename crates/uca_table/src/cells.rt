@@ -639,8 +639,8 @@ impl Cells {
         self.elements_of(cell)
     }
 
-    // The implicit elements of a character with which no key begins and that is a starter and its own NFD.
-    fn implicit_of(&self, t: &Stored, c: char) -> Option<[Element; 2]>
+    /// The implicit elements of a character with which no key begins and that is a starter and its own NFD.
+    pub(crate) fn implicit_alone(&self, t: &Stored, c: char) -> Option<[Element; 2]>
         requires cells { HoldsCells t.now self.now }
         ensures { IfSome result (λ es. (after : List ℕ) → es ++ elements t.now (nfd after) ≡ elements t.now (nfd (c ∷ after))) }
     {
@@ -709,7 +709,7 @@ fn push_others(
     ensures within { IfOk result (λ n. n ≤ length text.now) }
     ensures elements { IfOk result (λ n. out.new.items ++ elements t.now (nfd (drop n text.now)) ≡ out.old.items ++ elements t.now (nfd text.now)) }
 {
-    if let Some(elements) = cells.implicit_of(t, text[0]) {
+    if let Some(elements) = cells.implicit_alone(t, text[0]) {
         out.extend_from_slice(&elements)?;
         return Ok(1);
     }

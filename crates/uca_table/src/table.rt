@@ -226,6 +226,14 @@ impl Table {
         self.cells.always_alone(&self.stored, c)
     }
 
+    /// The implicit elements of a character, where no text after it changes them (UTS #10, section 10.1.3). It does not allocate.
+    /// `None`: keys may begin with it, or that is not known.
+    pub fn implicit_alone(&self, c: char) -> Option<[Element; 2]>
+        ensures { IfSome result (λ es. (after : List ℕ) → es ++ elements self.now (nfd after) ≡ elements self.now (nfd (c ∷ after))) }
+    {
+        self.cells.implicit_alone(&self.stored, c)
+    }
+
     /// Appends the collation elements of a text (UTS #10, sections 7.1 and 7.2, steps S1 and S2).
     pub fn push_elements(
         &self,

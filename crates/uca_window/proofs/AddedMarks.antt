@@ -19,7 +19,8 @@ use Rattle.uca_window.specs.Scan.{Fits}
 use Rattle.uca_window.proofs.PassedBytes.{first-passed}
 use Rattle.uca_window.proofs.PassedCharacters.{decompose-passed, decompose-short, starts, starts-passed, joining, decompose-joins}
 use Rattle.uca_window.proofs.PassedRuns.{longest-short, run-longest}
-use Rattle.uca_window.proofs.RunScan.{Scanned, scanned_none, scanned_more}
+use Rattle.uca_window.specs.Scan.{Scanned}
+use Rattle.uca_window.proofs.RunScan.{scanned_none, scanned_more}
 
 -- ---- one character
 

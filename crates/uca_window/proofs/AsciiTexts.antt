@@ -6,7 +6,8 @@ use Rattle.std.proofs.lemmas.List.{get_or_past}
 use Rattle.std.proofs.lemmas.Str.{IsUtf8-from_ascii, chars-IsAscii}
 use Rattle.uca_model.specs.Lines.{IsTextLine}
 use Rattle.uca_model.specs.SafeText.{IsSafe}
-use Rattle.uca_window.proofs.RunScan.{Scanned, latin_ends, latin_fits, scanned_more, scanned_none}
+use Rattle.uca_window.specs.Scan.{Scanned}
+use Rattle.uca_window.proofs.RunScan.{latin_ends, latin_fits, scanned_more, scanned_none}
 
 -- ASCII characters after a safe text that ends in a starter
 ascii_scanned : (front cs : List ℕ) → Scanned front 0 → IsAscii cs → Scanned (front ++ cs) 0

@@ -15,7 +15,7 @@ within-true low high n above below = and_from _ _ (le-leb low n above) (lt-ltb n
 
 -- ---- ranges of code points that are passed
 
-below_marks : (c : ℕ) → c < 0x300 → is_passed c ≡ true
+pub below_marks : (c : ℕ) → c < 0x300 → is_passed c ≡ true
 below_marks c h = or_left _ _ (or_left _ _ (lt-ltb c 0x300 h))
 
 greek : (c : ℕ) → 0x370 ≤ c → c < 0x483 → is_passed c ≡ true

@@ -1,13 +1,13 @@
 -- The run of nonstarters after a passed character is that of its own decomposition.
 use Rattle.std.proofs.Common.{◌≡◌, ℕ, ◌+◌, ◌≤◌, max, true, List, [], ◌∷◌, length, Option, None, Some, refl, arith, inl, inr}
 use Rattle.std.specs.Prelude.{IsSome, IfSome, unwrap_or}
-use Rattle.std.proofs.lemmas.Bool.{cases_Bool, cond-true}
+use Rattle.std.proofs.lemmas.Bool.{cases_Bool}
 use Rattle.unicode_normalization.specs.Decompose.{decompose_canonical}
 use Rattle.unicode_normalization.specs.Order.{is_nonstarter}
 use Rattle.uca_weights.specs.declared.limits.TheConstants.{MAX_RUN}
 use Rattle.uca_model.specs.SafeText.{longest_run_after}
 use Rattle.uca_model.proofs.SafeLemmas.{run_after}
-use Rattle.uca_window.specs.Passing.{is_passed, ending}
+use Rattle.uca_window.specs.Passing.{is_passed}
 use Rattle.uca_window.specs.Scan.{Fits}
 use Rattle.uca_window.proofs.PassedCharacters.{first_passed, passed-starter, decompose-passed, decompose-short}
 
@@ -48,10 +48,6 @@ passed_ends count c passed = run-over count (decompose_canonical c) (decompose-p
 
 pub own_run_within : (c : ℕ) → run_after 0 (decompose_canonical c) ≤ MAX_RUN
 own_run_within c = omega (arith, run-longest 0 (decompose_canonical c), longest-short 0 (decompose_canonical c), decompose-short c)
-
--- the run at the end of a text after a passed character
-pub ending-passed : (c run : ℕ) → is_passed c ≡ true → ending c run ≡ run_after 0 (decompose_canonical c)
-ending-passed c run passed = cond-true (is_passed c) _ _ passed
 
 -- the run of a character by itself
 pub own : (r : Option ℕ) (m : ℕ) → IsSome r → IfSome r (λ n. (n ≤ MAX_RUN) × (n ≡ m)) → unwrap_or r 0 ≡ m

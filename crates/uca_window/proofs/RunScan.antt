@@ -12,16 +12,11 @@ use Rattle.unicode_normalization.proofs.DecomposeLemmas.{decompose-final}
 use Rattle.unicode_normalization.proofs.FormsLemmas.{is_final-Nfd, quick_check-below, class-latin}
 use Rattle.uca_weights.specs.declared.limits.TheConstants.{MAX_RUN, MAX_DECOMPOSITION}
 use Rattle.uca_model.specs.SafeText.{longest_run_after, longest_run, IsSafe, IsLongRunAt}
-use Rattle.uca_model.proofs.SafeLemmas.{run_after, one_too_many, ends-append, length-nfd_one, parts-push, runs-push, safe_none, safe_more, short_last, StandsAfter, stands_over, stands_next, stands_last, unsafe_from, long_run_here}
-use Rattle.uca_window.specs.Passing.{is_passed, last_of, Passes, ending}
-use Rattle.uca_window.specs.Scan.{Fits}
-use Rattle.uca_window.proofs.PassedRuns.{passed_fits, passed_ends, own_run_within, ending-passed}
-
--- the characters so far are safe, and end in this many nonstarters
-pub record Scanned (front : List ℕ) (count : ℕ) : Type 0 where
-  pub ends : count ≡ run_after 0 (flat_map decompose_canonical front)
-  pub within : count ≤ MAX_RUN
-  pub safe : IsSafe front
+use Rattle.uca_model.proofs.SafeLemmas.{run_after, one_too_many, ends-append, length-nfd_one, parts-push, runs-push, safe_none, safe_more, short_last, stands_over, stands_next, stands_last, unsafe_from, long_run_here}
+use Rattle.uca_window.specs.Passing.{is_passed, last_of, Passes}
+use Rattle.uca_window.specs.Scan.{Fits, Scanned, ScannedTo, IsPassedTo}
+use Rattle.uca_window.proofs.PassedBytes.{below_marks}
+use Rattle.uca_window.proofs.PassedRuns.{passed_fits, passed_ends, own_run_within}
 
 -- no character is scanned yet
 pub scanned_none : Scanned [] 0
@@ -74,35 +69,49 @@ full_run n i c class points h is k mark full =
     let g : n < longest_run_after n (c ∷ drop (i + 1) points) = one_too_many n c (drop (i + 1) points) (ap not (ne_eqb (ccc c) 0 (λ z. mark (k ∙ z)))) in
     omega arith
 
--- what is left of the text follows characters that are safe and end in this many nonstarters
-pub record ScannedTo (text rest : List ℕ) (count : ℕ) : Type 0 where
-  pub front : List ℕ
-  pub stands : StandsAfter text rest front
-  pub scan : Scanned front count
-
--- at first none are scanned
-pub scanned_start : (text : List ℕ) (count : ℕ) → count ≡ 0 → ScannedTo text text count
-scanned_start text count none = record { front = []; stands = refl; scan = subst (Scanned []) (sym none) scanned_none }
-
 -- one more character that is passed
-pub scanned_one : (front : List ℕ) (count run c : ℕ) → Scanned front count → is_passed c ≡ true → Scanned (front ++ c ∷ []) (ending c run)
-scanned_one front count run c s passed =
-    let is : ending c run ≡ run_after 0 (decompose_canonical c) = ending-passed c run passed in
-    scanned_more front count c (ending c run) s (passed_fits count c s.within passed) (subst (λ n. n ≤ MAX_RUN) (sym is) (own_run_within c)) (is ∙ sym (passed_ends count c passed))
+pub scanned_one : (front : List ℕ) (count c : ℕ) → Scanned front count → is_passed c ≡ true → Scanned (front ++ c ∷ []) (run_after 0 (decompose_canonical c))
+scanned_one front count c s passed = scanned_more front count c (run_after 0 (decompose_canonical c)) s (passed_fits count c s.within passed) (own_run_within c) (sym (passed_ends count c passed))
 
 -- and more of them
-scanned_all : (front : List ℕ) (last run : ℕ) (cs : List ℕ) → Scanned front (ending last run) → list_all is_passed cs ≡ true → Scanned (front ++ cs) (ending (last_of last cs) run)
-scanned_all front last run [] s all = subst (λ xs. Scanned xs (ending last run)) (sym (append-nil front)) s
-scanned_all front last run (c ∷ cs) s all =
+scanned_all : (front : List ℕ) (last : ℕ) (cs : List ℕ) → Scanned front (run_after 0 (decompose_canonical last)) → list_all is_passed cs ≡ true → Scanned (front ++ cs) (run_after 0 (decompose_canonical (last_of last cs)))
+scanned_all front last [] s all = subst (λ xs. Scanned xs (run_after 0 (decompose_canonical last))) (sym (append-nil front)) s
+scanned_all front last (c ∷ cs) s all =
     let parts = and_parts (is_passed c) (list_all is_passed cs) all in
-    subst (λ xs. Scanned xs (ending (last_of c cs) run)) (append_assoc front (c ∷ []) cs) (scanned_all (front ++ c ∷ []) c run cs (scanned_one front (ending last run) run c s parts.0) parts.1)
+    subst (λ xs. Scanned xs (run_after 0 (decompose_canonical (last_of c cs)))) (append_assoc front (c ∷ []) cs)
+    (scanned_all (front ++ c ∷ []) c cs (scanned_one front (run_after 0 (decompose_canonical last)) c s parts.0) parts.1)
+
+last_passed : (last : ℕ) (cs : List ℕ) → is_passed last ≡ true → list_all is_passed cs ≡ true → is_passed (last_of last cs) ≡ true
+last_passed last [] passed all = passed
+last_passed last (c ∷ cs) passed all = let parts = and_parts (is_passed c) (list_all is_passed cs) all in last_passed c cs parts.0 parts.1
+
+-- at first none are scanned, as after a character that is a starter
+pub passed_start : (text : List ℕ) (c : ℕ) → c < 0xC0 → IsPassedTo text text c
+passed_start text c latin = record {
+  to = record { front = []; stands = refl; scan = subst (Scanned []) (latin_ends 0 c latin) scanned_none };
+  passed = below_marks c (omega arith);
+}
 
 -- past characters that are passed
-pub scanned_pass : (text rest others : List ℕ) (last end run : ℕ) → ScannedTo text rest (ending last run) → Passes rest last others end → ScannedTo text others (ending end run)
-scanned_pass text rest others last end run at p = record {
-  front = at.front ++ p.front;
-  stands = stands_over text rest at.front p.front others at.stands p.parts;
-  scan = subst (λ c. Scanned (at.front ++ p.front) (ending c run)) (sym p.end_is) (scanned_all at.front last run p.front at.scan p.passed);
+pub passed_over : (text rest others : List ℕ) (last end : ℕ) → IsPassedTo text rest last → Passes rest last others end → IsPassedTo text others end
+passed_over text rest others last end at p = record {
+  to = record {
+    front = at.to.front ++ p.front;
+    stands = stands_over text rest at.to.front p.front others at.to.stands p.parts;
+    scan = subst (λ c. Scanned (at.to.front ++ p.front) (run_after 0 (decompose_canonical c))) (sym p.end_is) (scanned_all at.to.front last p.front at.to.scan p.passed);
+  };
+  passed = subst (λ c. is_passed c ≡ true) (sym p.end_is) (last_passed last p.front at.passed p.passed);
+}
+
+-- past one
+pub passed_next : (text rest more : List ℕ) (count c : ℕ) → ScannedTo text rest count → rest ≡ encode_utf8 c ++ more → is_passed c ≡ true → IsPassedTo text more c
+passed_next text rest more count c at is passed = record {
+  to = record {
+    front = at.front ++ c ∷ [];
+    stands = stands_next text rest at.front c more at.stands is;
+    scan = scanned_one at.front count c at.scan passed;
+  };
+  passed = passed;
 }
 
 -- a step past a character that fits

@@ -8,28 +8,32 @@ use Rattle.unicode_normalization.specs.Decompose.{decompose_canonical}
 use Rattle.uca_weights.specs.declared.limits.TheConstants.{MAX_RUN}
 use Rattle.uca_model.specs.SafeText.{IsSafe}
 use Rattle.uca_model.proofs.SafeLemmas.{run_after, stands_over}
-use Rattle.uca_window.specs.Passing.{is_passed, ending, Passes, Skips}
+use Rattle.uca_window.specs.Passing.{is_passed, Passes, Skips}
+use Rattle.uca_window.specs.Scan.{Scanned, ScannedTo, IsPassedTo}
 use Rattle.uca_window.proofs.PassedCharacters.{joining}
 use Rattle.uca_window.proofs.AddedMarks.{grown, growth, growths-bytes, scanned_few}
-use Rattle.uca_window.proofs.PassedRuns.{run-longest, ending-passed}
-use Rattle.uca_window.proofs.RunScan.{Scanned, ScannedTo, scanned_one, all_safe}
+use Rattle.uca_window.proofs.PassedRuns.{run-longest}
+use Rattle.uca_window.proofs.RunScan.{scanned_one, all_safe}
 
 -- a passed character ends in few nonstarters
-ending-short : (last run : ℕ) → is_passed last ≡ true → ending last run ≤ 3
-ending-short last run passed =
-    let is : ending last run ≡ run_after 0 (decompose_canonical last) = ending-passed last run passed in
-    let none : growth last ≡ 0 = ap (λ b. cond b 0 (joining last)) passed in
-    omega (arith, run-longest 0 (decompose_canonical last), grown 0 last)
+own_short : (c : ℕ) → is_passed c ≡ true → run_after 0 (decompose_canonical c) ≤ 3
+own_short c passed =
+    let none : growth c ≡ 0 = ap (λ b. cond b 0 (joining c)) passed in
+    omega (arith, run-longest 0 (decompose_canonical c), grown 0 c)
 
 -- past a passed character that is close to another
-pub scanned_skip : (text rest others : List ℕ) (last end run : ℕ) → ScannedTo text rest (ending last run) → Skips rest last others end → ScannedTo text others (ending end run)
-scanned_skip text rest others last end run at s =
-    let short : ending last run ≤ 3 = ending-short last run s.after in
-    let few = scanned_few at.front s.between (ending last run) at.scan (omega (arith, s.few, growths-bytes s.between)) in
+pub passed_skip : (text rest others : List ℕ) (last end : ℕ) → IsPassedTo text rest last → Skips rest others end → IsPassedTo text others end
+passed_skip text rest others last end at s =
+    let count = run_after 0 (decompose_canonical last) in
+    let short : count ≤ 3 = own_short last at.passed in
+    let few = scanned_few at.to.front s.between count at.to.scan (omega (arith, s.few, growths-bytes s.between)) in
     record {
-      front = at.front ++ (s.between ++ end ∷ []);
-      stands = stands_over text rest at.front (s.between ++ end ∷ []) others at.stands s.parts;
-      scan = subst (λ xs. Scanned xs (ending end run)) (append_assoc at.front s.between (end ∷ [])) (scanned_one (at.front ++ s.between) few.0 run end few.1 s.passed);
+      to = record {
+        front = at.to.front ++ (s.between ++ end ∷ []);
+        stands = stands_over text rest at.to.front (s.between ++ end ∷ []) others at.to.stands s.parts;
+        scan = subst (λ xs. Scanned xs (run_after 0 (decompose_canonical end))) (append_assoc at.to.front s.between (end ∷ [])) (scanned_one (at.to.front ++ s.between) few.0 end few.1 s.passed);
+      };
+      passed = s.passed;
     }
 
 -- what is left of a text after some characters is a text
@@ -42,7 +46,7 @@ pub utf8_left : (text rest : List ℕ) (count : ℕ) → ScannedTo text rest cou
 utf8_left text rest count at utf8 = utf8_past at.front text rest utf8 at.stands
 
 -- less is left after it
-pub skips_shorter : (bytes others more : List ℕ) (last end next : ℕ) → Passes bytes last others end → Skips others end more next → length more < length bytes
+pub skips_shorter : (bytes others more : List ℕ) (last end next : ℕ) → Passes bytes last others end → Skips others more next → length more < length bytes
 skips_shorter bytes others more last end next p s =
     let front : length bytes ≡ length (encode_utf8_all p.front) + length others = ap length p.parts ∙ length-append (encode_utf8_all p.front) others in
     let all : length others ≡ length (encode_utf8_all (s.between ++ next ∷ [])) + length more = ap length s.parts ∙ length-append (encode_utf8_all (s.between ++ next ∷ [])) more in
@@ -52,23 +56,24 @@ skips_shorter bytes others more last end next p s =
     omega (arith, (len_utf8_bounds next).0)
 
 -- a text is safe that ends soon after a passed character
-pub safe_end : (text rest : List ℕ) (last run : ℕ) → ScannedTo text rest (ending last run) → IsUtf8 text → IsUtf8 rest → is_passed last ≡ true → 3 + length rest ≤ MAX_RUN → IsSafe (chars text)
-safe_end text rest last run at utf8 more passed few =
-    let short : ending last run ≤ 3 = ending-short last run passed in
+pub safe_end : (text rest : List ℕ) (last : ℕ) → IsPassedTo text rest last → IsUtf8 text → 3 + length rest ≤ MAX_RUN → IsSafe (chars text)
+safe_end text rest last at utf8 few =
+    let count = run_after 0 (decompose_canonical last) in
+    let short : count ≤ 3 = own_short last at.passed in
+    let more : IsUtf8 rest = utf8_left text rest count at.to utf8 in
     let spelt : encode_utf8_all (chars rest) ≡ rest = encodes-chars rest more in
     let size : length (encode_utf8_all (chars rest)) ≡ length rest = ap length spelt in
-    let end = scanned_few at.front (chars rest) (ending last run) at.scan (omega (arith, growths-bytes (chars rest))) in
+    let end = scanned_few at.to.front (chars rest) count at.to.scan (omega (arith, growths-bytes (chars rest))) in
     let whole : ScannedTo text [] end.0 = record {
-      front = at.front ++ chars rest;
-      stands = stands_over text rest at.front (chars rest) [] at.stands (sym spelt ∙ sym (append-nil (encode_utf8_all (chars rest))));
+      front = at.to.front ++ chars rest;
+      stands = stands_over text rest at.to.front (chars rest) [] at.to.stands (sym spelt ∙ sym (append-nil (encode_utf8_all (chars rest))));
       scan = end.1;
     } in
     all_safe text [] end.0 whole utf8 refl
 
 -- a passed character at a place in the text
-pub skips_at : (text from others : List ℕ) (last end n : ℕ) → IsUtf8 text → IsCharBoundary text n → n ≤ length text → from ≡ drop n text → from ≡ encode_utf8 end ++ others → 3 + n ≤ MAX_RUN → is_passed last ≡ true → is_passed end ≡ true
-    → Skips text last others end
-skips_at text from others last end n utf8 edge within is first few after passed =
+pub skips_at : (text from others : List ℕ) (end n : ℕ) → IsUtf8 text → IsCharBoundary text n → n ≤ length text → from ≡ drop n text → from ≡ encode_utf8 end ++ others → 3 + n ≤ MAX_RUN → is_passed end ≡ true → Skips text others end
+skips_at text from others end n utf8 edge within is first few passed =
     let front : IsUtf8 (take n text) = IsUtf8-take text n utf8 edge in
     let spelt : encode_utf8_all (chars (take n text)) ≡ take n text = encodes-chars (take n text) front in
     let size : length (encode_utf8_all (chars (take n text))) ≡ n = ap length spelt ∙ length-take-le n text within in
@@ -78,6 +83,5 @@ skips_at text from others last end n utf8 edge within is first few after passed 
       between = chars (take n text);
       parts = sym (take-append-drop n text) ∙ ap (λ bs. take n text ++ bs) (sym is ∙ first) ∙ sym (append_assoc (take n text) (encode_utf8 end) others) ∙ ap (λ bs. bs ++ others) (sym whole);
       few = omega (arith, size);
-      after = after;
       passed = passed;
     }

@@ -1,9 +1,7 @@
 -- Characters that a scan passes without a look at their decompositions, and the bytes at which it looks.
-use Rattle.std.specs.Prelude.{◌≡◌, ℕ, ◌+◌, ◌≤◌, length, true, Bool, ◌&&◌, ◌||◌, ◌==◌, nat_lt, nat_le, List, [], ◌∷◌, ◌++◌, encode_utf8_all, if◌then◌else◌}
+use Rattle.std.specs.Prelude.{◌≡◌, ℕ, ◌+◌, ◌≤◌, length, true, Bool, ◌&&◌, ◌||◌, ◌==◌, nat_lt, nat_le, List, [], ◌∷◌, ◌++◌, encode_utf8_all}
 use Rattle.std.specs.List.{list_all, count_by}
 use Rattle.uca_weights.specs.declared.limits.TheConstants.{MAX_RUN}
-use Rattle.unicode_normalization.specs.Decompose.{decompose_canonical}
-use Rattle.uca_model.proofs.SafeLemmas.{run_after}
 
 -- at least the first number and below the second
 abbrev pub is_within : ℕ → ℕ → ℕ → Bool
@@ -55,15 +53,10 @@ pub record Passes (bytes : List ℕ) (last : ℕ) (others : List ℕ) (end : ℕ
   pub passed : list_all is_passed front ≡ true
   pub end_is : end ≡ last_of last front
 
--- bytes without a passed character and the characters before it, which follow a passed character, and are so few bytes
--- that no run of nonstarters grows too long if each byte adds one
-pub record Skips (bytes : List ℕ) (last : ℕ) (others : List ℕ) (end : ℕ) : Type 0 where
+-- bytes without a passed character and the characters before it, which are so few bytes that after another passed character no
+-- run of nonstarters grows too long if each byte adds one
+pub record Skips (bytes : List ℕ) (others : List ℕ) (end : ℕ) : Type 0 where
   pub between : List ℕ
   pub parts : bytes ≡ encode_utf8_all (between ++ end ∷ []) ++ others
   pub few : 3 + length (encode_utf8_all between) ≤ MAX_RUN
-  pub after : is_passed last ≡ true
   pub passed : is_passed end ≡ true
-
--- how many nonstarters the NFD of a text ends in, by its last code point where that is passed
-abbrev pub ending : ℕ → ℕ → ℕ
-ending last run = if is_passed last then run_after 0 (decompose_canonical last) else run

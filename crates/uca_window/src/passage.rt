@@ -3,8 +3,7 @@ ghost use Rattle.std.specs.Str.{IsAscii};
 ghost use Rattle.unicode_normalization.specs.Decompose.{decompose_canonical};
 ghost use Rattle.uca_model.specs.Lines.{IsTextLine};
 ghost use Rattle.uca_model.specs.SafeText.{IsSafe, IsLongRunAt, longest_run_after};
-ghost use Rattle.uca_window.specs.Passing.{ending};
-ghost use Rattle.uca_window.specs.Scan.{run_after, Fits};
+ghost use Rattle.uca_window.specs.Scan.{run_after, Fits, IsPassedTo, ScannedTo};
 
 use crate::ascii::is_ascii;
 use crate::fault::TextFault;
@@ -153,41 +152,58 @@ impl<'t> Passage<'t> {
 
 /// Goes over the characters to the first with which the text is no longer safe. The NFD has its nonstarters in
 /// another order, but their runs are as long as those of the decompositions, so nothing is put in order. Most characters
-/// are passed: the nonstarters after one of these are counted from the last alone, and between two that are close together
-/// nothing is counted.
+/// are passed: between two of these that are close together nothing is counted, and the nonstarters after one are counted from
+/// its own on.
 fn scan(text: &str) -> Result<(), LongRun>
     ensures safe { IsOk result ↔ IsSafe (chars text.now) }
     ensures long { IfErr result (λ e. IsLongRunAt (chars text.now) e.at) }
 {
     let mut rest = text;
+    // What comes before the rest, which is passed: no nonstarter comes before the text, as after this one.
     let mut last = '\0';
-    let mut run = 0;
-    loop {
-        if rest.len() <= STRIDE && is_passed(last) {
-            return Ok(());
-        }
+    'passed: while rest.len() > STRIDE {
         let (others, end) = pass(rest, last);
-        let mut characters = others.chars();
+        match skip(others, end) {
+            Some((more, passed)) => (rest, last) = (more, passed),
+            None => match count_marks(text, others, own_run(end))? {
+                Some((more, passed)) => (rest, last) = (more, passed),
+                None => return Ok(()),
+            },
+        }
+    }
+    Ok(())
+}
+
+/// What is left of a text after the next passed character, and that character. The nonstarters before it are counted: `count` come
+/// right before `from`. `None`: there is no such character.
+fn count_marks<'t>(
+    text: &str,
+    from: &'t str,
+    count: usize,
+) -> Result<Option<(&'t str, char)>, LongRun>
+    requires { ScannedTo text.now from.now count }
+    ensures passed { IfOk result (λ next. IfSome next (λ r. IsPassedTo text.now r.0.now r.1)) }
+    ensures fewer { IfOk result (λ next. IfSome next (λ r. length r.0.now < length from.now)) }
+    ensures end { IfOk result (λ next. IfNone next (IsSafe (chars text.now))) }
+    ensures refused { IfErr result (λ _. ¬ (IsSafe (chars text.now))) }
+    ensures long { IfErr result (λ e. IsLongRunAt (chars text.now) e.at) }
+{
+    let mut rest = from;
+    let mut run = count;
+    'marks: loop {
+        let mut characters = rest.chars();
         let Some(c) = characters.next() else {
-            return Ok(());
+            return Ok(None);
         };
-        if let Some((more, passed)) = skip(others, end) {
-            if more.len() <= STRIDE {
-                return Ok(());
-            }
-            rest = more;
-            last = passed;
-            continue;
+        if is_passed(c) {
+            return Ok(Some((characters.as_str(), c)));
         }
-        match run_with(end, run, c) {
-            Some(n) => run = n,
-            None => {
-                return Err(LongRun {
-                    at: text.len() - others.len(),
-                });
-            }
-        }
-        last = c;
+        let Some(after) = run_after_char(run, c) else {
+            return Err(LongRun {
+                at: text.len() - rest.len(),
+            });
+        };
+        run = after;
         rest = characters.as_str();
     }
 }
@@ -197,25 +213,6 @@ fn own_run(c: char) -> usize
     ensures { result ≡ run_after 0 (decompose_canonical c) }
 {
     run_after_char(0, c).unwrap_or(0)
-}
-
-/// How many nonstarters there are in a row at a place: those of the character before it where that is passed, else `run`.
-fn run_at(last: char, run: usize) -> usize
-    ensures { result ≡ ending last run }
-{
-    if is_passed(last) { own_run(last) } else { run }
-}
-
-/// The same after one more character, unless the text is no longer safe with it.
-fn run_with(last: char, run: usize, c: char) -> Option<usize>
-    requires { ending last run ≤ MAX_RUN }
-    ensures count { IfSome result (λ n. (ending c n ≤ MAX_RUN) × (ending c n ≡ run_after (ending last run) (decompose_canonical c))) }
-    ensures fits { IsSome result ↔ Fits (ending last run) c }
-{
-    if is_passed(c) {
-        return Some(0);
-    }
-    run_after_char(run_at(last, run), c)
 }
 
 /// How many nonstarters there are in a row after a character, unless they are too many or its decomposition is too

@@ -59,12 +59,13 @@ fn is_passed_between(c: char) -> bool
 pub(crate) fn is_passed(c: char) -> bool
     ensures { result ≡ is_passed c }
 {
-    let is_between = '\u{591}' <= c && c < '\u{1100}';
-    if is_between {
-        is_passed_between(c)
-    } else {
-        is_passed_outside(c)
+    if c < '\u{370}' {
+        return c < '\u{300}';
     }
+    if c < '\u{591}' || '\u{1100}' <= c {
+        return is_passed_outside(c);
+    }
+    c < '\u{EB8}' && is_passed_between(c)
 }
 
 /// Whether characters that are not all passed begin with a byte.
@@ -191,14 +192,12 @@ pub(crate) fn pass<'t>(text: &'t str, last: char) -> (&'t str, char)
     }
 }
 
-/// What is left of a text after a passed character that begins at most `STRIDE` bytes after `last`, and that character: the
-/// furthest of these. `None` where there is none, or `last` is not passed itself.
+/// What is left of a text after a passed character that begins at most `STRIDE` bytes after `last`, which is passed itself, and
+/// that character: the furthest of these. `None` where there is none.
 pub(crate) fn skip<'t>(text: &'t str, last: char) -> Option<(&'t str, char)>
-    ensures { IfSome result (λ r. Skips text.now last r.0.now r.1) }
+    requires { is_passed last ≡ true }
+    ensures { IfSome result (λ r. Skips text.now r.0.now r.1) }
 {
-    if !is_passed(last) {
-        return None;
-    }
     for at in (0..text.len().min(STRIDE + 1)).rev() {
         if text.is_char_boundary(at) {
             let mut characters = text.split_at(at).1.chars();

@@ -1,5 +1,5 @@
 use Rattle.uca_table.proofs.CellLemmas.{implicit-alone}
-use Rattle.uca_table.proofs.cells.Cells.implicit_of.Goals as goal
+use Rattle.uca_table.proofs.cells.Cells.implicit_alone.Goals as goal
 
 pub returns : goal.returns
 returns c = λ after.
