@@ -1,7 +1,8 @@
 -- Bytes that are put into a buffer one piece after the other.
-use Rattle.std.proofs.Common.{◌≡◌, ℕ, zero, suc, ◌+◌, ◌-◌, ◌^◌, ◌≤◌, ◌<◌, List, [], ◌∷◌, ◌++◌, length, take, drop, slice_set, get_or, refl, sym, ap, ap₂, subst, ◌∙◌, arith, inl, inr, append_assoc, append-nil, take-append-drop, length-append}
+use Rattle.std.proofs.Common.{◌≡◌, ℕ, zero, suc, ◌+◌, ◌-◌, ◌^◌, ◌≤◌, ◌<◌, List, [], ◌∷◌, ◌++◌, length, min, take, drop, slice_set, get_or, refl, sym, ap, ap₂, subst, ◌∙◌, arith, inl, inr, append_assoc, append-nil, take-append-drop, length-append}
 use Rattle.std.proofs.lemmas.Bool.{cases_lt}
-use Rattle.uca_key.specs.Placing.{with_bytes_at, PutsAt, IsPutting}
+use Rattle.std.proofs.lemmas.List.{drop-set-lt, length-drop, length-take-le, take_all}
+use Rattle.uca_key.specs.Placing.{with_bytes_at, PutsAt, IsPutting, StaysAfter}
 
 take-nil : (n : ℕ) → take {A = ℕ} n [] ≡ []
 take-nil zero = refl
@@ -129,3 +130,51 @@ front-put bytes before after next puts fits small =
       size = omega (arith, n);
       within = omega (arith, n, long);
     }
+
+-- ---- bytes that fit, put one after the other
+
+-- without the first, if there is one
+pub drop-one : {X : Type 0} (n : ℕ) (xs : List X) → n ≡ min (length xs) 1 → drop n xs ≡ drop 1 xs
+drop-one n [] is = let none : n ≡ 0 = omega (arith, is) in ap (λ m. drop m []) none
+drop-one n (x ∷ xs) is = let one : n ≡ 1 = omega (arith, is) in ap (λ m. drop m (x ∷ xs)) one
+
+-- what is the same from one place on is the same from a later one on
+drop-later : (m n : ℕ) (xs ys : List ℕ) → m ≤ n → drop m xs ≡ drop m ys → drop n xs ≡ drop n ys
+drop-later zero n xs ys h same = ap (drop n) same
+drop-later (suc m) zero xs ys h same = absurd (omega arith)
+drop-later (suc m) (suc n) [] [] h same = refl
+drop-later (suc m) (suc n) [] (y ∷ ys) h same = sym (drop-nil n) ∙ drop-later m n [] ys (omega arith) (drop-nil m ∙ same)
+drop-later (suc m) (suc n) (x ∷ xs) [] h same = drop-later m n xs [] (omega arith) (same ∙ sym (drop-nil m)) ∙ drop-nil n
+drop-later (suc m) (suc n) (x ∷ xs) (y ∷ ys) h same = drop-later m n xs ys (omega arith) same
+
+pub stays-none : (at : ℕ) (buffer : List ℕ) → StaysAfter at at buffer buffer
+stays-none at buffer = record { later = omega arith; rest = refl }
+
+pub stays-more : (from mid to : ℕ) (before then after : List ℕ) → StaysAfter from mid before then → StaysAfter mid to then after → StaysAfter from to before after
+stays-more from mid to before then after h k = let later = k.later in record { later = omega (arith, h.later, k.later); rest = k.rest ∙ drop-later mid to then before later h.rest }
+
+pub stays-set : (at byte : ℕ) (buffer : List ℕ) → StaysAfter at (at + 1) buffer (slice_set buffer at byte)
+stays-set at byte buffer = record { later = omega arith; rest = drop-set-lt (at + 1) buffer at byte (omega arith) }
+
+-- bytes before a place that were put where they fit
+fitted : (from to : ℕ) (before after whole left : List ℕ) → length after ≡ length before → to ≤ length before → StaysAfter from to before after → take to after ++ left ≡ take from before ++ whole
+    → (after ≡ with_bytes_at from (drop from (take to after)) before) × (drop from (take to after) ++ left ≡ whole)
+fitted zero to before after whole left size within stays same =
+    let long : length (take to after) ≡ to = length-take-le to after (omega arith) in
+    let all : take (length before) (take to after) ≡ take to after = take_all (length before) (take to after) (omega arith) in
+    (sym (ap₂ (λ l n. l ++ drop n before) all long ∙ ap (λ l. take to after ++ l) (sym stays.rest) ∙ take-append-drop to after), same)
+fitted (suc from) zero before after whole left size within stays same = let later = stays.later in absurd (omega arith)
+fitted (suc from) (suc to) [] after whole left size within stays same = absurd (omega arith)
+fitted (suc from) (suc to) (x ∷ xs) [] whole left size within stays same = absurd (omega arith)
+fitted (suc from) (suc to) (x ∷ xs) (y ∷ ys) whole left size within stays same =
+    let later = stays.later in
+    let next = fitted from to xs ys whole left (omega arith) (omega arith) (record { later = omega arith; rest = stays.rest }) (ap (drop 1) same) in
+    (ap₂ (λ h t. h ∷ t) (ap (λ (l : List ℕ). get_or l 0 0) same) next.0, next.1)
+
+pub IsPutting-fitted : (from to : ℕ) (before after whole left : List ℕ) → length after ≡ length before → length before < 2 ^ 64 → to ≤ length before → StaysAfter from to before after → take to after ++ left ≡ take from before ++ whole
+    → IsPutting from before to after whole left
+IsPutting-fitted from to before after whole left size small within stays same =
+    let parts = fitted from to before after whole left size within stays same in
+    let later = stays.later in
+    let long : length (drop from (take to after)) ≡ to - from = length-drop from (take to after) ∙ ap (λ n. n - from) (length-take-le to after (omega arith)) in
+    record { put = drop from (take to after); puts = record { written = parts.0; counted = omega (arith, long) }; parts = parts.1 }

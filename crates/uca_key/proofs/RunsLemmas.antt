@@ -1,5 +1,5 @@
 -- Common weights that are counted together.
-use Rattle.std.proofs.Common.{◌≡◌, ℕ, ◌+◌, ◌<◌, ◌==◌, not, List, [], ◌∷◌, ◌++◌, drop, filter, get_or, length, refl, sym, ap, ◌∙◌, arith, eq-eqb, ne_eqb}
+use Rattle.std.proofs.Common.{◌≡◌, ℕ, ◌+◌, ◌-◌, ◌<◌, ◌==◌, not, List, [], ◌∷◌, ◌++◌, drop, filter, get_or, length, slice_index, refl, sym, ap, ◌∙◌, arith, append_assoc, eq-eqb, ne_eqb}
 use Rattle.std.proofs.lemmas.Bool.{cond-true, cond-false}
 use Rattle.std.proofs.lemmas.List.{drop_more}
 use Rattle.uca_weights.specs.declared.element.Element.{Element}
@@ -7,7 +7,7 @@ use Rattle.uca_weights.specs.declared.settings.Variable.{Variable}
 use Rattle.uca_model.specs.LevelWeights.{level_weights}
 use Rattle.uca_key.specs.Runs.{AreCounted}
 use Rattle.uca_key.specs.PackedKey.{common_weight, runs_after}
-use Rattle.uca_key.specs.Weighing.{all_own}
+use Rattle.uca_key.specs.Weighing.{all_own, own_weights}
 use Rattle.uca_key.proofs.WeighingLemmas.{own_weights-both}
 
 -- one more
@@ -44,3 +44,14 @@ counted-second v n es d few within common counted = counted-more v 2 n es d few 
 
 pub counted-third : (v : Variable) (n : ℕ) (es : List Element) (d : Element) → n + 1 < 62 → n < length es → (get_or es n d).l3 ≡ 2 → AreCounted v 3 n es → AreCounted v 3 (n + 1) es
 counted-third v n es d few within common counted = counted-more v 3 n es d few within (ap (λ (x : ℕ). filter (λ (y : ℕ). not (y == 0)) (x ∷ [])) common) counted
+
+-- the weights from one element on
+pub weights-one : (v : Variable) (level i w : ℕ) (es : List Element) (d : Element) (ws : List ℕ) → i < length es → w ≡ slice_index (own_weights v (get_or es i d)) (level - 1)
+    → level_weights level (all_own v (drop i es)) ++ ws ≡ filter (λ x. not (x == 0)) (w ∷ []) ++ (level_weights level (all_own v (drop (i + 1) es)) ++ ws)
+weights-one v level i w es d ws within is =
+    let weights : List Element → List ℕ = λ l. level_weights level (all_own v l) in
+    let e : Element = get_or es i d in let left : List Element = drop (i + 1) es in
+    ap (λ l. weights l ++ ws) (drop_more es i d within)
+    ∙ ap (λ l. l ++ ws) (own_weights-both v level (e ∷ []) left)
+    ∙ append_assoc (weights (e ∷ [])) (weights left) ws
+    ∙ ap (λ (x : ℕ). filter (λ (y : ℕ). not (y == 0)) (x ∷ []) ++ (weights left ++ ws)) (sym is)

@@ -1,5 +1,5 @@
 -- Bytes that are put into a buffer piece by piece.
-use Rattle.std.specs.Prelude.{◌≡◌, ℕ, ◌+◌, ◌-◌, ◌^◌, min, List, ◌++◌, length, take, drop}
+use Rattle.std.specs.Prelude.{◌≡◌, ◌≤◌, ℕ, ◌+◌, ◌-◌, ◌^◌, min, List, ◌++◌, length, take, drop}
 
 -- the front of a buffer has some bytes, or as many of them as fit, and the rest of it is as it was
 abbrev pub with_front : List ℕ → List ℕ → List ℕ
@@ -13,6 +13,11 @@ with_bytes_at at bytes buffer = take at buffer ++ with_front bytes (drop at buff
 pub record PutsAt (at : ℕ) (bytes before after : List ℕ) (next : ℕ) : Type 0 where
   pub written : after ≡ with_bytes_at at bytes before
   pub counted : next ≡ min (at + length bytes) (2 ^ 64 - 1)
+
+-- bytes were put between two places of a buffer, and what comes after them is as it was
+pub record StaysAfter (from to : ℕ) (before after : List ℕ) : Type 0 where
+  pub later : from ≤ to
+  pub rest : drop to after ≡ drop to before
 
 -- a front of the whole was put, and the other bytes are left
 pub record IsPutting (at : ℕ) (before : List ℕ) (next : ℕ) (now whole left : List ℕ) : Type 0 where

@@ -1,10 +1,9 @@
 -- What the vectors of a code of primary weights hold.
-use Rattle.std.specs.Prelude.{◌≡◌, ℕ, ◌<◌, ◌≤◌, ◌/◌, ◌==◌, ◌&&◌, not, Bool, true, false, nat_le, nat_lt, List, length, get_or, slice_index, refl, max, fold, if◌then◌else◌}
+use Rattle.std.specs.Prelude.{◌≡◌, ℕ, ◌+◌, ◌<◌, ◌≤◌, ◌==◌, ◌&&◌, Bool, false, nat_le, nat_lt, List, length, get_or, slice_index, refl, max, fold, if◌then◌else◌}
 use Rattle.std.specs.List.{list_any}
 use Rattle.std.specs.Coded.{Coded, code_by, coded×, coded_list, coded_ℕ}
-use Rattle.uca_key.specs.PrimaryCode.{PrimaryCode, is_common, is_single, lead, slot}
+use Rattle.uca_key.specs.PrimaryCode.{PrimaryCode, is_common, is_letter, is_single, lead, slot}
 use Rattle.uca_key.specs.declared.packed_code.Outside.{Outside}
-use Rattle.uca_key.specs.declared.packed_code.Single.{Single}
 use Rattle.uca_key.specs.declared.packed_code.Slot.{Slot}
 use Rattle.uca_key.specs.declared.packed_code.Window.{Window}
 
@@ -12,11 +11,13 @@ use Rattle.uca_key.specs.declared.packed_code.Window.{Window}
 abbrev pub is_range : ℕ × ℕ → Bool
 is_range r = nat_le r.0 r.1 && nat_lt r.1 0xD800
 
--- what a code has of a weight: its slot, whether it is common, and whether it is common, is not zero and begins no implicit pair
+-- what is above the number of a slot: what kind of weight lies there
+abbrev pub kind_of : PrimaryCode → ℕ → ℕ
+kind_of k w = if is_letter k w then 0 else if is_common k w then 0x20000 else 0x40000
+
+-- what a code has of a weight: its slot, and whether it is a letter, or else common
 pub record IsSlotOf (k : PrimaryCode) (w : ℕ) (s : Slot) : Type 0 where
-  pub number : s.number ≡ slot k w
-  pub common : s.common ≡ is_common k w
-  pub letter : s.letter ≡ (is_common k w && not (w / 256 == 251) && not (w == 0))
+  pub bits : s.bits ≡ slot k w + kind_of k w
 
 -- flags say of each weight that they have whether it is common
 abbrev pub AreCommons : PrimaryCode → List Bool → Type 0
@@ -52,8 +53,8 @@ AreFlags ws flags = (w : ℕ) → w < length flags → get_or flags w false ≡ 
 abbrev pub AreGreatest : List ℕ → ℕ → List ℕ → Type 0
 AreGreatest ws n table = (w d : ℕ) → w < n → get_or table w d ≡ greatest ws w
 
--- the same of each weight, the first window, and the space
-pub record HoldsSlots (k : PrimaryCode) (slots : List Slot) (outside : List Outside) (begins : List ℕ) (first : Window) (space : Single) : Type 0 where
+-- the same of each weight, and the first window
+pub record HoldsSlots (k : PrimaryCode) (slots : List Slot) (outside : List Outside) (begins : List ℕ) (first : Window) : Type 0 where
   pub size : length slots ≡ 65536
   pub each : AreSlots k 65536 slots
   pub outside_size : length outside ≡ 65536
@@ -65,9 +66,6 @@ pub record HoldsSlots (k : PrimaryCode) (slots : List Slot) (outside : List Outs
   pub numbered : first.slot ≡ slot k first.base
   pub led : first.lead ≡ lead k first.base
   pub most : first.lead ≤ 135
-  pub single : is_single k space.weight ≡ true
-  pub space_led : space.lead ≡ lead k space.weight
-  pub space_most : space.lead ≤ 135
 
 -- a code as its lists
 abbrev pub coded_code : Coded PrimaryCode

@@ -1,21 +1,13 @@
-ghost use Rattle.std.specs.Prelude.{◌≡◌, IsTrue, ◌+◌, ◌*◌, ◌==◌, ◌≤◌, ◌<◌, ◌^◌, ◌∷◌, [], not, length, filter, flat_map, get_or};
+ghost use Rattle.std.specs.Prelude.{◌≡◌, ◌+◌, ◌*◌, ◌==◌, ◌≤◌, ◌<◌, ◌^◌, ◌∷◌, [], not, length, filter, flat_map, get_or};
 ghost use Rattle.std.specs.Int.{to_be_bytes, w16};
 ghost use Rattle.uca_model.specs.SortKey.{weight_bytes, level_bytes};
 ghost use Rattle.uca_key.specs.Placing.{PutsAt};
 ghost use Rattle.uca_key.specs.Weighing.{all_own, own_weights};
 
-use crate::placing::put_bytes;
+use crate::placing::{has_room, put_bytes};
 use crate::runs::common_weight;
 use crate::weighing::own_weight;
 use uca_weights::{Element, Variable};
-
-// Whether a weight of each of so many elements fits between a place of a buffer and its end.
-#[inline(always)]
-fn has_room(elements: usize, at: usize, room: usize) -> bool
-    ensures { IsTrue result → at + 2 * elements ≤ room }
-{
-    at <= room && elements <= (room - at) / 2
-}
 
 // Puts two bytes at a place of a key, where they fit, and returns the place after them.
 #[inline(always)]
@@ -156,7 +148,7 @@ fn put_whole(v: Variable, elements: &[Element], level: u8, at: usize, out: &mut 
     requires size { length out.old < 2 ^ 64 }
     ensures { PutsAt at (level_bytes (all_own v elements.now) level) out.old out.new result }
 {
-    if !has_room(elements.len(), at, out.len()) {
+    if !has_room(elements.len(), 2, at, out.len()) {
         return put_some_level(v, elements, level, at, out);
     }
     if level == 1 {

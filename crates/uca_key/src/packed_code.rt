@@ -1,7 +1,7 @@
 //! The code of primary weights in packed keys: what a table says of common characters, with a slot for each weight.
-ghost use Rattle.std.specs.Prelude.{◌≡◌, ◌<◌, ◌≤◌, ◌+◌, ◌-◌, ◌*◌, ◌/◌, ◌%◌, ◌++◌, ◌==◌, ◌&&◌, not, ℕ, true, false, get_or, fold, if◌then◌else◌, length, map, max, nat_le, IsTrue, slice_index, sum_by, OnOk, IfOk, List};
+ghost use Rattle.std.specs.Prelude.{◌≡◌, ◌<◌, ◌≤◌, ◌+◌, ◌-◌, ◌*◌, ◌/◌, ◌%◌, ◌++◌, ◌==◌, ◌^◌, ℕ, true, false, get_or, fold, if◌then◌else◌, length, map, max, nat_le, IsTrue, slice_index, sum_by, OnOk, IfOk, List};
 ghost use Rattle.std.specs.List.{list_all, list_any, range_with_len};
-ghost use Rattle.uca_key.specs.PrimaryCode.{PrimaryCode, anchor_of, begins_slot, code_of, first_primary, is_common, is_single, lead, page_of, past, points_of_ranges, primary_of, slot};
+ghost use Rattle.uca_key.specs.PrimaryCode.{PrimaryCode, anchor_of, begins_slot, code_of, first_primary, is_common, is_letter, is_single, lead, page_of, past, points_of_ranges, primary_of, slot};
 ghost use Rattle.uca_key.specs.SlotTables.{AreCommons, AreFlags, AreGreatest, AreOutside, AreSlots, greatest, greatest_below, IsOutsideOf, IsSlotOf, is_range};
 
 use crate::common_characters::{COMMON_RANGES, FIRST_LETTERS, SINGLE_CHARACTERS};
@@ -152,10 +152,15 @@ fn slot_of(flags: &[bool], w: usize, number: u32) -> Slot
     requires most { number ≤ w }
     ensures { (k : PrimaryCode) → AreCommons k flags.now → number ≡ slot k w → IsSlotOf k w result }
 {
+    let kind = if !flags[w] {
+        NOT_COMMON
+    } else if w / PAGE == 0xFB || w == 0 {
+        NO_LETTER
+    } else {
+        0
+    };
     Slot {
-        number: number as u16,
-        common: flags[w],
-        letter: flags[w] && w / PAGE != 0xFB && w != 0,
+        bits: number + kind,
     }
 }
 
@@ -217,9 +222,7 @@ fn push_page(
         return push_slots(flags, first, number, slots);
     }
     let slot = Slot {
-        number: number as u16,
-        common: false,
-        letter: false,
+        bits: number + NOT_COMMON,
     };
     slots.resize(first + PAGE, slot)?;
     Ok(number + 1)
@@ -356,15 +359,17 @@ fn greatest_of(alloc: Global, weights: &[u16]) -> Result<Vec<u16>, AllocError>
     Ok(table)
 }
 
-// What the code has of a weight.
+// What is above the number of a slot where its weight is no letter, since it is zero or begins an implicit pair.
+const NO_LETTER: u32 = 0x2_0000;
+
+// The same where its weight is not common.
+const NOT_COMMON: u32 = 0x4_0000;
+
+// What the code has of a weight: the number of its slot in the lower 16 bits, and above them 0 where the weight is a letter. So one
+// subtraction tells whether it is a letter of a window.
 #[derive(Clone, Copy)]
 struct Slot {
-    // The number of its slot.
-    number: u16,
-    // Whether it is common, and so alone there.
-    common: bool,
-    // Whether it is common, is not zero and begins no implicit pair.
-    letter: bool,
+    bits: u32,
 }
 
 // What the code has of a weight outside its window.
@@ -373,13 +378,6 @@ struct Outside {
     lead: u8,
     // Whether it has a byte of its own everywhere.
     single: bool,
-}
-
-/// A weight that has a lead of its own, and its lead.
-#[derive(Clone, Copy)]
-pub(crate) struct Single {
-    pub(crate) weight: u16,
-    pub(crate) lead: u8,
 }
 
 /// A window: the weight at which it begins, with its slot and its lead.
@@ -460,20 +458,6 @@ fn outsides_of(alloc: Global, singles: &[u16]) -> Result<Vec<Outside>, AllocErro
     Ok(outside)
 }
 
-// One of these weights that have leads of their own.
-fn single_of(singles: &[u16], n: usize) -> Single
-    requires within { n < length singles.now }
-    requires few { length singles.now ≤ 10 }
-    ensures single { IsTrue (list_any (λ c. c == result.weight) singles.now) }
-    ensures lead { (k : PrimaryCode) → k.singles ≡ singles.now → result.lead ≡ lead k result.weight }
-    ensures most { result.lead ≤ 135 }
-{
-    Single {
-        weight: singles[n],
-        lead: lead_over(singles, singles[n]),
-    }
-}
-
 // The window that begins at a weight, with these slots, and these weights that have leads of their own.
 fn window_of(slots: &[Slot], singles: &[u16], base: u16) -> Window
     requires size { length slots.now ≡ 65536 }
@@ -485,7 +469,7 @@ fn window_of(slots: &[Slot], singles: &[u16], base: u16) -> Window
 {
     Window {
         base,
-        slot: slots[base as usize].number,
+        slot: (slots[base as usize].bits % 0x1_0000) as u16,
         lead: lead_over(singles, base),
     }
 }
@@ -504,7 +488,6 @@ pub struct PackedCode {
     begins: Vec<u16>,
     // Of each text.
     first: Window,
-    space: Single,
 }
 
 impl Model for PackedCode {
@@ -517,7 +500,7 @@ impl Model for PackedCode {
 
     ghost view = { λ c. record { commons = c.commons.items; singles = c.singles; anchors = c.anchors } };
 
-    ghost invariant = { λ c. HoldsSlots (record { commons = c.commons.items; singles = c.singles; anchors = c.anchors }) c.slots.items c.outside.items c.begins.items c.first c.space };
+    ghost invariant = { λ c. HoldsSlots (record { commons = c.commons.items; singles = c.singles; anchors = c.anchors }) c.slots.items c.outside.items c.begins.items c.first };
 }
 
 impl PackedCode {
@@ -533,7 +516,6 @@ impl PackedCode {
         let mut anchors = [0; ANCHORS];
         anchors.copy_from_slice(weights_of(alloc, t, &FIRST_LETTERS)?.as_slice());
         let first = window_of(&slots, &singles, anchors[0]);
-        let space = single_of(&singles, 0);
         let outside = outsides_of(alloc, &singles)?;
         let begins = greatest_of(alloc, &anchors)?;
         Ok(PackedCode {
@@ -544,7 +526,6 @@ impl PackedCode {
             outside,
             begins,
             first,
-            space,
         })
     }
 
@@ -553,7 +534,7 @@ impl PackedCode {
     pub(crate) fn slot(&self, w: u16) -> u16
         ensures { result ≡ slot self.now w }
     {
-        self.slots[w as usize].number
+        (self.slots[w as usize].bits % 0x1_0000) as u16
     }
 
     /// Whether a weight is common.
@@ -561,15 +542,17 @@ impl PackedCode {
     pub(crate) fn is_common(&self, w: u16) -> bool
         ensures { result ≡ is_common self.now w }
     {
-        self.slots[w as usize].common
+        self.slots[w as usize].bits < NOT_COMMON
     }
 
-    /// Whether a weight is common, is not zero and begins no implicit pair.
+    /// The slot of a weight that is a letter; of any other weight a number that is far above all slots.
     #[inline(always)]
-    pub(crate) fn is_letter(&self, w: u16) -> bool
-        ensures { result ≡ is_common self.now w && not (w / 256 == 251) && not (w == 0) }
+    pub(crate) fn letter_slot(&self, w: u16) -> u32
+        ensures letter { is_letter self.now w ≡ true → result ≡ slot self.now w }
+        ensures other { is_letter self.now w ≡ false → 131072 ≤ result }
+        ensures most { result < 2 ^ 31 }
     {
-        self.slots[w as usize].letter
+        self.slots[w as usize].bits
     }
 
     /// Whether a weight has a byte of its own everywhere.
@@ -609,16 +592,6 @@ impl PackedCode {
             slot: self.slot(base),
             lead: self.lead(base),
         }
-    }
-
-    /// The weight of the space, which most texts have between their words.
-    #[inline(always)]
-    pub(crate) fn space(&self) -> Single
-        ensures single { is_single self.now result.weight ≡ true }
-        ensures lead { result.lead ≡ lead self.now result.weight }
-        ensures most { result.lead ≤ 135 }
-    {
-        self.space
     }
 
     /// The first window.

@@ -1,52 +1,48 @@
 // Packed sort keys that are put into a buffer, level after level.
-ghost use Rattle.std.specs.Prelude.{◌≡◌, ◌+◌, ◌*◌, ◌-◌, ◌^◌, ◌<◌, ◌≤◌, ◌++◌, ℕ, List, chars, length, take};
+ghost use Rattle.std.specs.Prelude.{◌≡◌, ◌<◌, ◌≤◌, ◌^◌, chars, length};
+ghost use Rattle.unicode_normalization.specs.Forms.{nfd};
 ghost use Rattle.uca_weights.specs.VariableWeighting.{weighted};
-ghost use Rattle.uca_model.specs.LevelWeights.{level_weights};
-ghost use Rattle.uca_key.specs.Pieces.{HoldsWeights, elements_of};
+ghost use Rattle.uca_key.specs.Pieces.{HoldsWeights, elements_of, weights_of};
 ghost use Rattle.uca_key.specs.Placing.{PutsAt};
-ghost use Rattle.uca_key.specs.PackedKey.{later_levels, packed_key_by};
-ghost use Rattle.uca_key.specs.PrimaryCode.{primary_level, start};
+ghost use Rattle.uca_key.specs.PackedKey.{packed_key_by, packed_later};
+ghost use Rattle.uca_key.specs.Runs.{AreCounted};
 ghost use Rattle.uca_key.specs.Weighing.{all_own};
 
 use crate::packed_code::PackedCode;
 use crate::pieces::TextReading;
-use crate::placing::{put_bytes, put_text};
+use crate::placing::put_text;
 use crate::{runs, weight_bytes};
-use uca_weights::{Element, Settings, Variable};
+use uca_weights::{Element, Settings};
 
-// The most elements whose levels of weights are put together.
-const FEW: usize = 64;
-
-// The most bytes of these levels: three of an element at the first one, four at each later one, and an end of each.
-const FEW_BYTES: usize = 15 * FEW + 4;
-
-// Puts the levels of weights of some elements, up to the last one asked for, into the front of a buffer.
-fn put_weights(
-    code: &PackedCode,
-    v: Variable,
-    last: u8,
+// Puts a later level, from 2 to 5, of a text whose elements are held. So many of their first weights at the levels 2 and 3 are common.
+#[inline(always)]
+fn put_later(
+    reading: &TextReading,
+    level: u8,
+    common: u8,
     elements: &[Element],
-    key: &mut [u8],
+    at: usize,
+    out: &mut [u8],
 ) -> usize
-    requires first { 1 ≤ last }
-    requires last { last ≤ 4 }
-    requires room { 15 * length elements.now + 4 ≤ length key.old }
-    ensures bytes { (decomposed : List ℕ) → take result key.new ≡ primary_level code.now (start code.now) (level_weights 1 (all_own v elements.now)) ++ later_levels (last - 1) 2 (all_own v elements.now) decomposed }
-    ensures within { result ≤ length key.new }
+    requires first { 2 ≤ level }
+    requires last { level ≤ 5 }
+    requires few { common < 62 }
+    requires second { AreCounted reading.now.weighting 2 common elements.now }
+    requires third { AreCounted reading.now.weighting 3 common elements.now }
+    requires elements { all_own reading.now.weighting elements.now ≡ weighted reading.now.weighting (elements_of reading.now) }
+    requires size { length out.old < 2 ^ 64 }
+    ensures { PutsAt at (packed_later (weights_of reading.now) (nfd (chars reading.now.text.now)) level) out.old out.new result }
 {
-    let mut next = weight_bytes::put_whole(code, v, elements, key);
-    let common = runs::count_common(elements);
-    let mut level = 1;
-    'levels: while level < last {
-        level += 1;
-        let counted = if level <= 3 { common } else { 0 };
-        next = runs::put_whole(v, level, counted, elements, next, key);
+    match level {
+        2 => runs::put_whole(reading.weighting, 2, common, elements, at, out),
+        3 => runs::put_whole(reading.weighting, 3, common, elements, at, out),
+        4 => runs::put_whole(reading.weighting, 4, 0, elements, at, out),
+        _ => put_text(reading.table, reading.weighting, reading.text, at, out),
     }
-    next
 }
 
-// Puts the packed sort key of a text of a few elements. Its levels of weights are put together, and then copied.
-fn put_few(
+// Puts the packed sort key of a text whose elements are held.
+fn put_held(
     code: &PackedCode,
     reading: &TextReading,
     s: Settings,
@@ -54,17 +50,18 @@ fn put_few(
     at: usize,
     out: &mut [u8],
 ) -> usize
-    requires elements { all_own s.weighting elements.now ≡ weighted s.weighting (elements_of reading.now) }
-    requires few { length elements.now ≤ 64 }
+    requires option { s.weighting ≡ reading.now.weighting }
+    requires elements { all_own reading.now.weighting elements.now ≡ weighted reading.now.weighting (elements_of reading.now) }
     requires size { length out.old < 2 ^ 64 }
     ensures { PutsAt at (packed_key_by code.now reading.now.table.now s (chars reading.now.text.now)) out.old out.new result }
 {
     let last = s.levels();
-    let mut key = [0; FEW_BYTES];
-    let end = put_weights(code, s.weighting, last.min(4), elements, &mut key);
-    let next = put_bytes(&key[..end], at, out);
-    if last == 5 {
-        return put_text(reading.table, s.weighting, reading.text, next, out);
+    let mut next = weight_bytes::put_whole(code, reading.weighting, elements, at, out);
+    let common = runs::count_common(elements);
+    let mut level = 1;
+    'levels: while level < last {
+        level += 1;
+        next = put_later(reading, level, common, elements, next, out);
     }
     next
 }
@@ -87,16 +84,14 @@ pub(crate) fn put_packed_levels(
     ensures room { length room.new ≡ length room.old }
 {
     if let Some(held) = reading.held {
-        if held <= FEW {
-            return put_few(code, reading, s, &room[..held], at, out);
-        }
+        return put_held(code, reading, s, &room[..held], at, out);
     }
     let last = s.levels();
-    let mut next = weight_bytes::put_first(code, reading, room, at, out);
+    let mut next = weight_bytes::put_again(code, reading, room, at, out);
     let mut level = 1;
     'each: while level < last {
         level += 1;
-        next = runs::put_later(reading, level, room, next, out);
+        next = runs::put_again(reading, level, room, next, out);
     }
     next
 }

@@ -1,5 +1,5 @@
 // Keys that are put into a buffer piece by piece, level after level.
-ghost use Rattle.std.specs.Prelude.{◌≡◌, ◌<◌, ◌≤◌, ◌-◌, ◌^◌, chars, length, min};
+ghost use Rattle.std.specs.Prelude.{◌≡◌, ◌<◌, ◌≤◌, ◌+◌, ◌-◌, ◌*◌, ◌^◌, IsTrue, chars, length, min};
 ghost use Rattle.uca_model.specs.DecidingLevel.{bytes_at};
 ghost use Rattle.uca_model.specs.LevelWeights.{level_list};
 ghost use Rattle.uca_model.specs.SafeText.{IsSafe};
@@ -29,6 +29,15 @@ pub fn copy_front(bytes: &[u8], out: &mut [u8])
 {
     let n = bytes.len().min(out.len());
     out[..n].copy_from_slice(&bytes[..n]);
+}
+
+/// Whether bytes of each of so many elements fit between a place of a buffer and its end.
+#[inline(always)]
+pub(crate) fn has_room(elements: usize, each: usize, at: usize, room: usize) -> bool
+    requires { 0 < each }
+    ensures { IsTrue result → at + each * elements ≤ room }
+{
+    at <= room && elements <= (room - at) / each
 }
 
 /// Puts bytes at a place of a buffer, or as many of them as fit there, and returns the place after them.

@@ -6,12 +6,12 @@ ghost use Rattle.uca_model.specs.LevelWeights.{level_weights};
 ghost use Rattle.uca_model.specs.SafeText.{IsSafe};
 ghost use Rattle.uca_key.specs.PackedKey.{common_weight, other_bytes, runs_after, packed_later, packed_level};
 ghost use Rattle.uca_key.specs.Runs.{AreCounted, bytes_left};
-ghost use Rattle.uca_key.specs.Pieces.{HoldsWeights, weights_of};
-ghost use Rattle.uca_key.specs.Placing.{IsPutting, PutsAt};
+ghost use Rattle.uca_key.specs.Pieces.{weights_of};
+ghost use Rattle.uca_key.specs.Placing.{IsPutting, PutsAt, StaysAfter};
 ghost use Rattle.uca_key.specs.Weighing.{all_own};
 
 use crate::pieces::{PIECE, TextReading};
-use crate::placing::{put_bytes, put_text};
+use crate::placing::{has_room, put_bytes, put_text};
 use crate::weighing::own_weight;
 use uca_weights::{Element, Variable};
 
@@ -47,6 +47,7 @@ fn put_other(key: &mut [u8], at: usize, weight: u16) -> usize
     requires { at + 3 ≤ length key.old }
     ensures bytes { take result key.new ≡ take at key.old ++ other_bytes weight }
     ensures within { result ≤ at + 3 }
+    ensures stays { StaysAfter at result key.old key.new }
     ensures size { length key.new ≡ length key.old }
 {
     if weight < 0xFE {
@@ -81,6 +82,7 @@ fn put_after_run(key: &mut [u8], before: Counted, common: u16, weight: u16) -> C
     ensures bytes { (ws : List ℕ) → take result.at key.new ++ runs_after common result.run ws ≡ take before.at key.old ++ runs_after common before.run (weight ∷ ws) }
     ensures few { result.run < 62 }
     ensures within { result.at ≤ before.at + 4 }
+    ensures stays { StaysAfter before.at result.at key.old key.new }
     ensures size { length key.new ≡ length key.old }
 {
     if weight > common && before.run < 2 && weight - common < 35 {
@@ -106,6 +108,7 @@ fn pack_weight(key: &mut [u8], before: Counted, common: u16, weight: u16) -> Cou
     ensures bytes { (ws : List ℕ) → take result.at key.new ++ runs_after common result.run ws ≡ take before.at key.old ++ runs_after common before.run (filter (λ w. not (w == 0)) (weight ∷ []) ++ ws) }
     ensures few { result.run < 62 }
     ensures within { result.at ≤ before.at + 4 }
+    ensures stays { StaysAfter before.at result.at key.old key.new }
     ensures size { length key.new ≡ length key.old }
 {
     if weight == common {
@@ -143,6 +146,7 @@ fn pack_each(
     ensures bytes { (ws : List ℕ) → take result.at key.new ++ runs_after (common_weight level) result.run ws ≡ take before.at key.old ++ runs_after (common_weight level) before.run (level_weights level (all_own v elements.now) ++ ws) }
     ensures few { result.run < 62 }
     ensures within { result.at ≤ before.at + 4 * length elements.now }
+    ensures stays { StaysAfter before.at result.at key.old key.new }
     ensures size { length key.new ≡ length key.old }
 {
     let common = common_weight(level);
@@ -185,6 +189,7 @@ fn pack_whole(
     ensures bytes { (ws : List ℕ) → take result.at key.new ++ runs_after (common_weight level) result.run ws ≡ take before.at key.old ++ runs_after (common_weight level) before.run (level_weights level (all_own v elements.now) ++ ws) }
     ensures few { result.run < 62 }
     ensures within { result.at ≤ before.at + 4 * length elements.now }
+    ensures stays { StaysAfter before.at result.at key.old key.new }
     ensures size { length key.new ≡ length key.old }
 {
     let mut packed = before;
@@ -210,6 +215,7 @@ fn pack(key: &mut [u8], before: Counted, v: Variable, elements: &[Element], leve
     ensures bytes { (ws : List ℕ) → take result.at key.new ++ runs_after (common_weight level) result.run ws ≡ take before.at key.old ++ runs_after (common_weight level) before.run (level_weights level (all_own v elements.now) ++ ws) }
     ensures few { result.run < 62 }
     ensures within { result.at ≤ before.at + 4 * length elements.now }
+    ensures stays { StaysAfter before.at result.at key.old key.new }
     ensures size { length key.new ≡ length key.old }
 {
     match level {
@@ -236,35 +242,6 @@ pub(crate) fn count_common(elements: &[Element]) -> u8
         n += 1;
     }
     n as u8
-}
-
-/// Puts a level, from 2 to 4, of some elements into a buffer. So many of their first weights are common.
-pub(crate) fn put_whole(
-    v: Variable,
-    level: u8,
-    common: u8,
-    elements: &[Element],
-    at: usize,
-    key: &mut [u8],
-) -> usize
-    requires first { 2 ≤ level }
-    requires last { level ≤ 4 }
-    requires few { common < 62 }
-    requires counted { AreCounted v level common elements.now }
-    requires room { at + 4 * length elements.now + 1 ≤ length key.old }
-    ensures bytes { take result key.new ≡ take at key.old ++ packed_level (all_own v elements.now) level }
-    ensures within { result ≤ at + 4 * length elements.now + 1 }
-    ensures size { length key.new ≡ length key.old }
-{
-    if common as usize == elements.len() {
-        key[at] = 2 * common;
-        return at + 1;
-    }
-    let before = Counted { at, run: common };
-    let (_, left) = elements.split_at(common as usize);
-    let packed = pack(key, before, v, left, level);
-    key[packed.at] = 2 * packed.run;
-    packed.at + 1
 }
 
 // Packs the weights of some elements at a level from 2 to 4, a piece at a time.
@@ -308,6 +285,34 @@ fn put_end(state: Counted, out: &mut [u8]) -> usize
     put_bytes(&[2 * state.run], state.at, out)
 }
 
+/// Puts a level, from 2 to 4, of some elements at a place of a buffer. So many of their first weights are common. What fits is put at
+/// once, and else a piece at a time.
+#[inline(always)]
+pub(crate) fn put_whole(
+    v: Variable,
+    level: u8,
+    common: u8,
+    elements: &[Element],
+    at: usize,
+    out: &mut [u8],
+) -> usize
+    requires first { 2 ≤ level }
+    requires last { level ≤ 4 }
+    requires few { common < 62 }
+    requires counted { AreCounted v level common elements.now }
+    requires size { length out.old < 2 ^ 64 }
+    ensures { PutsAt at (packed_level (all_own v elements.now) level) out.old out.new result }
+{
+    let before = Counted { at, run: common };
+    let (_, left) = elements.split_at(common as usize);
+    if !has_room(left.len(), OTHER, at.saturating_add(1), out.len()) {
+        return put_end(put_elements(v, level, before, left, out), out);
+    }
+    let packed = pack(out, before, v, left, level);
+    out[packed.at] = 2 * packed.run;
+    packed.at + 1
+}
+
 // Puts a level, from 2 to 4, of a text that the room does not hold, as it is read once more.
 #[inline(never)]
 fn put_level_again(
@@ -335,33 +340,8 @@ fn put_level_again(
     }
 }
 
-// Puts a level, from 2 to 4, of a text that was read into room.
-fn put_level(
-    level: u8,
-    reading: &TextReading,
-    room: &mut [Element],
-    at: usize,
-    out: &mut [u8],
-) -> usize
-    requires first { 2 ≤ level }
-    requires last { level ≤ 4 }
-    requires some { 0 < length room.old }
-    requires holds { HoldsWeights reading.now room.old }
-    requires size { length out.old < 2 ^ 64 }
-    ensures bytes { PutsAt at (packed_level (weights_of reading.now) level) out.old out.new result }
-    ensures holds { HoldsWeights reading.now room.new }
-    ensures room { length room.new ≡ length room.old }
-{
-    if let Some(held) = reading.held {
-        let before = Counted { at, run: 0 };
-        let state = put_elements(reading.weighting, level, before, &room[..held], out);
-        return put_end(state, out);
-    }
-    put_level_again(level, reading, room, at, out)
-}
-
-/// Puts a later level of a text that was read into room, from 2 to 5.
-pub(crate) fn put_later(
+/// Puts a later level, from 2 to 5, of a text that the room does not hold.
+pub(crate) fn put_again(
     reading: &TextReading,
     level: u8,
     room: &mut [Element],
@@ -371,14 +351,12 @@ pub(crate) fn put_later(
     requires first { 2 ≤ level }
     requires last { level ≤ 5 }
     requires some { 0 < length room.old }
-    requires holds { HoldsWeights reading.now room.old }
     requires size { length out.old < 2 ^ 64 }
     ensures bytes { PutsAt at (packed_later (weights_of reading.now) (nfd (chars reading.now.text.now)) level) out.old out.new result }
-    ensures holds { HoldsWeights reading.now room.new }
     ensures room { length room.new ≡ length room.old }
 {
     if level == 5 {
         return put_text(reading.table, reading.weighting, reading.text, at, out);
     }
-    put_level(level, reading, room, at, out)
+    put_level_again(level, reading, room, at, out)
 }

@@ -1,17 +1,17 @@
-// The first level of a packed key, put into a buffer piece by piece.
-ghost use Rattle.std.specs.Prelude.{◌≡◌, ◌==◌, ◌≤◌, ◌<◌, ◌+◌, ◌*◌, ◌-◌, ◌^◌, ◌/◌, ◌%◌, ◌++◌, ◌∷◌, [], ℕ, List, if◌then◌else◌, nat_lt, not, filter, length, take, drop, true, false, IsTrue};
+// The first level of a packed key, put into a buffer.
+ghost use Rattle.std.specs.Prelude.{◌≡◌, ◌==◌, ◌≤◌, ◌<◌, ◌+◌, ◌*◌, ◌-◌, ◌^◌, ◌/◌, ◌%◌, ◌++◌, ◌∷◌, [], ℕ, List, if◌then◌else◌, nat_lt, not, filter, length, take, drop, true, false, IfSome};
 ghost use Rattle.uca_weights.specs.VariableWeighting.{weighted};
 ghost use Rattle.uca_model.specs.LevelWeights.{level_weights};
 ghost use Rattle.uca_model.specs.SortKey.{weight_bytes};
 ghost use Rattle.uca_key.specs.Reach.{first_left, state_of};
-ghost use Rattle.uca_key.specs.Pieces.{HoldsWeights, weights_of};
-ghost use Rattle.uca_key.specs.Placing.{IsPutting, PutsAt};
-ghost use Rattle.uca_key.specs.PrimaryCode.{after_slot, base_after, has_page, is_common, is_in_window, is_single, lead, letter_bytes, primary_bytes, primary_level, second_bytes, slot, start, state_after};
+ghost use Rattle.uca_key.specs.Pieces.{weights_of};
+ghost use Rattle.uca_key.specs.Placing.{IsPutting, PutsAt, StaysAfter};
+ghost use Rattle.uca_key.specs.PrimaryCode.{after_slot, base_after, has_page, is_common, is_in_window, is_letter, is_single, lead, letter_bytes, primary_bytes, primary_level, second_bytes, slot, start, state_after};
 ghost use Rattle.uca_key.specs.Weighing.{all_own};
 
-use crate::packed_code::{PackedCode, Single, Window};
+use crate::packed_code::{PackedCode, Window};
 use crate::pieces::{PIECE, TextReading};
-use crate::placing::put_bytes;
+use crate::placing::{has_room, put_bytes};
 use uca_levels::primary_weight;
 use uca_weights::{Element, Variable};
 
@@ -27,6 +27,7 @@ fn put_low(w: u16, key: &mut [u8], at: usize) -> usize
     requires { at + 1 ≤ length key.old }
     ensures bytes { take result key.new ≡ take at key.old ++ (w % 256) ∷ [] }
     ensures within { result ≤ at + 1 }
+    ensures stays { StaysAfter at result key.old key.new }
     ensures size { length key.new ≡ length key.old }
 {
     key[at] = (w % 256) as u8;
@@ -38,6 +39,7 @@ fn put_pair(w: u16, key: &mut [u8], at: usize) -> usize
     requires { at + 2 ≤ length key.old }
     ensures bytes { take result key.new ≡ take at key.old ++ weight_bytes w }
     ensures within { result ≤ at + 2 }
+    ensures stays { StaysAfter at result key.old key.new }
     ensures size { length key.new ≡ length key.old }
 {
     let [high, low] = w.to_be_bytes();
@@ -58,6 +60,7 @@ fn put_after_lead(w: u16, key: &mut [u8], at: usize) -> usize
     requires { at + 2 ≤ length key.old }
     ensures bytes { take result key.new ≡ take at key.old ++ (if has_page w then (w % 256) ∷ [] else weight_bytes w) }
     ensures within { result ≤ at + 2 }
+    ensures stays { StaysAfter at result key.old key.new }
     ensures size { length key.new ≡ length key.old }
 {
     if has_page(w) {
@@ -72,6 +75,7 @@ fn put_after_slot(code: &PackedCode, w: u16, key: &mut [u8], at: usize) -> usize
     requires { at + 1 ≤ length key.old }
     ensures bytes { take result key.new ≡ take at key.old ++ after_slot code.now w }
     ensures within { result ≤ at + 1 }
+    ensures stays { StaysAfter at result key.old key.new }
     ensures size { length key.new ≡ length key.old }
 {
     if code.is_common(w) {
@@ -131,6 +135,7 @@ fn put_inside(code: &PackedCode, window: Window, w: u16, key: &mut [u8], at: usi
     requires room { at + 2 ≤ length key.old }
     ensures bytes { take result key.new ≡ take at key.old ++ letter_bytes code.now window.base w }
     ensures within { result ≤ at + 2 }
+    ensures stays { StaysAfter at result key.old key.new }
     ensures size { length key.new ≡ length key.old }
 {
     key[at] = slot_byte(code, window, w);
@@ -152,6 +157,7 @@ fn put_outside(
     requires room { at + 3 ≤ length key.old }
     ensures bytes { take result key.new ≡ take at key.old ++ letter_bytes code.now window.base w }
     ensures within { result ≤ at + 3 }
+    ensures stays { StaysAfter at result key.old key.new }
     ensures size { length key.new ≡ length key.old }
 {
     key[at] = lead_byte(code, window, w, code.lead(w));
@@ -166,6 +172,7 @@ fn put_second(w: u16, key: &mut [u8], at: usize) -> usize
     requires { at + 3 ≤ length key.old }
     ensures bytes { take result key.new ≡ take at key.old ++ second_bytes w }
     ensures within { result ≤ at + 3 }
+    ensures stays { StaysAfter at result key.old key.new }
     ensures size { length key.new ≡ length key.old }
 {
     if w < 0x8000 {
@@ -224,6 +231,7 @@ fn put_weight(code: &PackedCode, before: Placed, w: u16, key: &mut [u8]) -> Plac
     ensures lead { result.reach.window.lead ≡ lead code.now result.reach.window.base }
     ensures most { result.reach.window.lead ≤ 135 }
     ensures within { result.at ≤ before.at + 3 }
+    ensures stays { StaysAfter before.at result.at key.old key.new }
     ensures size { length key.new ≡ length key.old }
 {
     let window = before.reach.window;
@@ -265,6 +273,7 @@ fn put_some(code: &PackedCode, before: Placed, w: u16, key: &mut [u8]) -> Placed
     ensures lead { result.reach.window.lead ≡ lead code.now result.reach.window.base }
     ensures most { result.reach.window.lead ≤ 135 }
     ensures within { result.at ≤ before.at + 3 }
+    ensures stays { StaysAfter before.at result.at key.old key.new }
     ensures size { length key.new ≡ length key.old }
 {
     if w == 0 {
@@ -273,69 +282,92 @@ fn put_some(code: &PackedCode, before: Placed, w: u16, key: &mut [u8]) -> Placed
     put_weight(code, before, w, key)
 }
 
-// Whether a weight is one byte in the window, and the window stays.
+// The place in the window of a weight that is a letter there: it has one byte, and the window stays.
 #[inline(always)]
-fn is_letter(code: &PackedCode, window: Window, w: u16) -> bool
+fn letter_in(code: &PackedCode, window: Window, w: u16) -> Option<u8>
     requires { window.slot ≡ slot code.now window.base }
-    ensures inside { IsTrue result → is_in_window code.now window.base w ≡ true }
-    ensures common { IsTrue result → is_common code.now w ≡ true }
-    ensures one { IsTrue result → (w / 256 == 251) ≡ false }
-    ensures some { IsTrue result → 0 < w }
+    ensures place { IfSome result (λ n. (slot code.now w ≡ slot code.now window.base + n) × (n < 119)) }
+    ensures letter { IfSome result (λ _. is_letter code.now w ≡ true) }
 {
-    is_in_window(code, window, w) && code.is_letter(w)
+    let place = code.letter_slot(w).wrapping_sub(window.slot as u32);
+    if place < WINDOW as u32 {
+        Some(place as u8)
+    } else {
+        None
+    }
 }
 
-// Puts a letter.
+// Puts a letter, which has this place in the window.
 #[inline(always)]
-fn put_letter(code: &PackedCode, reach: Reach, w: u16, key: &mut [u8], at: usize) -> usize
+fn put_letter(
+    code: &PackedCode,
+    reach: Reach,
+    w: u16,
+    place: u8,
+    key: &mut [u8],
+    at: usize,
+) -> usize
     requires slot { reach.window.slot ≡ slot code.now reach.window.base }
     requires lead { reach.window.lead ≡ lead code.now reach.window.base }
     requires most { reach.window.lead ≤ 135 }
     requires first { reach.second ≡ false }
-    requires some { 0 < w }
-    requires inside { is_in_window code.now reach.window.base w ≡ true }
-    requires common { is_common code.now w ≡ true }
-    requires one { (w / 256 == 251) ≡ false }
+    requires place { slot code.now w ≡ slot code.now reach.window.base + place }
+    requires inside { place < 119 }
+    requires letter { is_letter code.now w ≡ true }
     requires room { at + 1 ≤ length key.old }
     ensures bytes { (ws : List ℕ) → take result key.new ++ primary_level code.now (state_of reach) ws ≡ take at key.old ++ primary_level code.now (state_of reach) (filter (λ x. not (x == 0)) (w ∷ []) ++ ws) }
     ensures within { result ≤ at + 1 }
+    ensures stays { StaysAfter at result key.old key.new }
     ensures size { length key.new ≡ length key.old }
 {
-    key[at] = slot_byte(code, reach.window, w);
+    key[at] = reach.window.lead + 1 + place;
     at + 1
-}
-
-// Whether a weight is that of the space, outside the window, and the window stays.
-#[inline(always)]
-fn is_gap(code: &PackedCode, window: Window, space: Single, w: u16) -> bool
-    requires slot { window.slot ≡ slot code.now window.base }
-    requires single { is_single code.now space.weight ≡ true }
-    ensures same { IsTrue result → w ≡ space.weight }
-    ensures single { IsTrue result → is_single code.now w ≡ true }
-    ensures outside { IsTrue result → is_in_window code.now window.base w ≡ false }
-    ensures one { IsTrue result → (w / 256 == 251) ≡ false }
-{
-    w == space.weight && w / 256 != 0xFB && !is_in_window(code, window, w)
 }
 
 // Puts a weight that has a byte of its own, outside the window.
 #[inline(always)]
-fn put_single(code: &PackedCode, reach: Reach, w: u16, own: u8, key: &mut [u8], at: usize) -> usize
+fn put_single(code: &PackedCode, reach: Reach, w: u16, key: &mut [u8], at: usize) -> usize
     requires slot { reach.window.slot ≡ slot code.now reach.window.base }
     requires first { reach.second ≡ false }
     requires some { 0 < w }
     requires single { is_single code.now w ≡ true }
     requires outside { is_in_window code.now reach.window.base w ≡ false }
     requires one { (w / 256 == 251) ≡ false }
-    requires lead { own ≡ lead code.now w }
-    requires most { own ≤ 135 }
     requires room { at + 1 ≤ length key.old }
     ensures bytes { (ws : List ℕ) → take result key.new ++ primary_level code.now (state_of reach) ws ≡ take at key.old ++ primary_level code.now (state_of reach) (filter (λ x. not (x == 0)) (w ∷ []) ++ ws) }
     ensures within { result ≤ at + 1 }
+    ensures stays { StaysAfter at result key.old key.new }
     ensures size { length key.new ≡ length key.old }
 {
-    key[at] = lead_byte(code, reach.window, w, own);
+    key[at] = lead_byte(code, reach.window, w, code.lead(w));
     at + 1
+}
+
+// Puts an implicit pair, whose first weight has a byte of its own, outside the window.
+#[inline(always)]
+fn put_implicit(
+    code: &PackedCode,
+    reach: Reach,
+    w: u16,
+    second: u16,
+    key: &mut [u8],
+    at: usize,
+) -> usize
+    requires slot { reach.window.slot ≡ slot code.now reach.window.base }
+    requires first { reach.second ≡ false }
+    requires single { is_single code.now w ≡ true }
+    requires outside { is_in_window code.now reach.window.base w ≡ false }
+    requires pair { (w / 256 == 251) ≡ true }
+    requires some { 0 < w }
+    requires other { 0 < second }
+    requires room { at + 4 ≤ length key.old }
+    ensures bytes { (ws : List ℕ) → take result key.new ++ primary_level code.now (state_of reach) ws ≡ take at key.old ++ primary_level code.now (state_of reach) (filter (λ x. not (x == 0)) (w ∷ []) ++ (filter (λ x. not (x == 0)) (second ∷ []) ++ ws)) }
+    ensures within { result ≤ at + 4 }
+    ensures stays { StaysAfter at result key.old key.new }
+    ensures size { length key.new ≡ length key.old }
+{
+    key[at] = lead_byte(code, reach.window, w, code.lead(w));
+    put_second(second, key, at + 1)
 }
 
 // How far letters are put: the place after their bytes, and how many elements are done.
@@ -345,7 +377,8 @@ struct Letters {
     done: usize,
 }
 
-// Puts the weights of elements as long as they are letters, spaces or zero. Most of a text is put here, so it asks little.
+// Puts the weights of elements as long as the window stays: letters in it, weights that have a byte of their own outside it, implicit
+// pairs that begin with one, and zeros, which are left out. Most of a text is put here, so it asks little.
 #[inline(always)]
 fn put_letters(
     code: &PackedCode,
@@ -357,22 +390,23 @@ fn put_letters(
     requires slot { before.reach.window.slot ≡ slot code.now before.reach.window.base }
     requires lead { before.reach.window.lead ≡ lead code.now before.reach.window.base }
     requires most { before.reach.window.lead ≤ 135 }
-    requires room { before.at + length elements.now ≤ length key.old }
+    requires room { before.at + 3 * length elements.now ≤ length key.old }
     ensures bytes { (ws : List ℕ) → take result.at key.new ++ primary_level code.now (state_of before.reach) (level_weights 1 (weighted v (drop result.done elements.now)) ++ ws) ≡ take before.at key.old ++ primary_level code.now (state_of before.reach) (level_weights 1 (weighted v elements.now) ++ ws) }
-    ensures within { result.at ≤ before.at + result.done }
+    ensures within { result.at ≤ before.at + 3 * result.done }
     ensures some { result.done ≤ length elements.now }
+    ensures stays { StaysAfter before.at result.at key.old key.new }
     ensures size { length key.new ≡ length key.old }
 {
-    let space = code.space();
+    let reach = before.reach;
     let mut next = before.at;
     let mut done = 0;
-    if before.reach.second {
+    if reach.second {
         return Letters { at: next, done };
     }
     'each: while done < elements.len() {
         let w = primary_weight(v, &elements[done]);
-        if is_letter(code, before.reach.window, w) {
-            next = put_letter(code, before.reach, w, key, next);
+        if let Some(place) = letter_in(code, reach.window, w) {
+            next = put_letter(code, reach, w, place, key, next);
             done += 1;
             continue;
         }
@@ -380,11 +414,23 @@ fn put_letters(
             done += 1;
             continue;
         }
-        if !is_gap(code, before.reach.window, space, w) {
+        if !code.is_single(w) || is_in_window(code, reach.window, w) {
             return Letters { at: next, done };
         }
-        next = put_single(code, before.reach, w, space.lead, key, next);
-        done += 1;
+        if w / 256 != 0xFB {
+            next = put_single(code, reach, w, key, next);
+            done += 1;
+            continue;
+        }
+        if done + 1 == elements.len() {
+            return Letters { at: next, done };
+        }
+        let second = primary_weight(v, &elements[done + 1]);
+        if second == 0 {
+            return Letters { at: next, done };
+        }
+        next = put_implicit(code, reach, w, second, key, next);
+        done += 2;
     }
     Letters { at: next, done }
 }
@@ -406,6 +452,7 @@ fn put_next(
     ensures lead { result.reach.window.lead ≡ lead code.now result.reach.window.base }
     ensures most { result.reach.window.lead ≤ 135 }
     ensures within { result.at + 3 * length (drop 1 elements.now) ≤ before.at + 3 * length elements.now }
+    ensures stays { StaysAfter before.at result.at key.old key.new }
     ensures size { length key.new ≡ length key.old }
 {
     match elements {
@@ -432,6 +479,7 @@ fn put_each(
     ensures lead { result.reach.window.lead ≡ lead code.now result.reach.window.base }
     ensures most { result.reach.window.lead ≤ 135 }
     ensures within { result.at ≤ before.at + 3 * length elements.now }
+    ensures stays { StaysAfter before.at result.at key.old key.new }
     ensures size { length key.new ≡ length key.old }
 {
     let mut placed = before;
@@ -467,6 +515,7 @@ fn put_weights(
     ensures lead { result.reach.window.lead ≡ lead code.now result.reach.window.base }
     ensures most { result.reach.window.lead ≤ 135 }
     ensures within { result.at ≤ before.at + 3 * length elements.now }
+    ensures stays { StaysAfter before.at result.at key.old key.new }
     ensures size { length key.new ≡ length key.old }
 {
     match v {
@@ -523,30 +572,33 @@ fn put_elements(
     state
 }
 
-/// Puts the first level of some elements into the front of a buffer. It ends itself.
+/// Puts the first level of some elements at a place of a buffer. It ends itself. What fits is put at once, and else a piece at a time.
 pub(crate) fn put_whole(
     code: &PackedCode,
     v: Variable,
     elements: &[Element],
-    key: &mut [u8],
+    at: usize,
+    out: &mut [u8],
 ) -> usize
-    requires room { 3 * length elements.now + 1 ≤ length key.old }
-    ensures bytes { take result key.new ≡ primary_level code.now (start code.now) (level_weights 1 (all_own v elements.now)) }
-    ensures within { result ≤ 3 * length elements.now + 1 }
-    ensures size { length key.new ≡ length key.old }
+    requires size { length out.old < 2 ^ 64 }
+    ensures { PutsAt at (primary_level code.now (start code.now) (level_weights 1 (all_own v elements.now))) out.old out.new result }
 {
-    let front = Placed {
-        at: 0,
+    let first = Placed {
+        at,
         reach: first_reach(code),
     };
-    let placed = put_weights(code, v, front, elements, key);
-    key[placed.at] = 0;
+    if !has_room(elements.len(), LETTER, at.saturating_add(1), out.len()) {
+        let placed = put_elements(code, v, first, elements, out);
+        return put_bytes(&[0], placed.at, out);
+    }
+    let placed = put_weights(code, v, first, elements, out);
+    out[placed.at] = 0;
     placed.at + 1
 }
 
-// Puts a first level of a text that the room does not hold, as it is read once more.
+/// Puts the first level of a text that the room does not hold, as it is read once more. It ends itself.
 #[inline(never)]
-fn put_first_again(
+pub(crate) fn put_again(
     code: &PackedCode,
     reading: &TextReading,
     room: &mut [Element],
@@ -570,30 +622,4 @@ fn put_first_again(
         }
         state = put_elements(code, reading.weighting, state, &room[..n], out);
     }
-}
-
-/// Puts the first level of a text that was read into room. It ends itself.
-pub(crate) fn put_first(
-    code: &PackedCode,
-    reading: &TextReading,
-    room: &mut [Element],
-    at: usize,
-    out: &mut [u8],
-) -> usize
-    requires some { 0 < length room.old }
-    requires holds { HoldsWeights reading.now room.old }
-    requires size { length out.old < 2 ^ 64 }
-    ensures bytes { PutsAt at (primary_level code.now (start code.now) (level_weights 1 (weights_of reading.now))) out.old out.new result }
-    ensures holds { HoldsWeights reading.now room.new }
-    ensures room { length room.new ≡ length room.old }
-{
-    if let Some(held) = reading.held {
-        let before = Placed {
-            at,
-            reach: first_reach(code),
-        };
-        let state = put_elements(code, reading.weighting, before, &room[..held], out);
-        return put_bytes(&[0], state.at, out);
-    }
-    put_first_again(code, reading, room, at, out)
 }

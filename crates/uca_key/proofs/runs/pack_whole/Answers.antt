@@ -4,6 +4,7 @@ use Rattle.uca_weights.specs.declared.settings.Variable.{Variable}
 use Rattle.uca_model.specs.LevelWeights.{level_weights}
 use Rattle.uca_key.specs.PackedKey.{common_weight, runs_after}
 use Rattle.uca_key.specs.Weighing.{all_own}
+use Rattle.uca_key.proofs.PlacingLemmas.{stays-more}
 use Rattle.uca_key.proofs.RunsLemmas.{four-common}
 use Rattle.uca_key.proofs.WeighingLemmas.{own_weights-both}
 use Rattle.uca_key.proofs.runs.pack_whole.Goals as goal
@@ -23,6 +24,7 @@ loop-left-preserved c =
     record {
       few = c.pack_each-packed.ensures.few;
       within = omega (arith, c.split_at.ensures.front_len, c.split_at.ensures.back_len, c.pack_each-packed.ensures.within, c.loop-left.invariant.within);
+      stays = stays-more _ _ _ _ _ _ c.loop-left.invariant.stays c.pack_each-packed.ensures.stays;
       size = c.pack_each-packed.ensures.size ∙ c.loop-left.invariant.size;
       same = λ ws. c.pack_each-packed.ensures.bytes (level_weights level (all_own v rest) ++ ws) ∙ ap packed (both v level c.loop-left.left.now four rest ws c.split_at.ensures.by_index.0) ∙ c.loop-left.invariant.same ws;
     }
@@ -38,7 +40,11 @@ loop-left-preserved-then-are_four_common c =
     record {
       few = few;
       within = omega (arith, c.split_at.ensures.front_len, c.split_at.ensures.back_len, c.loop-left.invariant.within);
+      stays = c.loop-left.invariant.stays;
       size = c.loop-left.invariant.size;
       same = λ ws. ap (λ l. take c.loop-left.packed.at c.loop-left.key ++ l) (four-common w c.loop-left.packed.run (level_weights level (all_own v rest) ++ ws) few)
           ∙ ap (λ l. packed (l ++ (level_weights level (all_own v rest) ++ ws))) (sym common) ∙ ap packed (both v level c.loop-left.left.now four rest ws c.split_at.ensures.by_index.0) ∙ c.loop-left.invariant.same ws;
     }
+
+pub returns-clause-stays : goal.returns-clause-stays
+returns-clause-stays c = stays-more _ _ _ _ _ _ c.loop-left.invariant.stays c.pack_each.ensures.stays

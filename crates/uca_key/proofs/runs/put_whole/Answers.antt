@@ -1,17 +1,34 @@
-use Rattle.std.proofs.Common.{◌≡◌, List, ℕ, [], ◌++◌, ◌*◌, take, ap, ◌∙◌, arith, append-nil}
-use Rattle.std.proofs.lemmas.List.{take_more_set}
+use Rattle.std.proofs.Common.{◌≡◌, ◌<◌, List, take, length, ℕ, [], ◌++◌, ◌*◌, refl, sym, ap, ◌∙◌, arith, append-nil}
+use Rattle.std.proofs.lemmas.List.{length-set, take_more_set}
 use Rattle.uca_model.specs.LevelWeights.{level_weights}
 use Rattle.uca_key.specs.PackedKey.{common_weight, runs_after, packed_level}
+use Rattle.uca_key.specs.Runs.{bytes_left}
 use Rattle.uca_key.specs.Weighing.{all_own}
+use Rattle.uca_key.proofs.PlacingLemmas.{IsPutting-start, IsPutting-more, IsPutting-ends, IsPutting-fitted, stays-more, stays-set}
 use Rattle.uca_key.proofs.runs.put_whole.Goals as goal
 
-pub returns-clause-bytes : goal.returns-clause-bytes
-returns-clause-bytes c =
-    let v = c.args.v in let level = c.args.level in
+pub returns-then-not-has_room : goal.returns-then-not-has_room
+returns-then-not-has_room c =
+    let level = c.args.level in let whole = packed_level (all_own c.args.v c.args.elements.now) level in
+    let runs : List ℕ → List ℕ = runs_after (common_weight level) c.args.common in
+    let weights = all_own c.args.v c.split_at.result.1.now in
+    let begun : runs (level_weights level (weights ++ [])) ≡ whole =
+    ap (λ ws. runs (level_weights level ws)) (append-nil weights) ∙ ap (λ es. runs (level_weights level (all_own c.args.v es))) c.split_at.ensures.back ∙ c.requires.counted.run in
+    let put = c.put_elements.ensures.bytes c.args.at c.args.out.now whole [] (IsPutting-start _ _ _ _ c.ranges.at.fits begun) in
+    let left = bytes_left level c.put_elements.result [] in
+    IsPutting-ends _ _ _ _ _ _ (IsPutting-more _ _ _ _ _ _ put _ _ left [] c.requires.size (sym (append-nil left)) (c.put_end.ensures level)) refl
+
+pub returns : goal.returns
+returns c =
+    let v = c.args.v in let level = c.args.level in let packed = c.pack-packed.ensures in
     let runs : List ℕ → List ℕ = runs_after (common_weight level) c.args.common in
     let left : List ℕ = level_weights level (all_own v c.split_at.result.1.now) in
-    let rest : runs (left ++ []) ≡ packed_level (all_own v c.args.elements.now) level =
+    let fits = c.has_room.ensures c.if-not-has_room.false in
+    let whole : runs (left ++ []) ≡ packed_level (all_own v c.args.elements.now) level =
     ap runs (append-nil left) ∙ ap (λ es. runs (level_weights level (all_own v es))) c.split_at.ensures.back ∙ c.requires.counted.run in
-    take_more_set c.pack-packed.new.key c.pack-packed.result.at (2 * c.pack-packed.result.run) (omega (arith, c.pack-packed.ensures.within, c.pack-packed.ensures.size, c.requires.room, c.split_at.ensures.back_len))
-    ∙ c.pack-packed.ensures.bytes []
-    ∙ ap (λ bytes. take c.args.at c.args.key.now ++ bytes) rest
+    let within : c.pack-packed.result.at < length c.pack-packed.new.key = omega (arith, fits, packed.within, c.saturating_add.ensures, c.requires.size) in
+    let same =
+    append-nil _ ∙ take_more_set c.pack-packed.new.key c.pack-packed.result.at (2 * c.pack-packed.result.run) within
+    ∙ packed.bytes [] ∙ ap (λ bytes. take c.args.at c.args.out.now ++ bytes) whole in
+    let stays = stays-more _ _ _ _ _ _ packed.stays (stays-set c.pack-packed.result.at (2 * c.pack-packed.result.run) c.pack-packed.new.key) in
+    IsPutting-ends _ _ _ _ _ _ (IsPutting-fitted _ _ _ _ _ [] (length-set _ _ _ ∙ packed.size) c.requires.size (omega (arith, within)) stays same) refl

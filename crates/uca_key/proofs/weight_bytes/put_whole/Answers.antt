@@ -1,15 +1,32 @@
-use Rattle.std.proofs.Common.{◌++◌, List, ℕ, [], ap, ◌∙◌, arith, append-nil}
-use Rattle.std.proofs.lemmas.List.{take_more_set}
+use Rattle.std.proofs.Common.{◌<◌, ◌++◌, ◌∷◌, List, ℕ, [], ap, ◌∙◌, arith, append-nil, length, refl, take}
+use Rattle.std.proofs.lemmas.List.{length-set, take_more_set}
 use Rattle.uca_weights.specs.VariableWeighting.{weighted}
 use Rattle.uca_model.specs.LevelWeights.{level_weights}
 use Rattle.uca_key.specs.PrimaryCode.{primary_level, start}
+use Rattle.uca_key.specs.Reach.{state_of}
+use Rattle.uca_key.specs.Weighing.{all_own}
+use Rattle.uca_key.proofs.PlacingLemmas.{IsPutting-start, IsPutting-more, IsPutting-ends, IsPutting-fitted, stays-more, stays-set}
 use Rattle.uca_key.proofs.WeighingLemmas.{first_weights-own}
 use Rattle.uca_key.proofs.weight_bytes.put_whole.Goals as goal
 
-pub returns-clause-bytes : goal.returns-clause-bytes
-returns-clause-bytes c =
+pub returns-then-not-has_room : goal.returns-then-not-has_room
+returns-then-not-has_room c =
+    let k = c.args.code.now in let own : List ℕ = level_weights 1 (all_own c.args.v c.args.elements.now) in
+    let whole = primary_level k (start k) own in
+    let begun = IsPutting-start _ _ _ (primary_level k (state_of c.first_reach.result) (own ++ [])) c.ranges.at.fits (ap (λ p. primary_level k p (own ++ [])) c.first_reach.ensures.state ∙ ap (primary_level k (start k)) (append-nil own)) in
+    let put = c.put_elements-placed.ensures.bytes c.args.at c.args.out.now whole [] begun in
+    IsPutting-ends _ _ _ _ _ _ (IsPutting-more _ _ _ _ _ _ put _ _ (0 ∷ []) [] c.requires.size refl c.put_bytes.ensures) refl
+
+pub returns : goal.returns
+returns c =
+    let k = c.args.code.now in let placed = c.put_weights-placed.ensures in
     let weights : List ℕ = level_weights 1 (weighted c.args.v c.args.elements.now) in
-    take_more_set c.put_weights-placed.new.key c.put_weights-placed.result.at 0 (omega (arith, c.put_weights-placed.ensures.within, c.put_weights-placed.ensures.size, c.requires.room))
-    ∙ c.put_weights-placed.ensures.bytes []
-    ∙ ap (λ p. primary_level c.args.code.now p (weights ++ [])) c.first_reach.ensures.state
-    ∙ ap (primary_level c.args.code.now (start c.args.code.now)) (append-nil weights ∙ first_weights-own c.args.v c.args.elements.now)
+    let fits = c.has_room.ensures c.if-not-has_room.false in
+    let within : c.put_weights-placed.result.at < length c.put_weights-placed.new.key = omega (arith, fits, placed.within, c.saturating_add.ensures, c.requires.size) in
+    let whole =
+    ap (λ p. primary_level k p (weights ++ [])) c.first_reach.ensures.state ∙ ap (primary_level k (start k)) (append-nil weights ∙ first_weights-own c.args.v c.args.elements.now) in
+    let same =
+    append-nil _ ∙ take_more_set c.put_weights-placed.new.key c.put_weights-placed.result.at 0 within
+    ∙ placed.bytes [] ∙ ap (λ bytes. take c.args.at c.args.out.now ++ bytes) whole in
+    let stays = stays-more _ _ _ _ _ _ placed.stays (stays-set c.put_weights-placed.result.at 0 c.put_weights-placed.new.key) in
+    IsPutting-ends _ _ _ _ _ _ (IsPutting-fitted _ _ _ _ _ [] (length-set _ _ _ ∙ placed.size) c.requires.size (omega (arith, within)) stays same) refl

@@ -25,9 +25,6 @@ invariant_of-result c =
       numbered = c.window_of-first.ensures.slot k (subst (AreSlots k 65536) (sym c.deref-3.ensures.value) each) ∙ ap (slot k) (sym c.window_of-first.ensures.base);
       led = c.window_of-first.ensures.lead k refl ∙ ap (lead k) (sym c.window_of-first.ensures.base);
       most = c.window_of-first.ensures.most;
-      single = c.single_of-space.ensures.single;
-      space_led = c.single_of-space.ensures.lead k refl;
-      space_most = c.single_of-space.ensures.most;
     }
 
 pub returns : goal.returns

@@ -1,4 +1,4 @@
-use Rattle.std.proofs.Common.{arith, unwrap_or, ◌≡◌, ◌++◌, List, [], chars, take, drop, length, ℕ, sym, ap, ◌∙◌, eqb-true, append-nil}
+use Rattle.std.proofs.Common.{arith, unwrap_or, ◌≡◌, ◌++◌, List, [], chars, take, drop, length, sym, ap, ◌∙◌, eqb-true, append-nil}
 use Rattle.std.proofs.lemmas.List.{nil_from_length, length-take-le, take-append-le, take_all}
 use Rattle.std.proofs.lemmas.Str.{chars-nil}
 use Rattle.unicode_normalization.specs.Forms.{nfd}

@@ -6,7 +6,7 @@ use Rattle.uca_key.specs.Pieces.{weights_left, weights_of}
 use Rattle.uca_key.specs.Placing.{IsPutting}
 use Rattle.uca_key.proofs.PlacingLemmas.{IsPutting-start, IsPutting-more, IsPutting-ends}
 use Rattle.uca_key.proofs.WeighingLemmas.{weights-read}
-use Rattle.uca_key.proofs.weight_bytes.put_first_again.Goals as goal
+use Rattle.uca_key.proofs.weight_bytes.put_again.Goals as goal
 
 pub each-init : goal.each-init
 each-init c = record {

@@ -4,7 +4,7 @@ use Rattle.uca_key.specs.PrimaryCode.{lead, primary_level, slot, start}
 use Rattle.uca_key.specs.Reach.{first_left}
 use Rattle.uca_key.specs.Pieces.{weights_left, weights_of}
 use Rattle.uca_key.specs.Placing.{IsPutting}
-use Rattle.uca_key.proofs.weight_bytes.put_first_again.Given as goal
+use Rattle.uca_key.proofs.weight_bytes.put_again.Given as goal
 
 abbrev pub invariant-each : goal.invariant-each
 invariant-each l = record {
