@@ -458,6 +458,15 @@ fn outsides_of(alloc: Global, singles: &[u16]) -> Result<Vec<Outside>, AllocErro
     Ok(outside)
 }
 
+// The first of some weights.
+#[inline(always)]
+fn first_of(weights: &[u16]) -> u16
+    requires { 0 < length weights.now }
+    ensures { IsTrue (list_any (λ c. c == result) weights.now) }
+{
+    weights[0]
+}
+
 // The window that begins at a weight, with these slots, and these weights that have leads of their own.
 fn window_of(slots: &[Slot], singles: &[u16], base: u16) -> Window
     requires size { length slots.now ≡ 65536 }
@@ -545,14 +554,15 @@ impl PackedCode {
         self.slots[w as usize].bits < NOT_COMMON
     }
 
-    /// The slot of a weight that is a letter; of any other weight a number that is far above all slots.
+    /// The slots of letters.
     #[inline(always)]
-    pub(crate) fn letter_slot(&self, w: u16) -> u32
-        ensures letter { is_letter self.now w ≡ true → result ≡ slot self.now w }
-        ensures other { is_letter self.now w ≡ false → 131072 ≤ result }
-        ensures most { result < 2 ^ 31 }
+    pub(crate) fn letter_slots(&self) -> LetterSlots<'_>
+        ensures { result.code.now ≡ self.now }
     {
-        self.slots[w as usize].bits
+        LetterSlots {
+            code: self,
+            slots: &self.slots,
+        }
     }
 
     /// Whether a weight has a byte of its own everywhere.
@@ -594,6 +604,14 @@ impl PackedCode {
         }
     }
 
+    /// The weight of the space, which most texts have between their words.
+    #[inline(always)]
+    pub(crate) fn space(&self) -> u16
+        ensures { is_single self.now result ≡ true }
+    {
+        first_of(&self.singles)
+    }
+
     /// The first window.
     #[inline(always)]
     pub(crate) fn first_window(&self) -> Window
@@ -603,5 +621,26 @@ impl PackedCode {
         ensures most { result.lead ≤ 135 }
     {
         self.first
+    }
+}
+
+/// The slots of letters. A loop that puts bytes binds them first, since a byte that it puts could otherwise be a part of the code.
+#[derive(Clone, Copy)]
+pub(crate) struct LetterSlots<'c> {
+    pub(crate) code: &'c PackedCode,
+    slots: &'c [Slot],
+    ghost size: { length slots.now ≡ 65536 },
+    ghost each: { AreSlots code.now 65536 slots.now },
+}
+
+impl<'c> LetterSlots<'c> {
+    /// The slot of a weight that is a letter; of any other weight a number that is far above all slots.
+    #[inline(always)]
+    pub(crate) fn slot(&self, w: u16) -> u32
+        ensures letter { is_letter self.now.code.now w ≡ true → result ≡ slot self.now.code.now w }
+        ensures other { is_letter self.now.code.now w ≡ false → 131072 ≤ result }
+        ensures most { result < 2 ^ 31 }
+    {
+        self.slots[w as usize].bits
     }
 }

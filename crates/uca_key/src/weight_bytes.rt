@@ -9,7 +9,7 @@ ghost use Rattle.uca_key.specs.Placing.{IsPutting, PutsAt, StaysAfter};
 ghost use Rattle.uca_key.specs.PrimaryCode.{after_slot, base_after, has_page, is_common, is_in_window, is_letter, is_single, lead, letter_bytes, primary_bytes, primary_level, second_bytes, slot, start, state_after};
 ghost use Rattle.uca_key.specs.Weighing.{all_own};
 
-use crate::packed_code::{PackedCode, Window};
+use crate::packed_code::{LetterSlots, PackedCode, Window};
 use crate::pieces::{PIECE, TextReading};
 use crate::placing::{has_room, put_bytes};
 use uca_levels::primary_weight;
@@ -284,12 +284,12 @@ fn put_some(code: &PackedCode, before: Placed, w: u16, key: &mut [u8]) -> Placed
 
 // The place in the window of a weight that is a letter there: it has one byte, and the window stays.
 #[inline(always)]
-fn letter_in(code: &PackedCode, window: Window, w: u16) -> Option<u8>
-    requires { window.slot ≡ slot code.now window.base }
-    ensures place { IfSome result (λ n. (slot code.now w ≡ slot code.now window.base + n) × (n < 119)) }
-    ensures letter { IfSome result (λ _. is_letter code.now w ≡ true) }
+fn letter_in(slots: LetterSlots, window: Window, w: u16) -> Option<u8>
+    requires { window.slot ≡ slot slots.code.now window.base }
+    ensures place { IfSome result (λ n. (slot slots.entry.code.now w ≡ slot slots.entry.code.now window.base + n) × (n < 119)) }
+    ensures letter { IfSome result (λ _. is_letter slots.entry.code.now w ≡ true) }
 {
-    let place = code.letter_slot(w).wrapping_sub(window.slot as u32);
+    let place = slots.slot(w).wrapping_sub(window.slot as u32);
     if place < WINDOW as u32 {
         Some(place as u8)
     } else {
@@ -377,8 +377,7 @@ struct Letters {
     done: usize,
 }
 
-// Puts the weights of elements as long as the window stays: letters in it, weights that have a byte of their own outside it, implicit
-// pairs that begin with one, and zeros, which are left out. Most of a text is put here, so it asks little.
+// Puts the weights of elements as long as they are letters. Most of a text is put here, so it asks little.
 #[inline(always)]
 fn put_letters(
     code: &PackedCode,
@@ -390,9 +389,9 @@ fn put_letters(
     requires slot { before.reach.window.slot ≡ slot code.now before.reach.window.base }
     requires lead { before.reach.window.lead ≡ lead code.now before.reach.window.base }
     requires most { before.reach.window.lead ≤ 135 }
-    requires room { before.at + 3 * length elements.now ≤ length key.old }
+    requires room { before.at + length elements.now ≤ length key.old }
     ensures bytes { (ws : List ℕ) → take result.at key.new ++ primary_level code.now (state_of before.reach) (level_weights 1 (weighted v (drop result.done elements.now)) ++ ws) ≡ take before.at key.old ++ primary_level code.now (state_of before.reach) (level_weights 1 (weighted v elements.now) ++ ws) }
-    ensures within { result.at ≤ before.at + 3 * result.done }
+    ensures within { result.at ≤ before.at + result.done }
     ensures some { result.done ≤ length elements.now }
     ensures stays { StaysAfter before.at result.at key.old key.new }
     ensures size { length key.new ≡ length key.old }
@@ -403,36 +402,65 @@ fn put_letters(
     if reach.second {
         return Letters { at: next, done };
     }
+    let slots = code.letter_slots();
     'each: while done < elements.len() {
         let w = primary_weight(v, &elements[done]);
-        if let Some(place) = letter_in(code, reach.window, w) {
-            next = put_letter(code, reach, w, place, key, next);
-            done += 1;
-            continue;
-        }
-        if w == 0 {
-            done += 1;
-            continue;
-        }
-        if !code.is_single(w) || is_in_window(code, reach.window, w) {
+        let Some(place) = letter_in(slots, reach.window, w) else {
             return Letters { at: next, done };
-        }
-        if w / 256 != 0xFB {
-            next = put_single(code, reach, w, key, next);
-            done += 1;
-            continue;
-        }
-        if done + 1 == elements.len() {
-            return Letters { at: next, done };
-        }
-        let second = primary_weight(v, &elements[done + 1]);
-        if second == 0 {
-            return Letters { at: next, done };
-        }
-        next = put_implicit(code, reach, w, second, key, next);
-        done += 2;
+        };
+        next = put_letter(code, reach, w, place, key, next);
+        done += 1;
     }
     Letters { at: next, done }
+}
+
+// Puts the weight of the first of some elements where it is no letter and leaves the window as it is: a zero, which is left out, a
+// weight that has a byte of its own outside the window, such as that of the space, or an implicit pair that begins with one. It
+// puts none of any others.
+#[inline(always)]
+fn put_other(
+    code: &PackedCode,
+    v: Variable,
+    before: Placed,
+    elements: &[Element],
+    key: &mut [u8],
+) -> Letters
+    requires slot { before.reach.window.slot ≡ slot code.now before.reach.window.base }
+    requires room { before.at + 3 * length elements.now ≤ length key.old }
+    ensures bytes { (ws : List ℕ) → take result.at key.new ++ primary_level code.now (state_of before.reach) (level_weights 1 (weighted v (drop result.done elements.now)) ++ ws) ≡ take before.at key.old ++ primary_level code.now (state_of before.reach) (level_weights 1 (weighted v elements.now) ++ ws) }
+    ensures within { result.at ≤ before.at + 3 * result.done }
+    ensures some { result.done ≤ length elements.now }
+    ensures stays { StaysAfter before.at result.at key.old key.new }
+    ensures size { length key.new ≡ length key.old }
+{
+    let (reach, at) = (before.reach, before.at);
+    if elements.is_empty() {
+        return Letters { at, done: 0 };
+    }
+    let w = primary_weight(v, &elements[0]);
+    if w == 0 {
+        return Letters { at, done: 1 };
+    }
+    if reach.second || !code.is_single(w) || is_in_window(code, reach.window, w) {
+        return Letters { at, done: 0 };
+    }
+    if w / 256 != 0xFB {
+        return Letters {
+            at: put_single(code, reach, w, key, at),
+            done: 1,
+        };
+    }
+    if elements.len() == 1 {
+        return Letters { at, done: 0 };
+    }
+    let second = primary_weight(v, &elements[1]);
+    if second == 0 {
+        return Letters { at, done: 0 };
+    }
+    Letters {
+        at: put_implicit(code, reach, w, second, key, at),
+        done: 2,
+    }
 }
 
 // Puts the weight of the first of some elements, if there is one.
@@ -487,13 +515,16 @@ fn put_each(
     'each: while !left.is_empty() {
         let letters = put_letters(code, v, placed, left, key);
         let (_, after) = left.split_at(letters.done);
-        let here = Placed {
-            at: letters.at,
-            reach: placed.reach,
-        };
-        placed = put_next(code, v, here, after, key);
-        let (_, rest) = after.split_at(after.len().min(1));
-        left = rest;
+        placed.at = letters.at;
+        let other = put_other(code, v, placed, after, key);
+        let (_, others) = after.split_at(other.done);
+        placed.at = other.at;
+        if other.done > 0 {
+            left = others;
+            continue;
+        }
+        placed = put_next(code, v, placed, others, key);
+        left = others.split_at(others.len().min(1)).1;
     }
     placed
 }

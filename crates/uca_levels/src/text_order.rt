@@ -95,11 +95,6 @@ fn order_by_weights(t: &Table, s: Settings, a: &str, b: &str, common: usize) -> 
     ensures { IfSome result (λ order. order ≡ key_order (sort_key t.now s (chars a.now)) (sort_key t.now s (chars b.now))) }
 {
     let _longest = t.longest();
-    if let Some(order) = order_at_once(t, s.weighting, a, b, common) {
-        if order.is_ne() {
-            return Some(order);
-        }
-    }
     let (left_a, left_b) = apart_after(t, a, b, common);
     let order = order_at_first(t, s.weighting, left_a, left_b)?;
     if order.is_ne() {
@@ -135,6 +130,35 @@ fn order_by_sources(t: &Table, s: Settings, a: &str, b: &str, common: usize) -> 
     compare_sources(t, s, &mut left, &mut right)
 }
 
+// The order of two texts that differ at the first level in the first characters after the bytes that they have in common, as most do.
+// `None`: they do not, or that is not known.
+#[inline(always)]
+fn order_at_sight(t: &Table, s: Settings, a: &str, b: &str, common: usize) -> Option<Ordering>
+    requires in_a { IsCharBoundary a.now common }
+    requires in_b { IsCharBoundary b.now common }
+    requires common { take common a.now ≡ take common b.now }
+    ensures { IfSome result (λ order. order ≡ key_order (sort_key t.now s (chars a.now)) (sort_key t.now s (chars b.now))) }
+{
+    let order = order_at_once(t, s.weighting, a, b, common)?;
+    if order.is_ne() { Some(order) } else { None }
+}
+
+// The order of two texts. It is not inlined, so that a comparison that ends at the first characters does not pay for its stack frame.
+#[inline(never)]
+fn order_after(t: &Table, s: Settings, a: &str, b: &str, common: usize) -> Ordering
+    requires safe_a { IsSafe (chars a.now) }
+    requires safe_b { IsSafe (chars b.now) }
+    requires in_a { IsCharBoundary a.now common }
+    requires in_b { IsCharBoundary b.now common }
+    requires common { take common a.now ≡ take common b.now }
+    ensures { result ≡ key_order (sort_key t.now s (chars a.now)) (sort_key t.now s (chars b.now)) }
+{
+    match order_by_weights(t, s, a, b, common) {
+        Some(order) => order,
+        None => order_by_sources(t, s, a, b, common),
+    }
+}
+
 /// The order of the sort keys of two texts (UTS #10, section 7.4, step S4), without their keys. It does not allocate.
 ///
 /// The bytes that both texts begin with are passed over. Only where the fifth level decides, or where many characters join each other,
@@ -147,8 +171,8 @@ pub fn compare(t: &Table, s: Settings, a: &Passage, b: &Passage) -> Ordering
     if common == a.len() && common == b.len() {
         return Ordering::Equal;
     }
-    match order_by_weights(t, s, a, b, common) {
+    match order_at_sight(t, s, a, b, common) {
         Some(order) => order,
-        None => order_by_sources(t, s, a, b, common),
+        None => order_after(t, s, a, b, common),
     }
 }

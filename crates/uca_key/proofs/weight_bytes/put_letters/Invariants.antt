@@ -1,4 +1,4 @@
-use Rattle.std.proofs.Common.{◌≡◌, ◌+◌, ◌*◌, ◌-◌, ◌≤◌, ◌++◌, ℕ, List, length, take, drop}
+use Rattle.std.proofs.Common.{◌≡◌, ◌+◌, ◌-◌, ◌≤◌, ◌++◌, ℕ, List, length, take, drop}
 use Rattle.uca_weights.specs.VariableWeighting.{weighted}
 use Rattle.uca_model.specs.LevelWeights.{level_weights}
 use Rattle.uca_key.specs.PrimaryCode.{primary_level}
@@ -10,7 +10,7 @@ use Rattle.uca_key.proofs.weight_bytes.put_letters.Given as goal
 abbrev pub invariant-each : goal.invariant-each
 invariant-each l = record {
   some : l.done ≤ length l.elements;
-  within : l.next ≤ l.fn.before.at + 3 * l.done;
+  within : l.next ≤ l.fn.before.at + l.done;
   stays : StaysAfter l.fn.before.at l.next l.fn.key l.key;
   size : length l.key ≡ length l.fn.key;
   same : (ws : List ℕ) → take l.next l.key ++ primary_level l.code (state_of l.fn.before.reach) (level_weights 1 (weighted l.v (drop l.done l.elements)) ++ ws) ≡ take l.fn.before.at l.fn.key ++ primary_level l.code (state_of l.fn.before.reach) (level_weights 1 (weighted l.v l.elements) ++ ws);
