@@ -29,6 +29,9 @@ fn put_alone<'t>(t: &Table, text: &'t str, room: &mut [Element], from: usize) ->
     ensures safe { IsSafe (chars result.1.now) }
     ensures size { length room.new ≡ length room.old }
 {
+    let Some(known) = t.characters() else {
+        return (from, text);
+    };
     let mut settled = (from, text);
     let (mut at, mut rest) = (from, text);
     let mut bearing = ANY_TEXT;
@@ -37,7 +40,7 @@ fn put_alone<'t>(t: &Table, text: &'t str, room: &mut [Element], from: usize) ->
         let Some(c) = left.next() else {
             return (at, rest);
         };
-        let Some(character) = t.character_after(bearing, c) else {
+        let Some(character) = known.after(bearing, c) else {
             return if bearing < ANY_TEXT {
                 settled
             } else {
