@@ -1,4 +1,4 @@
-use Rattle.std.proofs.Common.{◌≡◌, ◌==◌, ◌<◌, ◌/◌, ℕ, length, take}
+use Rattle.std.proofs.Common.{◌≡◌, ◌==◌, ◌<◌, ◌/◌, ℕ, take}
 use Rattle.std.specs.List.{list_any}
 use Rattle.uca_table.specs.Marks.{IsIndex, inside_marks, marks_of}
 use Rattle.uca_table.proofs.marks.MarkTable.mark_others.Given as goal
