@@ -5,3 +5,4 @@ pub mod MatchesLemmas
 pub mod FoundLemmas
 pub mod CompletenessLemmas
 pub mod TextLemmas
+pub mod OneBackLemmas

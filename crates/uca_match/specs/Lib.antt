@@ -6,3 +6,4 @@ pub mod Matches
 pub mod Found
 pub mod JoinsNothing
 pub mod TextLeft
+pub mod OneBack

@@ -1,10 +1,12 @@
-ghost use Rattle.std.specs.Prelude.{◌≡◌, [], ◌+◌, ◌++◌, ◌<◌, ◌≤◌, None, OnOk, chars, length, take};
+ghost use Rattle.std.specs.Prelude.{◌≡◌, [], ◌+◌, ◌++◌, ◌<◌, ◌≤◌, None, IfSome, OnOk, chars, length, take};
 ghost use Rattle.std.specs.Option.{ForSome};
 ghost use Rattle.unicode_normalization.specs.Forms.{nfd};
 ghost use Rattle.uca_weights.specs.declared.limits.TheConstants.{MAX_LOOKAHEAD};
 ghost use Rattle.uca_model.specs.CollationElements.{elements};
 ghost use Rattle.uca_model.specs.SafeText.{IsSafe};
 ghost use Rattle.uca_model.specs.Table.{longest};
+ghost use Rattle.uca_window.specs.PassageSource.{StandsIn};
+ghost use Rattle.uca_match.specs.OneBack.{IsOneBack};
 
 use crate::stretch::{put_fitting, put_stretch};
 use crate::text_window::TextWindow;
@@ -15,9 +17,25 @@ use uca_weights::Element;
 /// What a character bears after it that any text may follow: its elements stay the same.
 pub const ANY_TEXT: u8 = 2;
 
+// The rest of a text from one character earlier on, and where the elements of that character begin, which end at a place. `None`: they
+// are not known.
+#[inline(never)]
+fn one_back<'t>(t: &Table, text: &'t str, rest: &str, at: usize) -> Option<(usize, &'t str)>
+    requires { StandsIn text.now rest.now }
+    ensures stands { IfSome result (λ r. StandsIn text.now r.1.now) }
+    ensures back { IfSome result (λ r. IsOneBack t.now rest.now at r.1.now r.0) }
+{
+    let mut read = text.split_at(text.len() - rest.len()).0.chars();
+    let last = read.next_back()?;
+    let elements = t.character_after(ANY_TEXT, last)?.elements;
+    let place = at.checked_sub(elements.len())?;
+    Some((place, text.split_at(read.as_str().len()).1))
+}
+
 // Puts the elements of the first characters of a text into room from a place on, as far as each stands alone and its elements fit.
 // Returns the place after them, and the text after those characters. Most texts are read to their end here. Each character is looked up
-// once: whether it stands alone is seen at the next one, and what was settled before it is kept until then.
+// once: whether it stands alone is seen at the next one. Where it does not, which is rare, this goes back to it: then the loop keeps
+// nothing for that.
 #[inline(always)]
 fn put_alone<'t>(t: &Table, text: &'t str, room: &mut [Element], from: usize) -> (usize, &'t str)
     requires within { from ≤ length room.old }
@@ -29,7 +47,9 @@ fn put_alone<'t>(t: &Table, text: &'t str, room: &mut [Element], from: usize) ->
     ensures safe { IsSafe (chars result.1.now) }
     ensures size { length room.new ≡ length room.old }
 {
-    let mut settled = (from, text);
+    let Some(known) = t.characters() else {
+        return (from, text);
+    };
     let (mut at, mut rest) = (from, text);
     let mut bearing = ANY_TEXT;
     'characters: loop {
@@ -37,16 +57,17 @@ fn put_alone<'t>(t: &Table, text: &'t str, room: &mut [Element], from: usize) ->
         let Some(c) = left.next() else {
             return (at, rest);
         };
-        let Some(character) = t.character_after(bearing, c) else {
-            return if bearing < ANY_TEXT {
-                settled
-            } else {
-                (at, rest)
+        let Some(character) = known.after(bearing, c) else {
+            if bearing >= ANY_TEXT {
+                return (at, rest);
+            }
+            return match one_back(t, text, rest, at) {
+                Some(back) => back,
+                None => (from, text),
             };
         };
-        settled = (at, rest);
         let Some(next) = put_fitting(character.elements, room, at) else {
-            return settled;
+            return (at, rest);
         };
         at = next;
         rest = left.as_str();

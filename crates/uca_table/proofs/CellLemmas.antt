@@ -3,7 +3,7 @@ use Rattle.std.proofs.Common.{Bool, ◌≡◌, ℕ, ◌+◌, ◌-◌, ◌/◌, �
 use Rattle.std.proofs.lemmas.Bool.{le-leb, cases_eq, cases_lt, or_parts}
 use Rattle.std.specs.List.{list_any}
 use Rattle.std.specs.FinMap.{entries}
-use Rattle.std.proofs.lemmas.List.{get_or-set_same, get_or-set_other, take-append-le, drop-append-le, length-drop, take-append-drop, drop_more, drop-drop, drop_all, drop_at, take_all}
+use Rattle.std.proofs.lemmas.List.{get_or-set_same, get_or-set_other, length-set, take-append-le, drop-append-le, length-drop, take-append-drop, drop_more, drop-drop, drop_all, drop_at, take_all}
 use Rattle.std.specs.Prelude.{Result, Ok, Err, Option, Some, None, IfSome}
 use Rattle.std.specs.Result.{OnOk, is_ok}
 use Rattle.unicode_normalization.specs.Decompose.{decompose_canonical}
@@ -15,10 +15,11 @@ use Rattle.uca_model.specs.CollationElements.{elements}
 use Rattle.uca_model.specs.ImplicitWeights.{implicit}
 use Rattle.uca_model.specs.StandAlone.{is_first, is_longer_from, begins, leads, ends_matches, bearing_of, stands_alone, joining, bearing}
 use Rattle.uca_model.proofs.StandAloneLemmas.{apart-alone, apart-before, apart-end, elements_none, elements-unknown, nfd-single, joining-most}
-use Rattle.uca_table.specs.declared.cells.Cell.{Cell}
+use Rattle.uca_table.specs.declared.characters.Cell.{Cell}
 use Rattle.uca_table.specs.Cells.{IsCell, AreCells, Grows, unknown}
 use Rattle.uca_table.specs.Marks.{IsIndex, place}
 use Rattle.uca_table.specs.declared.marks.Marks.{Marks}
+use Rattle.uca_table.proofs.MarkLemmas.{same_point}
 
 -- ---- cells
 
@@ -58,7 +59,7 @@ IsCell-grown t es more c cell grows h =
 
 -- all cells stay sound where more elements follow
 pub AreCells-grown : (t : ElementTable) (es more : List Element) (blocks : List ℕ) (cells : List Cell) → Grows es more → AreCells t es blocks cells → AreCells t more blocks cells
-AreCells-grown t es more blocks cells grows h = record { each = λ c within. IsCell-grown t es more c (get_or cells (place blocks c) unknown) grows (h.each c within) }
+AreCells-grown t es more blocks cells grows h = record { all = h.all; within = h.within; each = λ c within. IsCell-grown t es more c (get_or cells (place blocks c) unknown) grows (h.each c within) }
 
 -- a cell that says nothing is sound
 pub unknown-cell : (t : ElementTable) (es : List Element) (c : ℕ) (cell : Cell) → cell ≡ unknown → IsCell t es c cell
@@ -71,26 +72,18 @@ unknown-cell t es c cell is = subst (IsCell t es c) (sym is) (record {
   one = λ just. absurd (omega (arith, just));
 })
 
--- cells without one of a character are sound
-pub AreCells-none : (t : ElementTable) (es : List Element) (blocks : List ℕ) (cells : List Cell) → length blocks ≡ 0 → AreCells t es blocks cells
-AreCells-none t es blocks cells none = record { each = λ c within. absurd (omega (arith, none)) }
-
--- so are those that say nothing
-pub AreCells-unknown : (t : ElementTable) (es : List Element) (blocks : List ℕ) (cells : List Cell) → ((i : ℕ) → get_or cells i unknown ≡ unknown) → AreCells t es blocks cells
-AreCells-unknown t es blocks cells says = record { each = λ c within. unknown-cell t es c (get_or cells (place blocks c) unknown) (says (place blocks c)) }
-
--- two code points with one place, which their block does not share, are one
-same_point : (blocks : List ℕ) (ms : List Marks) (c d : ℕ) → IsIndex blocks ms → c / 128 < length blocks → d / 128 < length blocks → 0 < get_or blocks (c / 128) 0 → place blocks d ≡ place blocks c → d ≡ c
-same_point blocks ms c d index in_c in_d own same =
-    let number : get_or blocks (c / 128) 0 ≡ get_or blocks (d / 128) 0 = omega arith in
-    let block : c / 128 ≡ d / 128 = index.single (c / 128) (d / 128) in_c in_d number own in
-    omega arith
+-- so are as many of them as marks
+pub AreCells-unknown : (t : ElementTable) (es : List Element) (blocks : List ℕ) (ms : List Marks) (cells : List Cell) → IsIndex blocks ms → length cells ≡ length ms → ((i : ℕ) → get_or cells i unknown ≡ unknown) → AreCells t es blocks cells
+AreCells-unknown t es blocks ms cells index size says = record { all = index.all; within = λ b lt. omega (arith, size, index.within b lt); each = λ c within. unknown-cell t es c (get_or cells (place blocks c) unknown) (says (place blocks c)) }
 
 -- and they stay so with one more cell at the place of its character
-pub AreCells-put : (t : ElementTable) (es : List Element) (blocks : List ℕ) (ms : List Marks) (cells : List Cell) (c at : ℕ) (cell : Cell) → IsIndex blocks ms → c / 128 < length blocks → 0 < get_or blocks (c / 128) 0 → at ≡ place blocks c
-    → at < length cells → IsCell t es c cell → AreCells t es blocks cells → AreCells t es blocks (set cells at cell)
-AreCells-put t es blocks ms cells c at cell index inside own is within here old = record { each = each } where
-  each : (d : ℕ) → d / 128 < length blocks → IsCell t es d (get_or (set cells at cell) (place blocks d) unknown)
+pub AreCells-put : (t : ElementTable) (es : List Element) (blocks : List ℕ) (ms : List Marks) (cells : List Cell) (c at : ℕ) (cell : Cell) → IsIndex blocks ms → c / 128 < 8704 → 0 < get_or blocks (c / 128) 0 → at ≡ place blocks c
+    → IsCell t es c cell → AreCells t es blocks cells → AreCells t es blocks (set cells at cell)
+AreCells-put t es blocks ms cells c at cell index inside own is here old = record { all = old.all; within = λ b lt. omega (arith, old.within b lt, length-set cells at cell); each = each } where
+  within : at < length cells
+  within = omega (arith, is, old.within (c / 128) inside)
+
+  each : (d : ℕ) → d / 128 < 8704 → IsCell t es d (get_or (set cells at cell) (place blocks d) unknown)
   each d in_d = elim (cases_eq (place blocks d) at) [
     | inl same ↦
         let one : d ≡ c = same_point blocks ms c d index inside in_d own (same ∙ is) in

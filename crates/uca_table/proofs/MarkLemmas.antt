@@ -1,7 +1,7 @@
 -- What keys say about code points, and how the marks are laid out in blocks.
 use Rattle.std.proofs.Common.{◌≡◌, ℕ, zero, suc, ◌+◌, ◌-◌, ◌*◌, ◌/◌, ◌%◌, ◌≤◌, ◌<◌, nat_lt, Bool, true, false, not, ◌||◌, ◌&&◌, ◌==◌, cond, if◌then◌else◌, List, [], ◌∷◌, length, take, drop, get_or, set, slice_index, Some, unwrap_or, refl, sym, ap, ap₂, subst, ◌∙◌, arith, inl, inr, eq-eqb, eqb-true, length-drop}
 use Rattle.std.proofs.Math.Bool.{and-true, and_assoc, and_comm, or-false, or-true, or_assoc}
-use Rattle.std.proofs.lemmas.Bool.{cases_eq, lt-ltb}
+use Rattle.std.proofs.lemmas.Bool.{cases_eq, lt-ltb, ne_eqb}
 use Rattle.std.proofs.lemmas.List.{drop_more, get_or-set_same, get_or-set_other}
 use Rattle.std.specs.Cmp.{tied_itself}
 use Rattle.std.specs.Cmp.Lexicographic.{slice_cmp, nat_list_cmp_total}
@@ -20,7 +20,7 @@ use Rattle.uca_model.specs.StandAlone.{is_first, is_longer_from, is_inside, begi
 use Rattle.uca_model.proofs.SafeCutLemmas.{is_cut-parts}
 use Rattle.uca_table.specs.declared.marks.MarkTable.{MarkTable}
 use Rattle.uca_table.specs.declared.marks.Marks.{Marks}
-use Rattle.uca_table.specs.Marks.{AreKnown, HoldsMarks, IsIndex, Untouched, keep_apart, marks, marks_with, marks_after, keeps_longer, place, first_marks, inside_marks, between_marks}
+use Rattle.uca_table.specs.Marks.{HoldsMarks, IsIndex, Untouched, keep_apart, marks, marks_with, marks_after, keeps_longer, place, first_marks, inside_marks, between_marks}
 use Rattle.uca_table.proofs.SearchLemmas.{found_at}
 
 -- ---- the test of a character
@@ -37,9 +37,9 @@ pub apart-first : (t : ElementTable) (x : ℕ) (ds : List ℕ) → (length ds �
 apart-first t x ds some is starter apart = sym (first_apart t ds x some is) ∙ ap₂ (λ a b. a && b) starter apart
 
 -- how code points may join the text before them, by what is known of the first
-pub joining-known : (t : ElementTable) (x : ℕ) (ds : List ℕ) (m : Marks) → (length ds ≡ 0 → ⊥) → x ≡ get_or ds 0 x → AreKnown t x m → joining_of t ds ≤ (if is_starter x then (if m.continues then 1 else 0) else 2)
+pub joining-known : (t : ElementTable) (x : ℕ) (ds : List ℕ) (m : Marks) → (length ds ≡ 0 → ⊥) → x ≡ get_or ds 0 x → m ≡ marks t x → joining_of t ds ≤ (if is_starter x then (if m.continues then 1 else 0) else 2)
 joining-known t x [] m some is known = absurd (some refl)
-joining-known t x (d ∷ ds) m some is known = subst (λ p. joining_of t (p ∷ ds) ≤ (if is_starter x then (if m.continues then 1 else 0) else 2)) is (go (is_starter x) (continues t x) m.continues known.inside)
+joining-known t x (d ∷ ds) m some is known = subst (λ p. joining_of t (p ∷ ds) ≤ (if is_starter x then (if m.continues then 1 else 0) else 2)) is (go (is_starter x) (continues t x) m.continues (λ none. ap (λ k. k.continues) (sym known) ∙ none))
   where
     go : (starter inside said : Bool) → (said ≡ false → inside ≡ false) → (if starter then (if inside then 1 else 0) else 2) ≤ (if starter then (if said then 1 else 0) else 2)
     go false inside said right = omega arith
@@ -64,7 +64,7 @@ with_none t m p (x ∷ key) es some = absurd (omega arith)
 -- a block that shared the first one has marks of its own, which say the same
 pub own-same : (blocks : List ℕ) (ms new : List Marks) (block number p : ℕ) → IsIndex blocks ms → block < length blocks → get_or blocks block 0 ≡ 0 → number ≡ length ms / 128
     → ((k : ℕ) → k < length ms → get_or new k Untouched ≡ get_or ms k Untouched) → ((k : ℕ) → length ms ≤ k → k < length ms + 128 → get_or new k Untouched ≡ Untouched)
-    → p / 128 < length blocks → get_or new (place (set blocks block number) p) Untouched ≡ get_or ms (place blocks p) Untouched
+    → p / 128 < 8704 → get_or new (place (set blocks block number) p) Untouched ≡ get_or ms (place blocks p) Untouched
 own-same blocks ms new block number p index within none is old fresh inside = elim (cases_eq (p / 128) block) [
   | inl same ↦
       let now : get_or (set blocks block number) (p / 128) 0 ≡ number = ap (λ b. get_or (set blocks block number) b 0) same ∙ get_or-set_same blocks block number 0 within in
@@ -81,9 +81,30 @@ own-same blocks ms new block number p index within none is old fresh inside = el
     first : (q : ℕ) → 0 * 128 + q % 128 ≡ q % 128
     first q = omega arith
 
+-- two code points with one place, which their block does not share, are one
+pub same_point : (blocks : List ℕ) (ms : List Marks) (c d : ℕ) → IsIndex blocks ms → c / 128 < 8704 → d / 128 < 8704 → 0 < get_or blocks (c / 128) 0 → place blocks d ≡ place blocks c → d ≡ c
+same_point blocks ms c d index in_c in_d own same =
+    let number : get_or blocks (c / 128) 0 ≡ get_or blocks (d / 128) 0 = omega arith in
+    let block : c / 128 ≡ d / 128 = index.single (c / 128) (d / 128) in_c in_d number own in
+    omega arith
+
+-- other marks at the place of a code point are those of that one
+pub put-one : (blocks : List ℕ) (ms : List Marks) (c p at : ℕ) (m : Marks) → IsIndex blocks ms → c / 128 < 8704 → 0 < get_or blocks (c / 128) 0 → at ≡ place blocks c → p / 128 < 8704
+    → get_or (set ms at m) (place blocks p) Untouched ≡ cond (c == p) m (get_or ms (place blocks p) Untouched)
+put-one blocks ms c p at m index in_c own is in_p = elim (cases_eq c p) [
+  | inl same ↦
+      let within : at < length ms = omega (arith, is, index.within (c / 128) in_c) in
+      let here : place blocks p ≡ at = ap (place blocks) (sym same) ∙ sym is in
+      ap (λ k. get_or (set ms at m) k Untouched) here ∙ get_or-set_same ms at m Untouched within ∙ sym (ap (λ b. cond b m (get_or ms (place blocks p) Untouched)) (eq-eqb c p same))
+  | inr other ↦
+      let apart : place blocks p ≡ at → ⊥ = λ e. other (sym (same_point blocks ms c p index in_c in_p own (e ∙ is))) in
+      get_or-set_other ms at (place blocks p) m Untouched apart ∙ sym (ap (λ b. cond b m (get_or ms (place blocks p) Untouched)) (ne_eqb c p other))
+]
+
 -- of a table without keys all blocks share the first one
-pub new-index : (blocks : List ℕ) (ms : List Marks) → ((b : ℕ) → get_or blocks b 0 ≡ 0) → length ms ≡ 128 → ((i : ℕ) → get_or ms i Untouched ≡ Untouched) → IsIndex blocks ms
-new-index blocks ms none size fresh = record {
+pub new-index : (blocks : List ℕ) (ms : List Marks) → length blocks ≡ 8704 → ((b : ℕ) → get_or blocks b 0 ≡ 0) → length ms ≡ 128 → ((i : ℕ) → get_or ms i Untouched ≡ Untouched) → IsIndex blocks ms
+new-index blocks ms all none size fresh = record {
+  all = all;
   whole = omega (arith, size);
   within = λ b lt. omega (arith, size, none b);
   single = λ b c lt below same some. absurd (omega (arith, some, none b));
@@ -225,5 +246,5 @@ after-none t now p left none whole =
 pub HoldsMarks-same : (t : ElementTable) (old new : MarkTable) → new.blocks.items ≡ old.blocks.items → new.marks.items ≡ old.marks.items → HoldsMarks t old → HoldsMarks t new
 HoldsMarks-same t old new blocks ms h = (
   subst (λ bs. IsIndex bs new.marks.items) (sym blocks) (subst (IsIndex old.blocks.items) (sym ms) h.0),
-  λ p inside. ap₂ (λ l bs. get_or l (place bs p) Untouched) ms blocks ∙ h.1 p (subst (λ bs. p / 128 < length bs) blocks inside),
+  λ p inside. ap₂ (λ l bs. get_or l (place bs p) Untouched) ms blocks ∙ h.1 p inside,
 )

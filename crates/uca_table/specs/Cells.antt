@@ -1,5 +1,5 @@
 -- The elements of single characters as a table keeps them, and how they may join other text.
-use Rattle.std.specs.Prelude.{◌≡◌, ℕ, ◌+◌, ◌/◌, ◌<◌, ◌≤◌, true, false, List, [], ◌∷◌, ◌++◌, length, take, drop, get_or}
+use Rattle.std.specs.Prelude.{◌≡◌, ℕ, ◌+◌, ◌*◌, ◌/◌, ◌<◌, ◌≤◌, true, false, List, [], ◌∷◌, ◌++◌, length, take, drop, get_or}
 use Rattle.unicode_normalization.specs.Forms.{nfd}
 use Rattle.uca_weights.specs.declared.element.Element.{Element}
 use Rattle.uca_model.specs.Table.{ElementTable}
@@ -7,7 +7,7 @@ use Rattle.uca_model.specs.CollationElements.{elements}
 use Rattle.uca_model.specs.SafeCut.{is_cut}
 use Rattle.uca_model.specs.StandAlone.{joining, bearing}
 use Rattle.uca_table.specs.Marks.{HoldsMarks, place}
-use Rattle.uca_table.specs.declared.cells.Cell.{Cell}
+use Rattle.uca_table.specs.declared.characters.Cell.{Cell}
 use Rattle.uca_table.specs.declared.cells.Cells.{Cells}
 
 -- a cell is sound: its character joins no more and bears no less, a text may be cut before it where the cell says so, and where it has elements they are those of the character
@@ -23,9 +23,11 @@ pub record IsCell (t : ElementTable) (es : List Element) (c : ℕ) (cell : Cell)
 abbrev pub unknown : Cell
 unknown = record { element = record { starred = false; l1 = 0; l2 = 0; l3 = 0 } ∷ []; start = 0; count = 0; joining = 2; bearing = 0; cut = false }
 
--- the cells at the places of code points are sound
+-- each of the 8704 blocks of all code points has a block of cells, and the cells at the places of code points are sound
 pub record AreCells (t : ElementTable) (es : List Element) (blocks : List ℕ) (cells : List Cell) : Type 0 where
-  pub each : (c : ℕ) → c / 128 < length blocks → IsCell t es c (get_or cells (place blocks c) unknown)
+  pub all : length blocks ≡ 8704
+  pub within : (b : ℕ) → b < 8704 → get_or blocks b 0 * 128 + 128 ≤ length cells
+  pub each : (c : ℕ) → c / 128 < 8704 → IsCell t es c (get_or cells (place blocks c) unknown)
 
 -- cells of a table
 abbrev pub HoldsCells : ElementTable → Cells → Type 0

@@ -19,14 +19,6 @@ keep_apart t p = list_all (keeps_apart p) (entries t.entries)
 abbrev pub marks : ElementTable → ℕ → Marks
 marks t p = record { begins = begins t p; leads = leads t p; continues = continues t p; apart = keep_apart t p; ends = ends_matches t p; keeps = keeps_primaries t p }
 
--- what is known of them: each answer that rules something out is right
-pub record AreKnown (t : ElementTable) (p : ℕ) (m : Marks) : Type 0 where
-  pub first : m.begins ≡ false → begins t p ≡ false
-  pub longer : m.leads ≡ false → leads t p ≡ false
-  pub inside : m.continues ≡ false → continues t p ≡ false
-  pub kept : m.apart ≡ true → keep_apart t p ≡ true
-  pub last : m.ends ≡ true → ends_matches t p ≡ true
-
 -- what none says
 abbrev pub Untouched : Marks
 Untouched = record { begins = false; leads = false; continues = false; apart = true; ends = true; keeps = true }
@@ -76,13 +68,14 @@ place blocks p = get_or blocks (p / 128) 0 * 128 + p % 128
 abbrev pub marks_of : MarkTable → ℕ → Marks
 marks_of x p = get_or x.marks.items (place x.blocks.items p) Untouched
 
--- blocks of code points have blocks of marks of their own, but for those that share the first
+-- the 8704 blocks of all code points have blocks of marks of their own, but for those that share the first
 pub record IsIndex (blocks : List ℕ) (ms : List Marks) : Type 0 where
+  pub all : length blocks ≡ 8704
   pub whole : length ms % 128 ≡ 0
-  pub within : (b : ℕ) → b < length blocks → get_or blocks b 0 * 128 + 128 ≤ length ms
-  pub single : (b c : ℕ) → b < length blocks → c < length blocks → get_or blocks b 0 ≡ get_or blocks c 0 → 0 < get_or blocks b 0 → b ≡ c
+  pub within : (b : ℕ) → b < 8704 → get_or blocks b 0 * 128 + 128 ≤ length ms
+  pub single : (b c : ℕ) → b < 8704 → c < 8704 → get_or blocks b 0 ≡ get_or blocks c 0 → 0 < get_or blocks b 0 → b ≡ c
   pub shared : (i : ℕ) → i < 128 → get_or ms i Untouched ≡ Untouched
 
 -- the marks are those of the table
 abbrev pub HoldsMarks : ElementTable → MarkTable → Type 0
-HoldsMarks t x = IsIndex x.blocks.items x.marks.items × ((p : ℕ) → p / 128 < length x.blocks.items → marks_of x p ≡ marks t p)
+HoldsMarks t x = IsIndex x.blocks.items x.marks.items × ((p : ℕ) → p / 128 < 8704 → marks_of x p ≡ marks t p)

@@ -1,15 +1,16 @@
-ghost use Rattle.std.specs.Prelude.{◌≡◌, true, ◌+◌, ◌*◌, ◌/◌, ◌∷◌, ◌++◌, [], ◌<◌, ◌≤◌, ℕ, List, false, not, length, take, drop, get_or, chars, slice_index, if◌then◌else◌, IfOk, IfSome, IfNone, OnOk, IsTrue, IsFalse};
+ghost use Rattle.std.specs.Prelude.{◌≡◌, true, ◌+◌, ◌/◌, ◌∷◌, ◌++◌, [], ◌<◌, ◌≤◌, ℕ, List, not, length, take, drop, get_or, if◌then◌else◌, IfOk, IfSome, OnOk, IsTrue};
 ghost use Rattle.std.specs.List.{list_all};
 ghost use Rattle.unicode_normalization.specs.Decompose.{decompose_canonical};
 ghost use Rattle.unicode_normalization.specs.Forms.{nfd};
 ghost use Rattle.unicode_normalization.specs.Order.{is_starter};
 ghost use Rattle.uca_model.specs.CollationElements.{elements};
-ghost use Rattle.uca_model.specs.SafeCut.{begins_apart, is_cut};
-ghost use Rattle.uca_model.specs.StandAlone.{begins, leads, joining_of, bearing_of, joining, bearing, ends_all_matches, ends_in_starter};
+ghost use Rattle.uca_model.specs.SafeCut.{begins_apart};
+ghost use Rattle.uca_model.specs.StandAlone.{leads, joining_of, bearing_of, ends_all_matches, ends_in_starter};
 ghost use Rattle.uca_table.specs.Cells.{IsCell, HoldsCells, Grows, unknown};
-ghost use Rattle.uca_table.specs.Characters.{IsCharacter};
-ghost use Rattle.uca_table.specs.Marks.{AreKnown, HoldsMarks, marks, place};
+ghost use Rattle.uca_table.specs.Characters.{table_of_characters};
+ghost use Rattle.uca_table.specs.Marks.{HoldsMarks, marks};
 
+use crate::characters::{Cell, Characters};
 use crate::collation::{push_found, push_matches};
 use crate::marks::{BLOCK, BLOCKS, MarkTable, Marks};
 use crate::stored::Stored;
@@ -33,34 +34,6 @@ const FEW_BLOCKS: usize = 64;
 /// A table may have one more block of cells for this many nodes of its keys.
 const NODES_OF_A_BLOCK: usize = 8;
 
-/// The elements of a character by itself, and whether it keeps them within a text. Sixteen bytes, since each character of a text is
-/// looked up.
-#[derive(Clone, Copy)]
-pub(crate) struct Cell {
-    // Its element, where it has just one: most characters of a text are read without a look at the elements of all cells.
-    element: [Element; 1],
-    // Where its elements begin among those of all cells.
-    start: u32,
-    // How many there are, or 0 where they are not known.
-    count: u8,
-    // How a text that begins with it may join the text before: 0 not at all, 1 in a key, 2 as nonstarters too.
-    joining: u8,
-    // The greatest of these that it bears after it; 3 where it bears all, whatever comes before it.
-    bearing: u8,
-    // Whether a text may be cut before it. `false`: that is not known.
-    cut: bool,
-}
-
-/// A character by itself: its elements, and what it bears after it.
-#[derive(Clone, Copy)]
-pub struct Character<'t> {
-    /// Its collation elements where it stands alone (UTS #10, section 7.2).
-    pub elements: &'t [Element],
-    /// How text after it may join it, at most, for both to have their elements independently: 0 not at all, 1 in a key, from 2 on in
-    /// any way.
-    pub bearing: u8,
-}
-
 /// The cell of a character about which nothing is known.
 const UNKNOWN: Cell = Cell {
     element: [NO_ELEMENT],
@@ -79,16 +52,6 @@ const NO_ELEMENT: Element = Element {
     l3: 0,
 };
 
-// The marks of a code point of which nothing is known.
-const NOT_KNOWN: Marks = Marks {
-    begins: true,
-    leads: true,
-    continues: true,
-    apart: false,
-    ends: false,
-    keeps: false,
-};
-
 /// What a table says about single characters, by blocks: what its keys say about each, and its cell. Blocks in which no key has
 /// a code point share one block.
 #[derive(Drop)]
@@ -101,33 +64,10 @@ pub struct Cells {
 
 /// This many cells of characters about which nothing is known.
 fn unknown(alloc: Global, n: usize) -> Result<Vec<Cell>, AllocError>
-    ensures { IfOk result (λ v. (i : ℕ) → get_or v.items i unknown ≡ unknown) }
+    ensures size { IfOk result (λ v. length v.items ≡ n) }
+    ensures unknown { IfOk result (λ v. (i : ℕ) → get_or v.items i unknown ≡ unknown) }
 {
     vec![in alloc; UNKNOWN; n]
-}
-
-// What the keys of a table say about a code point, as far as that is known.
-fn known_marks(marks: &MarkTable, p: char) -> Marks
-    ensures { (t : _) → HoldsMarks t marks.now → AreKnown t p result }
-{
-    match marks.find(p) {
-        Some(marks) => marks,
-        None => NOT_KNOWN,
-    }
-}
-
-// Whether a key begins with a code point.
-fn begins(marks: &MarkTable, p: char) -> bool
-    ensures { (t : _) → HoldsMarks t marks.now → IsFalse result → begins t p ≡ false }
-{
-    known_marks(marks, p).begins
-}
-
-// Whether a key of two code points or more begins with a code point.
-fn leads(marks: &MarkTable, p: char) -> bool
-    ensures { (t : _) → HoldsMarks t marks.now → IsFalse result → leads t p ≡ false }
-{
-    known_marks(marks, p).leads
 }
 
 fn is_starter(c: char) -> bool
@@ -157,7 +97,7 @@ fn is_plain(t: &Stored, marks: &MarkTable, points: &[char]) -> bool
     ensures { IsTrue result → list_all (λ p. not (leads t.now p)) points.now ≡ true }
 {
     for p in points {
-        if leads(marks, *p) {
+        if marks.get(*p).leads {
             return false;
         }
     }
@@ -173,15 +113,16 @@ fn ends_in_starter(points: &[char]) -> bool
     is_starter(points[points.len() - 1])
 }
 
-// Whether the last code point is a starter after which no match goes on that began before it. `false`: that is not known.
-fn ends_all_matches(marks: &MarkTable, points: &[char]) -> bool
-    ensures { (t : _) → HoldsMarks t marks.now → IsTrue result → ends_all_matches t points.now ≡ true }
+// Whether the last code point is a starter after which no match goes on that began before it.
+fn ends_all_matches(t: &Stored, marks: &MarkTable, points: &[char]) -> bool
+    requires { HoldsMarks t.now marks.now }
+    ensures { IsTrue result → ends_all_matches t.now points.now ≡ true }
 {
     if points.is_empty() {
         return false;
     }
     let last = points[points.len() - 1];
-    is_starter(last) && known_marks(marks, last).ends
+    is_starter(last) && marks.get(last).ends
 }
 
 // How a character joins other text. `points` are its decomposition.
@@ -195,7 +136,7 @@ struct Joins {
 // Which joining a code point bears after it, at least, where it is a decomposition by itself.
 fn bearing_of_one(p: char, starter: bool, known: Marks) -> u8
     requires { starter ≡ is_starter p }
-    ensures { (t : _) → AreKnown t p known → result ≤ bearing_of t (p ∷ []) }
+    ensures { (t : _) → known ≡ marks t p → result ≤ bearing_of t (p ∷ []) }
 {
     if known.leads {
         0
@@ -216,7 +157,7 @@ fn bearing_of(t: &Stored, marks: &MarkTable, points: &[char]) -> u8
     if !is_plain(t, marks, points) {
         return 0;
     }
-    if ends_all_matches(marks, points) {
+    if ends_all_matches(t, marks, points) {
         return 3;
     }
     if ends_in_starter(points) { 2 } else { 1 }
@@ -238,7 +179,7 @@ fn joins_of(t: &Stored, marks: &MarkTable, points: &[char]) -> Joins
     }
     let first = points[0];
     let starter = is_starter(first);
-    let known = known_marks(marks, first);
+    let known = marks.get(first);
     Joins {
         joining: joining_of_first(starter, known),
         bearing: if points.len() == 1 {
@@ -295,7 +236,7 @@ fn push_single(
     requires { HoldsMarks t.now marks.now }
     ensures { OnOk result (out.new.items ≡ out.old.items ++ elements t.now (p ∷ [])) }
 {
-    if !begins(marks, p) {
+    if !marks.get(p).begins {
         return out.extend_from_slice(&t.implicit(p));
     }
     push_found(out, t, &[p], t.get_near(p, near))
@@ -385,17 +326,13 @@ impl Cells {
         buffers: &mut Buffers,
     ) -> Result<(), AllocError>
         requires cells { HoldsCells t.now self.old }
-        requires own { c / 128 < length self.old.marks.blocks.items → 0 < get_or self.old.marks.blocks.items (c / 128) 0 }
+        requires own { 0 < get_or self.old.marks.blocks.items (c / 128) 0 }
         ensures cells { OnOk result (HoldsCells t.now self.new) }
         ensures blocks { OnOk result (self.new.marks.blocks.items ≡ self.old.marks.blocks.items) }
     {
         let cell = self.cell_of(alloc, t, c, buffers)?;
-        let Some(at) = self.marks.place(c) else {
-            return Ok(());
-        };
-        if at < self.cells.len() {
-            self.cells[at] = cell;
-        }
+        let at = self.marks.place(c);
+        self.cells[at] = cell;
         Ok(())
     }
 
@@ -460,183 +397,21 @@ impl Cells {
         Ok(made)
     }
 
-    // No cells.
-    pub(crate) fn none(alloc: Global) -> Cells
-        ensures { (t : _) → HoldsCells t result }
-    {
-        Cells {
-            marks: MarkTable::none(alloc),
-            cells: Vec::new(alloc),
-            elements: Vec::new(alloc),
-        }
-    }
-
-    /// Drops all cells.
-    pub(crate) fn clear(&mut self)
-        ensures { (t : _) → HoldsCells t self.new }
-    {
-        self.marks.clear();
-    }
-
-    /// The cells of a table, or none where memory is refused.
-    pub(crate) fn of(alloc: Global, t: &Stored) -> Cells
-        ensures { HoldsCells t.now result }
-    {
-        match Cells::new(alloc, t) {
-            Ok(cells) => cells,
-            Err(_) => Cells::none(alloc),
-        }
-    }
-
-    /// What the keys of a table say about a code point. `None`: that is not known.
-    pub(crate) fn marks(&self, c: char) -> Option<Marks>
-        ensures { (t : _) → HoldsCells t self.now → IfSome result (λ m. m ≡ marks t c) }
-    {
-        self.marks.find(c)
-    }
-
-    /// Whether a text may be cut before a character. `false`: that is not known.
-    pub(crate) fn is_cut(&self, c: char) -> bool
-        ensures { (t : _) → HoldsCells t self.now → IsTrue result → is_cut t c ≡ true }
-    {
-        match self.cell(c) {
-            Some(cell) => cell.cut,
-            None => false,
-        }
-    }
-
-    // The cell of a character. `None`: nothing is known of it.
+    /// The cells, for look-ups.
     #[inline(always)]
-    fn cell(&self, c: char) -> Option<&Cell>
-        ensures { (t : _) → HoldsCells t self.now → IfSome result (λ cell. IsCell t self.now.elements.items c cell.now) }
+    pub(crate) fn characters<'t>(&'t self, t: &'t Stored) -> Characters<'t>
+        requires { HoldsCells t.now self.now }
+        ensures { table_of_characters result ≡ t.now }
     {
-        self.cells.get(self.marks.place(c)?)
+        Characters::new(t, &self.marks.blocks, &self.cells, &self.elements)
     }
 
-    // The elements of a character by itself. `None`: they are not known.
-    #[inline(always)]
-    fn elements_of<'a>(&'a self, cell: &'a Cell) -> Option<&'a [Element]>
-        requires { cell.now.start + cell.now.count ≤ length self.now.elements.items }
-        ensures { IfSome result (λ es. (t : _) (c : ℕ) → IsCell t self.now.elements.items c cell.now → es.now ≡ elements t (nfd (c ∷ []))) }
+    /// What the keys of a table say about a code point.
+    pub(crate) fn marks(&self, t: &Stored, c: char) -> Marks
+        requires { HoldsCells t.now self.now }
+        ensures { result ≡ marks t.now c }
     {
-        if cell.count == 1 {
-            return Some(&cell.element);
-        }
-        if cell.count == 0 {
-            return None;
-        }
-        let start = cell.start as usize;
-        Some(&self.elements[start..start + cell.count as usize])
-    }
-
-    // How a character joins what comes before it, at most.
-    #[inline(always)]
-    fn joining(&self, c: char) -> u8
-        ensures { (t : _) → HoldsCells t self.now → joining t c ≤ result }
-    {
-        match self.cell(c) {
-            Some(cell) => cell.joining,
-            None => 2,
-        }
-    }
-
-    // How the character at a place joins what comes before it, at most; not at all at the end of the text.
-    fn joining_at(&self, text: &[char], at: usize) -> u8
-        ensures { (t : _) → HoldsCells t self.now → at < length text.now → joining t (slice_index text.now at) ≤ result }
-    {
-        match text.get(at) {
-            Some(c) => self.joining(*c),
-            None => 0,
-        }
-    }
-
-    // The elements of the first character of a text, where they stand alone. The next one is looked up only where they may depend on it.
-    fn alone(&self, t: &Stored, text: &[char]) -> Option<&[Element]>
-        requires some { 0 < length text.now }
-        requires cells { HoldsCells t.now self.now }
-        ensures { IfSome result (λ es. es.now ++ elements t.now (nfd (drop 1 text.now)) ≡ elements t.now (nfd text.now)) }
-    {
-        let cell = self.cell(text[0])?;
-        if cell.bearing < 2 && self.joining_at(text, 1) > cell.bearing {
-            return None;
-        }
-        self.elements_of(cell)
-    }
-
-    // How a text joins what comes before it, at most; not at all where it is empty.
-    fn joining_of_text(&self, text: &str) -> u8
-        ensures { (t : _) → HoldsCells t self.now → (c : ℕ) (later : List ℕ) → chars text.now ≡ c ∷ later → joining t c ≤ result }
-    {
-        match text.chars().next() {
-            Some(c) => self.joining(c),
-            None => 0,
-        }
-    }
-
-    /// Whether a text may be cut after a character, whatever comes before it. `false`: that is not known.
-    #[inline(always)]
-    pub(crate) fn bears_all(&self, t: &Stored, c: char) -> bool
-        requires cells { HoldsCells t.now self.now }
-        ensures { IsTrue result → 3 ≤ bearing t.now c }
-    {
-        match self.cell(c) {
-            Some(cell) => cell.bearing == 3,
-            None => false,
-        }
-    }
-
-    /// Whether a character joins nothing before it.
-    #[inline(always)]
-    pub(crate) fn joins_nothing(&self, t: &Stored, c: char) -> bool
-        requires cells { HoldsCells t.now self.now }
-        ensures { IsTrue result → joining t.now c ≡ 0 }
-    {
-        self.joining(c) == 0
-    }
-
-    /// A character that joins the text before it no more than that bears. `None`: it may join it more, or its elements are not known.
-    #[inline(always)]
-    pub(crate) fn character_after(&self, t: &Stored, bearing: u8, c: char) -> Option<Character<'_>>
-        requires cells { HoldsCells t.now self.now }
-        ensures character { IfSome result (IsCharacter t.now c) }
-        ensures joins { IfSome result (λ _. joining t.now c ≤ bearing) }
-    {
-        let cell = self.cell(c)?;
-        if cell.joining > bearing {
-            return None;
-        }
-        Some(Character {
-            elements: self.elements_of(cell)?,
-            bearing: cell.bearing,
-        })
-    }
-
-    /// The elements of a character before other text, where they stand alone. That text is looked at only where they may depend on it.
-    #[inline(always)]
-    pub(crate) fn alone_before(&self, t: &Stored, c: char, after: &str) -> Option<&[Element]>
-        requires cells { HoldsCells t.now self.now }
-        ensures { IfSome result (λ es. es.now ++ elements t.now (nfd (chars after.now)) ≡ elements t.now (nfd (c ∷ chars after.now))) }
-    {
-        let cell = self.cell(c)?;
-        if cell.bearing >= 2 && cell.count == 1 {
-            return Some(&cell.element);
-        }
-        if cell.bearing < 2 && self.joining_of_text(after) > cell.bearing {
-            return None;
-        }
-        self.elements_of(cell)
-    }
-
-    /// The elements of a character, where they stand alone before every text.
-    pub(crate) fn always_alone(&self, t: &Stored, c: char) -> Option<&[Element]>
-        requires cells { HoldsCells t.now self.now }
-        ensures { IfSome result (λ es. (after : List ℕ) → es.now ++ elements t.now (nfd after) ≡ elements t.now (nfd (c ∷ after))) }
-    {
-        let cell = self.cell(c)?;
-        if cell.bearing < 2 {
-            return None;
-        }
-        self.elements_of(cell)
+        self.marks.get(c)
     }
 
     /// The implicit elements of a character with which no key begins and that is a starter and its own NFD.
@@ -644,29 +419,13 @@ impl Cells {
         requires cells { HoldsCells t.now self.now }
         ensures { IfSome result (λ es. (after : List ℕ) → es ++ elements t.now (nfd after) ≡ elements t.now (nfd (c ∷ after))) }
     {
-        if begins(&self.marks, c) {
+        if self.marks.get(c).begins {
             return None;
         }
         if !is_own_nfd(c) {
             return None;
         }
         Some(t.implicit(c))
-    }
-
-    // How many characters of a text come before the next that joins nothing.
-    fn run_len(&self, t: &Stored, text: &[char]) -> usize
-        requires some { 0 < length text.now }
-        requires cells { HoldsCells t.now self.now }
-        ensures some { 0 < result }
-        ensures within { result ≤ length text.now }
-        ensures apart { elements t.now (nfd (take result text.now)) ++ elements t.now (nfd (drop result text.now)) ≡ elements t.now (nfd text.now) }
-    {
-        for at in 1..text.len() {
-            if self.joining_at(text, at) == 0 {
-                return at;
-            }
-        }
-        text.len()
     }
 }
 
@@ -681,8 +440,8 @@ pub fn push_few(out: &mut Vec<Element>, elements: &[Element]) -> Result<(), Allo
     out.extend_from_slice(elements)
 }
 
-// Appends the elements of a text, whatever it is. `points` is a buffer for its code points in NFD.
-fn push_run(
+/// Appends the elements of a text, whatever it is. `points` is a buffer for its code points in NFD.
+pub(crate) fn push_run(
     points: &mut Vec<char>,
     out: &mut Vec<Element>,
     t: &Stored,
@@ -713,7 +472,7 @@ fn push_others(
         out.extend_from_slice(&elements)?;
         return Ok(1);
     }
-    let n = cells.run_len(t, text);
+    let n = cells.characters(t).run_len(text);
     push_run(points, out, t, &text[..n])?;
     Ok(n)
 }
@@ -729,10 +488,11 @@ pub(crate) fn push_text(
     requires { HoldsCells t.now cells.now }
     ensures { OnOk result (out.new.items ≡ out.old.items ++ elements t.now (nfd text.now)) }
 {
+    let known = cells.characters(t);
     let mut points = Vec::new(alloc);
     let mut at = 0;
     'characters: while at < text.len() {
-        match cells.alone(t, &text[at..]) {
+        match known.alone(&text[at..]) {
             Some(elements) => {
                 push_few(out, elements)?;
                 at += 1;

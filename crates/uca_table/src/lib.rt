@@ -10,6 +10,7 @@
 pub mod ascending;
 pub mod builder;
 pub mod cells;
+pub mod characters;
 mod collation;
 mod debug;
 mod entry_map;
@@ -31,7 +32,7 @@ pub mod well_formed;
 
 pub use ascending::AscendingEntries;
 pub use builder::TableBuilder;
-pub use cells::Character;
+pub use characters::{Character, Characters};
 pub use fault::{AppendFault, FinishFault, InsertFault, RangeFault};
 pub use table::Table;
 pub use uca_keys::Entries;

@@ -1,4 +1,4 @@
-ghost use Rattle.std.specs.Prelude.{◌≡◌, ◌+◌, ◌*◌, ◌/◌, ◌%◌, ◌==◌, ◌<◌, ◌≤◌, ◌∷◌, ◌&&◌, ◌||◌, [], ℕ, not, cond, drop, length, get_or, slice_index, IfOk, IfSome, IfNone, OnOk, IsTrue};
+ghost use Rattle.std.specs.Prelude.{◌≡◌, ◌+◌, ◌*◌, ◌/◌, ◌%◌, ◌==◌, ◌<◌, ◌∷◌, ◌&&◌, ◌||◌, [], ℕ, not, cond, drop, length, get_or, slice_index, IfOk, OnOk, IsTrue};
 ghost use Rattle.std.specs.List.{list_any};
 ghost use Rattle.uca_model.specs.CollationElements.{elements_or_implicit};
 ghost use Rattle.uca_model.specs.Prefix.{have_primaries_of};
@@ -54,7 +54,8 @@ pub(crate) struct MarkTable {
 
 /// Numbers of blocks, all 0.
 fn no_blocks(alloc: Global, n: usize) -> Result<Vec<u16>, AllocError>
-    ensures { IfOk result (λ v. (b : ℕ) → get_or v.items b 0 ≡ 0) }
+    ensures size { IfOk result (λ v. length v.items ≡ n) }
+    ensures none { IfOk result (λ v. (b : ℕ) → get_or v.items b 0 ≡ 0) }
 {
     vec![in alloc; 0; n]
 }
@@ -83,55 +84,22 @@ fn keeps_primaries(t: &Stored, key: &[char], elements: &[Element]) -> bool
 }
 
 impl MarkTable {
-    /// No marks.
-    pub(crate) fn none(alloc: Global) -> MarkTable
-        ensures marks { (t : _) → HoldsMarks t result }
-        ensures none { length result.blocks.items ≡ 0 }
-    {
-        MarkTable {
-            blocks: Vec::new(alloc),
-            marks: Vec::new(alloc),
-        }
-    }
-
-    /// Drops all marks.
-    pub(crate) fn clear(&mut self)
-        ensures marks { (t : _) → HoldsMarks t self.new }
-        ensures none { length self.new.blocks.items ≡ 0 }
-    {
-        self.blocks.clear();
-        self.marks.clear();
-    }
-
     /// Where the marks of a code point are.
-    #[inline(always)]
-    pub(crate) fn place(&self, c: char) -> Option<usize>
-        ensures some { IfSome result (λ at. (c / 128 < length self.now.blocks.items) × (at ≡ place self.now.blocks.items c)) }
-        ensures none { IfNone result (length self.now.blocks.items ≤ c / 128) }
+    pub(crate) fn place(&self, c: char) -> usize
+        requires { IsIndex self.now.blocks.items self.now.marks.items }
+        ensures place { result ≡ place self.now.blocks.items c }
+        ensures within { result < length self.now.marks.items }
     {
-        match self.blocks.get(c as usize / BLOCK) {
-            Some(number) => Some(*number as usize * BLOCK + c as usize % BLOCK),
-            None => None,
-        }
+        self.blocks[c as usize / BLOCK] as usize * BLOCK + c as usize % BLOCK
     }
 
-    /// The marks of a code point as they are so far. `None`: they are not known.
-    fn get(&self, c: char) -> Option<Marks>
-        ensures some { IfSome result (λ m. (c / 128 < length self.now.blocks.items) × (m ≡ marks_of self.now c)) }
-        ensures none { IfNone result (IsIndex self.now.blocks.items self.now.marks.items → length self.now.blocks.items ≤ c / 128) }
+    /// The marks of a code point, as they are so far.
+    pub(crate) fn get(&self, c: char) -> Marks
+        requires { IsIndex self.now.blocks.items self.now.marks.items }
+        ensures so_far { result ≡ marks_of self.now c }
+        ensures whole { (t : _) → HoldsMarks t self.now → result ≡ marks t c }
     {
-        let at = self.place(c)?;
-        match self.marks.get(at) {
-            Some(marks) => Some(*marks),
-            None => None,
-        }
-    }
-
-    /// The marks of a code point. `None`: they are not known.
-    pub(crate) fn find(&self, c: char) -> Option<Marks>
-        ensures { (t : _) → HoldsMarks t self.now → IfSome result (λ m. m ≡ marks t c) }
-    {
-        self.get(c)
+        self.marks[self.place(c)]
     }
 
     /// Whether a block of code points has marks of its own.
@@ -148,9 +116,8 @@ impl MarkTable {
     fn own(&mut self, block: usize) -> Result<(), AllocError>
         requires { IsIndex self.old.blocks.items self.old.marks.items }
         ensures index { OnOk result (IsIndex self.new.blocks.items self.new.marks.items) }
-        ensures size { OnOk result (length self.new.blocks.items ≡ length self.old.blocks.items) }
-        ensures own { OnOk result (block < length self.old.blocks.items → 0 < get_or self.new.blocks.items block 0) }
-        ensures same { OnOk result ((p : ℕ) → p / 128 < length self.old.blocks.items → marks_of self.new p ≡ marks_of self.old p) }
+        ensures own { OnOk result (block < 8704 → 0 < get_or self.new.blocks.items block 0) }
+        ensures same { OnOk result ((p : ℕ) → p / 128 < 8704 → marks_of self.new p ≡ marks_of self.old p) }
     {
         if block >= self.blocks.len() || self.blocks[block] != 0 {
             return Ok(());
@@ -167,17 +134,13 @@ impl MarkTable {
     /// Changes the marks of a code point whose block has its own.
     fn put(&mut self, c: char, marks: Marks)
         requires index { IsIndex self.old.blocks.items self.old.marks.items }
-        requires own { c / 128 < length self.old.blocks.items → 0 < get_or self.old.blocks.items (c / 128) 0 }
+        requires own { 0 < get_or self.old.blocks.items (c / 128) 0 }
         ensures index { IsIndex self.new.blocks.items self.new.marks.items }
         ensures blocks { self.new.blocks.items ≡ self.old.blocks.items }
-        ensures marks { (p : ℕ) → p / 128 < length self.old.blocks.items → marks_of self.new p ≡ cond (c == p) marks (marks_of self.old p) }
+        ensures marks { (p : ℕ) → p / 128 < 8704 → marks_of self.new p ≡ cond (c == p) marks (marks_of self.old p) }
     {
-        let Some(at) = self.place(c) else {
-            return;
-        };
-        if at < self.marks.len() {
-            self.marks[at] = marks;
-        }
+        let at = self.place(c);
+        self.marks[at] = marks;
     }
 
     /// Marks the first code point of a key: whether the key is longer, has elements that begin with a primary weight, and has the
@@ -191,23 +154,21 @@ impl MarkTable {
     ) -> Result<(), AllocError>
         requires { IsIndex self.old.blocks.items self.old.marks.items }
         ensures index { OnOk result (IsIndex self.new.blocks.items self.new.marks.items) }
-        ensures size { OnOk result (length self.new.blocks.items ≡ length self.old.blocks.items) }
-        ensures marks { OnOk result ((p : ℕ) → p / 128 < length self.old.blocks.items → marks_of self.new p ≡ cond (c == p) (first_marks (marks_of self.old p) longer primary keeps) (marks_of self.old p)) }
+        ensures marks { OnOk result ((p : ℕ) → p / 128 < 8704 → marks_of self.new p ≡ cond (c == p) (first_marks (marks_of self.old p) longer primary keeps) (marks_of self.old p)) }
     {
         self.own(c as usize / BLOCK)?;
-        if let Some(marks) = self.get(c) {
-            self.put(
-                c,
-                Marks {
-                    begins: true,
-                    leads: marks.leads || longer,
-                    continues: marks.continues,
-                    apart: marks.apart && primary,
-                    ends: marks.ends,
-                    keeps: marks.keeps && keeps,
-                },
-            );
-        }
+        let marks = self.get(c);
+        self.put(
+            c,
+            Marks {
+                begins: true,
+                leads: marks.leads || longer,
+                continues: marks.continues,
+                apart: marks.apart && primary,
+                ends: marks.ends,
+                keeps: marks.keeps && keeps,
+            },
+        );
         Ok(())
     }
 
@@ -215,23 +176,21 @@ impl MarkTable {
     fn mark_inside(&mut self, c: char) -> Result<(), AllocError>
         requires { IsIndex self.old.blocks.items self.old.marks.items }
         ensures index { OnOk result (IsIndex self.new.blocks.items self.new.marks.items) }
-        ensures size { OnOk result (length self.new.blocks.items ≡ length self.old.blocks.items) }
-        ensures marks { OnOk result ((p : ℕ) → p / 128 < length self.old.blocks.items → marks_of self.new p ≡ inside_marks (marks_of self.old p) (c == p)) }
+        ensures marks { OnOk result ((p : ℕ) → p / 128 < 8704 → marks_of self.new p ≡ inside_marks (marks_of self.old p) (c == p)) }
     {
         self.own(c as usize / BLOCK)?;
-        if let Some(marks) = self.get(c) {
-            self.put(
-                c,
-                Marks {
-                    begins: marks.begins,
-                    leads: marks.leads,
-                    continues: true,
-                    apart: false,
-                    ends: marks.ends,
-                    keeps: marks.keeps,
-                },
-            );
-        }
+        let marks = self.get(c);
+        self.put(
+            c,
+            Marks {
+                begins: marks.begins,
+                leads: marks.leads,
+                continues: true,
+                apart: false,
+                ends: marks.ends,
+                keeps: marks.keeps,
+            },
+        );
         Ok(())
     }
 
@@ -239,23 +198,21 @@ impl MarkTable {
     fn mark_between(&mut self, c: char) -> Result<(), AllocError>
         requires { IsIndex self.old.blocks.items self.old.marks.items }
         ensures index { OnOk result (IsIndex self.new.blocks.items self.new.marks.items) }
-        ensures size { OnOk result (length self.new.blocks.items ≡ length self.old.blocks.items) }
-        ensures marks { OnOk result ((p : ℕ) → p / 128 < length self.old.blocks.items → marks_of self.new p ≡ between_marks (marks_of self.old p) (c == p)) }
+        ensures marks { OnOk result ((p : ℕ) → p / 128 < 8704 → marks_of self.new p ≡ between_marks (marks_of self.old p) (c == p)) }
     {
         self.own(c as usize / BLOCK)?;
-        if let Some(marks) = self.get(c) {
-            self.put(
-                c,
-                Marks {
-                    begins: marks.begins,
-                    leads: marks.leads,
-                    continues: marks.continues,
-                    apart: marks.apart,
-                    ends: false,
-                    keeps: marks.keeps,
-                },
-            );
-        }
+        let marks = self.get(c);
+        self.put(
+            c,
+            Marks {
+                begins: marks.begins,
+                leads: marks.leads,
+                continues: marks.continues,
+                apart: marks.apart,
+                ends: false,
+                keeps: marks.keeps,
+            },
+        );
         Ok(())
     }
 
@@ -263,8 +220,7 @@ impl MarkTable {
     fn mark_others(&mut self, points: &[char]) -> Result<(), AllocError>
         requires { IsIndex self.old.blocks.items self.old.marks.items }
         ensures index { OnOk result (IsIndex self.new.blocks.items self.new.marks.items) }
-        ensures size { OnOk result (length self.new.blocks.items ≡ length self.old.blocks.items) }
-        ensures marks { OnOk result ((p : ℕ) → p / 128 < length self.old.blocks.items → marks_of self.new p ≡ inside_marks (marks_of self.old p) (list_any (λ x. x == p) points.now)) }
+        ensures marks { OnOk result ((p : ℕ) → p / 128 < 8704 → marks_of self.new p ≡ inside_marks (marks_of self.old p) (list_any (λ x. x == p) points.now)) }
     {
         for c in points {
             self.mark_inside(*c)?;
@@ -276,8 +232,7 @@ impl MarkTable {
     fn mark_middles(&mut self, points: &[char]) -> Result<(), AllocError>
         requires { IsIndex self.old.blocks.items self.old.marks.items }
         ensures index { OnOk result (IsIndex self.new.blocks.items self.new.marks.items) }
-        ensures size { OnOk result (length self.new.blocks.items ≡ length self.old.blocks.items) }
-        ensures marks { OnOk result ((p : ℕ) → p / 128 < length self.old.blocks.items → marks_of self.new p ≡ between_marks (marks_of self.old p) (is_before_last p points.now)) }
+        ensures marks { OnOk result ((p : ℕ) → p / 128 < 8704 → marks_of self.new p ≡ between_marks (marks_of self.old p) (is_before_last p points.now)) }
     {
         let mut at = 1;
         while at < points.len() {
@@ -291,8 +246,7 @@ impl MarkTable {
     fn mark_key(&mut self, t: &Stored, key: &[char], elements: &[Element]) -> Result<(), AllocError>
         requires { IsIndex self.old.blocks.items self.old.marks.items }
         ensures index { OnOk result (IsIndex self.new.blocks.items self.new.marks.items) }
-        ensures size { OnOk result (length self.new.blocks.items ≡ length self.old.blocks.items) }
-        ensures marks { OnOk result ((p : ℕ) → p / 128 < length self.old.blocks.items → marks_of self.new p ≡ marks_with t.now (marks_of self.old p) p (key.now, elements.now)) }
+        ensures marks { OnOk result ((p : ℕ) → p / 128 < 8704 → marks_of self.new p ≡ marks_with t.now (marks_of self.old p) p (key.now, elements.now)) }
     {
         if key.is_empty() {
             return Ok(());
@@ -306,7 +260,7 @@ impl MarkTable {
     /// Marks the code points of all keys, where none is marked yet.
     fn mark_keys(&mut self, t: &Stored) -> Result<(), AllocError>
         requires index { IsIndex self.old.blocks.items self.old.marks.items }
-        requires fresh { (p : ℕ) → p / 128 < length self.old.blocks.items → marks_of self.old p ≡ Untouched }
+        requires fresh { (p : ℕ) → p / 128 < 8704 → marks_of self.old p ≡ Untouched }
         ensures { OnOk result (HoldsMarks t.now self.new) }
     {
         let mut cursor = t.cursor();

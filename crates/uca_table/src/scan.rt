@@ -1,40 +1,37 @@
-ghost use Rattle.std.specs.Prelude.{◌≡◌, ◌==◌, ◌∷◌, ◌&&◌, ◌||◌, [], not, drop, length};
+ghost use Rattle.std.specs.Prelude.{◌≡◌, ◌==◌, ◌∷◌, ◌&&◌, ◌||◌, [], true, not, drop, length, IsTrue};
 ghost use Rattle.std.specs.List.{list_any, list_all};
 ghost use Rattle.std.specs.FinMap.{entries};
 ghost use Rattle.uca_model.specs.CollationElements.{elements_or_implicit};
 ghost use Rattle.uca_model.specs.Prefix.{have_primaries_of, is_closed, is_silent, keeps_primaries, lack_primary};
 ghost use Rattle.uca_model.specs.SafeCut.{is_cut, is_safe_starter, keeps_apart};
 ghost use Rattle.uca_model.specs.StandAlone.{is_first, ends_matches, is_before_last};
-ghost use Rattle.uca_table.specs.Cells.{HoldsCells};
 ghost use Rattle.uca_table.specs.Marks.{keep_apart};
 
-use crate::cells::Cells;
 use crate::primaries::{begins_with_primary, have_primaries_of, lack_primary};
 use crate::stored::Stored;
+use crate::table::Table;
 use uca_weights::Element;
 use unicode_normalization::Form;
 use unicode_normalization::char::{canonical_combining_class, decomposition};
 
 /// Whether a code point is a safe starter of a table.
-pub(crate) fn is_safe_starter(t: &Stored, cells: &Cells, s: char) -> bool
-    requires { HoldsCells t.now cells.now }
+pub(crate) fn is_safe_starter(t: &Table, s: char) -> bool
     ensures { result ≡ is_safe_starter t.now s }
 {
     if canonical_combining_class(s) != 0 {
         return false;
     }
-    match cells.marks(s) {
+    match t.marks(s) {
         Some(marks) => marks.apart,
-        None => all_keep_apart(t, s),
+        None => all_keep_apart(t.stored(), s),
     }
 }
 
 /// Whether a text may be cut before a character.
-pub(crate) fn is_cut(t: &Stored, cells: &Cells, c: char) -> bool
-    requires { HoldsCells t.now cells.now }
+pub(crate) fn is_cut(t: &Table, c: char) -> bool
     ensures { result ≡ is_cut t.now c }
 {
-    if cells.is_cut(c) {
+    if is_known_cut(t, c) {
         return true;
     }
     let mut room = [c; 3];
@@ -42,31 +39,39 @@ pub(crate) fn is_cut(t: &Stored, cells: &Cells, c: char) -> bool
     if points.is_empty() {
         return false;
     }
-    is_safe_starter(t, cells, points[0])
+    is_safe_starter(t, points[0])
+}
+
+// Whether the cell of a character says that a text may be cut before it.
+fn is_known_cut(t: &Table, c: char) -> bool
+    ensures { IsTrue result → is_cut t.now c ≡ true }
+{
+    match t.characters() {
+        Some(characters) => characters.is_cut(c),
+        None => false,
+    }
 }
 
 /// Whether the primary weights up to a starter are the same, whatever follows it.
-pub(crate) fn is_closed(t: &Stored, cells: &Cells, s: char) -> bool
-    requires { HoldsCells t.now cells.now }
+pub(crate) fn is_closed(t: &Table, s: char) -> bool
     ensures { result ≡ is_closed t.now s }
 {
-    match cells.marks(s) {
+    match t.marks(s) {
         Some(marks) => marks.ends && marks.keeps,
-        None => ends_matches(t, s) && keeps_primaries(t, s),
+        None => ends_matches(t.stored(), s) && keeps_primaries(t.stored(), s),
     }
 }
 
 /// Whether a code point has no primary weight, whatever follows it.
-pub(crate) fn is_silent(t: &Stored, cells: &Cells, c: char) -> bool
-    requires { HoldsCells t.now cells.now }
+pub(crate) fn is_silent(t: &Table, c: char) -> bool
     ensures { result ≡ is_silent t.now c }
 {
-    if !has_no_primary(t, c) {
+    if !has_no_primary(t.stored(), c) {
         return false;
     }
-    match cells.marks(c) {
+    match t.marks(c) {
         Some(marks) => marks.keeps,
-        None => keeps_primaries(t, c),
+        None => keeps_primaries(t.stored(), c),
     }
 }
 

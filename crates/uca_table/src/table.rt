@@ -3,8 +3,10 @@ ghost use Rattle.unicode_normalization.specs.Forms.{nfd};
 ghost use Rattle.uca_model.specs.CollationElements.{elements};
 ghost use Rattle.uca_model.specs.StandAlone.{joining, bearing};
 
-use crate::cells::{Cells, Character, push_text};
+use crate::cells::{Cells, push_run, push_text};
+use crate::characters::{Character, Characters};
 use crate::fault::RangeFault;
+use crate::marks::Marks;
 use crate::scan;
 use crate::stored::Stored;
 use crate::walk::Walk;
@@ -18,11 +20,12 @@ use uca_weights::{Element, Ideographs, Range};
 #[derive(Drop)]
 pub struct Table {
     stored: Stored,
-    // What is known about single characters; nothing once ranges of ideographs were added.
-    cells: Cells,
+    // What is known about single characters; nothing once ranges of ideographs were added, or where memory was refused.
+    cells: Option<Cells>,
 }
 
 impl Model for Table {
+    ghost use Rattle.std.specs.Option.{ForSome};
     ghost use Rattle.uca_model.specs.Table.{ElementTable};
     ghost use Rattle.uca_table.specs.Cells.{HoldsCells};
     ghost use Rattle.uca_table.specs.Coded.{coded_table};
@@ -33,14 +36,15 @@ impl Model for Table {
 
     ghost view = { λ t. t.stored };
 
-    ghost invariant = { λ t. HoldsCells t.stored t.cells };
+    ghost invariant = { λ t. ForSome t.cells (HoldsCells t.stored) };
 }
 
 impl Table {
     ghost use Rattle.uca_weights.specs.declared.limits.TheConstants.{MAX_KEY, MAX_ELEMENTS};
     ghost use Rattle.uca_model.specs.Table.{ElementTable, IsElement, IsTable, elements_at, longest, with_ideographs};
     ghost use Rattle.uca_model.specs.UnifiedIdeographs.{AreIdeographs};
-    ghost use Rattle.uca_table.specs.Characters.{IsCharacter};
+    ghost use Rattle.uca_table.specs.Characters.{IsCharacter, table_of_characters};
+    ghost use Rattle.uca_table.specs.Marks.{marks};
     ghost use Rattle.uca_table.specs.Builder.{ideographs_fault, reported_range_fault, with_more_ideographs};
     ghost use Rattle.uca_model.specs.ImplicitWeights.{implicit};
     ghost use Rattle.uca_model.specs.Prefix.{is_closed, is_silent};
@@ -117,7 +121,7 @@ impl Table {
         ensures fault { let fault = ideographs_fault self.old.ideographs (record { first = first; last = last }) in MatchResult result (λ _. fault ≡ None) (λ f. fault ≡ reported_range_fault f) }
     {
         self.stored.add_ideographs(first, last)?;
-        self.cells.clear();
+        self.cells = None;
         Ok(())
     }
 
@@ -126,28 +130,28 @@ impl Table {
     pub fn safe_starter(&self, c: char) -> bool
         ensures { result ≡ is_safe_starter self.now c }
     {
-        scan::is_safe_starter(&self.stored, &self.cells, c)
+        scan::is_safe_starter(self, c)
     }
 
     /// Whether a text may be cut before a character: the NFD of the character begins with a safe starter.
     pub fn is_cut(&self, c: char) -> bool
         ensures { result ≡ is_cut self.now c }
     {
-        scan::is_cut(&self.stored, &self.cells, c)
+        scan::is_cut(self, c)
     }
 
     /// Whether no match that began before a starter goes on after it, and every key that begins with it has its primary weights.
     pub fn is_closed(&self, s: char) -> bool
         ensures { result ≡ is_closed self.now s }
     {
-        scan::is_closed(&self.stored, &self.cells, s)
+        scan::is_closed(self, s)
     }
 
     /// Whether a code point has no primary weight, and no key that begins with it has one.
     pub fn is_silent(&self, c: char) -> bool
         ensures { result ≡ is_silent self.now c }
     {
-        scan::is_silent(&self.stored, &self.cells, c)
+        scan::is_silent(self, c)
     }
 
     /// Rebuilds the cells, which quick look-ups use and `add_ideographs` drops. Call it after the last change of a
@@ -155,7 +159,7 @@ impl Table {
     pub fn prepare(&mut self, alloc: Global) -> Result<(), AllocError>
         ensures { self.new ≡ self.old }
     {
-        self.cells = Cells::new(alloc, &self.stored)?;
+        self.cells = Some(Cells::new(alloc, &self.stored)?);
         Ok(())
     }
 
@@ -163,15 +167,18 @@ impl Table {
     pub(crate) fn of(alloc: Global, stored: Stored) -> Table
         ensures { result ≡ stored }
     {
-        let cells = Cells::of(alloc, &stored);
+        let cells = match Cells::new(alloc, &stored) {
+            Ok(cells) => Some(cells),
+            Err(_) => None,
+        };
         Table { stored, cells }
     }
 
     /// Frees what is kept about single characters, by which texts are read fast. A table that is only tailored does without it.
-    pub fn forget_characters(&mut self, alloc: Global)
+    pub fn forget_characters(&mut self, _alloc: Global)
         ensures { self.new ≡ self.old }
     {
-        self.cells = Cells::none(alloc);
+        self.cells = None;
     }
 
     /// The entries and ranges, for matching code point by code point.
@@ -181,13 +188,37 @@ impl Table {
         &self.stored
     }
 
+    /// What the keys say about a code point. `None`: that is not known.
+    pub(crate) fn marks(&self, c: char) -> Option<Marks>
+        ensures { IfSome result (λ m. m ≡ marks self.now c) }
+    {
+        match &self.cells {
+            Some(cells) => Some(cells.marks(&self.stored, c)),
+            None => None,
+        }
+    }
+
+    /// What is known about single characters, for the many look-ups of a text. It does not allocate. `None`: nothing is known.
+    #[inline(always)]
+    pub fn characters(&self) -> Option<Characters<'_>>
+        ensures { IfSome result (λ known. table_of_characters known ≡ self.now) }
+    {
+        match &self.cells {
+            Some(cells) => Some(cells.characters(&self.stored)),
+            None => None,
+        }
+    }
+
     /// Whether a character joins nothing before it, so that a text that ends before it and one that begins with
     /// it have their collation elements independently (UTS #10, section 7.2). It does not allocate. `false` means that it is not known.
     #[inline(always)]
     pub fn joins_nothing(&self, c: char) -> bool
         ensures { IsTrue result → joining self.now c ≡ 0 }
     {
-        self.cells.joins_nothing(&self.stored, c)
+        match self.characters() {
+            Some(characters) => characters.joins_nothing(c),
+            None => false,
+        }
     }
 
     /// Whether a text after a character has its collation elements by itself, whatever comes before the character (UTS #10,
@@ -196,7 +227,10 @@ impl Table {
     pub fn bears_all(&self, c: char) -> bool
         ensures { IsTrue result → 3 ≤ bearing self.now c }
     {
-        self.cells.bears_all(&self.stored, c)
+        match self.characters() {
+            Some(characters) => characters.bears_all(c),
+            None => false,
+        }
     }
 
     /// The collation elements of a character after text that bears so much after it, and what the character bears (UTS #10, section
@@ -206,7 +240,7 @@ impl Table {
         ensures character { IfSome result (IsCharacter self.now c) }
         ensures joins { IfSome result (λ _. joining self.now c ≤ bearing) }
     {
-        self.cells.character_after(&self.stored, bearing, c)
+        self.characters()?.after(bearing, c)
     }
 
     /// The collation elements of a character before other text, where that text does not change them (UTS #10, section 7.2).
@@ -215,7 +249,7 @@ impl Table {
     pub fn alone_before(&self, c: char, after: &str) -> Option<&[Element]>
         ensures { IfSome result (λ es. es.now ++ elements self.now (nfd (chars after.now)) ≡ elements self.now (nfd (c ∷ chars after.now))) }
     {
-        self.cells.alone_before(&self.stored, c, after)
+        self.characters()?.alone_before(c, after)
     }
 
     /// The collation elements of a character, where no text after it changes them (UTS #10, section 7.2). It does not
@@ -223,7 +257,7 @@ impl Table {
     pub fn always_alone(&self, c: char) -> Option<&[Element]>
         ensures { IfSome result (λ es. (after : List ℕ) → es.now ++ elements self.now (nfd after) ≡ elements self.now (nfd (c ∷ after))) }
     {
-        self.cells.always_alone(&self.stored, c)
+        self.characters()?.always_alone(c)
     }
 
     /// The implicit elements of a character, where no text after it changes them (UTS #10, section 10.1.3). It does not allocate.
@@ -231,7 +265,10 @@ impl Table {
     pub fn implicit_alone(&self, c: char) -> Option<[Element; 2]>
         ensures { IfSome result (λ es. (after : List ℕ) → es ++ elements self.now (nfd after) ≡ elements self.now (nfd (c ∷ after))) }
     {
-        self.cells.implicit_alone(&self.stored, c)
+        match &self.cells {
+            Some(cells) => cells.implicit_alone(&self.stored, c),
+            None => None,
+        }
     }
 
     /// Appends the collation elements of a text (UTS #10, sections 7.1 and 7.2, steps S1 and S2).
@@ -243,6 +280,9 @@ impl Table {
     ) -> Result<(), AllocError>
         ensures { OnOk result (out.new.items ≡ out.old.items ++ elements self.now (nfd text.now)) }
     {
-        push_text(alloc, out, &self.stored, &self.cells, text)
+        match &self.cells {
+            Some(cells) => push_text(alloc, out, &self.stored, cells, text),
+            None => push_run(&mut Vec::new(alloc), out, &self.stored, text),
+        }
     }
 }

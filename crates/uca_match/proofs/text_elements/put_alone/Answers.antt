@@ -1,36 +1,48 @@
-use Rattle.std.proofs.Common.{rules, ◌≡◌, ◌+◌, ℕ, List, [], ◌∷◌, ◌++◌, chars, encode_utf8, length, take, sym, ap, subst, ◌∙◌, arith, append_assoc, length-append}
+use Rattle.std.proofs.Common.{rules, ◌≡◌, ◌+◌, ◌≤◌, ℕ, List, [], ◌∷◌, ◌++◌, chars, encode_utf8, length, take, Some, sym, ap, subst, ◌∙◌, arith, append_assoc}
 use Rattle.std.proofs.lemmas.Str.{chars_past_char}
 use Rattle.unicode_normalization.specs.Forms.{nfd}
 use Rattle.uca_weights.specs.declared.element.Element.{Element}
 use Rattle.uca_model.specs.CollationElements.{elements}
 use Rattle.uca_model.specs.SafeText.{IsSafe}
 use Rattle.uca_model.specs.StandAlone.{joining}
+use Rattle.uca_table.specs.Characters.{IsCharacter}
 use Rattle.uca_table.proofs.CellLemmas.{alone-before, first-same}
 use Rattle.uca_match.proofs.TextLemmas.{IsSafe-rest, kept-before}
+use Rattle.uca_match.proofs.OneBackLemmas.{stands-safe}
+use Rattle.uca_window.specs.PassageSource.{StandsIn}
+use Rattle.uca_window.proofs.SourceLemmas.{stands_next}
 use Rattle.uca_match.proofs.text_elements.put_alone.Goals as goal
 
 pub characters-preserved : goal.characters-preserved
 characters-preserved c =
     let t = c.args.t.now in let i = c.characters.invariant in
     let rest : List ℕ = c.characters.rest.now in let after : List ℕ = c.as_str-rest.result.now in
-    let character = c.in-Some-character_after.character in let is = c.in-Some-character_after.ensures.character in
+    let character = c.in-Some-after.character in
+    let is : IsCharacter t c.in-Some-next.c character = subst (λ x. IsCharacter x c.in-Some-next.c character) c.in-Some.ensures c.in-Some-after.ensures.character in
+    let joins : joining t c.in-Some-next.c ≤ c.characters.bearing = subst (λ x. joining x c.in-Some-next.c ≤ c.characters.bearing) c.in-Some.ensures c.in-Some-after.ensures.joins in
     let of : List ℕ → List Element = λ text. elements t (nfd text) in
-    let step : rest ≡ encode_utf8 c.in-Some.c ++ after = sym c.chars-left.ensures.rest ∙ c.in-Some.ensures.steps.0 ∙ ap (λ u. encode_utf8 c.in-Some.c ++ u) (sym c.as_str-rest.ensures) in
-    let first : chars rest ≡ c.in-Some.c ∷ chars after = chars_past_char rest after c.in-Some.c i.utf8 step in
-    let longer : length rest ≡ length (encode_utf8 c.in-Some.c) + length after = ap length step ∙ length-append (encode_utf8 c.in-Some.c) after in
-    let settled = i.ahead (λ n x e. let same : n ≡ c.in-Some.c = first-same _ _ _ _ (sym e ∙ first) in omega (arith, c.in-Some-character_after.ensures.joins, ap (joining t) same)) in
+    let step : rest ≡ encode_utf8 c.in-Some-next.c ++ after = sym c.chars-left.ensures.rest ∙ c.in-Some-next.ensures.steps.0 ∙ ap (λ u. encode_utf8 c.in-Some-next.c ++ u) (sym c.as_str-rest.ensures) in
+    let first : chars rest ≡ c.in-Some-next.c ∷ chars after = chars_past_char rest after c.in-Some-next.c i.stands.utf8 step in
+    let settled = i.ahead (λ n x e. let same : n ≡ c.in-Some-next.c = first-same _ _ _ _ (sym e ∙ first) in omega (arith, joins, ap (joining t) same)) in
     let before : List Element = take c.characters.at c.characters.room in
     let put = c.in-Some-put_fitting.ensures in
     record {
-      settled = ap (λ l. l ++ of (chars rest)) (kept-before c.characters.at c.characters.at c.in-Some-put_fitting.next c.put_fitting.new.room c.characters.room character.elements.now (omega arith) i.within (omega (arith, put.place)) put.elements) ∙ settled;
-      ahead = λ joins. ap (λ l. l ++ of (chars after)) put.elements ∙ append_assoc before character.elements.now (of (chars after)) ∙ ap (λ l. before ++ l) (alone-before t c.in-Some.c (chars after) character.elements.now character.bearing is.elements is.bearing joins ∙ ap of (sym first)) ∙ settled;
-      later_settled = omega (arith, i.later_settled, i.later);
-      later = omega (arith, put.place);
+      ahead = λ joins. ap (λ l. l ++ of (chars after)) put.elements ∙ append_assoc before character.elements.now (of (chars after)) ∙ ap (λ l. before ++ l) (alone-before t c.in-Some-next.c (chars after) character.elements.now character.bearing is.elements is.bearing joins ∙ ap of (sym first)) ∙ settled;
+      settled = λ few. record {
+        back = rest;
+        place = c.characters.at;
+        is = record { c = c.in-Some-next.c; same = first; ends = omega (arith, put.place, ap length is.elements) };
+        stands = i.stands;
+        later = i.later;
+        same = ap (λ l. l ++ of (chars rest)) (kept-before c.characters.at c.characters.at c.in-Some-put_fitting.next c.put_fitting.new.room c.characters.room character.elements.now (omega arith) i.within (omega (arith, put.place)) put.elements) ∙ settled;
+      };
+      kept = kept-before c.args.from c.characters.at c.in-Some-put_fitting.next c.put_fitting.new.room c.characters.room character.elements.now i.later i.within (omega (arith, put.place, i.later)) put.elements ∙ i.kept;
+      later = omega (arith, put.place, i.later);
       within = search (arith, rules, put.place, put.size);
       size = put.size ∙ i.size;
-      fewer_settled = i.fewer;
-      fewer = omega (arith, longer, i.fewer);
-      utf8 = search rules;
-      safe_settled = i.safe;
-      safe = IsSafe-rest (c.in-Some.c ∷ []) (chars after) (subst IsSafe first i.safe);
+      stands = subst (StandsIn c.args.text.now) (sym c.as_str-rest.ensures) (stands_next c.args.text.now c.chars-left.result c.next.new.self (Some c.in-Some-next.c) (subst (StandsIn c.args.text.now) (sym c.chars-left.ensures.rest) i.stands) c.in-Some-next.ensures.steps);
+      safe = IsSafe-rest (c.in-Some-next.c ∷ []) (chars after) (subst IsSafe first i.safe);
     }
+
+pub returns-in-Some-one_back-clause-safe : goal.returns-in-Some-one_back-clause-safe
+returns-in-Some-one_back-clause-safe c = stands-safe c.args.text.now c.in-Some-one_back.back.1.now c.in-Some-one_back.ensures.stands c.requires.safe

@@ -1,5 +1,7 @@
-use Rattle.std.proofs.Common.{◌≡◌, get_or}
+use Rattle.std.proofs.Common.{◌≡◌, ◌++◌, get_or, take, drop, subst}
 use Rattle.std.proofs.lemmas.List.{get_or_read}
+use Rattle.unicode_normalization.specs.Forms.{nfd}
+use Rattle.uca_model.specs.CollationElements.{elements}
 use Rattle.uca_table.proofs.CellLemmas.{one-further, run-further}
 use Rattle.uca_table.proofs.cells.push_others.Goals as goal
 
@@ -10,4 +12,5 @@ returns-in-Some-clause-elements c =
 
 pub returns-clause-elements : goal.returns-clause-elements
 returns-clause-elements c =
-    run-further c.args.t.now c.args.text.now c.run_len-n.result c.args.out.now.items _ c.push_run.new.out.items c.in_ok-push_run.ensures c.run_len-n.ensures.apart
+    run-further c.args.t.now c.args.text.now c.run_len-n.result c.args.out.now.items _ c.push_run.new.out.items c.in_ok-push_run.ensures
+    (subst (λ t. elements t (nfd (take c.run_len-n.result c.args.text.now)) ++ elements t (nfd (drop c.run_len-n.result c.args.text.now)) ≡ elements t (nfd c.args.text.now)) c.characters.ensures c.run_len-n.ensures.apart)

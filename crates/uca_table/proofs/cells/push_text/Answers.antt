@@ -1,6 +1,7 @@
 use Rattle.std.proofs.Common.{◌≡◌, ℕ, List, ◌+◌, ◌-◌, ◌++◌, length, take, drop, ap, ◌∙◌, subst, arith, length-drop}
 use Rattle.std.proofs.lemmas.List.{take_rest}
 use Rattle.unicode_normalization.specs.Forms.{nfd}
+use Rattle.uca_model.specs.Table.{ElementTable}
 use Rattle.uca_model.specs.CollationElements.{elements}
 use Rattle.uca_table.proofs.CellLemmas.{text-further, others-further, text-done}
 use Rattle.uca_table.proofs.cells.push_text.Goals as goal
@@ -10,8 +11,8 @@ characters-preserved-in-Some c =
     let t = c.args.t.now in
     let text = c.args.text.now in
     let at : ℕ = c.characters.at in
-    let P : List ℕ → Type 0 = λ l. c.in-Some.elements.now ++ elements t (nfd (drop 1 l)) ≡ elements t (nfd l) in
-    let step : P (drop at text) = subst P (take_rest text at) c.in-Some.ensures in
+    let P : ElementTable → List ℕ → Type 0 = λ x l. c.in-Some.elements.now ++ elements x (nfd (drop 1 l)) ≡ elements x (nfd l) in
+    let step : P t (drop at text) = subst (P t) (take_rest text at) (subst (λ x. P x (take (length text - at) (drop at text))) c.characters-known.ensures c.in-Some.ensures) in
     record {
       within = omega arith;
       same = ap (λ o. o ++ elements t (nfd (drop (at + 1) text))) c.in_ok-push_few-in-Some.ensures ∙ text-further t text at 1 c.characters.out.items c.in-Some.elements.now (c.args.out.now.items ++ elements t (nfd text)) c.characters.invariant.same step;

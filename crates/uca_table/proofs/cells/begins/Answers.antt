@@ -1,4 +1,0 @@
-use Rattle.uca_table.proofs.cells.begins.Goals as goal
-
-pub returns : goal.returns
-returns c = λ t holds none. (c.known_marks.ensures t holds).first none

@@ -1,0 +1,220 @@
+ghost use Rattle.std.specs.Prelude.{◌≡◌, ◌+◌, ◌∷◌, ◌++◌, [], ◌<◌, ◌≤◌, ℕ, List, true, length, take, drop, chars, slice_index, IfSome, IsTrue};
+ghost use Rattle.unicode_normalization.specs.Forms.{nfd};
+ghost use Rattle.uca_model.specs.CollationElements.{elements};
+ghost use Rattle.uca_model.specs.SafeCut.{is_cut};
+ghost use Rattle.uca_model.specs.StandAlone.{joining, bearing};
+ghost use Rattle.uca_table.specs.Cells.{IsCell, AreCells};
+
+use crate::marks::BLOCK;
+use crate::stored::Stored;
+use uca_weights::Element;
+
+/// The elements of a character by itself, and whether it keeps them within a text. Sixteen bytes, since each character of a text is
+/// looked up.
+#[derive(Clone, Copy)]
+pub(crate) struct Cell {
+    // Its element, where it has just one: most characters of a text are read without a look at the elements of all cells.
+    pub(crate) element: [Element; 1],
+    // Where its elements begin among those of all cells.
+    pub(crate) start: u32,
+    // How many there are, or 0 where they are not known.
+    pub(crate) count: u8,
+    // How a text that begins with it may join the text before: 0 not at all, 1 in a key, 2 as nonstarters too.
+    pub(crate) joining: u8,
+    // The greatest of these that it bears after it; 3 where it bears all, whatever comes before it.
+    pub(crate) bearing: u8,
+    // Whether a text may be cut before it. `false`: that is not known.
+    pub(crate) cut: bool,
+}
+
+/// A character by itself: its elements, and what it bears after it.
+#[derive(Clone, Copy)]
+pub struct Character<'t> {
+    /// Its collation elements where it stands alone (UTS #10, section 7.2).
+    pub elements: &'t [Element],
+    /// How text after it may join it, at most, for both to have their elements independently: 0 not at all, 1 in a key, from 2 on in
+    /// any way.
+    pub bearing: u8,
+}
+
+/// What is known of the characters of a table, for look-ups: these are what most of the reading of a text takes.
+#[derive(Clone, Copy)]
+pub struct Characters<'t> {
+    table: &'t Stored,
+    // Of each block of code points, the number of its block of cells.
+    blocks: &'t [u16],
+    cells: &'t [Cell],
+    // The elements of all cells.
+    elements: &'t [Element],
+    ghost sound: { AreCells table.now elements.now blocks.now cells.now },
+}
+
+impl<'t> Characters<'t> {
+    ghost use Rattle.uca_table.specs.Characters.{IsCharacter, table_of_characters};
+
+    /// What these cells say. They are at the places of the marks.
+    #[inline(always)]
+    pub(crate) fn new(
+        table: &'t Stored,
+        blocks: &'t [u16],
+        cells: &'t [Cell],
+        elements: &'t [Element],
+    ) -> Characters<'t>
+        requires { AreCells table.now elements.now blocks.now cells.now }
+        ensures { table_of_characters result ≡ table.now }
+    {
+        Characters {
+            table,
+            blocks,
+            cells,
+            elements,
+        }
+    }
+
+    // The cell of a character. Neither index is checked when this runs: every block of code points has a block of cells.
+    #[inline(always)]
+    fn cell(&self, c: char) -> &'t Cell
+        ensures { IsCell self.now.table.now self.now.elements.now c result.now }
+    {
+        let block = self.blocks[c as usize / BLOCK] as usize;
+        &self.cells[block * BLOCK + c as usize % BLOCK]
+    }
+
+    // The elements of a character by itself. `None`: they are not known.
+    #[inline(always)]
+    fn elements_of(&self, cell: &'t Cell) -> Option<&'t [Element]>
+        requires { cell.now.start + cell.now.count ≤ length self.now.elements.now }
+        ensures { IfSome result (λ es. (c : ℕ) → IsCell self.now.table.now self.now.elements.now c cell.now → es.now ≡ elements self.now.table.now (nfd (c ∷ []))) }
+    {
+        if cell.count == 1 {
+            return Some(&cell.element);
+        }
+        if cell.count == 0 {
+            return None;
+        }
+        let start = cell.start as usize;
+        Some(&self.elements[start..start + cell.count as usize])
+    }
+
+    // How a character joins what comes before it, at most.
+    #[inline(always)]
+    fn joining(&self, c: char) -> u8
+        ensures { joining self.now.table.now c ≤ result }
+    {
+        self.cell(c).joining
+    }
+
+    // How the character at a place joins what comes before it, at most; not at all at the end of the text.
+    fn joining_at(&self, text: &[char], at: usize) -> u8
+        ensures { at < length text.now → joining self.now.table.now (slice_index text.now at) ≤ result }
+    {
+        match text.get(at) {
+            Some(c) => self.joining(*c),
+            None => 0,
+        }
+    }
+
+    // How a text joins what comes before it, at most; not at all where it is empty.
+    fn joining_of_text(&self, text: &str) -> u8
+        ensures { (c : ℕ) (later : List ℕ) → chars text.now ≡ c ∷ later → joining self.now.table.now c ≤ result }
+    {
+        match text.chars().next() {
+            Some(c) => self.joining(c),
+            None => 0,
+        }
+    }
+
+    /// Whether a text may be cut before a character. `false`: that is not known.
+    pub(crate) fn is_cut(&self, c: char) -> bool
+        ensures { IsTrue result → is_cut (table_of_characters self.now) c ≡ true }
+    {
+        self.cell(c).cut
+    }
+
+    /// Whether a text may be cut after a character, whatever comes before it. `false`: that is not known.
+    #[inline(always)]
+    pub(crate) fn bears_all(&self, c: char) -> bool
+        ensures { IsTrue result → 3 ≤ bearing (table_of_characters self.now) c }
+    {
+        self.cell(c).bearing == 3
+    }
+
+    /// Whether a character joins nothing before it. `false`: that is not known.
+    #[inline(always)]
+    pub(crate) fn joins_nothing(&self, c: char) -> bool
+        ensures { IsTrue result → joining (table_of_characters self.now) c ≡ 0 }
+    {
+        self.joining(c) == 0
+    }
+
+    /// The collation elements of a character after text that bears so much after it, and what the character bears (UTS #10, section
+    /// 7.2): the text before has its elements independently of it. It does not allocate. `None`: that is not known.
+    #[inline(always)]
+    pub fn after(&self, bearing: u8, c: char) -> Option<Character<'t>>
+        ensures character { IfSome result (IsCharacter (table_of_characters self.now) c) }
+        ensures joins { IfSome result (λ _. joining (table_of_characters self.now) c ≤ bearing) }
+    {
+        let cell = self.cell(c);
+        if cell.joining > bearing {
+            return None;
+        }
+        Some(Character {
+            elements: self.elements_of(cell)?,
+            bearing: cell.bearing,
+        })
+    }
+
+    /// The elements of the first character of a text, where they stand alone. The next one is looked up only where they may depend on
+    /// it.
+    pub(crate) fn alone(&self, text: &[char]) -> Option<&'t [Element]>
+        requires { 0 < length text.now }
+        ensures { IfSome result (λ es. es.now ++ elements (table_of_characters self.now) (nfd (drop 1 text.now)) ≡ elements (table_of_characters self.now) (nfd text.now)) }
+    {
+        let cell = self.cell(text[0]);
+        if cell.bearing < 2 && self.joining_at(text, 1) > cell.bearing {
+            return None;
+        }
+        self.elements_of(cell)
+    }
+
+    /// The elements of a character before other text, where they stand alone. That text is looked at only where they may depend on it.
+    #[inline(always)]
+    pub(crate) fn alone_before(&self, c: char, after: &str) -> Option<&'t [Element]>
+        ensures { IfSome result (λ es. es.now ++ elements (table_of_characters self.now) (nfd (chars after.now)) ≡ elements (table_of_characters self.now) (nfd (c ∷ chars after.now))) }
+    {
+        let cell = self.cell(c);
+        if cell.bearing >= 2 && cell.count == 1 {
+            return Some(&cell.element);
+        }
+        if cell.bearing < 2 && self.joining_of_text(after) > cell.bearing {
+            return None;
+        }
+        self.elements_of(cell)
+    }
+
+    /// The elements of a character, where they stand alone before every text.
+    pub(crate) fn always_alone(&self, c: char) -> Option<&'t [Element]>
+        ensures { IfSome result (λ es. (after : List ℕ) → es.now ++ elements (table_of_characters self.now) (nfd after) ≡ elements (table_of_characters self.now) (nfd (c ∷ after))) }
+    {
+        let cell = self.cell(c);
+        if cell.bearing < 2 {
+            return None;
+        }
+        self.elements_of(cell)
+    }
+
+    /// How many characters of a text come before the next that joins nothing.
+    pub(crate) fn run_len(&self, text: &[char]) -> usize
+        requires { 0 < length text.now }
+        ensures some { 0 < result }
+        ensures within { result ≤ length text.now }
+        ensures apart { elements (table_of_characters self.now) (nfd (take result text.now)) ++ elements (table_of_characters self.now) (nfd (drop result text.now)) ≡ elements (table_of_characters self.now) (nfd text.now) }
+    {
+        for at in 1..text.len() {
+            if self.joining_at(text, at) == 0 {
+                return at;
+            }
+        }
+        text.len()
+    }
+}
