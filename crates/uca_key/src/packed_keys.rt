@@ -1,5 +1,5 @@
 //! Packed sort keys: for indexes, as short as those of ICU.
-ghost use Rattle.std.specs.Prelude.{◌≡◌, ◌↔◌, ◌-◌, ◌^◌, ◌≤◌, ◌++◌, ℕ, List, true, All, length, min, IfOk};
+ghost use Rattle.std.specs.Prelude.{◌≡◌, ◌↔◌, ◌-◌, ◌^◌, ◌≤◌, ◌<◌, ◌++◌, ℕ, List, true, All, length, min, IfOk};
 ghost use Rattle.std.specs.Char.{IsScalar};
 ghost use Rattle.std.specs.Option.{option_map};
 ghost use Rattle.uca_weights.specs.declared.settings.Settings.{Settings};
@@ -7,7 +7,7 @@ ghost use Rattle.uca_model.specs.Laws.{AreBytes, BeginsWith};
 ghost use Rattle.uca_model.specs.LevelWeights.{level_list};
 ghost use Rattle.uca_model.specs.Prefix.{IsBetween, end_of_prefix, is_complete};
 ghost use Rattle.uca_window.specs.Passage.{bytes_of, text_of};
-ghost use Rattle.uca_key.specs.Placing.{with_front};
+ghost use Rattle.uca_key.specs.Placing.{PutsAt, with_front};
 ghost use Rattle.uca_key.specs.PrimaryCode.{code_of};
 ghost use Rattle.uca_key.specs.PackedKey.{packed_key, packed_prefix};
 
@@ -17,7 +17,7 @@ use crate::keys::key_in;
 use crate::packed_code::PackedCode;
 use crate::packed_levels::put_packed_levels;
 use crate::pieces::TextReading;
-use crate::placing::ROOM;
+use crate::placing::{FEW, ROOM};
 use std::alloc::{AllocError, Global};
 use std::marker::Model;
 use uca_match::is_complete;
@@ -107,6 +107,25 @@ pub fn packed_key_by(
     key_in(alloc, Form::Packed(code), t, s, p)
 }
 
+// Puts the packed sort key of a text, whose elements are read into room, into the front of a buffer.
+#[inline(never)]
+fn put_by(
+    t: &Table,
+    code: &PackedCode,
+    s: Settings,
+    p: &Passage,
+    room: &mut [Element],
+    out: &mut [u8],
+) -> usize
+    requires code { code.now ≡ code_of t.now }
+    requires some { 0 < length room.old }
+    requires size { length out.old < 2 ^ 64 }
+    ensures { PutsAt 0 (packed_key t.now s (text_of p.now)) out.old out.new result }
+{
+    let reading = TextReading::new(t, s.weighting, p.as_str(), room);
+    put_packed_levels(code, &reading, s, room, 0, out)
+}
+
 /// Puts the packed sort key of a text into the front of a buffer, as [`PackedKeys::put_key`] does, by the code of its table.
 pub fn put_packed_key(
     t: &Table,
@@ -123,9 +142,10 @@ pub fn put_packed_key(
     let _room = out.len();
     // Shows that the table is one.
     let _longest = t.longest();
-    let mut room = [Element::default(); ROOM];
-    let reading = TextReading::new(t, s.weighting, p.as_str(), &mut room);
-    put_packed_levels(code, &reading, s, &mut room, 0, out)
+    if p.as_str().len() < FEW {
+        return put_by(t, code, s, p, &mut [Element::default(); FEW], out);
+    }
+    put_by(t, code, s, p, &mut [Element::default(); ROOM], out)
 }
 
 // The bytes with which the packed keys of just those texts begin whose primary weights begin with the primary weights of a text.

@@ -19,6 +19,9 @@ use uca_window::{Passage, PassageSource, Source};
 /// How many elements of a text are held where no memory is allocated for them.
 pub(crate) const ROOM: usize = 128;
 
+/// How many elements of a shorter text are held: to clear more takes a part of the time of its key.
+pub(crate) const FEW: usize = 48;
+
 /// The longest text in bytes whose elements are held without an allocation, unless it has more of them than bytes. A key of such a
 /// text is made by [`put_key`] as fast as by [`key_of`](crate::key_of); for a longer one it reads the text once a level.
 pub const SHORT: usize = ROOM - 1;
@@ -184,6 +187,17 @@ pub(crate) fn put_levels(
     }
 }
 
+// Puts the sort key of a text, whose elements are read into room, into the front of a buffer.
+#[inline(never)]
+fn put_by(t: &Table, s: Settings, p: &Passage, room: &mut [Element], out: &mut [u8]) -> usize
+    requires some { 0 < length room.old }
+    requires size { length out.old < 2 ^ 64 }
+    ensures { PutsAt 0 (sort_key t.now s (text_of p.now)) out.old out.new result }
+{
+    let reading = TextReading::new(t, s.weighting, p.as_str(), room);
+    put_levels(&reading, s, room, 0, out)
+}
+
 /// Puts the sort key of a text into the front of a buffer, or as many of its bytes as fit, and returns how many it has, or
 /// `usize::MAX` where it has more than that (UTS #10, section 7.3). It does not allocate.
 pub fn put_key(t: &Table, s: Settings, p: &Passage, out: &mut [u8]) -> usize
@@ -194,7 +208,8 @@ pub fn put_key(t: &Table, s: Settings, p: &Passage, out: &mut [u8]) -> usize
     let _room = out.len();
     // Shows that the table is one.
     let _longest = t.longest();
-    let mut room = [Element::default(); ROOM];
-    let reading = TextReading::new(t, s.weighting, p.as_str(), &mut room);
-    put_levels(&reading, s, &mut room, 0, out)
+    if p.as_str().len() < FEW {
+        return put_by(t, s, p, &mut [Element::default(); FEW], out);
+    }
+    put_by(t, s, p, &mut [Element::default(); ROOM], out)
 }
