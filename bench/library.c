@@ -1,5 +1,6 @@
 // Nanoseconds per call of the C library and of ICU over the lines of a file: library TABLE LINES STRENGTH VARIABLE
-// Each figure is from the fastest of several rounds.
+// Each figure is from the fastest of several rounds. In each round all of them are measured in turn, so that other work of the machine
+// falls on ICU and on the library alike.
 #include "uca.h"
 #include <stdio.h>
 #include <stdlib.h>
@@ -8,7 +9,7 @@
 #include <unicode/ucol.h>
 #include <unicode/ustring.h>
 
-#define ROUNDS 3
+#define ROUNDS 11
 
 struct line { char *text; size_t size; uca_text checked; };
 
@@ -100,31 +101,51 @@ static struct line line_of(const char *text, size_t size) {
 }
 
 static double pairs(int (*order)(const struct line *, const struct line *)) {
-    double best = 1e300;
-    for (int round = 0; round < ROUNDS; round++) {
-        double from = now();
-        for (size_t i = 1; i < count; i++) sum += order(&lines[i - 1], &lines[i]);
-        double took = (now() - from) / (count - 1);
-        if (took < best) best = took;
-    }
-    return best;
+    double from = now();
+    for (size_t i = 1; i < count; i++) sum += order(&lines[i - 1], &lines[i]);
+    return (now() - from) / (count - 1);
 }
 
 static double keys(size_t (*key_of)(const struct line *)) {
-    double best = 1e300;
+    double from = now();
+    for (size_t i = 0; i < count; i++) sum += key_of(&lines[i]);
+    return (now() - from) / count;
+}
+
+/* Keeps the shortest time. */
+static void keep(double *best, double took) {
+    if (*best == 0 || took < *best) *best = took;
+}
+
+/* Compares neighbours, and says what they are. */
+static void report_pairs(const char *what) {
+    double bytes = 0, checked = 0, other = 0;
     for (int round = 0; round < ROUNDS; round++) {
-        double from = now();
-        for (size_t i = 0; i < count; i++) sum += key_of(&lines[i]);
-        double took = (now() - from) / count;
-        if (took < best) best = took;
+        keep(&other, pairs(icu_order));
+        keep(&bytes, pairs(uca_order));
+        keep(&checked, pairs(text_order));
     }
-    return best;
+    printf("%s: %.0f ns (ICU %.0f, %.2f times)\n", what, bytes, other, bytes / other);
+    printf("%s that were checked once: %.0f ns (%.2f times ICU's)\n", what, checked, checked / other);
+}
+
+static void report_keys(void) {
+    double sort = 0, packed = 0, written = 0, other = 0;
+    for (int round = 0; round < ROUNDS; round++) {
+        keep(&other, keys(icu_key));
+        keep(&sort, keys(uca_key));
+        keep(&packed, keys(uca_packed));
+        keep(&written, keys(uca_written));
+    }
+    printf("keys: %.0f ns (ICU %.0f, %.2f times)\n", sort, other, sort / other);
+    printf("packed keys: %.0f ns (%.2f times ICU's, %.2f times keys)\n", packed, packed / other, packed / sort);
+    printf("keys without memory: %.0f ns (%.2f times those in memory)\n", written, written / sort);
 }
 
 static double same(const char *text, int (*order)(const struct line *, const struct line *)) {
     struct line line = line_of(text, strlen(text));
     double best = 1e300;
-    for (int round = 0; round < ROUNDS; round++) {
+    for (int round = 0; round < 3; round++) {
         double from = now();
         for (int i = 0; i < 1000000; i++) sum += order(&line, &line);
         double took = (now() - from) / 1e6;
@@ -172,20 +193,10 @@ int main(int words, char **word) {
     }
     printf("open %.1f ms; two empty texts %.0f ns (ICU %.0f); a and a %.0f (%.0f), checked once %.0f\n", opened / 1e6, same("", uca_order), same("", icu_order), same("a", uca_order), same("a", icu_order), same("a", text_order));
     printf("a comparison that finds no table %.1f ns; two checks of an empty text %.1f\n", same("", closed_order), same("", two_checks));
-    double uca = pairs(uca_order), other = pairs(icu_order);
-    printf("neighbours: %.0f ns (ICU %.0f, %.2f times)\n", uca, other, uca / other);
-    double checked = pairs(text_order);
-    printf("neighbours that were checked once: %.0f ns (%.2f times ICU's)\n", checked, checked / other);
-    double written = keys(uca_written), packed = keys(uca_packed);
-    uca = keys(uca_key), other = keys(icu_key);
-    printf("keys: %.0f ns (ICU %.0f, %.2f times)\n", uca, other, uca / other);
-    printf("packed keys: %.0f ns (%.2f times ICU's)\n", packed, packed / other);
-    printf("keys without memory: %.0f ns (%.2f times those in memory)\n", written, written / uca);
+    report_pairs("neighbours");
+    report_keys();
     qsort(lines, count, sizeof *lines, by_order);
-    uca = pairs(uca_order), other = pairs(icu_order);
-    printf("sorted neighbours: %.0f ns (ICU %.0f, %.2f times)\n", uca, other, uca / other);
-    checked = pairs(text_order);
-    printf("sorted neighbours that were checked once: %.0f ns (%.2f times ICU's)\n", checked, checked / other);
+    report_pairs("sorted neighbours");
     uca_close(&collator);
     ucol_close(icu);
     return sum == 12345;
