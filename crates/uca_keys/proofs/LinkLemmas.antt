@@ -97,15 +97,6 @@ pub record AreSoFar (ns : List Node) (cs : List Child) (starts back : List ℕ) 
   pub ends : (j : ℕ) → number ≤ j → j < length ns → EndsAt ns back j
   pub each : (m : ℕ) → number < m → m ≤ length ns → IsListed ns cs (starts ++ length cs ∷ []) m
 
-pub AreSoFar-none : (ns : List Node) → AreSoFar ns [] [] [] (length ns)
-AreSoFar-none ns = record {
-  within = omega arith;
-  starts_len = omega arith;
-  ends_len = omega arith;
-  ends = λ j from within. absurd (omega arith);
-  each = λ m above within. absurd (omega arith);
-}
-
 -- what is added later changes nothing of what is listed
 listed_on : (ns : List Node) (cs more : List Child) (starts : List ℕ) (x m : ℕ) → m ≤ length ns → length ns - m + 1 < length (starts ++ length cs ∷ []) → IsListed ns cs (starts ++ length cs ∷ []) m → IsListed ns (cs ++ more) ((starts ++ length cs ∷ []) ++ x ∷ []) m
 listed_on ns cs more starts x m upto within listed =

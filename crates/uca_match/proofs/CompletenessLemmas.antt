@@ -54,9 +54,6 @@ complete_goes_on t text front ds c decided parts is ends none =
     complete-front t front
     ∙ sym (complete-last t text front ds c parts is ∙ ends (reverse (flat_map decompose_canonical front)) ∙ ap (λ o. unwrap_or o (is_complete_from t (reverse (flat_map decompose_canonical front)))) none)
 
-pub front_shorter : (text front : List ℕ) (c : ℕ) → text ≡ front ++ c ∷ [] → length front < length text
-front_shorter text front c parts = let size : length text ≡ length front + 1 = ap length parts ∙ length-append front (c ∷ []) in omega arith
-
 -- the code points up to a place, from the last one on
 reverse-take : (ds : List ℕ) (n c : ℕ) → n < length ds → c ≡ get_or ds n c → reverse (take (n + 1) ds) ≡ c ∷ reverse (take n ds)
 reverse-take ds n c within is = ap reverse (take_more ds n c within is) ∙ reverse-append (take n ds) (c ∷ [])

@@ -14,10 +14,6 @@ pub none_waits : (es : List Element) (o : Option Element) → length es ≡ 0 �
 none_waits es None none other = nil_from_length es none
 none_waits es (Some x) none other = absurd (other x refl)
 
--- a match has a code point
-pub length-match : (is_key : List ℕ → Bool) (xs key : List ℕ) → 0 < length xs → (step is_key xs).matched.code_points ≡ key → 0 < length key
-length-match is_key xs key some same = subst (λ k. 0 < length k) same (step_some is_key xs some)
-
 module _ (old new : ElementsState) (before after : SourceState) where
   pub Yields-end : (given : Option Element) → given ≡ None → old.waiting ≡ [] → new.waiting ≡ [] → ReadsOn old.window before new.window after
       → (rest_of old.window (unread before) ≡ []) × (rest_of new.window (unread after) ≡ []) → Yields remaining_elements window_of old before given new after

@@ -53,11 +53,6 @@ pub parts-at : (text left : List ℕ) (at : ℕ) → IsUtf8 text → IsCharBound
 parts-at text left at utf8 inside e =
     ap chars (sym (take-append-drop at text)) ∙ chars-append (take at text) (drop at text) (IsUtf8-take text at utf8 inside) ∙ ap (λ l. chars (take at text) ++ chars l) (sym e)
 
--- the text in two parts at a place between characters
-pub chars-split : (text front back : List ℕ) (at : ℕ) → IsUtf8 text → IsCharBoundary text at → front ≡ take at text → back ≡ drop at text → chars text ≡ chars front ++ chars back
-chars-split text front back at utf8 boundary first last =
-    parts-at text back at utf8 boundary last ∙ ap (λ u. chars u ++ chars back) (sym first)
-
 -- what joins nothing has its elements after those of what comes before it
 pub elements-apart : (t : ElementTable) (front left : List ℕ) → JoinsNothing t left → elements t (nfd (front ++ left)) ≡ elements t (nfd front) ++ elements t (nfd left)
 elements-apart t front left joins =

@@ -44,14 +44,6 @@ any_or : (f g : Element → Bool) (es : List Element) → list_any (λ e. f e ||
 any_or f g [] = refl
 any_or f g (e ∷ es) = ap (λ a. (f e || g e) || a) (any_or f g es) ∙ or_swap (f e) (g e) (list_any f es) (list_any g es)
 
--- the elements of an entry that pass no test are left out
-pub any_after : (f : Element → Bool) (e : List ℕ × List Element) (rest : List (List ℕ × List Element)) → list_any f e.1 ≡ false → list_any f (flat_map (λ e. e.1) (e ∷ rest)) ≡ list_any f (flat_map (λ e. e.1) rest)
-any_after f e rest none = ap (list_any f) (flat_map-cons (λ e. e.1) e rest) ∙ list_any-append f e.1 (flat_map (λ e. e.1) rest) ∙ ap (λ a. a || list_any f (flat_map (λ e. e.1) rest)) none
-
--- the elements of an entry are among all
-pub any_within : (f : Element → Bool) (e : List ℕ × List Element) (rest : List (List ℕ × List Element)) → list_any f e.1 ≡ true → list_any f (flat_map (λ e. e.1) (e ∷ rest)) ≡ true
-any_within f e rest some = ap (list_any f) (flat_map-cons (λ e. e.1) e rest) ∙ list_any-append f e.1 (flat_map (λ e. e.1) rest) ∙ ap (λ a. a || list_any f (flat_map (λ e. e.1) rest)) some
-
 -- Bounds of one more element
 
 higher : (p : Bool) (x s w : ℕ) → nat_le x (cond (p && nat_lt s w) w s) ≡ (nat_le x s || (p && nat_le x w))

@@ -29,9 +29,6 @@ drop-old old more new e = ap (drop (length old)) e ∙ drop_at old more (length 
 pub Grows-from : (old more new : List Element) → new ≡ old ++ more → Grows old new
 Grows-from old more new e = e ∙ ap (λ l. old ++ l) (sym (drop-old old more new e))
 
-pub Grows-same : (old : List Element) → Grows old old
-Grows-same old = Grows-from old [] old (sym (append-nil old))
-
 -- what was appended lies where the rest began
 pub taken-fresh : (old more new : List Element) (start count : ℕ) → new ≡ old ++ more → start ≡ length old → start + count ≡ length new → take count (drop start new) ≡ more
 taken-fresh old more new start count e at end =
@@ -71,10 +68,6 @@ unknown-cell t es c cell is = subst (IsCell t es c) (sym is) (record {
   elements = λ some. absurd (omega arith);
   one = λ just. absurd (omega (arith, just));
 })
-
--- so are as many of them as marks
-pub AreCells-unknown : (t : ElementTable) (es : List Element) (blocks : List ℕ) (ms : List Marks) (cells : List Cell) → IsIndex blocks ms → length cells ≡ length ms → ((i : ℕ) → get_or cells i unknown ≡ unknown) → AreCells t es blocks cells
-AreCells-unknown t es blocks ms cells index size says = record { all = index.all; within = λ b lt. omega (arith, size, index.within b lt); each = λ c within. unknown-cell t es c (get_or cells (place blocks c) unknown) (says (place blocks c)) }
 
 -- and they stay so with one more cell at the place of its character
 pub AreCells-put : (t : ElementTable) (es : List Element) (blocks : List ℕ) (ms : List Marks) (cells : List Cell) (c at : ℕ) (cell : Cell) → IsIndex blocks ms → c / 128 < 8704 → 0 < get_or blocks (c / 128) 0 → at ≡ place blocks c

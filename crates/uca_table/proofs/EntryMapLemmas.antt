@@ -201,9 +201,6 @@ module _ {Y : Type 0} (m : SingleMap) (ms ns : List ((ℕ × Vec ℕ Y) × Place
 pub same_laid : {Y : Type 0} (old new : SingleMap) (ms : List ((ℕ × Vec ℕ Y) × Place)) (es : List Element) → AreEntries old ms es → IsSingleMap new → ((q : ℕ) → place_at new q ≡ place_at old q) → entries_in new ms es ≡ entries_in old ms es
 same_laid old new ms es are is same = same-points (place_at old) (place_at new) es (points_of old) (points_of new) (map (entry_in es) ms) are.sorted (covered old are.singles) (covered new is) same
 
-pub AreEntries-same : {Y : Type 0} (old new : SingleMap) (ms : List ((ℕ × Vec ℕ Y) × Place)) (es : List Element) → AreEntries old ms es → IsSingleMap new → ((q : ℕ) → place_at new q ≡ place_at old q) → AreEntries new ms es
-AreEntries-same old new ms es are is same = record { singles = is; inside = λ q. subst (λ w. w.past ≤ length es) (sym (same q)) (are.inside q); placed = are.placed; sorted = are.sorted }
-
 -- ---- keys
 
 -- all code points of a key but the first

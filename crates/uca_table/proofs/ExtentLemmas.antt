@@ -85,33 +85,3 @@ AreExtents-put old new r rs extents widened = record { lowest = low_end; highest
               rw (widened base, holds) (rw (← same) (highest_widened r (old r.base) high))
           | inr fails ↦ rw (widened base, fails) refl
         ]
-
--- extents that say the same of each base
-pub AreExtents-same : (old new : ℕ → Option Extent) (rs : List Range) → AreExtents old rs → ((q : ℕ) → new q ≡ old q) → AreExtents new rs
-AreExtents-same old new rs extents same = record {
-  lowest = λ base low. rw (same base) (extents.lowest base low);
-  highest = λ base high. rw (same base) (extents.highest base high);
-}
-
--- no ranges have no extents
-pub AreExtents-none : (extent_at : ℕ → Option Extent) → ((q : ℕ) → extent_at q ≡ None) → AreExtents extent_at []
-AreExtents-none extent_at none = record {
-  lowest = λ base low. rw (none base) refl;
-  highest = λ base high. rw (none base) refl;
-}
-
--- the lowest code point of a range and of those of its base
-pub lowest_with : (extent_at : ℕ → Option Extent) (r : Range) (rs : List Range) → AreExtents extent_at rs → (extent_with r (extent_at r.base)).lowest ≡ lowest_first rs r.base r.first
-lowest_with extent_at r rs extents = own (extent_at r.base) ∙ sym (extents.lowest r.base r.first)
-  where
-    own : (others : Option Extent) → (extent_with r others).lowest ≡ option_map_or (λ x. min r.first x.lowest) others r.first
-    own None = refl
-    own (Some x) = omega arith
-
--- the highest code point of a range and of those of its base
-pub highest_with : (extent_at : ℕ → Option Extent) (r : Range) (rs : List Range) → AreExtents extent_at rs → (extent_with r (extent_at r.base)).highest ≡ highest_last rs r.base r.last
-highest_with extent_at r rs extents = own (extent_at r.base) ∙ sym (extents.highest r.base r.last)
-  where
-    own : (others : Option Extent) → (extent_with r others).highest ≡ option_map_or (λ x. max r.last x.highest) others r.last
-    own None = refl
-    own (Some x) = omega arith

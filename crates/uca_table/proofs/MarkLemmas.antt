@@ -54,11 +54,6 @@ said a b c d e f = record { begins = a; leads = b; continues = c; apart = d; end
 make : (a b c d e f u v w x y z : Bool) → a ≡ u → b ≡ v → c ≡ w → d ≡ x → e ≡ y → f ≡ z → said a b c d e f ≡ said u v w x y z
 make a b c d e f u v w x y z g h i j k l = cc
 
--- a key that is empty says nothing
-pub with_none : (t : ElementTable) (m : Marks) (p : ℕ) (key : List ℕ) (es : List Element) → length key ≡ 0 → m ≡ marks_with t m p (key, es)
-with_none t m p [] es none = sym (make _ _ _ _ _ _ _ _ _ _ _ _ (or-false m.begins) (or-false m.leads) (or-false m.continues) (and-true m.apart) (and-true m.ends) (and-true m.keeps))
-with_none t m p (x ∷ key) es some = absurd (omega arith)
-
 -- ---- blocks of their own
 
 -- a block that shared the first one has marks of its own, which say the same

@@ -81,15 +81,6 @@ none_taken is_key s passed (c ∷ cs) none =
     ]
 
 module _ (is_key : List ℕ → Bool) (start : ℕ) (old : List ℕ) where
-  -- nothing was passed over at the start
-  pub IsExtending-start : IsExtending is_key start old old start start 0
-  IsExtending-start = record {
-    some = omega arith;
-    upto = omega arith;
-    highest = sym (ap highest_class (passed_over-none old start));
-    same = ap (λ p. discontiguous_match is_key (take start old) p (drop start old)) (passed_over-none old start);
-  }
-
   -- a nonstarter was taken, and moved to the end of the match
   pub IsExtending-takes : (text new : List ℕ) (end at high x class : ℕ) (taken : Bool) → IsExtending is_key start old text end at high → at < length text → x ≡ get_or text at x → class ≡ ccc x → (class ≡ 0 → ⊥)
       → taken ≡ (nat_lt high (ccc x) && is_key (take end text ++ x ∷ [])) → taken ≡ true → new ≡ brought_forward text end at → IsExtending is_key start old new (end + 1) (at + 1) high

@@ -100,9 +100,6 @@ point-pushed at es v p xs ys below used value is =
     is ∙ put_last (p ∷ []) v xs below ∙ ap (λ w. put key_cmp (p ∷ []) w xs) value
     ∙ sym (ap (λ b. cond b (put key_cmp (p ∷ []) (taken (at p) es) xs) xs) used)
 
-pub point-none : (at : ℕ → Place) (es : List Element) (p : ℕ) (xs : List (List ℕ × List Element)) → is_used (at p) ≡ false → xs ≡ with_point at es p xs
-point-none at es p xs unused = sym (ap (λ b. cond b (put key_cmp (p ∷ []) (taken (at p) es) xs) xs) unused)
-
 -- ---- one more longer key
 
 pub below-longer : (x : ℕ) (ys : List ℕ) (v : List Element) (xs zs : List (List ℕ × List Element)) → AreBelow ((x + 1) ∷ []) xs → zs ≡ xs ++ (x ∷ ys, v) ∷ [] → AreBelow ((x + 1) ∷ []) zs

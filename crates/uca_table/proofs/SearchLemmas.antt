@@ -80,13 +80,3 @@ lower_before es i j q d f sorted within lower before = elim (cases_lt i j) [
   | inl earlier ↦ nat_list_cmp_total.trans (get_or es i d).0 (get_or es j f).0 q (in_order es i j d f sorted earlier within) lower
   | inr here ↦ ap (λ (e : List ℕ × List Element). key_cmp e.0 q) (same_at es i j d f (omega arith) within) ∙ lower
 ]
-
--- what follows a higher key is higher
-pub higher_after : (es : List (List ℕ × List Element)) (i j : ℕ) (q : List ℕ) (d f : List ℕ × List Element) → T (is_sorted key_cmp es) → key_cmp (get_or es i d).0 q ≡ Greater → i ≤ j → j < length es → key_cmp (get_or es j f).0 q ≡ Greater
-higher_after es i j q d f sorted higher behind within = elim (cases_lt i j) [
-  | inl later ↦
-      let x = (get_or es i d).0 in let y = (get_or es j f).0 in
-      let before : key_cmp q x ≡ Less = nat_list_cmp_total.antisymm q x ∙ ap ordering_reverse higher in
-      nat_list_cmp_total.antisymm y q ∙ ap ordering_reverse (nat_list_cmp_total.trans q x y before (in_order es i j d f sorted later within))
-  | inr here ↦ ap (λ (e : List ℕ × List Element). key_cmp e.0 q) (sym (same_at es i j d f (omega arith) within)) ∙ higher
-]
