@@ -9,7 +9,6 @@ ghost use Rattle.uca_match.specs.JoinsNothing.{JoinsNothing};
 use arrayvec::ArrayVec;
 use uca_table::Table;
 use uca_table::matching::match_front;
-use uca_table::stored::Stored;
 use uca_weights::{Element, MAX_DECOMPOSITION, MAX_LOOKAHEAD};
 use uca_window::points::{ROOM, push_decomposed};
 
@@ -111,7 +110,7 @@ pub(crate) fn put_fitting(elements: &[Element], room: &mut [Element], at: usize)
 // Puts the elements of a match into room at a place: those that the table has for it, or else the implicit ones of its first code
 // point (UTS #10, 7.2, step S2.2). `None`: they do not fit.
 fn put_match(
-    t: &Stored,
+    t: &Table,
     matched: &[char],
     found: Option<&[Element]>,
     room: &mut [Element],
@@ -133,7 +132,7 @@ fn put_match(
 }
 
 // Puts the elements of points in NFD into room from a place on, match after match (UTS #10, 7.2, step S2). `None`: they do not fit.
-fn put_matches(t: &Stored, points: &mut [char], room: &mut [Element], from: usize) -> Option<usize>
+fn put_matches(t: &Table, points: &mut [char], room: &mut [Element], from: usize) -> Option<usize>
     requires within { from ≤ length room.old }
     ensures elements { IfSome result (λ end. take end room.new ≡ take from room.old ++ elements t.now points.old) }
     ensures later { IfSome result (λ end. from ≤ end) }
@@ -205,6 +204,6 @@ pub fn put_stretch<'t>(
     }
     let mut points = ArrayVec::new();
     let rest = read_stretch(t, text, &mut points)?;
-    let at = put_matches(t.stored(), points.as_mut_slice(), room, from)?;
+    let at = put_matches(t, points.as_mut_slice(), room, from)?;
     Some((at, rest))
 }

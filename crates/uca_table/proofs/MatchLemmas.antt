@@ -11,7 +11,7 @@ use Rattle.uca_model.specs.Match.{Step, took, greatest, longest_match_len, is_bl
 use Rattle.uca_model.proofs.LongestKey.{longest-covers}
 use Rattle.uca_model.proofs.MatchingLemmas.{extended_ends, extended_takes, extended_passes, extended_done}
 use Rattle.uca_table.specs.Running.{brought_forward, highest_class, passed_over, IsExtending}
-use Rattle.uca_table.proofs.MovedForward.{brought-front, brought-between, brought-rest, passed_over-more, passed_over-rest, passed_over-none}
+use Rattle.uca_table.proofs.MovedForward.{brought-front, brought-between, brought-rest, passed_over-more, passed_over-rest}
 
 -- no code points that are more than those of each key are a key
 pub longer_than_keys : (t : ElementTable) (key : List ℕ) → longest t < length key → is_key t key ≡ false

@@ -87,10 +87,7 @@ impl AscendingEntries {
     pub fn finish(self, alloc: Global, other: &Table) -> Result<Table, AllocError>
         ensures { IfOk result (λ t. t ≡ record { entries = self; ranges = other.now.ranges; ideographs = other.now.ideographs }) }
     {
-        let stored = other
-            .stored()
-            .with_entries(alloc, self.entries, self.longest_key)?;
-        Ok(Table::of(alloc, stored))
+        other.with_entries(alloc, self.entries, self.longest_key)
     }
 }
 

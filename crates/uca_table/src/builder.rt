@@ -6,7 +6,6 @@ ghost use Rattle.uca_model.specs.Table.{IsElement};
 use crate::entry_map::EntryMap;
 use crate::fault::{FinishFault, InsertFault, RangeFault};
 use crate::range_map::RangeMap;
-use crate::stored::Stored;
 use crate::table::Table;
 use std::alloc::Global;
 use std::marker::Model;
@@ -103,15 +102,16 @@ impl TableBuilder {
         let Ok(keys) = entries.finish(self.alloc) else {
             return Err(FinishFault { builder: self });
         };
-        let stored = Stored {
+        let table = Table {
             keys,
             ranges: self.ranges.finish(range_room),
             ideographs: Vec::new(self.alloc),
             longest_key,
+            cells: None,
         };
         // The entries have been copied, and take more than what is kept about characters.
         drop(self.entries);
-        Ok(Table::of(self.alloc, stored))
+        Ok(table.prepared(self.alloc))
     }
 }
 

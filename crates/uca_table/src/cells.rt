@@ -13,7 +13,7 @@ ghost use Rattle.uca_table.specs.Marks.{HoldsMarks, marks};
 use crate::characters::{Cell, Characters};
 use crate::collation::{push_found, push_matches};
 use crate::marks::{BLOCK, BLOCKS, MarkTable, Marks};
-use crate::stored::Stored;
+use crate::table::Table;
 use std::alloc::{AllocError, Global};
 use uca_weights::Element;
 use unicode_normalization::char::{canonical_combining_class, decomposition};
@@ -92,7 +92,7 @@ fn is_own_nfd(c: char) -> bool
 }
 
 // Whether no code point begins a key of two or more.
-fn is_plain(t: &Stored, marks: &MarkTable, points: &[char]) -> bool
+fn is_plain(t: &Table, marks: &MarkTable, points: &[char]) -> bool
     requires { HoldsMarks t.now marks.now }
     ensures { IsTrue result → list_all (λ p. not (leads t.now p)) points.now ≡ true }
 {
@@ -114,7 +114,7 @@ fn ends_in_starter(points: &[char]) -> bool
 }
 
 // Whether the last code point is a starter after which no match goes on that began before it.
-fn ends_all_matches(t: &Stored, marks: &MarkTable, points: &[char]) -> bool
+fn ends_all_matches(t: &Table, marks: &MarkTable, points: &[char]) -> bool
     requires { HoldsMarks t.now marks.now }
     ensures { IsTrue result → ends_all_matches t.now points.now ≡ true }
 {
@@ -150,7 +150,7 @@ fn bearing_of_one(p: char, starter: bool, known: Marks) -> u8
 }
 
 // Which joining code points bear after them, at least.
-fn bearing_of(t: &Stored, marks: &MarkTable, points: &[char]) -> u8
+fn bearing_of(t: &Table, marks: &MarkTable, points: &[char]) -> u8
     requires { HoldsMarks t.now marks.now }
     ensures { result ≤ bearing_of t.now points.now }
 {
@@ -164,7 +164,7 @@ fn bearing_of(t: &Stored, marks: &MarkTable, points: &[char]) -> u8
 }
 
 // How the character joins other text whose decomposition this is. Its first code point is looked up once.
-fn joins_of(t: &Stored, marks: &MarkTable, points: &[char]) -> Joins
+fn joins_of(t: &Table, marks: &MarkTable, points: &[char]) -> Joins
     requires { HoldsMarks t.now marks.now }
     ensures joining { joining_of t.now points.now ≤ result.joining }
     ensures bearing { result.bearing ≤ bearing_of t.now points.now }
@@ -219,16 +219,16 @@ fn extent(start: usize, end: usize) -> (u32, u8)
 // What is used again for each cell that is made.
 #[derive(Drop)]
 struct Buffers {
-    // See `Stored::get_near`.
+    // See `Table::get_near`.
     near: usize,
     // The elements of one character.
     elements: Vec<Element>,
 }
 
-// Appends the elements of a single code point. For `near` see `Stored::get_near`.
+// Appends the elements of a single code point. For `near` see `Table::get_near`.
 fn push_single(
     out: &mut Vec<Element>,
-    t: &Stored,
+    t: &Table,
     marks: &MarkTable,
     p: char,
     near: &mut usize,
@@ -247,7 +247,7 @@ impl Cells {
     fn push_elements(
         &mut self,
         alloc: Global,
-        t: &Stored,
+        t: &Table,
         c: char,
         points: &[char],
         buffers: &mut Buffers,
@@ -289,7 +289,7 @@ impl Cells {
     fn cell_of(
         &mut self,
         alloc: Global,
-        t: &Stored,
+        t: &Table,
         c: char,
         buffers: &mut Buffers,
     ) -> Result<Cell, AllocError>
@@ -321,7 +321,7 @@ impl Cells {
     fn fill(
         &mut self,
         alloc: Global,
-        t: &Stored,
+        t: &Table,
         c: char,
         buffers: &mut Buffers,
     ) -> Result<(), AllocError>
@@ -340,7 +340,7 @@ impl Cells {
     fn fill_block(
         &mut self,
         alloc: Global,
-        t: &Stored,
+        t: &Table,
         block: u32,
         buffers: &mut Buffers,
     ) -> Result<(), AllocError>
@@ -359,7 +359,7 @@ impl Cells {
     }
 
     // Makes the cells of all blocks that have their own, as far as they take at most 256 bytes for each node of the table's keys.
-    fn fill_blocks(&mut self, alloc: Global, t: &Stored) -> Result<(), AllocError>
+    fn fill_blocks(&mut self, alloc: Global, t: &Table) -> Result<(), AllocError>
         requires { HoldsCells t.now self.old }
         ensures { OnOk result (HoldsCells t.now self.new) }
     {
@@ -378,7 +378,7 @@ impl Cells {
     }
 
     /// The cells of a table.
-    pub(crate) fn new(alloc: Global, t: &Stored) -> Result<Cells, AllocError>
+    pub(crate) fn new(alloc: Global, t: &Table) -> Result<Cells, AllocError>
         ensures { IfOk result (λ cells. HoldsCells t.now cells) }
     {
         let limit = if t.keys.len() < FEW {
@@ -399,7 +399,7 @@ impl Cells {
 
     /// The cells, for look-ups.
     #[inline(always)]
-    pub(crate) fn characters<'t>(&'t self, t: &'t Stored) -> Characters<'t>
+    pub(crate) fn characters<'t>(&'t self, t: &'t Table) -> Characters<'t>
         requires { HoldsCells t.now self.now }
         ensures { table_of_characters result ≡ t.now }
     {
@@ -407,7 +407,7 @@ impl Cells {
     }
 
     /// What the keys of a table say about a code point.
-    pub(crate) fn marks(&self, t: &Stored, c: char) -> Marks
+    pub(crate) fn marks(&self, t: &Table, c: char) -> Marks
         requires { HoldsCells t.now self.now }
         ensures { result ≡ marks t.now c }
     {
@@ -415,7 +415,7 @@ impl Cells {
     }
 
     /// The implicit elements of a character with which no key begins and that is a starter and its own NFD.
-    pub(crate) fn implicit_alone(&self, t: &Stored, c: char) -> Option<[Element; 2]>
+    pub(crate) fn implicit_alone(&self, t: &Table, c: char) -> Option<[Element; 2]>
         requires cells { HoldsCells t.now self.now }
         ensures { IfSome result (λ es. (after : List ℕ) → es ++ elements t.now (nfd after) ≡ elements t.now (nfd (c ∷ after))) }
     {
@@ -444,7 +444,7 @@ pub fn push_few(out: &mut Vec<Element>, elements: &[Element]) -> Result<(), Allo
 pub(crate) fn push_run(
     points: &mut Vec<char>,
     out: &mut Vec<Element>,
-    t: &Stored,
+    t: &Table,
     run: &[char],
 ) -> Result<(), AllocError>
     ensures { OnOk result (out.new.items ≡ out.old.items ++ elements t.now (nfd run.now)) }
@@ -458,7 +458,7 @@ pub(crate) fn push_run(
 fn push_others(
     points: &mut Vec<char>,
     out: &mut Vec<Element>,
-    t: &Stored,
+    t: &Table,
     cells: &Cells,
     text: &[char],
 ) -> Result<usize, AllocError>
@@ -481,7 +481,7 @@ fn push_others(
 pub(crate) fn push_text(
     alloc: Global,
     out: &mut Vec<Element>,
-    t: &Stored,
+    t: &Table,
     cells: &Cells,
     text: &[char],
 ) -> Result<(), AllocError>

@@ -6,7 +6,7 @@ ghost use Rattle.uca_model.specs.StandAlone.{joining, bearing};
 ghost use Rattle.uca_table.specs.Cells.{IsCell, AreCells};
 
 use crate::marks::BLOCK;
-use crate::stored::Stored;
+use crate::table::Table;
 use uca_weights::Element;
 
 /// The elements of a character by itself, and whether it keeps them within a text. Sixteen bytes, since each character of a text is
@@ -40,7 +40,7 @@ pub struct Character<'t> {
 /// What is known of the characters of a table, for look-ups: these are what most of the reading of a text takes.
 #[derive(Clone, Copy)]
 pub struct Characters<'t> {
-    table: &'t Stored,
+    table: &'t Table,
     // Of each block of code points, the number of its block of cells.
     blocks: &'t [u16],
     cells: &'t [Cell],
@@ -55,7 +55,7 @@ impl<'t> Characters<'t> {
     /// What these cells say. They are at the places of the marks.
     #[inline(always)]
     pub(crate) fn new(
-        table: &'t Stored,
+        table: &'t Table,
         blocks: &'t [u16],
         cells: &'t [Cell],
         elements: &'t [Element],

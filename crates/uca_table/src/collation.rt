@@ -4,7 +4,7 @@ ghost use Rattle.uca_model.specs.CollationElements.{elements, elements_or_implic
 
 use crate::cells::push_few;
 use crate::matching::match_front;
-use crate::stored::Stored;
+use crate::table::Table;
 use std::alloc::AllocError;
 use uca_weights::Element;
 
@@ -12,7 +12,7 @@ use uca_weights::Element;
 // point (UTS #10, 7.2, step S2.2).
 pub(crate) fn push_found(
     out: &mut Vec<Element>,
-    t: &Stored,
+    t: &Table,
     matched: &[char],
     found: Option<&[Element]>,
 ) -> Result<(), AllocError>
@@ -32,7 +32,7 @@ pub(crate) fn push_found(
 // within the text, and nothing after its nonstarters is moved.
 pub(crate) fn push_matches(
     out: &mut Vec<Element>,
-    t: &Stored,
+    t: &Table,
     text: &mut [char],
 ) -> Result<(), AllocError>
     ensures elements { OnOk result (out.new.items ≡ out.old.items ++ elements t.now text.old) }

@@ -25,7 +25,6 @@ mod range_map;
 mod ranges;
 mod scan;
 mod single_map;
-pub mod stored;
 pub mod table;
 pub mod walk;
 pub mod well_formed;

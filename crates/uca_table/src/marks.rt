@@ -6,7 +6,7 @@ ghost use Rattle.uca_model.specs.StandAlone.{is_longer_from, is_before_last};
 ghost use Rattle.uca_table.specs.Marks.{IsIndex, HoldsMarks, Untouched, first_marks, inside_marks, between_marks, marks, marks_of, marks_with, place};
 
 use crate::primaries::{begins_with_primary, have_primaries_of};
-use crate::stored::Stored;
+use crate::table::Table;
 use std::alloc::{AllocError, Global};
 use uca_weights::Element;
 
@@ -69,7 +69,7 @@ fn untouched(alloc: Global, n: usize) -> Result<Vec<Marks>, AllocError>
 }
 
 /// Whether a key has the primary weights of its first code point, or is that code point.
-fn keeps_primaries(t: &Stored, key: &[char], elements: &[Element]) -> bool
+fn keeps_primaries(t: &Table, key: &[char], elements: &[Element]) -> bool
     requires { 0 < length key.now }
     ensures { result ≡ (not (is_longer_from (slice_index key.now 0) key.now) || have_primaries_of (elements_or_implicit t.now (slice_index key.now 0 ∷ [])) elements.now) }
 {
@@ -243,7 +243,7 @@ impl MarkTable {
     }
 
     /// Marks the code points of a key.
-    fn mark_key(&mut self, t: &Stored, key: &[char], elements: &[Element]) -> Result<(), AllocError>
+    fn mark_key(&mut self, t: &Table, key: &[char], elements: &[Element]) -> Result<(), AllocError>
         requires { IsIndex self.old.blocks.items self.old.marks.items }
         ensures index { OnOk result (IsIndex self.new.blocks.items self.new.marks.items) }
         ensures marks { OnOk result ((p : ℕ) → p / 128 < 8704 → marks_of self.new p ≡ marks_with t.now (marks_of self.old p) p (key.now, elements.now)) }
@@ -258,7 +258,7 @@ impl MarkTable {
     }
 
     /// Marks the code points of all keys, where none is marked yet.
-    fn mark_keys(&mut self, t: &Stored) -> Result<(), AllocError>
+    fn mark_keys(&mut self, t: &Table) -> Result<(), AllocError>
         requires index { IsIndex self.old.blocks.items self.old.marks.items }
         requires fresh { (p : ℕ) → p / 128 < 8704 → marks_of self.old p ≡ Untouched }
         ensures { OnOk result (HoldsMarks t.now self.new) }
@@ -271,7 +271,7 @@ impl MarkTable {
     }
 
     /// Gives all blocks of code points up to a number marks of their own.
-    fn own_up_to(&mut self, t: &Stored, end: usize) -> Result<(), AllocError>
+    fn own_up_to(&mut self, t: &Table, end: usize) -> Result<(), AllocError>
         requires { HoldsMarks t.now self.old }
         ensures { OnOk result (HoldsMarks t.now self.new) }
     {
@@ -282,7 +282,7 @@ impl MarkTable {
     }
 
     /// The marks of a table. Blocks up to a number have marks of their own, whether or not a key has their code points.
-    pub(crate) fn new(alloc: Global, t: &Stored, end: usize) -> Result<MarkTable, AllocError>
+    pub(crate) fn new(alloc: Global, t: &Table, end: usize) -> Result<MarkTable, AllocError>
         ensures { IfOk result (λ made. HoldsMarks t.now made) }
     {
         let mut made = MarkTable {

@@ -6,13 +6,13 @@ ghost use Rattle.uca_model.specs.CollationElements.{step};
 ghost use Rattle.uca_table.specs.Running.{brought_forward};
 ghost use Rattle.uca_table.specs.Walk.{path_of, table_of_walk};
 
-use crate::stored::Stored;
+use crate::table::Table;
 use crate::walk::Walk;
 use uca_weights::Element;
 use unicode_normalization::char::canonical_combining_class;
 
 /// A walk along the longest initial substring that is a key (UTS #10, 7.2, step S2.1). It has not been stepped where there is none.
-pub fn longest_match<'t>(t: &'t Stored, text: &[char]) -> Walk<'t>
+pub fn longest_match<'t>(t: &'t Table, text: &[char]) -> Walk<'t>
     ensures table { table_of_walk result ≡ t.now }
     ensures path { path_of result ≡ longest_match (is_key t.now) text.now }
 {
@@ -110,7 +110,7 @@ pub struct Matched<'t> {
 
 /// Moves the longest match to the front of a text in NFD. What is left of the text follows it (UTS #10, 7.2, step
 /// S2.1). A code point that begins no key is a match by itself.
-pub fn match_front<'t>(t: &'t Stored, text: &mut [char]) -> Matched<'t>
+pub fn match_front<'t>(t: &'t Table, text: &mut [char]) -> Matched<'t>
     requires { 0 < length text.old }
     ensures matched { (step (is_key t.now) text.old).matched.code_points ≡ take result.len text.new }
     ensures rest { (step (is_key t.now) text.old).rest ≡ drop result.len text.new }

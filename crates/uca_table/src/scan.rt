@@ -8,7 +8,6 @@ ghost use Rattle.uca_model.specs.StandAlone.{is_first, ends_matches, is_before_l
 ghost use Rattle.uca_table.specs.Marks.{keep_apart};
 
 use crate::primaries::{begins_with_primary, have_primaries_of, lack_primary};
-use crate::stored::Stored;
 use crate::table::Table;
 use uca_weights::Element;
 use unicode_normalization::Form;
@@ -23,7 +22,7 @@ pub(crate) fn is_safe_starter(t: &Table, s: char) -> bool
     }
     match t.marks(s) {
         Some(marks) => marks.apart,
-        None => all_keep_apart(t.stored(), s),
+        None => all_keep_apart(t, s),
     }
 }
 
@@ -58,7 +57,7 @@ pub(crate) fn is_closed(t: &Table, s: char) -> bool
 {
     match t.marks(s) {
         Some(marks) => marks.ends && marks.keeps,
-        None => ends_matches(t.stored(), s) && keeps_primaries(t.stored(), s),
+        None => ends_matches(t, s) && keeps_primaries(t, s),
     }
 }
 
@@ -66,17 +65,17 @@ pub(crate) fn is_closed(t: &Table, s: char) -> bool
 pub(crate) fn is_silent(t: &Table, c: char) -> bool
     ensures { result ≡ is_silent t.now c }
 {
-    if !has_no_primary(t.stored(), c) {
+    if !has_no_primary(t, c) {
         return false;
     }
     match t.marks(c) {
         Some(marks) => marks.keeps,
-        None => keeps_primaries(t.stored(), c),
+        None => keeps_primaries(t, c),
     }
 }
 
 // Whether the elements of a code point alone have no primary weight.
-fn has_no_primary(t: &Stored, c: char) -> bool
+fn has_no_primary(t: &Table, c: char) -> bool
     ensures { result ≡ lack_primary (elements_or_implicit t.now (c ∷ [])) }
 {
     match t.get(&[c]) {
@@ -114,7 +113,7 @@ fn keeps_apart(s: char, key: &[char], elements: &[Element]) -> bool
 }
 
 // Whether every key keeps a code point apart.
-fn all_keep_apart(t: &Stored, s: char) -> bool
+fn all_keep_apart(t: &Table, s: char) -> bool
     ensures { result ≡ keep_apart t.now s }
 {
     for (key, elements) in t.entries() {
@@ -126,7 +125,7 @@ fn all_keep_apart(t: &Stored, s: char) -> bool
 }
 
 // Whether every key that begins with a code point has its primary weights.
-fn keeps_primaries(t: &Stored, c: char) -> bool
+fn keeps_primaries(t: &Table, c: char) -> bool
     ensures { result ≡ keeps_primaries t.now c }
 {
     match t.get(&[c]) {
@@ -136,7 +135,7 @@ fn keeps_primaries(t: &Stored, c: char) -> bool
 }
 
 // The same, by the elements of the code point.
-fn all_keep_primaries(t: &Stored, c: char, own: &[Element]) -> bool
+fn all_keep_primaries(t: &Table, c: char, own: &[Element]) -> bool
     requires { own.now ≡ elements_or_implicit t.now (c ∷ []) }
     ensures { result ≡ keeps_primaries t.now c }
 {
@@ -159,7 +158,7 @@ fn keeps_primary(c: char, own: &[Element], key: &[char], elements: &[Element]) -
 }
 
 // Whether no key has a code point after its first place and before its last.
-fn ends_matches(t: &Stored, s: char) -> bool
+fn ends_matches(t: &Table, s: char) -> bool
     ensures { result ≡ ends_matches t.now s }
 {
     for (key, _) in t.entries() {

@@ -7,41 +7,49 @@ use crate::cells::{Cells, push_run, push_text};
 use crate::characters::{Character, Characters};
 use crate::fault::RangeFault;
 use crate::marks::Marks;
-use crate::scan;
-use crate::stored::Stored;
+use crate::ranges::Ranges;
 use crate::walk::Walk;
+use crate::{ideographs, implicit_weights, scan};
 use std::alloc::{AllocError, Global};
 use std::marker::Model;
-use uca_keys::Entries;
+use uca_keys::{Cursor, Entries, Nodes, Trie};
 use uca_weights::{Element, Ideographs, Range};
 
 /// A collation element table: a finite map from keys to their elements, with ranges of implicit weights and of
 /// ideographs.
 #[derive(Drop)]
 pub struct Table {
-    stored: Stored,
+    pub(crate) keys: Trie,
+    pub(crate) ranges: Ranges,
+    // By their first code points.
+    pub(crate) ideographs: Vec<Ideographs>,
+    pub(crate) longest_key: usize,
     // What is known about single characters; nothing once ranges of ideographs were added, or where memory was refused.
-    cells: Option<Cells>,
+    pub(crate) cells: Option<Cells>,
 }
 
 impl Model for Table {
+    ghost use Rattle.std.specs.Prelude.{◌≡◌};
     ghost use Rattle.std.specs.Option.{ForSome};
-    ghost use Rattle.uca_model.specs.Table.{ElementTable};
+    ghost use Rattle.uca_model.specs.Table.{ElementTable, with_ideographs};
+    ghost use Rattle.uca_model.specs.UnifiedIdeographs.{AreIdeographs};
+    ghost use Rattle.uca_table.specs.Stored.{AreStored, table_of, longest_of};
     ghost use Rattle.uca_table.specs.Cells.{HoldsCells};
     ghost use Rattle.uca_table.specs.Coded.{coded_table};
+    ghost use Rattle.uca_keys.specs.Paths.{entries_of};
 
     ghost Value = { ElementTable };
 
     ghost coded = { coded_table };
 
-    ghost view = { λ t. t.stored };
+    ghost view = { λ t. with_ideographs (table_of (entries_of t.keys) t.ranges) t.ideographs.items };
 
-    ghost invariant = { λ t. ForSome t.cells (HoldsCells t.stored) };
+    ghost invariant = { λ t. AreStored (entries_of t.keys) t.ranges × (t.longest_key ≡ longest_of (entries_of t.keys)) × AreIdeographs t.ideographs.items × ForSome t.cells (HoldsCells (with_ideographs (table_of (entries_of t.keys) t.ranges) t.ideographs.items)) };
 }
 
 impl Table {
     ghost use Rattle.uca_weights.specs.declared.limits.TheConstants.{MAX_KEY, MAX_ELEMENTS};
-    ghost use Rattle.uca_model.specs.Table.{ElementTable, IsElement, IsTable, elements_at, longest, with_ideographs};
+    ghost use Rattle.uca_model.specs.Table.{ElementTable, IsElement, IsTable, elements_at, key_cmp, longest, with_ideographs};
     ghost use Rattle.uca_model.specs.UnifiedIdeographs.{AreIdeographs};
     ghost use Rattle.uca_table.specs.Characters.{IsCharacter, table_of_characters};
     ghost use Rattle.uca_table.specs.Marks.{marks};
@@ -49,7 +57,9 @@ impl Table {
     ghost use Rattle.uca_model.specs.ImplicitWeights.{implicit};
     ghost use Rattle.uca_model.specs.Prefix.{is_closed, is_silent};
     ghost use Rattle.uca_model.specs.SafeCut.{is_cut, is_safe_starter};
-    ghost use Rattle.std.specs.FinMap.{entries};
+    ghost use Rattle.std.specs.FinMap.{entries, from_sorted};
+    ghost use Rattle.uca_table.specs.Ascending.{AreAscending};
+    ghost use Rattle.uca_table.specs.Stored.{longest_of};
     ghost use Rattle.uca_model.specs.Ranges.{AreByFirst};
     ghost use Rattle.uca_table.specs.Walk.{path_of, table_of_walk};
 
@@ -60,7 +70,16 @@ impl Table {
         ensures few { IfSome result (λ es. length es.now ≤ MAX_ELEMENTS) }
         ensures elements { IfSome result (λ es. All IsElement es.now) }
     {
-        self.stored.get(key)
+        self.keys.get(key)
+    }
+
+    /// The elements of a key of one code point. `None`: it is no key. Where the code points of several calls ascend, with the same
+    /// `near`, there is no search.
+    pub(crate) fn get_near(&self, point: char, near: &mut usize) -> Option<&[Element]>
+        ensures value { option_copied result ≡ elements_at self.now (point ∷ []) }
+        ensures some { IfSome result (λ es. 0 < length es.now) }
+    {
+        self.keys.get_near(point, near)
     }
 
     /// A walk along the keys that has not been stepped yet.
@@ -68,7 +87,7 @@ impl Table {
         ensures table { table_of_walk result ≡ self.now }
         ensures path { path_of result ≡ [] }
     {
-        self.stored.walk()
+        Walk::new(self, &self.keys)
     }
 
     /// The length of the longest key in code points, or 1 where there is no key.
@@ -77,7 +96,7 @@ impl Table {
         ensures valid { IsTable self.now }
         ensures bounds { (1 ≤ result) × (result ≤ MAX_KEY) }
     {
-        self.stored.longest()
+        self.longest_key
     }
 
     /// The two collation elements of a code point that is no key where it stands alone. Their primary weights are
@@ -85,7 +104,7 @@ impl Table {
     pub fn implicit(&self, c: char) -> [Element; 2]
         ensures { result ≡ implicit self.now c }
     {
-        self.stored.implicit(c)
+        implicit_weights::implicit(&self.ranges, self.ideographs.as_slice(), c)
     }
 
     /// The entries by key order: by code points, a proper prefix first.
@@ -93,7 +112,38 @@ impl Table {
         ensures value { result ≡ entries self.now.entries }
         ensures few { length (entries self.now.entries) < 2 ^ 64 }
     {
-        self.stored.entries()
+        self.keys.entries()
+    }
+
+    /// A walk along the entries by key order, before the first one.
+    pub(crate) fn cursor(&self) -> Cursor<'_>
+        ensures { result.coming ≡ entries self.now.entries }
+    {
+        self.keys.cursor()
+    }
+
+    /// A table with the same ranges and other entries, with cells where memory is not refused for them.
+    pub(crate) fn with_entries(
+        &self,
+        alloc: Global,
+        entries: Nodes,
+        longest_key: usize,
+    ) -> Result<Table, AllocError>
+        requires ascending { AreAscending entries }
+        requires longest { longest_key ≡ longest_of entries }
+        ensures { IfOk result (λ t. t ≡ record { entries = from_sorted {R = key_cmp} entries; ranges = self.now.ranges; ideographs = self.now.ideographs }) }
+    {
+        let ranges = self.ranges.try_clone(alloc)?;
+        let ideographs = self.ideographs.as_slice().to_vec(alloc)?;
+        let keys = entries.finish(alloc)?;
+        let table = Table {
+            keys,
+            ranges,
+            ideographs,
+            longest_key,
+            cells: None,
+        };
+        Ok(table.prepared(alloc))
     }
 
     /// The ranges of implicit weights by their first code points.
@@ -101,7 +151,7 @@ impl Table {
         ensures value { result.now ≡ self.now.ranges }
         ensures by_first { AreByFirst result.now }
     {
-        self.stored.ranges()
+        self.ranges.as_slice()
     }
 
     /// The ranges of unified ideographs besides the listed ones, by their first code points.
@@ -109,7 +159,7 @@ impl Table {
         ensures value { result.now ≡ self.now.ideographs }
         ensures valid { AreIdeographs result.now }
     {
-        self.stored.ideographs()
+        self.ideographs.as_slice()
     }
 
     /// Makes the code points from `first` to `last`, both inclusive, unified ideographs. Where such a code point has
@@ -120,7 +170,7 @@ impl Table {
         ensures err { OnErr result (self.new ≡ self.old) }
         ensures fault { let fault = ideographs_fault self.old.ideographs (record { first = first; last = last }) in MatchResult result (λ _. fault ≡ None) (λ f. fault ≡ reported_range_fault f) }
     {
-        self.stored.add_ideographs(first, last)?;
+        ideographs::add(&mut self.ideographs, Ideographs { first, last })?;
         self.cells = None;
         Ok(())
     }
@@ -159,19 +209,17 @@ impl Table {
     pub fn prepare(&mut self, alloc: Global) -> Result<(), AllocError>
         ensures { self.new ≡ self.old }
     {
-        self.cells = Some(Cells::new(alloc, &self.stored)?);
+        self.cells = Some(Cells::new(alloc, self)?);
         Ok(())
     }
 
-    /// The table of what is stored, with cells where memory is not refused.
-    pub(crate) fn of(alloc: Global, stored: Stored) -> Table
-        ensures { result ≡ stored }
+    /// The table with cells, where memory is not refused for them.
+    pub(crate) fn prepared(self, alloc: Global) -> Table
+        ensures { result ≡ self }
     {
-        let cells = match Cells::new(alloc, &stored) {
-            Ok(cells) => Some(cells),
-            Err(_) => None,
-        };
-        Table { stored, cells }
+        let mut table = self;
+        let _known = table.prepare(alloc);
+        table
     }
 
     /// Frees what is kept about single characters, by which texts are read fast. A table that is only tailored does without it.
@@ -181,19 +229,12 @@ impl Table {
         self.cells = None;
     }
 
-    /// The entries and ranges, for matching code point by code point.
-    pub fn stored(&self) -> &Stored
-        ensures { result.now ≡ self.now }
-    {
-        &self.stored
-    }
-
     /// What the keys say about a code point. `None`: that is not known.
     pub(crate) fn marks(&self, c: char) -> Option<Marks>
         ensures { IfSome result (λ m. m ≡ marks self.now c) }
     {
         match &self.cells {
-            Some(cells) => Some(cells.marks(&self.stored, c)),
+            Some(cells) => Some(cells.marks(self, c)),
             None => None,
         }
     }
@@ -204,7 +245,7 @@ impl Table {
         ensures { IfSome result (λ known. table_of_characters known ≡ self.now) }
     {
         match &self.cells {
-            Some(cells) => Some(cells.characters(&self.stored)),
+            Some(cells) => Some(cells.characters(self)),
             None => None,
         }
     }
@@ -266,7 +307,7 @@ impl Table {
         ensures { IfSome result (λ es. (after : List ℕ) → es ++ elements self.now (nfd after) ≡ elements self.now (nfd (c ∷ after))) }
     {
         match &self.cells {
-            Some(cells) => cells.implicit_alone(&self.stored, c),
+            Some(cells) => cells.implicit_alone(self, c),
             None => None,
         }
     }
@@ -281,8 +322,8 @@ impl Table {
         ensures { OnOk result (out.new.items ≡ out.old.items ++ elements self.now (nfd text.now)) }
     {
         match &self.cells {
-            Some(cells) => push_text(alloc, out, &self.stored, cells, text),
-            None => push_run(&mut Vec::new(alloc), out, &self.stored, text),
+            Some(cells) => push_text(alloc, out, self, cells, text),
+            None => push_run(&mut Vec::new(alloc), out, self, text),
         }
     }
 }

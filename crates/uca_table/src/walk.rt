@@ -7,7 +7,7 @@ ghost use Rattle.uca_keys.specs.Fronts.{begins_entry};
 ghost use Rattle.uca_keys.specs.Paths.{entries_of, path_at};
 ghost use Rattle.uca_table.specs.Fronts.{begins_key};
 
-use crate::stored::Stored;
+use crate::table::Table;
 use uca_keys::trie::ROOT;
 use uca_keys::{NodeNumber, Trie};
 use uca_weights::Element;
@@ -16,7 +16,7 @@ use uca_weights::Element;
 /// some key once it has been stepped.
 #[derive(Clone, Copy)]
 pub struct Walk<'t> {
-    table: &'t Stored,
+    table: &'t Table,
     keys: &'t Trie,
     // The node that the path leads to.
     node: NodeNumber,
@@ -29,7 +29,7 @@ pub struct Walk<'t> {
 }
 
 /// Shows that the keys and the elements of a table are within its limits.
-fn show_table(t: &Stored)
+fn show_table(t: &Table)
     ensures { IsTable t.now }
 {
     let _longest = t.longest();
@@ -41,7 +41,7 @@ impl<'t> Walk<'t> {
     ghost use Rattle.uca_table.specs.Walk.{path_of, table_of_walk};
 
     /// A walk that has not been stepped yet.
-    pub(crate) fn new(table: &'t Stored, keys: &'t Trie) -> Walk<'t>
+    pub(crate) fn new(table: &'t Table, keys: &'t Trie) -> Walk<'t>
         requires { entries_of keys.now ≡ entries table.now.entries }
         ensures table { table_of_walk result ≡ table.now }
         ensures path { path_of result ≡ [] }

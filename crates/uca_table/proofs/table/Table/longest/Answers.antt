@@ -2,7 +2,7 @@ use Rattle.std.proofs.Common.{subst, sym, ap, ◌∙◌}
 use Rattle.uca_model.specs.Table.{IsTable, longest}
 use Rattle.uca_keys.specs.Paths.{entries_of}
 use Rattle.uca_table.proofs.EntryLemmas.{longest_stored, IsTable-stored, longest-bounds}
-use Rattle.uca_table.proofs.stored.Stored.longest.Goals as goal
+use Rattle.uca_table.proofs.table.Table.longest.Goals as goal
 
 pub returns-clause-value : goal.returns-clause-value
 returns-clause-value c =

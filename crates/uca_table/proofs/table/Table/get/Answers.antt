@@ -4,7 +4,7 @@ use Rattle.uca_weights.specs.declared.limits.TheConstants.{MAX_ELEMENTS}
 use Rattle.uca_model.specs.Table.{IsElement, elements_at}
 use Rattle.uca_keys.specs.Paths.{entries_of}
 use Rattle.uca_table.proofs.EntryLemmas.{elements_at_stored, found_entry, if_found}
-use Rattle.uca_table.proofs.stored.Stored.get.Goals as goal
+use Rattle.uca_table.proofs.table.Table.get.Goals as goal
 
 pub returns-clause-value : goal.returns-clause-value
 returns-clause-value c =

@@ -2,7 +2,7 @@ use Rattle.std.proofs.Common.{◌∷◌, [], ◌<◌, length, sym, ap, ◌∙◌
 use Rattle.uca_model.specs.Table.{elements_at}
 use Rattle.uca_keys.specs.Paths.{entries_of}
 use Rattle.uca_table.proofs.EntryLemmas.{elements_at_stored, found_entry, if_found}
-use Rattle.uca_table.proofs.stored.Stored.get_near.Goals as goal
+use Rattle.uca_table.proofs.table.Table.get_near.Goals as goal
 
 pub returns-clause-value : goal.returns-clause-value
 returns-clause-value c =

@@ -2,7 +2,7 @@ use Rattle.std.proofs.Common.{◌<◌, ◌^◌, length, sym, ap, subst, ◌∙�
 use Rattle.std.specs.FinMap.{entries, entries-from_sorted}
 use Rattle.uca_model.specs.Table.{ElementTable, key_cmp}
 use Rattle.uca_keys.specs.Paths.{entries_of}
-use Rattle.uca_table.proofs.stored.Stored.entries.Goals as goal
+use Rattle.uca_table.proofs.table.Table.entries.Goals as goal
 
 pub returns-clause-value : goal.returns-clause-value
 returns-clause-value c = c.entries.ensures.value ∙ sym (entries-from_sorted key_cmp (entries_of c.self.inside.keys) c.self.invariant.0.sorted) ∙ ap (λ (t : ElementTable). entries t.entries) c.self.view_is
