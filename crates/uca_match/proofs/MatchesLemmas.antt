@@ -20,10 +20,6 @@ unfolding matches_within
 no_matches is_key [] h = refl
 no_matches is_key (x ∷ xs) h = absurd (omega arith)
 
--- the code points of a match, within the text that was put in order
-pub matched_points : (text new : List ℕ) (at n : ℕ) → at < length text → take (at + n - at) (drop at (put_mid at (length text - at) text new)) ≡ take n new
-matched_points text new at n within = let few : at + n - at ≡ n = omega arith in ap₂ take few (rewritten-rest at text new (omega arith))
-
 -- one match further
 pub matches-further : (is_key : List ℕ → Bool) (text new : List ℕ) (at n : ℕ) (out : List Match) (one : Match) (whole : List model.Match) → at < length text → map match_of out ++ matches is_key (drop at text) ≡ whole
     → (step is_key (take (length text - at) (drop at text))).matched ≡ match_of one → (step is_key (take (length text - at) (drop at text))).rest ≡ drop n new
@@ -47,7 +43,3 @@ pub matches-done : (is_key : List ℕ → Bool) (text : List ℕ) (at : ℕ) (ou
 matches-done is_key text at out whole past same =
     let none : length (drop at text) ≡ 0 = ap length (drop_all at text past) in
     sym (append-nil (map match_of out)) ∙ ap (λ ms. map match_of out ++ ms) (sym (no_matches is_key (drop at text) none)) ∙ same
-
--- a match by its parts
-pub same_match : (m : Match) (points : List ℕ) (found : Bool) → m.key.items ≡ points → m.found ≡ found → (let x : model.Match = record { code_points = points; found = found } in x ≡ match_of m)
-same_match m points found p f = ap₂ (λ ps b. record { code_points = ps; found = b }) (sym p) (sym f)

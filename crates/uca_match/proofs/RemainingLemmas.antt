@@ -1,12 +1,12 @@
 -- The remaining elements, before and after a call.
-use Rattle.std.proofs.Common.{◌≡◌, ℕ, ◌<◌, Bool, List, [], ◌∷◌, ◌++◌, length, Option, Some, None, refl, sym, ap, ap₂, subst, ◌∙◌}
+use Rattle.std.proofs.Common.{◌≡◌, ℕ, ◌<◌, List, [], ◌∷◌, ◌++◌, length, Option, Some, None, refl, sym, ap, ap₂, subst, ◌∙◌}
 use Rattle.std.proofs.lemmas.List.{nil_from_length}
 use Rattle.uca_weights.specs.declared.element.Element.{Element}
 use Rattle.uca_model.specs.Table.{is_key}
 use Rattle.uca_model.specs.CollationElements.{step, elements, elements_or_implicit}
 use Rattle.uca_model.specs.Source.{SourceState, unread}
 use Rattle.uca_model.specs.Window.{ReadsOn, rest_of}
-use Rattle.uca_model.proofs.RewritingLemmas.{elements_parts, elements_nil, step_some}
+use Rattle.uca_model.proofs.RewritingLemmas.{elements_parts, elements_nil}
 use Rattle.uca_match.specs.Yields.{Yields, YieldsFirst}
 use Rattle.uca_match.specs.RemainingElements.{ElementsState, remaining_elements, window_of, waiting_of}
 

@@ -1,5 +1,5 @@
 -- The elements of a text in memory that are left (UTS #10, 7.2, step S2).
-use Rattle.std.specs.Prelude.{ℕ, List, ◌++◌, length, chars, Option, Some, None, []}
+use Rattle.std.specs.Prelude.{ℕ, List, length, chars, Option, Some, None}
 use Rattle.unicode_normalization.specs.Forms.{nfd}
 use Rattle.uca_weights.specs.declared.element.Element.{Element}
 use Rattle.uca_model.specs.CollationElements.{elements}

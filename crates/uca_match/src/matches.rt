@@ -1,22 +1,21 @@
 //! The matches of a text by any set of keys.
-ghost use Rattle.std.specs.Prelude.{◌≡◌, ◌<◌, ◌≤◌, ◌&&◌, ◌++◌, ◌∷◌, [], nat_lt, IsTrue, IfOk, OnOk, length, take, drop, map};
-ghost use Rattle.std.specs.FinSet.{contains};
-ghost use Rattle.unicode.specs.CanonicalCombiningClass.{canonical_combining_class};
+ghost use Rattle.std.specs.Prelude.{◌≡◌, ◌<◌, ◌≤◌, ◌++◌, IfOk, OnOk, length, drop, map};
+ghost use Rattle.std.specs.FinSet.{FinSet, contains};
 ghost use Rattle.unicode_normalization.specs.Forms.{nfd};
 ghost use Rattle.uca_weights.specs.declared.limits.TheConstants.{MAX_KEY};
-ghost use Rattle.uca_model.specs.Match.{longest_match_len, discontiguous_match, took};
+ghost use Rattle.uca_model.specs.Match.{longest_match_len};
+ghost use Rattle.uca_model.specs.Table.{key_cmp};
 ghost use Rattle.uca_model.specs.CollationElements.{step, matches};
 ghost use Rattle.uca_window.specs.Passage.{text_of};
-ghost use Rattle.uca_table.specs.Running.{brought_forward};
 ghost use Rattle.uca_match.specs.Matches.{match_of};
 
 use crate::keys::Keys;
 use arrayvec::ArrayVec;
 use std::alloc::{AllocError, Global};
-use uca_table::matching::higher;
+use uca_table::growing::Growing;
+use uca_table::matching::extend;
 use uca_weights::MAX_KEY;
 use uca_window::{Passage, nfd_of};
-use unicode_normalization::char::canonical_combining_class;
 
 /// Code points that are taken together: a key, or a code point that begins no key there.
 #[derive(Debug, Drop)]
@@ -42,104 +41,65 @@ fn longest_match_len<K: Keys>(keys: &K, text: &[char]) -> usize
     0
 }
 
-// Whether a start is a key with one more code point after it.
-fn makes_key<K: Keys>(keys: &K, start: &[char], nonstarter: char) -> bool
-    ensures value { result ≡ contains (K.keys keys.now) (start.now ++ nonstarter ∷ []) }
-    ensures few { IsTrue result → length start.now < MAX_KEY }
-{
-    if start.len() >= keys.longest() {
-        return false;
-    }
-    let mut key: ArrayVec<char, MAX_KEY> = ArrayVec::new();
-    let _fits = key.try_extend_from_slice(start);
-    key.push(nonstarter);
-    keys.has(key.as_slice())
+// Code points that may grow to a longer key of any set.
+#[derive(Drop)]
+struct GrowingKey<'k, K: Keys> {
+    keys: &'k K,
+    points: ArrayVec<char, MAX_KEY>,
 }
 
-// Whether a start takes a nonstarter, where `high` is the highest combining class of those that were passed over
-// (UTS #10, 7.2, steps S2.1.2 and S2.1.3).
-fn is_taken<K: Keys>(keys: &K, start: &[char], high: u8, nonstarter: char) -> bool
-    ensures value { result ≡ (nat_lt high (canonical_combining_class nonstarter) && contains (K.keys keys.now) (start.now ++ nonstarter ∷ [])) }
-    ensures few { IsTrue result → length start.now < MAX_KEY }
-{
-    high < canonical_combining_class(nonstarter) && makes_key(keys, start, nonstarter)
-}
+impl<'k, K: Keys> Growing for GrowingKey<'k, K> {
+    ghost Set = { FinSet key_cmp };
 
-// Moves the code point at `from` to `to`, before those that were there.
-fn bring_forward(text: &mut [char], to: usize, from: usize)
-    requires ordered { to ≤ from }
-    requires within { from < length text.old }
-    ensures { text.new ≡ brought_forward text.old to from }
-{
-    text[to..=from].rotate_right(1);
-}
+    ghost set = { λ g. K.keys g.keys.now };
 
-// Moves those nonstarters forward to the first `start` code points that make longer keys with them, and returns how
-// many code points the match then has (UTS #10, 7.2, steps S2.1.1 to S2.1.3). Those that were passed over follow it
-// in the order that they had.
-fn extend<K: Keys>(keys: &K, text: &mut [char], start: usize) -> usize
-    requires within { start ≤ length text.old }
-    requires few { start ≤ MAX_KEY }
-    ensures taken { discontiguous_match (contains (K.keys keys.now)) (take start text.old) [] (drop start text.old) ≡ took (take result text.new) (drop result text.new) }
-    ensures some { start ≤ result }
-    ensures within { result ≤ length text.old }
-    ensures few { result ≤ MAX_KEY }
-{
-    let mut end = start;
-    let mut high = 0;
-    for at in start..text.len() {
-        let nonstarter = text[at];
-        let class = canonical_combining_class(nonstarter);
-        if class == 0 {
-            return end;
+    ghost is_key = { contains };
+
+    ghost path = { λ g. g.points.items };
+
+    fn grows(&mut self, c: char) -> bool {
+        if self.points.len() >= self.keys.longest() {
+            return false;
         }
-        if is_taken(keys, &text[..end], high, nonstarter) {
-            bring_forward(text, end, at);
-            end += 1;
-        } else {
-            high = higher(high, class);
+        self.points.push(c);
+        if self.keys.has(self.points.as_slice()) {
+            return true;
         }
+        let _last = self.points.pop();
+        false
     }
-    end
-}
 
-// How many code points a match has, and whether they are a key.
-#[derive(Clone, Copy)]
-struct Front {
-    len: usize,
-    found: bool,
+    fn is_whole(&self) -> bool {
+        false
+    }
 }
 
 // Moves the first match of a text in NFD to its front (UTS #10, 7.2, step S2.1). What is left of the text
 // follows it.
-fn match_front<K: Keys>(keys: &K, text: &mut [char]) -> Front
+fn match_front<K: Keys>(keys: &K, text: &mut [char]) -> Match
     requires { 0 < length text.old }
-    ensures matched { (step (contains (K.keys keys.now)) text.old).matched ≡ record { code_points = take result.len text.new; found = result.found } }
-    ensures rest { (step (contains (K.keys keys.now)) text.old).rest ≡ drop result.len text.new }
-    ensures some { 0 < result.len }
-    ensures within { result.len ≤ length text.old }
-    ensures few { result.len ≤ MAX_KEY }
+    ensures matched { (step (contains (K.keys keys.now)) text.old).matched ≡ match_of result }
+    ensures rest { (step (contains (K.keys keys.now)) text.old).rest ≡ drop (length result.key.items) text.new }
+    ensures some { 0 < length result.key.items }
+    ensures within { length result.key.items ≤ length text.old }
 {
     let start = longest_match_len(keys, text);
+    let mut key = GrowingKey {
+        keys,
+        points: ArrayVec::new(),
+    };
+    let _fits = key.points.try_extend_from_slice(&text[..start.max(1)]);
     if start == 0 {
-        return Front {
-            len: 1,
+        return Match {
+            key: key.points,
             found: false,
         };
     }
-    let len = extend(keys, text, start);
-    Front { len, found: true }
-}
-
-// Code points as a match.
-fn match_of(points: &[char], found: bool) -> Match
-    requires { length points.now ≤ MAX_KEY }
-    ensures points { result.key.items ≡ points.now }
-    ensures found { result.found ≡ found }
-{
-    let mut key = ArrayVec::new();
-    let _fits = key.try_extend_from_slice(points);
-    Match { key, found }
+    let _len = extend(&mut key, text, start);
+    Match {
+        key: key.points,
+        found: true,
+    }
 }
 
 // Appends the matches of a text in NFD, one after the other (UTS #10, 7.2, step S2). Each match is put in order within
@@ -153,10 +113,10 @@ fn push_matches<K: Keys>(
 {
     let mut at = 0;
     'matches: while at < text.len() {
-        let front = match_front(keys, &mut text[at..]);
-        let matched = match_of(&text[at..at + front.len], front.found);
+        let matched = match_front(keys, &mut text[at..]);
+        let len = matched.key.len();
         all.push(matched)?;
-        at += front.len;
+        at += len;
     }
     Ok(())
 }

@@ -16,6 +16,7 @@ mod debug;
 mod entry_map;
 mod extent;
 pub mod fault;
+pub mod growing;
 mod ideographs;
 mod implicit_weights;
 mod marks;

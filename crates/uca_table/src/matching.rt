@@ -6,6 +6,7 @@ ghost use Rattle.uca_model.specs.CollationElements.{step};
 ghost use Rattle.uca_table.specs.Running.{brought_forward};
 ghost use Rattle.uca_table.specs.Walk.{path_of, table_of_walk};
 
+use crate::growing::Growing;
 use crate::table::Table;
 use crate::walk::Walk;
 use uca_weights::Element;
@@ -29,25 +30,17 @@ pub fn longest_match<'t>(t: &'t Table, text: &[char]) -> Walk<'t>
     longest
 }
 
-/// Whether the path of a walk takes a nonstarter, where `high` is the highest combining class of those that were passed
-/// over (UTS #10, 7.2, steps S2.1.2 and S2.1.3). If so the walk is stepped along it; otherwise it stays.
-pub fn takes(walk: &mut Walk<'_>, high: u8, nonstarter: char) -> bool
-    ensures value { result ≡ (nat_lt high (canonical_combining_class nonstarter) && is_key (table_of_walk walk.old) (path_of walk.old ++ nonstarter ∷ [])) }
-    ensures path { path_of walk.new ≡ cond result (path_of walk.old ++ nonstarter ∷ []) (path_of walk.old) }
-    ensures table { table_of_walk walk.new ≡ table_of_walk walk.old }
+/// Whether code points take a nonstarter, where `high` is the highest combining class of those that were passed over
+/// (UTS #10, 7.2, steps S2.1.2 and S2.1.3). If so it is appended to them; otherwise they stay.
+pub fn takes<P: Growing>(points: &mut P, high: u8, nonstarter: char) -> bool
+    ensures value { result ≡ (nat_lt high (canonical_combining_class nonstarter) && P.is_key (P.set points.old) (P.path points.old ++ nonstarter ∷ [])) }
+    ensures path { P.path points.new ≡ cond result (P.path points.old ++ nonstarter ∷ []) (P.path points.old) }
+    ensures set { P.set points.new ≡ P.set points.old }
 {
     if high >= canonical_combining_class(nonstarter) {
         return false;
     }
-    let mut longer = *walk;
-    if !longer.step(nonstarter) {
-        return false;
-    }
-    if longer.elements().is_none() {
-        return false;
-    }
-    *walk = longer;
-    true
+    points.grows(nonstarter)
 }
 
 /// The greater of two numbers.
@@ -66,19 +59,19 @@ fn bring_forward(text: &mut [char], to: usize, from: usize)
     text[to..=from].rotate_right(1);
 }
 
-// Moves those nonstarters forward to the first `start` code points that make longer keys with them, and returns how
-// many code points the match then has (UTS #10, 7.2, steps S2.1.1 to S2.1.3). Those that were passed over follow it
-// in the order that they had. The walk goes along the match.
-fn extend(walk: &mut Walk<'_>, text: &mut [char], start: usize) -> usize
+/// Moves those nonstarters forward to the first `start` code points that make longer keys with them, and returns how
+/// many code points the match then has (UTS #10, 7.2, steps S2.1.1 to S2.1.3). Those that were passed over follow it
+/// in the order that they had. The match is appended to its start.
+pub fn extend<P: Growing>(matched: &mut P, text: &mut [char], start: usize) -> usize
     requires within { start ≤ length text.old }
-    requires path { path_of walk.old ≡ take start text.old }
-    ensures taken { discontiguous_match (is_key (table_of_walk walk.old)) (take start text.old) [] (drop start text.old) ≡ took (take result text.new) (drop result text.new) }
+    requires path { P.path matched.old ≡ take start text.old }
+    ensures taken { discontiguous_match (P.is_key (P.set matched.old)) (take start text.old) [] (drop start text.old) ≡ took (take result text.new) (drop result text.new) }
     ensures some { start ≤ result }
     ensures within { result ≤ length text.old }
-    ensures path { path_of walk.new ≡ take result text.new }
-    ensures table { table_of_walk walk.new ≡ table_of_walk walk.old }
+    ensures path { P.path matched.new ≡ take result text.new }
+    ensures set { P.set matched.new ≡ P.set matched.old }
 {
-    if walk.is_leaf() {
+    if matched.is_whole() {
         return start;
     }
     let mut end = start;
@@ -89,7 +82,7 @@ fn extend(walk: &mut Walk<'_>, text: &mut [char], start: usize) -> usize
         if class == 0 {
             return end;
         }
-        if takes(walk, high, nonstarter) {
+        if takes(matched, high, nonstarter) {
             bring_forward(text, end, at);
             end += 1;
         } else {

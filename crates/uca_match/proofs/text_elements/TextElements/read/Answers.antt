@@ -1,4 +1,4 @@
-use Rattle.std.proofs.Common.{refl, eqb-true, ◌≡◌, ℕ, [], ◌++◌, chars, length, take, sym, ap, ap₂, ◌∙◌, arith}
+use Rattle.std.proofs.Common.{refl, eqb-true, ◌≡◌, [], ◌++◌, chars, take, sym, ap, ap₂, ◌∙◌, arith}
 use Rattle.std.proofs.lemmas.Str.{chars-nil}
 use Rattle.std.proofs.lemmas.List.{nil_from_length}
 use Rattle.std.specs.Prelude.{Option, Some, None}
