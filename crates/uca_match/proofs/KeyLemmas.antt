@@ -1,50 +1,24 @@
 -- The keys of a table as a set, and prefixes that are longer than every key.
-use Rattle.std.proofs.Common.{◌≡◌, ℕ, ◌-◌, ◌+◌, ◌≤◌, ◌<◌, max, Bool, true, false, ◌||◌, List, [], ◌∷◌, length, take, fold, map, Some, None, Option, is_some, refl, sym, ap, subst, ◌∙◌, arith, lit≤, inl, inr}
-use Rattle.std.proofs.lemmas.Bool.{cases_Bool, cases_lt, or_right}
+use Rattle.std.proofs.Common.{◌≡◌, ℕ, ◌≤◌, max, true, ◌||◌, List, [], ◌∷◌, length, fold, map, Some, None, Option, is_some, refl, sym, ap, subst, ◌∙◌, arith, lit≤, inl, inr}
+use Rattle.std.proofs.lemmas.Bool.{cases_lt, or_right}
 use Rattle.std.proofs.lemmas.List.Elements.{recursion_from_All}
-use Rattle.std.proofs.lemmas.List.{length-take-le}
 use Rattle.std.specs.Prelude.{◌⊎◌}
 use Rattle.std.specs.List.{AllByRecursion, list_any}
 use Rattle.std.specs.Ordering.{eq_by_cmp}
 use Rattle.std.proofs.lemmas.Cmp.{eq_by_cmp_equiv}
 use Rattle.std.specs.Cmp.Lexicographic.{nat_list_cmp_total}
 use Rattle.std.specs.FinMap.{keys, entries, contains_key-keys}
-use Rattle.std.specs.FinSet.{FinSet, contains, contains-from_list}
-use Rattle.uca_model.specs.Match.{greatest, longest_match_len}
+use Rattle.std.specs.FinSet.{contains, contains-from_list}
 use Rattle.uca_weights.specs.declared.element.Element.{Element}
 use Rattle.uca_weights.specs.declared.limits.TheConstants.{MAX_KEY}
 use Rattle.uca_model.specs.Table.{ElementTable, key_cmp, elements_at, is_key, longest, IsEntry, IsTable}
 use Rattle.uca_model.proofs.LongestKey.{longest-covers, longest-some}
 use Rattle.uca_model.proofs.TableLemmas.{IsEntry-elements_at}
-use Rattle.uca_table.proofs.MatchLemmas.{greatest-below}
 use Rattle.uca_match.specs.Keys.{AreKeys, HasLongest, key_set}
 
 -- a key of the set is a key of the table
 pub contains-key_set : (t : ElementTable) (key : List ℕ) → contains (key_set t) key ≡ is_key t key
 contains-key_set t key = contains-from_list nat_list_cmp_total (keys t.entries) key ∙ sym (contains_key-keys t.entries key)
-
--- what is longer than each key is none
-pub longer_than_keys : (keys : FinSet key_cmp) (m : ℕ) (key : List ℕ) → HasLongest keys m → m < length key → contains keys key ≡ false
-longer_than_keys keys m key has long = elim (cases_Bool (contains keys key)) [
-  | inl holds ↦ let h : length key ≤ m = has.each key holds in absurd (omega arith)
-  | inr fails ↦ fails
-]
-
--- a number that fails is not the greatest that passes
-pub greatest-fails : (p : ℕ → Bool) (n : ℕ) → 0 < n → p n ≡ false → greatest p (n - 1) ≡ greatest p n
-greatest-fails p n some fails =
-    let whole : n - 1 + 1 ≡ n = omega arith in
-    sym (greatest-below p (n - 1) 1 (λ k above upto. let same : k ≡ n = omega arith in ap p same ∙ fails)) ∙ ap (greatest p) whole
-
--- it is enough to look up what is no longer than the longest key
-pub longest_match_len-short : (keys : FinSet key_cmp) (m : ℕ) (text : List ℕ) (n : ℕ) → HasLongest keys m → n ≤ length text → (n < length text → m ≤ n) → greatest (λ k. contains keys (take k text)) n ≡ longest_match_len (contains keys) text
-longest_match_len-short keys m text n has within short =
-    let whole : n + (length text - n) ≡ length text = omega arith in
-    sym (greatest-below (λ k. contains keys (take k text)) n (length text - n) (λ k above upto.
-    let size : length (take k text) ≡ k = length-take-le k text (omega arith) in
-    let last : m ≤ n = short (omega arith) in
-    longer_than_keys keys m (take k text) has (omega arith)))
-    ∙ ap (greatest (λ k. contains keys (take k text))) whole
 
 -- each key of a table is one
 some_from : {A : Type 0} (o : Option A) → is_some o ≡ true → (x : A) × (o ≡ Some x)

@@ -3,7 +3,6 @@ ghost use Rattle.std.specs.Prelude.{◌≡◌, ◌<◌, ◌≤◌, ◌++◌, IfO
 ghost use Rattle.std.specs.FinSet.{FinSet, contains};
 ghost use Rattle.unicode_normalization.specs.Forms.{nfd};
 ghost use Rattle.uca_weights.specs.declared.limits.TheConstants.{MAX_KEY};
-ghost use Rattle.uca_model.specs.Match.{longest_match_len};
 ghost use Rattle.uca_model.specs.Table.{key_cmp};
 ghost use Rattle.uca_model.specs.CollationElements.{step, matches};
 ghost use Rattle.uca_window.specs.Passage.{text_of};
@@ -13,7 +12,7 @@ use crate::keys::Keys;
 use arrayvec::ArrayVec;
 use std::alloc::{AllocError, Global};
 use uca_table::growing::Growing;
-use uca_table::matching::extend;
+use uca_table::matching::{extend, longest_match};
 use uca_weights::MAX_KEY;
 use uca_window::{Passage, nfd_of};
 
@@ -23,22 +22,6 @@ pub struct Match {
     pub key: ArrayVec<char, MAX_KEY>,
     /// Whether the code points are a key.
     pub found: bool,
-}
-
-// The length of the longest initial substring that is a key, 0 where none is (UTS #10, 7.2, step S2.1).
-fn longest_match_len<K: Keys>(keys: &K, text: &[char]) -> usize
-    ensures value { result ≡ longest_match_len (contains (K.keys keys.now)) text.now }
-    ensures within { result ≤ length text.now }
-    ensures few { result ≤ MAX_KEY }
-{
-    let mut n = text.len().min(keys.longest());
-    while n > 0 {
-        if keys.has(&text[..n]) {
-            return n;
-        }
-        n -= 1;
-    }
-    0
 }
 
 // Code points that may grow to a longer key of any set.
@@ -57,16 +40,25 @@ impl<'k, K: Keys> Growing for GrowingKey<'k, K> {
 
     ghost path = { λ g. g.points.items };
 
-    fn grows(&mut self, c: char) -> bool {
+    fn same(&self) -> GrowingKey<'k, K> {
+        let mut points = ArrayVec::new();
+        let _fits = points.try_extend_from_slice(self.points.as_slice());
+        GrowingKey {
+            keys: self.keys,
+            points,
+        }
+    }
+
+    fn append(&mut self, c: char) -> bool {
         if self.points.len() >= self.keys.longest() {
             return false;
         }
         self.points.push(c);
-        if self.keys.has(self.points.as_slice()) {
-            return true;
-        }
-        let _last = self.points.pop();
-        false
+        true
+    }
+
+    fn is_found(&self) -> bool {
+        self.keys.has(self.points.as_slice())
     }
 
     fn is_whole(&self) -> bool {
@@ -83,13 +75,14 @@ fn match_front<K: Keys>(keys: &K, text: &mut [char]) -> Match
     ensures some { 0 < length result.key.items }
     ensures within { length result.key.items ≤ length text.old }
 {
-    let start = longest_match_len(keys, text);
-    let mut key = GrowingKey {
+    let none = GrowingKey {
         keys,
         points: ArrayVec::new(),
     };
-    let _fits = key.points.try_extend_from_slice(&text[..start.max(1)]);
+    let mut key = longest_match(none, text);
+    let start = key.points.len();
     if start == 0 {
+        key.points.push(text[0]);
         return Match {
             key: key.points,
             found: false,

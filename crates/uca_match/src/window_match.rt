@@ -59,7 +59,7 @@ fn take_match<'t>(t: &'t Table, window: &mut Window) -> WindowMatch<'t>
     let closed = window.closed();
     let points = window.points();
     let first = points[0];
-    let mut walk = longest_match(t, &points[..closed]);
+    let mut walk = longest_match(t.walk(), &points[..closed]);
     let start = walk.len();
     if start == 0 {
         window.drop_front(1);

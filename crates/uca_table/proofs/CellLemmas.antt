@@ -26,9 +26,6 @@ use Rattle.uca_table.proofs.MarkLemmas.{same_point}
 pub drop-old : (old more new : List Element) → new ≡ old ++ more → drop (length old) new ≡ more
 drop-old old more new e = ap (drop (length old)) e ∙ drop_at old more (length old) refl
 
-pub Grows-from : (old more new : List Element) → new ≡ old ++ more → Grows old new
-Grows-from old more new e = e ∙ ap (λ l. old ++ l) (sym (drop-old old more new e))
-
 -- what was appended lies where the rest began
 pub taken-fresh : (old more new : List Element) (start count : ℕ) → new ≡ old ++ more → start ≡ length old → start + count ≡ length new → take count (drop start new) ≡ more
 taken-fresh old more new start count e at end =
@@ -57,17 +54,6 @@ IsCell-grown t es more c cell grows h =
 -- all cells stay sound where more elements follow
 pub AreCells-grown : (t : ElementTable) (es more : List Element) (blocks : List ℕ) (cells : List Cell) → Grows es more → AreCells t es blocks cells → AreCells t more blocks cells
 AreCells-grown t es more blocks cells grows h = record { all = h.all; within = h.within; each = λ c within. IsCell-grown t es more c (get_or cells (place blocks c) unknown) grows (h.each c within) }
-
--- a cell that says nothing is sound
-pub unknown-cell : (t : ElementTable) (es : List Element) (c : ℕ) (cell : Cell) → cell ≡ unknown → IsCell t es c cell
-unknown-cell t es c cell is = subst (IsCell t es c) (sym is) (record {
-  joining = joining-most t (decompose_canonical c);
-  bearing = omega arith;
-  cut = λ e. absurd (cc);
-  within = omega arith;
-  elements = λ some. absurd (omega arith);
-  one = λ just. absurd (omega (arith, just));
-})
 
 -- and they stay so with one more cell at the place of its character
 pub AreCells-put : (t : ElementTable) (es : List Element) (blocks : List ℕ) (ms : List Marks) (cells : List Cell) (c at : ℕ) (cell : Cell) → IsIndex blocks ms → c / 128 < 8704 → 0 < get_or blocks (c / 128) 0 → at ≡ place blocks c

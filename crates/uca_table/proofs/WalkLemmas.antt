@@ -43,11 +43,10 @@ no_key-beyond t key n none = elim (cases_Bool (is_key t key)) [
 ]
 
 -- then none of the longer fronts is one
-pub longest_match_len-stops : (t : ElementTable) (text : List ℕ) (i : ℕ) → i < length text → begins_key t (take (i + 1) text) ≡ false → greatest (λ n. is_key t (take n text)) i ≡ longest_match_len (is_key t) text
-longest_match_len-stops t text i within none =
+pub longest_match_len-stops : (is_key : List ℕ → Bool) (text : List ℕ) (i : ℕ) → i < length text → ((key : List ℕ) → take (i + 1) key ≡ take (i + 1) text → is_key key ≡ false) → greatest (λ n. is_key (take n text)) i ≡ longest_match_len is_key text
+longest_match_len-stops is_key text i within none =
     let whole : i + (length text - i) ≡ length text = omega arith in
-    sym (greatest-below (λ n. is_key t (take n text)) i (length text - i) (λ k above upto. no_key-beyond t (take k text) (i + 1) (ap (begins_key t) (take-take (i + 1) k text (omega arith)) ∙ none)))
-    ∙ ap (greatest (λ n. is_key t (take n text))) whole
+    sym (greatest-below (λ n. is_key (take n text)) i (length text - i) (λ k above upto. none (take k text) (take-take (i + 1) k text (omega arith)))) ∙ ap (greatest (λ n. is_key (take n text))) whole
 
 -- no key begins with what is none
 pub no_key-there : (t : ElementTable) (key : List ℕ) → begins_key t key ≡ false → is_key t key ≡ false

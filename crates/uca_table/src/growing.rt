@@ -1,11 +1,11 @@
-ghost use Rattle.std.specs.Prelude.{◌≡◌, ℕ, List, Bool, ◌++◌, ◌∷◌, [], cond, false, IsTrue};
+ghost use Rattle.std.specs.Prelude.{◌≡◌, ℕ, List, Bool, ◌+◌, ◌++◌, ◌∷◌, [], cond, false, length, take, IsFalse, IsTrue};
 ghost use Rattle.uca_model.specs.Table.{ElementTable, is_key};
 ghost use Rattle.uca_table.specs.Walk.{path_of, table_of_walk};
 
 use crate::walk::Walk;
 
 /// A list of code points that may grow to a longer key.
-pub trait Growing {
+pub trait Growing: Drop {
     /// What says which lists are keys.
     ghost Set: { Type 0 };
 
@@ -16,11 +16,20 @@ pub trait Growing {
     /// The code points.
     ghost path: { Self → List ℕ };
 
-    /// Appends a code point, if that makes a key, and returns whether it does. Otherwise the list stays as it is.
-    fn grows(&mut self, c: char) -> bool
-        ensures value { result ≡ is_key (set self.old) (path self.old ++ c ∷ []) }
+    /// The same list once more.
+    fn same(&self) -> Self
+        ensures path { path result ≡ path self.now }
+        ensures set { set result ≡ set self.now };
+
+    /// Appends a code point, and returns whether it did. Where no key begins with the list and it, the list may stay as it is.
+    fn append(&mut self, c: char) -> bool
+        ensures none { IsFalse result → (key : List ℕ) → take (length (path self.old) + 1) key ≡ path self.old ++ c ∷ [] → is_key (set self.old) key ≡ false }
         ensures path { path self.new ≡ cond result (path self.old ++ c ∷ []) (path self.old) }
         ensures set { set self.new ≡ set self.old };
+
+    /// Whether the list is a key.
+    fn is_found(&self) -> bool
+        ensures { result ≡ is_key (set self.now) (path self.now) };
 
     /// Whether no code point makes a key. `false`: that is not known.
     fn is_whole(&self) -> bool
@@ -37,16 +46,18 @@ impl<'t> Growing for Walk<'t> {
     ghost path = { path_of };
 
     #[inline(always)]
-    fn grows(&mut self, c: char) -> bool {
-        let mut longer = *self;
-        if !longer.step(c) {
-            return false;
-        }
-        if longer.elements().is_none() {
-            return false;
-        }
-        *self = longer;
-        true
+    fn same(&self) -> Walk<'t> {
+        *self
+    }
+
+    #[inline(always)]
+    fn append(&mut self, c: char) -> bool {
+        self.step(c)
+    }
+
+    #[inline(always)]
+    fn is_found(&self) -> bool {
+        self.elements().is_some()
     }
 
     #[inline(always)]

@@ -12,19 +12,21 @@ use crate::walk::Walk;
 use uca_weights::Element;
 use unicode_normalization::char::canonical_combining_class;
 
-/// A walk along the longest initial substring that is a key (UTS #10, 7.2, step S2.1). It has not been stepped where there is none.
-pub fn longest_match<'t>(t: &'t Table, text: &[char]) -> Walk<'t>
-    ensures table { table_of_walk result ≡ t.now }
-    ensures path { path_of result ≡ longest_match (is_key t.now) text.now }
+/// The longest initial substring that is a key, and no code point where there is none (UTS #10, 7.2, step S2.1). It begins with no
+/// code points.
+pub fn longest_match<P: Growing>(none: P, text: &[char]) -> P
+    requires { P.path none ≡ [] }
+    ensures set { P.set result ≡ P.set none }
+    ensures path { P.path result ≡ longest_match (P.is_key (P.set none)) text.now }
 {
-    let mut walk = t.walk();
-    let mut longest = walk;
+    let mut longest = none.same();
+    let mut points = none;
     for c in text {
-        if !walk.step(*c) {
+        if !points.append(*c) {
             return longest;
         }
-        if walk.elements().is_some() {
-            longest = walk;
+        if points.is_found() {
+            longest = points.same();
         }
     }
     longest
@@ -40,7 +42,15 @@ pub fn takes<P: Growing>(points: &mut P, high: u8, nonstarter: char) -> bool
     if high >= canonical_combining_class(nonstarter) {
         return false;
     }
-    points.grows(nonstarter)
+    let mut longer = points.same();
+    if !longer.append(nonstarter) {
+        return false;
+    }
+    if !longer.is_found() {
+        return false;
+    }
+    *points = longer;
+    true
 }
 
 /// The greater of two numbers.
@@ -112,7 +122,7 @@ pub fn match_front<'t>(t: &'t Table, text: &mut [char]) -> Matched<'t>
     ensures elements { option_copied result.elements ≡ elements_at t.now (take result.len text.new) }
     ensures some_elements { IfSome result.elements (λ es. 0 < length es.now) }
 {
-    let mut walk = longest_match(t, text);
+    let mut walk = longest_match(t.walk(), text);
     let n = walk.len();
     if n == 0 {
         return Matched {

@@ -14,7 +14,7 @@ pub returns-then-start-eq0-clause-takes : goal.returns-then-start-eq0-clause-tak
 returns-then-start-eq0-clause-takes c =
     let t = c.args.t.now in let w = c.args.window.now in
     let text = ap₂ take c.closed-closed.ensures.value c.points-points.ensures.value in
-    let path : path_of c.longest_match-walk.result ≡ longest_match (is_key t) (take w.closed w.points) = c.longest_match-walk.ensures.path ∙ ap (longest_match (is_key t)) text in
+    let path : path_of c.longest_match-walk.result ≡ longest_match (is_key t) (take w.closed w.points) = c.longest_match-walk.ensures.path ∙ ap₂ (λ s xs. longest_match (is_key s) xs) c.walk.ensures.table text in
     let none : length (path_of c.longest_match-walk.result) ≡ 0 = sym c.len-start.ensures.value ∙ c.if-start-eq0.true in
     let inside : 0 < length w.points = omega (arith, c.requires.some, c.closed-closed.ensures.valid.segments.within) in
     let one : c.index-points-0.result ∷ [] ≡ take 1 w.points = first_point w.points c.index-points-0.result inside (c.index-points-0.is ∙ ap (λ xs. get_or xs 0 c.index-points-0.result) c.points-points.ensures.value) in
@@ -25,13 +25,13 @@ pub returns-then-start-eq0-clause-found : goal.returns-then-start-eq0-clause-fou
 returns-then-start-eq0-clause-found c =
     let t = c.args.t.now in let w = c.args.window.now in
     let text = ap₂ take c.closed-closed.ensures.value c.points-points.ensures.value in
-    let path : path_of c.longest_match-walk.result ≡ longest_match (is_key t) (take w.closed w.points) = c.longest_match-walk.ensures.path ∙ ap (longest_match (is_key t)) text in
+    let path : path_of c.longest_match-walk.result ≡ longest_match (is_key t) (take w.closed w.points) = c.longest_match-walk.ensures.path ∙ ap₂ (λ s xs. longest_match (is_key s) xs) c.walk.ensures.table text in
     let none : length (path_of c.longest_match-walk.result) ≡ 0 = sym c.len-start.ensures.value ∙ c.if-start-eq0.true in
     let inside : 0 < length w.points = omega (arith, c.requires.some, c.closed-closed.ensures.valid.segments.within) in
     let one : c.index-points-0.result ∷ [] ≡ take 1 w.points = first_point w.points c.index-points-0.result inside (c.index-points-0.is ∙ ap (λ xs. get_or xs 0 c.index-points-0.result) c.points-points.ensures.value) in
     let size : length (take w.closed w.points) ≡ w.closed = length-take-le w.closed w.points c.closed-closed.ensures.valid.segments.within in
     record {
-      table = c.longest_match-walk.ensures.table;
+      table = c.longest_match-walk.ensures.set ∙ c.walk.ensures.table;
       key = λ some. absurd (omega arith);
       alone = λ _. ap (elements_at t) (one ∙ longest-in_points w.points w.closed c.requires.some) ∙ no_elements t (take w.closed w.points) (omega (arith, size, c.requires.some)) (ap length (sym path) ∙ none);
     }
@@ -40,12 +40,12 @@ pub returns-clause-takes : goal.returns-clause-takes
 returns-clause-takes c =
     let t = c.args.t.now in let w = c.args.window.now in
     let text = ap₂ take c.closed-closed.ensures.value c.points-points.ensures.value in
-    let path : path_of c.longest_match-walk.result ≡ longest_match (is_key t) (take w.closed w.points) = c.longest_match-walk.ensures.path ∙ ap (longest_match (is_key t)) text in
+    let path : path_of c.longest_match-walk.result ≡ longest_match (is_key t) (take w.closed w.points) = c.longest_match-walk.ensures.path ∙ ap₂ (λ s xs. longest_match (is_key s) xs) c.walk.ensures.table text in
     let n : longest_match_len (is_key t) (take w.closed w.points) ≡ c.len-start.result = sym (longest_match-size t (take w.closed w.points)) ∙ ap length (sym path) ∙ sym c.len-start.ensures.value in
     let size : length (take w.closed w.points) ≡ w.closed = length-take-le w.closed w.points c.closed-closed.ensures.valid.segments.within in
     let few : c.len-start.result ≤ w.closed = subst (λ k. k ≤ w.closed) n (subst (λ k. longest_match_len (is_key t) (take w.closed w.points) ≤ k) size (longest_match_len-le t (take w.closed w.points))) in
     let begins : path_of c.longest_match-walk.result ≡ take c.len-start.result w.points = path ∙ ap (λ k. take k (take w.closed w.points)) n ∙ take-take c.len-start.result w.closed w.points few in
-    let table : table_of_walk c.longest_match-walk.result ≡ t = c.longest_match-walk.ensures.table in
+    let table : table_of_walk c.longest_match-walk.result ≡ t = c.longest_match-walk.ensures.set ∙ c.walk.ensures.table in
     let takes : TakesNonstarters (is_key t) c.len-start.result (path_of c.longest_match-walk.result) w (path_of c.take_nonstarters.new.walk) c.take_nonstarters.new.window =
     subst (λ s. TakesNonstarters (is_key s) c.len-start.result (path_of c.longest_match-walk.result) w (path_of c.take_nonstarters.new.walk) c.take_nonstarters.new.window) table c.take_nonstarters.ensures.takes in
     let some : 0 < length (path_of c.take_nonstarters.new.walk) = omega (arith, c.take_nonstarters.ensures.longer, c.len-start.ensures.value, c.if-start-eq0.false) in
@@ -57,8 +57,8 @@ pub returns-clause-found : goal.returns-clause-found
 returns-clause-found c =
     let t = c.args.t.now in let w = c.args.window.now in
     let text = ap₂ take c.closed-closed.ensures.value c.points-points.ensures.value in
-    let path : path_of c.longest_match-walk.result ≡ longest_match (is_key t) (take w.closed w.points) = c.longest_match-walk.ensures.path ∙ ap (longest_match (is_key t)) text in
-    let table : table_of_walk c.longest_match-walk.result ≡ t = c.longest_match-walk.ensures.table in
+    let path : path_of c.longest_match-walk.result ≡ longest_match (is_key t) (take w.closed w.points) = c.longest_match-walk.ensures.path ∙ ap₂ (λ s xs. longest_match (is_key s) xs) c.walk.ensures.table text in
+    let table : table_of_walk c.longest_match-walk.result ≡ t = c.longest_match-walk.ensures.set ∙ c.walk.ensures.table in
     let long : 0 < length (path_of c.longest_match-walk.result) = omega (arith, c.len-start.ensures.value, c.if-start-eq0.false) in
     let key : is_key t (path_of c.longest_match-walk.result) ≡ true = ap (is_key t) path ∙ longest_match-key t (take w.closed w.points) (subst (λ k. 0 < length k) path long) in
     record {

@@ -1,13 +1,11 @@
 use Rattle.std.proofs.Common.{◌≡◌, take}
-use Rattle.uca_model.specs.Table.{is_key}
 use Rattle.uca_model.specs.Match.{greatest}
-use Rattle.uca_table.specs.Walk.{path_of, table_of_walk}
 use Rattle.uca_table.proofs.matching.longest_match.Given as goal
 
 abbrev pub invariant-loop-c : goal.invariant-loop-c
-invariant-loop-c l = record {
-  path : path_of l.walk ≡ take l.c-index l.text;
-  table : table_of_walk l.walk ≡ l.t;
-  found : path_of l.longest ≡ take (greatest (λ n. is_key l.t (take n l.text)) l.c-index) l.text;
-  same : table_of_walk l.longest ≡ l.t;
+invariant-loop-c g l = record {
+  path : g.P.Growing.path l.points ≡ take l.c-index l.text;
+  set : g.P.Growing.set l.points ≡ g.P.Growing.set l.fn.none;
+  found : g.P.Growing.path l.longest ≡ take (greatest (λ n. g.P.Growing.is_key (g.P.Growing.set l.fn.none) (take n l.text)) l.c-index) l.text;
+  same : g.P.Growing.set l.longest ≡ g.P.Growing.set l.fn.none;
 }
