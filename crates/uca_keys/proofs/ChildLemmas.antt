@@ -136,7 +136,7 @@ abbrev pub LacksPoint : List Child → ℕ → Type 0
 LacksPoint cs x = AllByRecursion (λ c. eqb c.point x ≡ false) cs
 
 -- a longer path is not begun by a shorter one
-front_short : (p k : List ℕ) → is_front p k ≡ true → length p ≤ length k
+pub front_short : (p k : List ℕ) → is_front p k ≡ true → length p ≤ length k
 front_short [] k h = omega arith
 front_short (x ∷ p) [] h = cc
 front_short (x ∷ p) (y ∷ k) h = let less : length p ≤ length k = front_short p k (and_parts (eqb y x) (is_front p k) h).1 in omega arith
@@ -172,7 +172,8 @@ front_take (x ∷ p) [] (suc m) upto = refl
 front_take (x ∷ p) (y ∷ k) zero upto = absurd (omega arith)
 front_take (x ∷ p) (y ∷ k) (suc m) upto = ap (λ b. eqb y x && b) (front_take p k m (omega arith))
 
-taken_front : (d : ℕ) (q : List ℕ) → is_front (take d q) q ≡ true
+-- the first code points of a key begin it
+pub taken_front : (d : ℕ) (q : List ℕ) → is_front (take d q) q ≡ true
 taken_front zero q = refl
 taken_front (suc d) [] = refl
 taken_front (suc d) (x ∷ q) = ap (λ b. b && is_front (take d q) q) (eq-eqb x x refl) ∙ taken_front d q

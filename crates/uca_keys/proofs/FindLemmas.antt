@@ -1,14 +1,13 @@
 -- What look-ups find in a trie.
-use Rattle.std.proofs.Common.{◌≡◌, ℕ, zero, suc, ◌+◌, ◌-◌, ◌≤◌, ◌<◌, Bool, true, false, cond, ◌||◌, ◌&&◌, eqb, List, [], ◌∷◌, ◌++◌, length, take, drop, get_or, Some, None, refl, sym, ap, ap₂, subst, ◌∙◌, arith, inl, inr, eq-eqb, ne_eqb, length-take-le, take_all, le_refl}
+use Rattle.std.proofs.Common.{◌≡◌, ℕ, zero, suc, ◌+◌, ◌-◌, ◌≤◌, ◌<◌, Bool, true, false, cond, ◌||◌, eqb, List, [], ◌∷◌, ◌++◌, length, take, drop, get_or, Some, None, refl, sym, ap, ap₂, subst, ◌∙◌, arith, inl, inr, eq-eqb, ne_eqb, length-take-le, take_all, le_refl}
 use Rattle.std.proofs.lemmas.Bool.{cases_Bool}
 use Rattle.std.proofs.lemmas.List.{length_push, get_or_default}
 use Rattle.std.proofs.lemmas.List.Elements.{All-from_recursion}
-use Rattle.std.specs.declared.cmp.Ordering.{Ordering}
-use Rattle.std.specs.declared.cmp.Ordering.TheVariants.{Less, Equal, Greater}
-use Rattle.std.specs.Ordering.{eq_by_cmp, is_eq}
+use Rattle.std.specs.declared.cmp.Ordering.TheVariants.{Less}
+use Rattle.std.specs.Ordering.{eq_by_cmp}
 use Rattle.std.specs.List.{AllByRecursion, list_any}
 use Rattle.std.specs.List.Sorted.{IsNonDecreasingBy}
-use Rattle.std.specs.FinMap.{find, nat_cmp-IsAntisymmetric, slice_cmp-IsAntisymmetric}
+use Rattle.std.specs.FinMap.{find}
 use Rattle.uca_weights.specs.declared.element.Element.{Element}
 use Rattle.uca_model.specs.Table.{key_cmp}
 use Rattle.uca_keys.specs.declared.node.Node.{Node}
@@ -21,6 +20,8 @@ use Rattle.uca_keys.proofs.ChildLemmas.{IsKid, LacksPoint, kids_none, kids_rise,
 use Rattle.uca_keys.proofs.NodeLemmas.{begins_at, entries-append, find_at, find_none, own_of, path_long}
 use Rattle.uca_keys.proofs.PathLemmas.{below_longer, chain}
 use Rattle.uca_keys.proofs.PushLemmas.{both_parts}
+use Rattle.uca_model.proofs.AnchorElements.{or_false}
+use Rattle.uca_model.proofs.TableLemmas.{tied_keys}
 
 length-paths : (p : List ℕ) (ns : List Node) → length (paths_after p ns) ≡ length ns
 length-paths p [] = refl
@@ -222,35 +223,20 @@ leads_to s cs number x at next full within same inside is =
 pub leads_nowhere : (s : TrieState) (cs : List Child) (number x : ℕ) → AreNext s.elements [] s.nodes → number ≤ length s.nodes → cs ≡ kids_of s.nodes number → LacksPoint cs x → begins_entry (entries_of s) (path_at s number ++ x ∷ []) ≡ false
 leads_nowhere s cs number x next within same lacks = child_none s number x next within (subst (λ l. LacksPoint l x) same lacks)
 
-tied : (o : Ordering) → is_eq o ≡ true → o ≡ Equal
-tied Less h = cc
-tied Equal h = refl
-tied Greater h = cc
-
-neither : (a b : Bool) → (a || b) ≡ false → (a ≡ false) × (b ≡ false)
-neither true b h = cc
-neither false b h = (refl, h)
-
 -- a key that begins as none does is not found
 pub find_without : (es : List (List ℕ × List Element)) (w key : List ℕ) → begins_entry es w ≡ false → is_front w key ≡ true → find key_cmp key es ≡ None
 find_without [] w key none front = refl
 find_without (e ∷ es) w key none front =
-    let parts = neither (is_front w e.0) (begins_entry es w) none in
+    let parts = or_false (is_front w e.0) (begins_entry es w) none in
     let other : eq_by_cmp key_cmp key e.0 ≡ false = elim (cases_Bool (eq_by_cmp key_cmp key e.0)) [
       | inr fine ↦ fine
       | inl tie ↦
-          let same : key ≡ e.0 = slice_cmp-IsAntisymmetric nat_cmp-IsAntisymmetric key e.0 (tied (key_cmp key e.0) tie) in
+          let same : key ≡ e.0 = tied_keys key e.0 tie in
           let h : is_front w e.0 ≡ true = ap (is_front w) (sym same) ∙ front in
           let g : is_front w e.0 ≡ false = parts.0 in
           cc
     ] in
     ap (λ b. cond b (Some e.1) (find key_cmp key es)) other ∙ find_without es w key parts.1 front
-
--- the first code points of a key begin it
-pub front_of : (key : List ℕ) (n : ℕ) → is_front (take n key) key ≡ true
-front_of key zero = refl
-front_of [] (suc n) = refl
-front_of (x ∷ key) (suc n) = ap (λ b. b && is_front (take n key) key) (eq-eqb x x refl) ∙ front_of key n
 
 -- there are no more entries than nodes
 pub fewer_entries : (es : List Element) (p : List ℕ) (ns : List Node) → length (entries_after es p ns) ≤ length ns

@@ -33,7 +33,7 @@ apart_first x y o other h =
       | Greater ↦ λ is e. absurd (not_less Greater e)
     ] refl h
 
-first_same : (x y : ℕ) (p q : List ℕ) → x ∷ p ≡ y ∷ q → x ≡ y
+pub first_same : (x y : ℕ) (p q : List ℕ) → x ∷ p ≡ y ∷ q → x ≡ y
 first_same x y p q e = ap (λ l. get_or l 0 x) e
 
 rest_same : (x y : ℕ) (p q : List ℕ) → x ∷ p ≡ y ∷ q → p ≡ q

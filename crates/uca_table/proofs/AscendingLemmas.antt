@@ -5,7 +5,7 @@ use Rattle.std.proofs.lemmas.List.Folds.{list_any_none, list_any_at}
 use Rattle.std.specs.declared.cmp.Ordering.{Ordering}
 use Rattle.std.specs.declared.cmp.Ordering.TheVariants.{Less, Equal, Greater}
 use Rattle.std.specs.List as list
-use Rattle.std.specs.Ordering.{is_lt, is_eq, ordering_reverse}
+use Rattle.std.specs.Ordering.{is_lt, is_eq}
 use Rattle.std.specs.Cmp.Lexicographic.{nat_list_cmp_total}
 use Rattle.std.specs.FinMap.{FinMap, contains_key, entries, put, from_sorted, insert, is_sorted, entries-from_sorted, get-from_sorted, nat_cmp-IsAntisymmetric, slice_cmp-IsAntisymmetric}
 use Rattle.std.specs.FinMap.Entries.{is_sorted-put}
@@ -18,12 +18,8 @@ use Rattle.uca_table.specs.declared.fault.AppendFault.TheVariants.{OutOfOrder, R
 use Rattle.uca_keys.specs.Fronts.{last_key}
 use Rattle.uca_table.proofs.KeyLemmas.{last_key-at}
 use Rattle.uca_table.proofs.EntryLemmas.{all-put, table_put}
-use Rattle.uca_table.proofs.PutLemmas.{put_before}
+use Rattle.uca_table.proofs.PutLemmas.{put_before, turned}
 use Rattle.uca_table.proofs.SearchLemmas.{found_at, found_nowhere, in_order, lower_before, same_at}
-
--- the other way round
-turned : (x q : List ℕ) (o : Ordering) → key_cmp x q ≡ o → key_cmp q x ≡ ordering_reverse o
-turned x q o e = nat_list_cmp_total.antisymm q x ∙ ap ordering_reverse e
 
 -- nothing is greater than what comes after all
 none_greater : (es : List (List ℕ × List Element)) (key : List ℕ) → BelongsAt key es (length es) → has_greater es key ≡ false

@@ -20,6 +20,7 @@ use Rattle.uca_table.specs.Cells.{IsCell, AreCells, Grows, unknown}
 use Rattle.uca_table.specs.Marks.{IsIndex, place}
 use Rattle.uca_table.specs.declared.marks.Marks.{Marks}
 use Rattle.uca_table.proofs.MarkLemmas.{same_point}
+use Rattle.uca_keys.proofs.PathLemmas.{first_same}
 
 -- ---- cells
 
@@ -114,9 +115,6 @@ pub given-more : {T : Type 0} {P Q : T → Type 0} (given : Option T) → IfSome
 given-more None holds more = tt
 given-more (Some x) holds more = more x holds
 
-pub first-same : (x y : ℕ) (xs ys : List ℕ) → x ∷ xs ≡ y ∷ ys → x ≡ y
-first-same x y xs ys e = ap (λ l. get_or l 0 x) e
-
 pub none-same : (xs : List ℕ) (y : ℕ) (ys : List ℕ) → xs ≡ [] → xs ≡ y ∷ ys → ⊥
 none-same xs y ys none e = absurd (omega (arith, ap length (sym none ∙ e)))
 
@@ -132,7 +130,7 @@ pub alone-first : (t : ElementTable) (text : List ℕ) (es : List Element) (most
     → es ++ elements t (nfd (drop 1 text)) ≡ elements t (nfd text)
 alone-first t [] es most some are bears joins = absurd (omega (arith, some))
 alone-first t (c ∷ []) es most some are bears joins = alone-before t c [] es most are bears (λ n x e. absurd (omega (arith, ap length e)))
-alone-first t (c ∷ n ∷ x) es most some are bears joins = alone-before t c (n ∷ x) es most are bears (λ m y e. subst (λ z. joining t z ≤ most) (first-same n m x y e) (joins (omega arith)))
+alone-first t (c ∷ n ∷ x) es most some are bears joins = alone-before t c (n ∷ x) es most are bears (λ m y e. subst (λ z. joining t z ≤ most) (first_same n m x y e) (joins (omega arith)))
 
 pub run-apart : (t : ElementTable) (text : List ℕ) (n : ℕ) → n ≤ length text → (n < length text → joining t (get_or text n 0) ≤ 0) → elements t (nfd (take n text)) ++ elements t (nfd (drop n text)) ≡ elements t (nfd text)
 run-apart t text n within fresh = elim (cases_lt n (length text)) [

@@ -14,6 +14,7 @@ use Rattle.uca_weights.specs.declared.range.Range.{Range}
 use Rattle.uca_model.specs.UnifiedIdeographs.{AreIdeographs}
 use Rattle.uca_model.specs.Table.{key_cmp, elements_at, is_key, longest, IsEntry, IsTable, with_entry, with_ideographs}
 use Rattle.uca_table.specs.Stored.{AreStored, table_of, longest_of}
+use Rattle.uca_table.proofs.PutLemmas.{fold-some}
 
 -- to put an entry is to insert it
 pub table_put : (es : List (List ℕ × List Element)) (rs : List Range) (k : List ℕ) (v : List Element) → T (is_sorted key_cmp es) → table_of (put key_cmp k v es) rs ≡ with_entry (table_of es rs) k v
@@ -60,11 +61,6 @@ fold-keys n (e ∷ es) = fold-keys (max n (length e.0)) es
 -- the longest key of the table
 pub longest_stored : (es : List (List ℕ × List Element)) (rs : List Range) → T (is_sorted key_cmp es) → longest (table_of es rs) ≡ longest_of es
 longest_stored es rs sorted = ap (λ (xs : List (List ℕ × List Element)). fold (λ m key. max m (length key)) 1 (map (λ e. e.0) xs)) (entries-from_sorted key_cmp es sorted) ∙ fold-keys 1 es
-
--- a greatest length is none below the one that it began with
-fold-some : (n : ℕ) (es : List (List ℕ × List Element)) → n ≤ fold (λ m e. max m (length e.0)) n es
-fold-some n [] = omega arith
-fold-some n (e ∷ es) = let h : max n (length e.0) ≤ fold (λ m f. max m (length f.0)) (max n (length e.0)) es = fold-some (max n (length e.0)) es in omega arith
 
 -- nor above the limit of a key
 fold-few : (n : ℕ) (es : List (List ℕ × List Element)) → n ≤ MAX_KEY → AllByRecursion IsEntry es → fold (λ m e. max m (length e.0)) n es ≤ MAX_KEY

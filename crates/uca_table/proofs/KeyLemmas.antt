@@ -1,6 +1,6 @@
 -- The keys of a table, and the trie in which they lie.
-use Rattle.std.proofs.Common.{◌≡◌, ℕ, suc, ◌-◌, ◌≤◌, ◌<◌, true, ◌||◌, eqb, T, List, [], ◌∷◌, ◌++◌, length, get_or, All, refl, sym, ap, ◌∙◌, arith, inl, inr}
-use Rattle.std.proofs.lemmas.Bool.{cases_Bool, and_parts}
+use Rattle.std.proofs.Common.{◌≡◌, ℕ, suc, ◌-◌, ◌≤◌, ◌<◌, true, ◌||◌, T, List, [], ◌∷◌, ◌++◌, length, get_or, All, refl, sym, ap, ◌∙◌, arith, inl, inr}
+use Rattle.std.proofs.lemmas.Bool.{cases_Bool}
 use Rattle.std.specs.declared.cmp.Ordering.TheVariants.{Less}
 use Rattle.std.specs.List.{AllByRecursion}
 use Rattle.std.specs.FinMap.{is_sorted}
@@ -10,12 +10,7 @@ use Rattle.uca_model.specs.Table.{key_cmp, IsEntry}
 use Rattle.uca_keys.specs.Fronts.{begins_entry, is_front, last_key}
 use Rattle.uca_table.specs.Place.{BelongsAt}
 use Rattle.uca_table.proofs.SearchLemmas.{in_order, right}
-
--- a front is no longer than the key
-front_short : (p k : List ℕ) → is_front p k ≡ true → length p ≤ length k
-front_short [] k h = omega arith
-front_short (x ∷ p) [] h = cc
-front_short (x ∷ p) (y ∷ k) h = let less : length p ≤ length k = front_short p k (and_parts (eqb y x) (is_front p k) h).1 in omega arith
+use Rattle.uca_keys.proofs.ChildLemmas.{front_short}
 
 -- so what begins a key is no longer than a key may be
 pub begins_short : (es : List (List ℕ × List Element)) (p : List ℕ) → All IsEntry es → begins_entry es p ≡ true → length p ≤ MAX_KEY

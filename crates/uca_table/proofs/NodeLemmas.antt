@@ -1,14 +1,13 @@
 -- Entries that are appended to others with lower keys.
 use Rattle.std.proofs.Common.{◌≡◌, ℕ, zero, suc, ◌+◌, ◌<◌, ◌≤◌, ◌&&◌, Bool, true, false, cond, T, List, [], ◌∷◌, ◌++◌, length, get_or, map, Some, None, IfSome, refl, sym, ap, subst, ◌∙◌, arith, inl, inr}
 use Rattle.std.proofs.lemmas.Bool.{cases_eq, cases_lt}
-use Rattle.std.specs.declared.cmp.Ordering.{Ordering}
 use Rattle.std.specs.declared.cmp.Ordering.TheVariants.{Less, Equal, Greater}
 use Rattle.std.specs.declared.vec.Vec.{Vec}
 use Rattle.std.specs.List.{AllByRecursion}
-use Rattle.std.specs.Ordering.{nat_cmp, eq_by_cmp, is_eq, is_lt, ordering_then}
+use Rattle.std.specs.Ordering.{nat_cmp, eq_by_cmp, is_lt, ordering_then}
 use Rattle.std.specs.Cmp.{nat_cmp_is, tied_itself}
 use Rattle.std.specs.Cmp.Lexicographic.{slice_cmp, nat_list_cmp_total}
-use Rattle.std.specs.FinMap.{find, put, is_sorted, nat_cmp-IsAntisymmetric, slice_cmp-IsAntisymmetric}
+use Rattle.std.specs.FinMap.{find, put, is_sorted}
 use Rattle.std.specs.FinMap.Entries.{by_order, below_all}
 use Rattle.uca_weights.specs.declared.element.Element.{Element}
 use Rattle.uca_model.specs.Table.{key_cmp, IsEntry}
@@ -22,6 +21,7 @@ use Rattle.uca_table.proofs.EntryMapLemmas.{find-one, find-more, put-more}
 use Rattle.uca_table.proofs.KeyLemmas.{one_by_one}
 use Rattle.uca_table.proofs.PutLemmas.{turned, fold-some, longest-put}
 use Rattle.uca_table.proofs.SearchLemmas.{found_at, less, left, right}
+use Rattle.uca_model.proofs.TableLemmas.{tied_keys}
 
 -- ---- the order of keys
 
@@ -148,18 +148,11 @@ firsts_above es x xs (m ∷ ms) h =
 
 -- ---- what holds of each entry
 
-equal_keys : (q k : List ℕ) → eq_by_cmp key_cmp q k ≡ true → q ≡ k
-equal_keys q k h = slice_cmp-IsAntisymmetric nat_cmp-IsAntisymmetric q k (by_test (key_cmp q k) h) where
-  by_test : (o : Ordering) → is_eq o ≡ true → o ≡ Equal
-  by_test Less e = absurd (subst T (sym e) tt)
-  by_test Equal e = refl
-  by_test Greater e = absurd (subst T (sym e) tt)
-
 entry_found : (xs : List (List ℕ × List Element)) (q : List ℕ) → AllByRecursion IsEntry xs → IfSome (find key_cmp q xs) (λ v. IsEntry (q, v))
 entry_found [] q all = tt
 entry_found (e ∷ xs) q all =
     elim (eq_by_cmp key_cmp q e.0) as (λ b. eq_by_cmp key_cmp q e.0 ≡ b → IfSome (cond b (Some e.1) (find key_cmp q xs)) (λ v. IsEntry (q, v))) [
-      | true ↦ λ h. subst (λ k. IsEntry (k, e.1)) (sym (equal_keys q e.0 h)) all.0
+      | true ↦ λ h. subst (λ k. IsEntry (k, e.1)) (sym (tied_keys q e.0 h)) all.0
       | false ↦ λ h. entry_found xs q all.1
     ] refl
 

@@ -8,6 +8,7 @@ use Rattle.uca_weights.specs.declared.range.Range.{Range}
 use Rattle.uca_model.specs.Table.{IsRange, AreDisjoint, AllDisjoint, AreRanges}
 use Rattle.uca_model.specs.ImplicitWeights.{lowest_first}
 use Rattle.uca_model.specs.Ranges.{shares, highest_last, spans_too_far, is_bad_range, put_range, AreByFirst}
+use Rattle.uca_model.proofs.ImplicitLemmas.{weaker, lowest_first-le}
 
 -- what holds of the range and of the others
 all-put : (P : Range → Type 0) (r : Range) (rs : List Range) → P r → AllByRecursion P rs → AllByRecursion P (put_range r rs)
@@ -16,11 +17,6 @@ all-put P r (s ∷ ss) new all = elim (nat_lt r.first s.first) as (λ b. AllByRe
   | true ↦ (new, all)
   | false ↦ (all.0, all-put P r ss new all.1)
 ]
-
--- a fact of each range turned into another
-pub all-map : (P Q : Range → Type 0) (rs : List Range) → ((s : Range) → P s → Q s) → AllByRecursion P rs → AllByRecursion Q rs
-all-map P Q [] f all = tt
-all-map P Q (s ∷ ss) f all = (f s all.0, all-map P Q ss f all.1)
 
 -- two facts of each range together
 all-both : (P Q : Range → Type 0) (rs : List Range) → AllByRecursion P rs → AllByRecursion Q rs → AllByRecursion (λ s. P s × Q s) rs
@@ -76,21 +72,13 @@ highest-all (s ∷ rs) base high top h = elim (cases_Bool (s.base == base)) [
       ((λ same. absurd (false≢true (sym fails ∙ eq-eqb _ _ same))), highest-all rs base high top more)
 ]
 
--- the lowest first code point is none higher
-lowest-le : (rs : List Range) (base low : ℕ) → lowest_first rs base low ≤ low
-lowest-le [] base low = omega arith
-lowest-le (s ∷ rs) base low = elim (cases_Bool (s.base == base)) [
-  | inl holds ↦ rw holds (let h : lowest_first rs base (min low s.first) ≤ min low s.first = lowest-le rs base (min low s.first) in omega arith)
-  | inr fails ↦ rw fails (lowest-le rs base low)
-]
-
 -- no range with the base begins below it
 lowest-all : (rs : List Range) (base low least : ℕ) → least ≤ lowest_first rs base low → AllByRecursion (λ s. s.base ≡ base → least ≤ s.first) rs
 lowest-all [] base low least h = tt
 lowest-all (s ∷ rs) base low least h = elim (cases_Bool (s.base == base)) [
   | inl holds ↦
       let more : least ≤ lowest_first rs base (min low s.first) = rw holds at h in
-      let own : lowest_first rs base (min low s.first) ≤ min low s.first = lowest-le rs base (min low s.first) in
+      let own : lowest_first rs base (min low s.first) ≤ min low s.first = lowest_first-le rs base (min low s.first) in
       ((λ _. omega arith), lowest-all rs base (min low s.first) least more)
   | inr fails ↦
       let more : least ≤ lowest_first rs base low = rw fails at h in
@@ -107,12 +95,12 @@ spans-put r rs near old =
     let high = highest_last rs r.base r.last in let low = lowest_first rs r.base r.first in
     let span : high - low ≤ 0x7FFF = ltb-false 0x7FFF (high - low) near in
     let top : r.last ≤ high = highest-le rs r.base r.last in
-    let bottom : low ≤ r.first = lowest-le rs r.base r.first in
-    let over : AllByRecursion (FitsOver r) rs = all-map (λ s. s.base ≡ r.base → low ≤ s.first) (FitsOver r) rs (λ s h same. let g : low ≤ s.first = h same in omega arith) (lowest-all rs r.base r.first low (omega arith)) in
-    let under : AllByRecursion (λ s. FitsOver s r) rs = all-map (λ s. s.base ≡ r.base → s.last ≤ high) (λ s. FitsOver s r) rs (λ s h same. let g : s.last ≤ high = h (sym same) in omega arith) (highest-all rs r.base r.last high (omega arith)) in
+    let bottom : low ≤ r.first = lowest_first-le rs r.base r.first in
+    let over : AllByRecursion (FitsOver r) rs = weaker (λ s. s.base ≡ r.base → low ≤ s.first) (FitsOver r) rs (λ s h same. let g : low ≤ s.first = h same in omega arith) (lowest-all rs r.base r.first low (omega arith)) in
+    let under : AllByRecursion (λ s. FitsOver s r) rs = weaker (λ s. s.base ≡ r.base → s.last ≤ high) (λ s. FitsOver s r) rs (λ s h same. let g : s.last ≤ high = h (sym same) in omega arith) (highest-all rs r.base r.last high (omega arith)) in
     all-put (λ s. AllByRecursion (FitsOver s) (put_range r rs)) r rs
     (all-put (FitsOver r) r rs (λ _. omega arith) over)
-    (all-map (λ s. FitsOver s r × AllByRecursion (FitsOver s) rs) (λ s. AllByRecursion (FitsOver s) (put_range r rs)) rs (λ s h. all-put (FitsOver s) r rs h.0 h.1) (all-both (λ s. FitsOver s r) (λ s. AllByRecursion (FitsOver s) rs) rs under old))
+    (weaker (λ s. FitsOver s r × AllByRecursion (FitsOver s) rs) (λ s. AllByRecursion (FitsOver s) (put_range r rs)) rs (λ s h. all-put (FitsOver s) r rs h.0 h.1) (all-both (λ s. FitsOver s r) (λ s. AllByRecursion (FitsOver s) rs) rs under old))
 
 -- a range that is not bad is compatible with the others
 pub AreRanges-put : (r : Range) (rs : List Range) → IsRange r → is_bad_range rs r ≡ false → AreRanges rs → AreRanges (put_range r rs)
@@ -134,7 +122,7 @@ by_first-put r [] ordered each apart old = (tt, tt)
 by_first-put r (s ∷ ss) ordered each disjoint old = elim (cases_Bool (nat_lt r.first s.first)) [
   | inl below ↦
       let h : r.first < s.first = ltb-true r.first s.first below in
-      rw below ((h, all-map (λ t. s.first < t.first) (λ t. r.first < t.first) ss (λ t g. omega arith) old.0), old)
+      rw below ((h, weaker (λ t. s.first < t.first) (λ t. r.first < t.first) ss (λ t g. omega arith) old.0), old)
   | inr above ↦
       let g : s.first ≤ r.first = ltb-false r.first s.first above in
       rw above (first-put s.first r ss old.0 (behind r s g ordered each.0.ordered disjoint.0), by_first-put r ss ordered each.1 disjoint.1 old.1)

@@ -13,7 +13,8 @@ use Rattle.uca_weights.specs.declared.range.Range.{Range}
 use Rattle.uca_model.specs.Table.{IsRange, AreDisjoint, AreRanges}
 use Rattle.uca_model.specs.Ranges.{shares, is_bad_range, put_range, AreByFirst}
 use Rattle.uca_table.specs.Extents.{AreByLast}
-use Rattle.uca_table.proofs.RangeInsertion.{all-apart, all-map}
+use Rattle.uca_table.proofs.RangeInsertion.{all-apart}
+use Rattle.uca_model.proofs.ImplicitLemmas.{weaker}
 
 -- where one range lies before or after another, both of its ends decide
 order_by_last : (r s : Range) → r.first ≤ r.last → s.first ≤ s.last → AreDisjoint r s → nat_cmp r.last s.last ≡ cond (nat_lt r.first s.first) Less Greater
@@ -72,6 +73,6 @@ shares_first (e ∷ es) r by_last rising =
     split : (nat_le r.first e.1.last ≡ true) ⊎ (nat_le r.first e.1.last ≡ false) → list_any (shares r) (values_of es) ≡ first_begins r (entries_between nat_cmp (Included r.first) Unbounded es) → list_any (shares r) (values_of (e ∷ es)) ≡ first_begins r (cond (nat_le r.first e.1.last) (e ∷ entries_between nat_cmp (Included r.first) Unbounded es) (entries_between nat_cmp (Included r.first) Unbounded es))
     split (inl reaches) later = rw reaches (elim (cases_Bool (nat_le e.1.first r.last)) [
       | inl begins ↦ rw begins refl
-      | inr behind ↦ rw behind (none_shares r (values_of es) (all-map (λ s. e.1.first < s.first) (λ s. r.last < s.first) (values_of es) (λ s h. let g : r.last < e.1.first = grind (arith, nat_tests, behind) in omega arith) rising.0))
+      | inr behind ↦ rw behind (none_shares r (values_of es) (weaker (λ s. e.1.first < s.first) (λ s. r.last < s.first) (values_of es) (λ s h. let g : r.last < e.1.first = grind (arith, nat_tests, behind) in omega arith) rising.0))
     ])
     split (inr ends) later = rw ends later

@@ -8,7 +8,7 @@ use Rattle.uca_weights.specs.declared.range.Range.{Range}
 use Rattle.uca_model.specs.Table.{IsRange, AreDisjoint, AllDisjoint}
 use Rattle.uca_model.specs.ImplicitWeights.{is_between, range_of}
 use Rattle.uca_model.specs.Ranges.{AreByFirst}
-use Rattle.uca_table.proofs.RangeInsertion.{all-map}
+use Rattle.uca_model.proofs.ImplicitLemmas.{weaker}
 
 -- what holds of each range holds of that at a place
 all-at : (P : Range → Type 0) (rs : List Range) (i : ℕ) (d : Range) → AllByRecursion P rs → i < length rs → P (get_or rs i d)
@@ -58,7 +58,7 @@ found_at (r ∷ rs) zero c d rising within below here = elim (cases_Bool (nat_le
   | inr behind ↦
       let h : is_between r.first r.last c ≡ false = grind (arith, nat_tests, behind) in
       let g : c < r.first = grind (arith, nat_tests, behind) in
-      rw (h, behind) (none_above rs c (all-map (λ s. r.first < s.first) (λ s. c < s.first) rs (λ s f. omega arith) rising.0))
+      rw (h, behind) (none_above rs c (weaker (λ s. r.first < s.first) (λ s. c < s.first) rs (λ s f. omega arith) rising.0))
 ]
 found_at (r ∷ rs) (suc i) c d rising within below here =
     let h : is_between r.first r.last c ≡ false = (let g : nat_lt r.last c ≡ true = below 0 (omega arith) in grind (arith, nat_tests, g)) in

@@ -1,4 +1,4 @@
-use Rattle.std.proofs.Common.{rules, ◌≡◌, ◌≤◌, ℕ, List, [], ◌∷◌, ◌++◌, chars, encode_utf8, length, take, Some, sym, ap, subst, ◌∙◌, arith, append_assoc}
+use Rattle.std.proofs.Common.{rules, ◌≡◌, ◌≤◌, ℕ, List, [], ◌∷◌, ◌++◌, chars, encode_utf8, length, take, Some, sym, ap, subst, ◌∙◌, arith, append_assoc, get_or}
 use Rattle.std.proofs.lemmas.Str.{chars_past_char}
 use Rattle.unicode_normalization.specs.Forms.{nfd}
 use Rattle.uca_weights.specs.declared.element.Element.{Element}
@@ -6,7 +6,7 @@ use Rattle.uca_model.specs.CollationElements.{elements}
 use Rattle.uca_model.specs.SafeText.{IsSafe}
 use Rattle.uca_model.specs.StandAlone.{joining}
 use Rattle.uca_table.specs.Characters.{IsCharacter}
-use Rattle.uca_table.proofs.CellLemmas.{alone-before, first-same}
+use Rattle.uca_table.proofs.CellLemmas.{alone-before}
 use Rattle.uca_match.proofs.TextLemmas.{IsSafe-rest, kept-before}
 use Rattle.uca_match.proofs.OneBackLemmas.{stands-safe}
 use Rattle.uca_window.specs.PassageSource.{StandsIn}
@@ -23,7 +23,7 @@ characters-preserved c =
     let of : List ℕ → List Element = λ text. elements t (nfd text) in
     let step : rest ≡ encode_utf8 c.in-Some-next.c ++ after = sym c.chars-left.ensures.rest ∙ c.in-Some-next.ensures.steps.0 ∙ ap (λ u. encode_utf8 c.in-Some-next.c ++ u) (sym c.as_str-rest.ensures) in
     let first : chars rest ≡ c.in-Some-next.c ∷ chars after = chars_past_char rest after c.in-Some-next.c i.stands.utf8 step in
-    let settled = i.ahead (λ n x e. let same : n ≡ c.in-Some-next.c = first-same _ _ _ _ (sym e ∙ first) in omega (arith, joins, ap (joining t) same)) in
+    let settled = i.ahead (λ n x e. let same : n ≡ c.in-Some-next.c = ap (λ (l : List ℕ). get_or l 0 0) (sym e ∙ first) in omega (arith, joins, ap (joining t) same)) in
     let before : List Element = take c.characters.at c.characters.room in
     let put = c.in-Some-put_fitting.ensures in
     record {

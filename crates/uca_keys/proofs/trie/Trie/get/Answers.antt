@@ -3,7 +3,8 @@ use Rattle.std.specs.FinMap.{find}
 use Rattle.uca_model.specs.Table.{key_cmp}
 use Rattle.uca_keys.specs.Fronts.{begins_entry}
 use Rattle.uca_keys.specs.Paths.{entries_of, path_at}
-use Rattle.uca_keys.proofs.FindLemmas.{find_without, front_of}
+use Rattle.uca_keys.proofs.ChildLemmas.{taken_front}
+use Rattle.uca_keys.proofs.FindLemmas.{find_without}
 use Rattle.uca_keys.proofs.PushLemmas.{take_more}
 use Rattle.uca_keys.proofs.trie.Trie.get.Goals as goal
 
@@ -19,7 +20,7 @@ returns-in_err-node c =
     let path : path_at c.args.self.now c.loop-c.node.number ++ c.c-item.result ∷ [] ≡ take (i + 1) key =
     ap (λ p. p ++ c.c-item.result ∷ []) c.loop-c.invariant.path ∙ ap (λ x. take i key ++ x ∷ []) c.c-item.is ∙ sym (take_more key i c.c-item.result c.loop-c-test.true) in
     let none : begins_entry es (take (i + 1) key) ≡ false = ap (begins_entry es) (sym path) ∙ c.in_err-node.ensures.none in
-    ap option_copied c.from_residual.ensures ∙ sym (find_without es (take (i + 1) key) key none (front_of key (i + 1)))
+    ap option_copied c.from_residual.ensures ∙ sym (find_without es (take (i + 1) key) key none (taken_front (i + 1) key))
 
 pub loop-c-preserved : goal.loop-c-preserved
 loop-c-preserved c =
