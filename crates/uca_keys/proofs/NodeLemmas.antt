@@ -70,9 +70,6 @@ path_front p n d upto from =
 pub path_long : (p : List ℕ) (n : Node) → n.depth ≤ length p → length (path_after p n) ≡ n.depth + 1
 path_long p n from = length_push (take n.depth p) n.point ∙ ap (λ m. m + 1) (length-take-le n.depth p from)
 
-take_whole : (xs : List ℕ) (x d : ℕ) → length xs ≡ d → take (d + 1) (xs ++ x ∷ []) ≡ xs ++ x ∷ []
-take_whole xs x d size = take_all (d + 1) (xs ++ x ∷ []) (omega (arith, length_push xs x))
-
 -- the nodes of a key
 pub nodes_of-last : (p : List ℕ) (x : ℕ) (key : List ℕ) (d s c : ℕ) → d ≤ length p → last_path p (nodes_of (x ∷ key) d s c) ≡ take d p ++ x ∷ key
 nodes_of-last p x [] d s c from = refl

@@ -1,15 +1,13 @@
 -- The keys of a table, and the trie in which they lie.
-use Rattle.std.proofs.Common.{◌≡◌, ℕ, suc, ◌-◌, ◌≤◌, ◌<◌, true, ◌||◌, T, List, [], ◌∷◌, ◌++◌, length, get_or, All, refl, sym, ap, ◌∙◌, arith, inl, inr}
+use Rattle.std.proofs.Common.{◌≡◌, ℕ, suc, ◌-◌, ◌≤◌, ◌<◌, true, ◌||◌, List, [], ◌∷◌, length, get_or, All, refl, sym, ap, ◌∙◌, arith, inl, inr}
 use Rattle.std.proofs.lemmas.Bool.{cases_Bool}
 use Rattle.std.specs.declared.cmp.Ordering.TheVariants.{Less}
 use Rattle.std.specs.List.{AllByRecursion}
-use Rattle.std.specs.FinMap.{is_sorted}
 use Rattle.uca_weights.specs.declared.element.Element.{Element}
 use Rattle.uca_weights.specs.declared.limits.TheConstants.{MAX_KEY}
 use Rattle.uca_model.specs.Table.{key_cmp, IsEntry}
 use Rattle.uca_keys.specs.Fronts.{begins_entry, is_front, last_key}
 use Rattle.uca_table.specs.Place.{BelongsAt}
-use Rattle.uca_table.proofs.SearchLemmas.{in_order, right}
 use Rattle.uca_keys.proofs.ChildLemmas.{front_short}
 
 -- so what begins a key is no longer than a key may be
@@ -44,9 +42,3 @@ first_least (x ∷ key) some = refl
 pub above_last : (es : List (List ℕ × List Element)) (key : List ℕ) → 0 < length key → BelongsAt key es (length es) → key_cmp (last_key es) key ≡ Less
 above_last [] key some here = first_least key some
 above_last (e ∷ es) key some here = ap (λ k. key_cmp k key) (last_key-at (e ∷ es) ([], []) (omega arith)) ∙ here.parted.0 (length (e ∷ es) - 1) ([], []) (omega arith) (omega arith)
-
--- each entry comes after those before it
-pub above_before : (es fs : List (List ℕ × List Element)) (e : List ℕ × List Element) → 0 < length e.0 → T (is_sorted key_cmp (es ++ e ∷ fs)) → key_cmp (last_key es) e.0 ≡ Less
-above_before [] fs e some sorted = first_least e.0 some
-above_before (f ∷ []) fs e some sorted = in_order (f ∷ e ∷ fs) 0 1 e e sorted (omega arith) (omega arith)
-above_before (f ∷ g ∷ es) fs e some sorted = above_before (g ∷ es) fs e some (right _ _ sorted)

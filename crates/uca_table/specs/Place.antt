@@ -1,14 +1,9 @@
 -- Where a key belongs among entries whose keys rise.
-use Rattle.std.specs.Prelude.{◌≡◌, ℕ, ◌<◌, ◌≤◌, List, length, get_or}
+use Rattle.std.specs.Prelude.{◌≡◌, ℕ, ◌≤◌, List, length}
 use Rattle.std.specs.List.Sorted.{IsPartitionPoint}
-use Rattle.std.specs.declared.cmp.Ordering.TheVariants.{Less, Equal, Greater}
+use Rattle.std.specs.declared.cmp.Ordering.TheVariants.{Less, Greater}
 use Rattle.uca_model.specs.Table.{key_cmp}
 use Rattle.uca_weights.specs.declared.element.Element.{Element}
-
--- the entry at a place has the key
-pub record IsAt (key : List ℕ) (es : List (List ℕ × List Element)) (at : ℕ) : Type 0 where
-  pub within : at < length es
-  pub here : (d : List ℕ × List Element) → key_cmp (get_or es at d).0 key ≡ Equal
 
 -- the entries before a place have lower keys, and those from there on higher ones
 pub record BelongsAt (key : List ℕ) (es : List (List ℕ × List Element)) (at : ℕ) : Type 0 where

@@ -1,14 +1,12 @@
-ghost use Rattle.std.specs.Prelude.{◌≡◌, ◌+◌, ◌-◌, ◌<◌, ◌≤◌, ◌&&◌, ◌++◌, ◌∷◌, [], cond, nat_lt, max, length, take, drop, slice_index, option_copied, IfSome};
+ghost use Rattle.std.specs.Prelude.{◌≡◌, ◌+◌, ◌-◌, ◌<◌, ◌≤◌, ◌&&◌, ◌++◌, ◌∷◌, [], cond, nat_lt, max, length, take, drop, option_copied, IfSome};
 ghost use Rattle.unicode.specs.CanonicalCombiningClass.{canonical_combining_class};
 ghost use Rattle.uca_model.specs.Table.{elements_at, is_key};
 ghost use Rattle.uca_model.specs.Match.{longest_match, discontiguous_match, took};
 ghost use Rattle.uca_model.specs.CollationElements.{step};
 ghost use Rattle.uca_table.specs.Running.{brought_forward};
-ghost use Rattle.uca_table.specs.Walk.{path_of, table_of_walk};
 
 use crate::growing::Growing;
 use crate::table::Table;
-use crate::walk::Walk;
 use uca_weights::Element;
 use unicode_normalization::char::canonical_combining_class;
 
