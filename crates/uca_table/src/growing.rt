@@ -6,11 +6,13 @@ use crate::walk::Walk;
 
 /// A list of code points that may grow to a longer key.
 pub trait Growing: Drop {
-    /// What says which lists are keys.
+    /// How sets of keys are told.
     ghost Set: { Type 0 };
 
+    /// The keys.
     ghost set: { Self → Set };
 
+    /// Whether a list is one of the keys.
     ghost is_key: { Set → List ℕ → Bool };
 
     /// The code points.

@@ -10,8 +10,8 @@ use crate::table::Table;
 use uca_weights::Element;
 use unicode_normalization::char::canonical_combining_class;
 
-/// The longest initial substring that is a key, and no code point where there is none (UTS #10, 7.2, step S2.1). It begins with no
-/// code points.
+/// The longest initial substring that is a key, or no code points where there is none (UTS #10, 7.2, step S2.1). `none` has no code
+/// points, and says which lists are keys.
 pub fn longest_match<P: Growing>(none: P, text: &[char]) -> P
     requires { P.path none ≡ [] }
     ensures set { P.set result ≡ P.set none }
