@@ -1,9 +1,7 @@
 //! Primary weights of characters that stand alone and have at most one: by these most comparisons are decided.
-ghost use Rattle.std.specs.Prelude.{◌≡◌, ◌∷◌, ◌++◌, [], ◌<◌, ◌≤◌, chars, length, take, IfErr, IfOk, IfSome, OnSome, MatchResult};
+ghost use Rattle.std.specs.Prelude.{◌≡◌, [], ◌<◌, ◌≤◌, chars, length, take, IfErr, IfOk, IfSome, OnSome, MatchResult};
 ghost use Rattle.std.specs.Str.{IsCharBoundary};
-ghost use Rattle.unicode_normalization.specs.Forms.{nfd};
 ghost use Rattle.uca_weights.specs.VariableWeighting.{weighted};
-ghost use Rattle.uca_model.specs.CollationElements.{elements};
 ghost use Rattle.uca_model.specs.DecidingLevel.{OrdersLevel};
 ghost use Rattle.uca_model.specs.LevelWeights.{level_list, level_weights};
 ghost use Rattle.uca_model.specs.SafeText.{IsSafe};
@@ -85,29 +83,10 @@ fn next_primary<'t>(t: &Table, v: Variable, text: &'t str) -> Option<(Option<u16
     }
 }
 
-// The elements of a character before other text, where they stand alone. `None`: they are not known, or the other text has to be looked
-// at, which is done only where `looks`.
-#[inline(always)]
-fn elements_before<'t>(t: &'t Table, c: char, after: &str, looks: bool) -> Option<&'t [Element]>
-    ensures { IfSome result (λ es. es.now ++ elements t.now (nfd (chars after.now)) ≡ elements t.now (nfd (c ∷ chars after.now))) }
-{
-    if looks {
-        t.alone_before(c, after)
-    } else {
-        t.always_alone(c)
-    }
-}
-
 // The primary weight of the first character of a text, or that the text is empty, and what is left of the text. It joins nothing before
-// it, and the text after it, which is looked at only where `looks`, does not change its elements. `None`: that is not known, or it has no
-// primary weight or several.
+// it, and the text after it does not change its elements. `None`: that is not known, or it has no primary weight or several.
 #[inline(always)]
-fn own_primary<'t>(
-    t: &Table,
-    v: Variable,
-    text: &'t str,
-    looks: bool,
-) -> Option<(Option<u16>, &'t str)>
+fn own_primary<'t>(t: &Table, v: Variable, text: &'t str) -> Option<(Option<u16>, &'t str)>
     ensures joins { OnSome result (JoinsNothing t.now (chars text.now)) }
     ensures first { IfSome result (λ r. YieldsFirst (level_list t.now v (chars text.now) 1) r.0 (level_list t.now v (chars r.1.now) 1)) }
     ensures weight { IfSome result (λ r. IfSome r.0 (IsOfLevel 1)) }
@@ -122,7 +101,7 @@ fn own_primary<'t>(
         return None;
     }
     let rest = characters.as_str();
-    let weight = only_primary(v, elements_before(t, c, rest, looks)?)?;
+    let weight = only_primary(v, t.alone_before(c, rest)?)?;
     if weight == 0 {
         return None;
     }
@@ -130,7 +109,7 @@ fn own_primary<'t>(
 }
 
 /// The order of two texts at the first level by the first characters after bytes that they have in common, where each has a primary
-/// weight by itself. Most texts differ in these. The text after a character is looked at only where `looks`.
+/// weight by itself. Most texts differ in these.
 #[inline(always)]
 pub(crate) fn order_at_once(
     t: &Table,
@@ -138,17 +117,16 @@ pub(crate) fn order_at_once(
     a: &str,
     b: &str,
     common: usize,
-    looks: bool,
 ) -> Result<Ordering, Sight>
     requires in_a { IsCharBoundary a.now common }
     requires in_b { IsCharBoundary b.now common }
     requires common { take common a.now ≡ take common b.now }
     ensures { IfOk result (OrdersLevel 1 (level_list t.now v (chars a.now) 1) (level_list t.now v (chars b.now) 1)) }
 {
-    let Some((x, _)) = own_primary(t, v, a.split_at(common).1, looks) else {
+    let Some((x, _)) = own_primary(t, v, a.split_at(common).1) else {
         return Err(Sight::Unknown);
     };
-    let Some((y, _)) = own_primary(t, v, b.split_at(common).1, looks) else {
+    let Some((y, _)) = own_primary(t, v, b.split_at(common).1) else {
         return Err(Sight::Unknown);
     };
     match decided(widened(x), widened(y)) {
@@ -180,10 +158,10 @@ pub(crate) fn order_by_turns<'t>(
     let mut left = Rest { a, b };
     let mut same = common;
     'turns: loop {
-        let Some((x, after_a)) = own_primary(t, v, left.a.split_at(same).1, true) else {
+        let Some((x, after_a)) = own_primary(t, v, left.a.split_at(same).1) else {
             return Err(left);
         };
-        let Some((y, after_b)) = own_primary(t, v, left.b.split_at(same).1, true) else {
+        let Some((y, after_b)) = own_primary(t, v, left.b.split_at(same).1) else {
             return Err(left);
         };
         if let Some(order) = decided(widened(x), widened(y)) {

@@ -185,7 +185,7 @@ fn order_by_sources(t: &Table, s: Settings, a: &str, b: &str, common: usize) -> 
 }
 
 // The order of two texts that differ at the first level in the first characters after the bytes that they have in common, as most do.
-// Else what is known of these characters. The text after them is looked at only where `looks`.
+// Else what is known of these characters.
 #[inline(always)]
 fn order_at_sight(
     t: &Table,
@@ -193,14 +193,13 @@ fn order_at_sight(
     a: &str,
     b: &str,
     common: usize,
-    looks: bool,
 ) -> Result<Ordering, Sight>
     requires in_a { IsCharBoundary a.now common }
     requires in_b { IsCharBoundary b.now common }
     requires common { take common a.now ≡ take common b.now }
     ensures { IfOk result (λ order. order ≡ key_order (sort_key t.now s (chars a.now)) (sort_key t.now s (chars b.now))) }
 {
-    let order = order_at_once(t, s.weighting, a, b, common, looks)?;
+    let order = order_at_once(t, s.weighting, a, b, common)?;
     if order.is_ne() {
         Ok(order)
     } else {
@@ -224,6 +223,22 @@ fn order_after(t: &Table, s: Settings, a: &str, b: &str, common: usize, sight: S
     }
 }
 
+// The order of two texts after bytes that they have in common.
+#[inline(always)]
+fn order_from(t: &Table, s: Settings, a: &str, b: &str, common: usize) -> Ordering
+    requires safe_a { IsSafe (chars a.now) }
+    requires safe_b { IsSafe (chars b.now) }
+    requires in_a { IsCharBoundary a.now common }
+    requires in_b { IsCharBoundary b.now common }
+    requires common { take common a.now ≡ take common b.now }
+    ensures { result ≡ key_order (sort_key t.now s (chars a.now)) (sort_key t.now s (chars b.now)) }
+{
+    match order_at_sight(t, s, a, b, common) {
+        Ok(order) => order,
+        Err(sight) => order_after(t, s, a, b, common, sight),
+    }
+}
+
 // The order of two texts, of which the bytes that they have in common are passed over.
 #[inline(always)]
 fn order_after_front(t: &Table, s: Settings, a: &str, b: &str) -> Ordering
@@ -235,10 +250,7 @@ fn order_after_front(t: &Table, s: Settings, a: &str, b: &str) -> Ordering
     if common == a.len() && common == b.len() {
         return Ordering::Equal;
     }
-    match order_at_sight(t, s, a, b, common, true) {
-        Ok(order) => order,
-        Err(sight) => order_after(t, s, a, b, common, sight),
-    }
+    order_from(t, s, a, b, common)
 }
 
 /// The order of the sort keys of two texts (UTS #10, section 7.4, step S4), without their keys. It does not allocate.
@@ -252,9 +264,8 @@ pub fn compare(t: &Table, s: Settings, a: &Passage, b: &Passage) -> Ordering
 {
     let (a, b) = (a.as_str(), b.as_str());
     if begin_apart(a, b) {
-        if let Ok(order) = order_at_sight(t, s, a, b, 0, false) {
-            return order;
-        }
+        order_from(t, s, a, b, 0)
+    } else {
+        order_after_front(t, s, a, b)
     }
-    order_after_front(t, s, a, b)
 }

@@ -34,7 +34,7 @@ returns-clause-first c =
     let t = c.args.t.now in
     let step : c.args.text.now ≡ encode_utf8 c.in-Some.c ++ c.as_str-rest.result.now = sym c.chars-characters.ensures.rest ∙ c.in-Some.ensures.steps.0 ∙ ap (λ u. encode_utf8 c.in-Some.c ++ u) (sym c.as_str-rest.ensures) in
     ap (λ cs. level_list t c.args.v cs 1) (chars_past_char c.args.text.now c.as_str-rest.result.now c.in-Some.c c.utf8.text step)
-    ∙ first-weight t c.args.v c.in-Some.c c.in_ok-weight.weight (chars c.as_str-rest.result.now) _ c.in_ok-elements_before.ensures c.in_ok-weight.ensures c.if-weight-eq0.false
+    ∙ first-weight t c.args.v c.in-Some.c c.in_ok-weight.weight (chars c.as_str-rest.result.now) _ c.in_ok-alone_before.ensures c.in_ok-weight.ensures c.if-weight-eq0.false
 
 pub returns-clause-safe : goal.returns-clause-safe
 returns-clause-safe c =
