@@ -47,12 +47,12 @@ fn variable_of(variable: u32) -> Option<Variable>
 fn has_zeros(raw: &RawSettings) -> bool
     ensures { result ≡ has_zeros raw.now }
 {
-    raw.reserved_1 == 0
-        && raw.reserved_2 == 0
-        && raw.reserved_3 == 0
-        && raw.reserved_4 == 0
-        && raw.reserved_5 == 0
-        && raw.reserved_6 == 0
+    (raw.reserved_1 == 0)
+        & (raw.reserved_2 == 0)
+        & (raw.reserved_3 == 0)
+        & (raw.reserved_4 == 0)
+        & (raw.reserved_5 == 0)
+        & (raw.reserved_6 == 0)
 }
 
 /// The settings that the numbers name.

@@ -1,5 +1,5 @@
 -- Two texts after what both have in common, where both may be cut for their elements.
-use Rattle.std.proofs.Common.{◌≡◌, ℕ, List, ◌++◌, sym, subst, ap, ap₂, ◌∙◌, inl, inr}
+use Rattle.std.proofs.Common.{◌≡◌, ℕ, List, ◌++◌, sym, subst, ap, ap₂, ◌∙◌, inl, inr, append_assoc}
 use Rattle.unicode_normalization.specs.Forms.{nfd}
 use Rattle.uca_weights.specs.declared.element.Element.{Element}
 use Rattle.uca_weights.specs.declared.settings.Variable.{Variable}
@@ -12,6 +12,7 @@ use Rattle.uca_model.specs.SafeText.{IsSafe}
 use Rattle.uca_model.proofs.PrefixLemmas.{first_level-is, first_level-append}
 use Rattle.uca_model.proofs.LevelLemmas.{OrdersLevel-front}
 use Rattle.uca_match.proofs.TextLemmas.{IsSafe-rest}
+use Rattle.uca_levels.specs.Reads.{InStep}
 use Rattle.uca_levels.specs.WithoutFront.{AreApart, IsApart}
 
 primaries-append : (v : Variable) (es fs : List Element) → level_weights 1 (weighted v (es ++ fs)) ≡ level_weights 1 (weighted v es) ++ level_weights 1 (weighted v fs)
@@ -31,3 +32,22 @@ orders-apart t v a b x y o h orders =
 
 pub safe-apart : (t : ElementTable) (a b x y : List ℕ) → AreApart t a b x y → IsSafe a → IsSafe b → IsSafe x × IsSafe y
 safe-apart t a b x y h safe_a safe_b = (IsSafe-rest h.front x (subst IsSafe h.first safe_a), IsSafe-rest h.front y (subst IsSafe h.second safe_b))
+
+-- what was passed over adds the same weights to what both have in common
+pub in-step-apart : (t : ElementTable) (v : Variable) (a b x y xs ys : List ℕ) → AreApart t a b x y → InStep xs ys (level_list t v a 1) (level_list t v b 1) → InStep xs ys (level_list t v x 1) (level_list t v y 1)
+in-step-apart t v a b x y xs ys h lists =
+    elim h.follow [
+      | inl none ↦
+          record {
+            front = lists.front;
+            first = lists.first ∙ ap (λ l. lists.front ++ level_list t v l 1) (h.first ∙ ap (λ f. f ++ x) none);
+            second = lists.second ∙ ap (λ l. lists.front ++ level_list t v l 1) (h.second ∙ ap (λ f. f ++ y) none);
+          }
+      | inr both ↦
+          let passed = level_list t v h.front 1 in
+          record {
+            front = lists.front ++ passed;
+            first = lists.first ∙ ap (λ l. lists.front ++ l) (ap (λ l. level_list t v l 1) h.first ∙ lists-apart t v h.front x both.0) ∙ sym (append_assoc lists.front passed (level_list t v x 1));
+            second = lists.second ∙ ap (λ l. lists.front ++ l) (ap (λ l. level_list t v l 1) h.second ∙ lists-apart t v h.front y both.1) ∙ sym (append_assoc lists.front passed (level_list t v y 1));
+          }
+    ]

@@ -79,7 +79,17 @@ fn are_whole(a: &str, b: &str, at: usize) -> bool
     a.is_char_boundary(at) && b.is_char_boundary(at)
 }
 
+/// Whether two texts begin with different bytes. Then they have none in common, which is so of most that are compared.
+#[inline(always)]
+pub(crate) fn begin_apart(a: &str, b: &str) -> bool {
+    match (a.as_bytes().first(), b.as_bytes().first()) {
+        (Some(x), Some(y)) => *x != *y,
+        _ => false,
+    }
+}
+
 /// How many bytes of characters two texts have in common from their start.
+#[inline(always)]
 pub(crate) fn common_front(a: &str, b: &str) -> usize
     ensures in_a { IsCharBoundary a.now result }
     ensures in_b { IsCharBoundary b.now result }

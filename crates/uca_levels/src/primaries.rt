@@ -1,5 +1,5 @@
 //! Primary weights of characters that stand alone and have at most one: by these most comparisons are decided.
-ghost use Rattle.std.specs.Prelude.{◌≡◌, [], ◌<◌, ◌≤◌, chars, length, take, IfErr, IfSome, OnSome, MatchResult};
+ghost use Rattle.std.specs.Prelude.{◌≡◌, [], ◌<◌, ◌≤◌, chars, length, take, IfErr, IfOk, IfSome, OnSome, MatchResult};
 ghost use Rattle.std.specs.Str.{IsCharBoundary};
 ghost use Rattle.uca_weights.specs.VariableWeighting.{weighted};
 ghost use Rattle.uca_model.specs.DecidingLevel.{OrdersLevel};
@@ -12,9 +12,9 @@ ghost use Rattle.uca_levels.specs.Primaries.{primary_of};
 ghost use Rattle.uca_levels.specs.Reads.{InStep};
 ghost use Rattle.uca_levels.specs.Streams.{weight_before};
 
+use crate::cut::common_front;
 use crate::decided::{decided, widened};
 use std::cmp::Ordering;
-use uca_match::ANY_TEXT;
 use uca_table::Table;
 use uca_weights::{Element, Variable};
 
@@ -23,6 +23,15 @@ use uca_weights::{Element, Variable};
 pub(crate) struct Rest<'t> {
     pub(crate) a: &'t str,
     pub(crate) b: &'t str,
+}
+
+/// What is known of the first characters after bytes in common where they do not decide an order.
+#[derive(Clone, Copy)]
+pub(crate) enum Sight {
+    /// They have the same primary weight, each by itself.
+    Alike,
+    /// Nothing is known of them.
+    Unknown,
 }
 
 /// The weight of an element at the first level, whatever comes before it (UTS #10, section 4, Variable Weighting).
@@ -75,30 +84,32 @@ fn next_primary<'t>(t: &Table, v: Variable, text: &'t str) -> Option<(Option<u16
 }
 
 // The primary weight of the first character of a text, or that the text is empty, and what is left of the text. It joins nothing before
-// it, and no text after it changes its elements. `None`: that is not known, or it has no primary weight or several.
+// it, and the text after it does not change its elements. `None`: that is not known, or it has no primary weight or several.
 #[inline(always)]
 fn own_primary<'t>(t: &Table, v: Variable, text: &'t str) -> Option<(Option<u16>, &'t str)>
     ensures joins { OnSome result (JoinsNothing t.now (chars text.now)) }
     ensures first { IfSome result (λ r. YieldsFirst (level_list t.now v (chars text.now) 1) r.0 (level_list t.now v (chars r.1.now) 1)) }
     ensures weight { IfSome result (λ r. IfSome r.0 (IsOfLevel 1)) }
+    ensures safe { IfSome result (λ r. IsSafe (chars text.now) → IsSafe (chars r.1.now)) }
+    ensures shorter { IfSome result (λ r. IfSome r.0 (λ _. length r.1.now < length text.now)) }
 {
     let mut characters = text.chars();
     let Some(c) = characters.next() else {
         return Some((None, text));
     };
-    let character = t.character_after(0, c)?;
-    if character.bearing < ANY_TEXT {
+    if !t.joins_nothing(c) {
         return None;
     }
-    let weight = only_primary(v, character.elements)?;
+    let rest = characters.as_str();
+    let weight = only_primary(v, t.alone_before(c, rest)?)?;
     if weight == 0 {
         return None;
     }
-    Some((Some(weight), characters.as_str()))
+    Some((Some(weight), rest))
 }
 
 /// The order of two texts at the first level by the first characters after bytes that they have in common, where each has a primary
-/// weight by itself. Most texts differ in these. `None`: that is not known.
+/// weight by itself. Most texts differ in these.
 #[inline(always)]
 pub(crate) fn order_at_once(
     t: &Table,
@@ -106,15 +117,62 @@ pub(crate) fn order_at_once(
     a: &str,
     b: &str,
     common: usize,
-) -> Option<Ordering>
+) -> Result<Ordering, Sight>
     requires in_a { IsCharBoundary a.now common }
     requires in_b { IsCharBoundary b.now common }
     requires common { take common a.now ≡ take common b.now }
-    ensures { IfSome result (OrdersLevel 1 (level_list t.now v (chars a.now) 1) (level_list t.now v (chars b.now) 1)) }
+    ensures { IfOk result (OrdersLevel 1 (level_list t.now v (chars a.now) 1) (level_list t.now v (chars b.now) 1)) }
 {
-    let (x, _) = own_primary(t, v, a.split_at(common).1)?;
-    let (y, _) = own_primary(t, v, b.split_at(common).1)?;
-    decided(widened(x), widened(y))
+    let Some((x, _)) = own_primary(t, v, a.split_at(common).1) else {
+        return Err(Sight::Unknown);
+    };
+    let Some((y, _)) = own_primary(t, v, b.split_at(common).1) else {
+        return Err(Sight::Unknown);
+    };
+    match decided(widened(x), widened(y)) {
+        Some(order) => Ok(order),
+        None => Err(Sight::Alike),
+    }
+}
+
+/// The order of two texts at the first level by turns: the bytes that they have in common are passed over, the characters after these are
+/// compared, and then what comes after them in turn, as far as each of these characters has a primary weight by itself. What is left has
+/// the order of the texts.
+pub(crate) fn order_by_turns<'t>(
+    t: &Table,
+    v: Variable,
+    a: &'t str,
+    b: &'t str,
+    common: usize,
+) -> Result<Ordering, Rest<'t>>
+    requires safe_a { IsSafe (chars a.now) }
+    requires safe_b { IsSafe (chars b.now) }
+    requires in_a { IsCharBoundary a.now common }
+    requires in_b { IsCharBoundary b.now common }
+    requires common { take common a.now ≡ take common b.now }
+    ensures order { MatchResult result
+        (OrdersLevel 1 (level_list t.now v (chars a.now) 1) (level_list t.now v (chars b.now) 1))
+        (λ left. InStep (level_list t.now v (chars a.now) 1) (level_list t.now v (chars b.now) 1) (level_list t.now v (chars left.a.now) 1) (level_list t.now v (chars left.b.now) 1)) }
+    ensures safe { IfErr result (λ left. IsSafe (chars left.a.now) × IsSafe (chars left.b.now)) }
+{
+    let mut left = Rest { a, b };
+    let mut same = common;
+    'turns: loop {
+        let Some((x, after_a)) = own_primary(t, v, left.a.split_at(same).1) else {
+            return Err(left);
+        };
+        let Some((y, after_b)) = own_primary(t, v, left.b.split_at(same).1) else {
+            return Err(left);
+        };
+        if let Some(order) = decided(widened(x), widened(y)) {
+            return Ok(order);
+        }
+        left = Rest {
+            a: after_a,
+            b: after_b,
+        };
+        same = common_front(after_a, after_b);
+    }
 }
 
 /// The order of two texts at the first level, as far as their primary weights come one from a character. If that is not so up to where

@@ -1,4 +1,4 @@
-ghost use Rattle.std.specs.Prelude.{◌≡◌, ◌<◌, ◌≤◌, ◌^◌, IfSome, chars, take};
+ghost use Rattle.std.specs.Prelude.{◌≡◌, ◌<◌, ◌≤◌, ◌^◌, IfErr, IfOk, IfSome, MatchResult, chars, take};
 ghost use Rattle.std.specs.Str.{IsCharBoundary};
 ghost use Rattle.uca_model.specs.LevelWeights.{level_list};
 ghost use Rattle.uca_model.specs.DecidingLevel.{OrdersLevel};
@@ -7,13 +7,14 @@ ghost use Rattle.uca_model.specs.SortKey.{key_order, sort_key};
 ghost use Rattle.uca_window.specs.Passage.{text_of};
 ghost use Rattle.uca_levels.specs.CellWeights.{cell_weights_left};
 ghost use Rattle.uca_levels.specs.Decides.{IsOfLevel};
+ghost use Rattle.uca_levels.specs.Reads.{InStep};
 ghost use Rattle.uca_levels.specs.Streams.{given_before};
 
 use crate::cell_weights::CellWeights;
 use crate::comparison::compare_sources;
-use crate::cut::{apart_after, common_front, without_front};
+use crate::cut::{apart_after, begin_apart, common_front, without_front};
 use crate::joined_weights::JoinedWeights;
-use crate::primaries::{order_at_once, order_of_primaries};
+use crate::primaries::{Rest, Sight, order_at_once, order_by_turns, order_of_primaries};
 use crate::stream::order_of;
 use std::cmp::Ordering;
 use uca_table::Table;
@@ -69,24 +70,78 @@ fn order_of_weights(t: &Table, v: Variable, level: u8, a: &str, b: &str) -> Opti
     }
 }
 
-// The order of two texts at the first level. `None`: many characters join each other. The letters of most scripts have one primary
-// weight, and most texts differ in one soon.
+// The order of two texts at the first level as far as the characters after bytes in common tell it. If that is not so, what is left has
+// the order of the texts: after characters that are alike, or else from the last place in those bytes at which both may be cut.
 #[inline(always)]
-fn order_at_first(t: &Table, v: Variable, a: &str, b: &str) -> Option<Ordering>
+fn order_after_sight<'t>(
+    t: &Table,
+    v: Variable,
+    a: &'t str,
+    b: &'t str,
+    common: usize,
+    sight: Sight,
+) -> Result<Ordering, Rest<'t>>
     requires safe_a { IsSafe (chars a.now) }
     requires safe_b { IsSafe (chars b.now) }
+    requires in_a { IsCharBoundary a.now common }
+    requires in_b { IsCharBoundary b.now common }
+    requires common { take common a.now ≡ take common b.now }
+    ensures order { MatchResult result
+        (OrdersLevel 1 (level_list t.now v (chars a.now) 1) (level_list t.now v (chars b.now) 1))
+        (λ left. InStep (level_list t.now v (chars a.now) 1) (level_list t.now v (chars b.now) 1) (level_list t.now v (chars left.a.now) 1) (level_list t.now v (chars left.b.now) 1)) }
+    ensures safe { IfErr result (λ left. IsSafe (chars left.a.now) × IsSafe (chars left.b.now)) }
+{
+    match sight {
+        Sight::Alike => order_by_turns(t, v, a, b, common),
+        Sight::Unknown => {
+            let (left_a, left_b) = apart_after(t, a, b, common);
+            Err(Rest {
+                a: left_a,
+                b: left_b,
+            })
+        }
+    }
+}
+
+// The order of two texts at the first level, after a look at the first characters after the bytes that they have in common. `None`: many
+// characters join each other. The letters of most scripts have one primary weight, and most texts differ in one soon.
+#[inline(always)]
+fn order_at_first(
+    t: &Table,
+    v: Variable,
+    a: &str,
+    b: &str,
+    common: usize,
+    sight: Sight,
+) -> Option<Ordering>
+    requires safe_a { IsSafe (chars a.now) }
+    requires safe_b { IsSafe (chars b.now) }
+    requires in_a { IsCharBoundary a.now common }
+    requires in_b { IsCharBoundary b.now common }
+    requires common { take common a.now ≡ take common b.now }
     ensures { IfSome result (OrdersLevel 1 (level_list t.now v (chars a.now) 1) (level_list t.now v (chars b.now) 1)) }
 {
-    match order_of_primaries(t, v, a, b) {
+    let left = match order_after_sight(t, v, a, b, common, sight) {
+        Ok(order) => return Some(order),
+        Err(left) => left,
+    };
+    match order_of_primaries(t, v, left.a, left.b) {
         Ok(order) => Some(order),
-        Err(left) => order_of_weights(t, v, 1, left.a, left.b),
+        Err(rest) => order_of_weights(t, v, 1, rest.a, rest.b),
     }
 }
 
 // The order of two texts at the first four levels, as many of them as there are. Both begin with bytes in common: the first level
 // begins at the last place in them at which both texts may be cut for their elements, and later levels at the last one at which they
 // may be cut for all weights. `None`: the fifth level is asked for, or many characters join each other.
-fn order_by_weights(t: &Table, s: Settings, a: &str, b: &str, common: usize) -> Option<Ordering>
+fn order_by_weights(
+    t: &Table,
+    s: Settings,
+    a: &str,
+    b: &str,
+    common: usize,
+    sight: Sight,
+) -> Option<Ordering>
     requires safe_a { IsSafe (chars a.now) }
     requires safe_b { IsSafe (chars b.now) }
     requires in_a { IsCharBoundary a.now common }
@@ -95,8 +150,7 @@ fn order_by_weights(t: &Table, s: Settings, a: &str, b: &str, common: usize) -> 
     ensures { IfSome result (λ order. order ≡ key_order (sort_key t.now s (chars a.now)) (sort_key t.now s (chars b.now))) }
 {
     let _longest = t.longest();
-    let (left_a, left_b) = apart_after(t, a, b, common);
-    let order = order_at_first(t, s.weighting, left_a, left_b)?;
+    let order = order_at_first(t, s.weighting, a, b, common, sight)?;
     if order.is_ne() {
         return Some(order);
     }
@@ -131,21 +185,31 @@ fn order_by_sources(t: &Table, s: Settings, a: &str, b: &str, common: usize) -> 
 }
 
 // The order of two texts that differ at the first level in the first characters after the bytes that they have in common, as most do.
-// `None`: they do not, or that is not known.
+// Else what is known of these characters.
 #[inline(always)]
-fn order_at_sight(t: &Table, s: Settings, a: &str, b: &str, common: usize) -> Option<Ordering>
+fn order_at_sight(
+    t: &Table,
+    s: Settings,
+    a: &str,
+    b: &str,
+    common: usize,
+) -> Result<Ordering, Sight>
     requires in_a { IsCharBoundary a.now common }
     requires in_b { IsCharBoundary b.now common }
     requires common { take common a.now ≡ take common b.now }
-    ensures { IfSome result (λ order. order ≡ key_order (sort_key t.now s (chars a.now)) (sort_key t.now s (chars b.now))) }
+    ensures { IfOk result (λ order. order ≡ key_order (sort_key t.now s (chars a.now)) (sort_key t.now s (chars b.now))) }
 {
     let order = order_at_once(t, s.weighting, a, b, common)?;
-    if order.is_ne() { Some(order) } else { None }
+    if order.is_ne() {
+        Ok(order)
+    } else {
+        Err(Sight::Alike)
+    }
 }
 
 // The order of two texts. It is not inlined, so that a comparison that ends at the first characters does not pay for its stack frame.
 #[inline(never)]
-fn order_after(t: &Table, s: Settings, a: &str, b: &str, common: usize) -> Ordering
+fn order_after(t: &Table, s: Settings, a: &str, b: &str, common: usize, sight: Sight) -> Ordering
     requires safe_a { IsSafe (chars a.now) }
     requires safe_b { IsSafe (chars b.now) }
     requires in_a { IsCharBoundary a.now common }
@@ -153,26 +217,55 @@ fn order_after(t: &Table, s: Settings, a: &str, b: &str, common: usize) -> Order
     requires common { take common a.now ≡ take common b.now }
     ensures { result ≡ key_order (sort_key t.now s (chars a.now)) (sort_key t.now s (chars b.now)) }
 {
-    match order_by_weights(t, s, a, b, common) {
+    match order_by_weights(t, s, a, b, common, sight) {
         Some(order) => order,
         None => order_by_sources(t, s, a, b, common),
     }
 }
 
-/// The order of the sort keys of two texts (UTS #10, section 7.4, step S4), without their keys. It does not allocate.
-///
-/// The bytes that both texts begin with are passed over. Only where the fifth level decides, or where many characters join each other,
-/// [`compare_sources`] compares what is left of the texts from the last place on at which both may be cut.
-pub fn compare(t: &Table, s: Settings, a: &Passage, b: &Passage) -> Ordering
-    ensures { result ≡ key_order (sort_key t.now s (text_of a.now)) (sort_key t.now s (text_of b.now)) }
+// The order of two texts after bytes that they have in common.
+#[inline(always)]
+fn order_from(t: &Table, s: Settings, a: &str, b: &str, common: usize) -> Ordering
+    requires safe_a { IsSafe (chars a.now) }
+    requires safe_b { IsSafe (chars b.now) }
+    requires in_a { IsCharBoundary a.now common }
+    requires in_b { IsCharBoundary b.now common }
+    requires common { take common a.now ≡ take common b.now }
+    ensures { result ≡ key_order (sort_key t.now s (chars a.now)) (sort_key t.now s (chars b.now)) }
 {
-    let (a, b) = (a.as_str(), b.as_str());
+    match order_at_sight(t, s, a, b, common) {
+        Ok(order) => order,
+        Err(sight) => order_after(t, s, a, b, common, sight),
+    }
+}
+
+// The order of two texts, of which the bytes that they have in common are passed over.
+#[inline(always)]
+fn order_after_front(t: &Table, s: Settings, a: &str, b: &str) -> Ordering
+    requires safe_a { IsSafe (chars a.now) }
+    requires safe_b { IsSafe (chars b.now) }
+    ensures { result ≡ key_order (sort_key t.now s (chars a.now)) (sort_key t.now s (chars b.now)) }
+{
     let common = common_front(a, b);
     if common == a.len() && common == b.len() {
         return Ordering::Equal;
     }
-    match order_at_sight(t, s, a, b, common) {
-        Some(order) => order,
-        None => order_after(t, s, a, b, common),
+    order_from(t, s, a, b, common)
+}
+
+/// The order of the sort keys of two texts (UTS #10, section 7.4, step S4), without their keys. It does not allocate.
+///
+/// The bytes that both texts begin with are passed over. Only where the fifth level decides, or where many characters join each other,
+/// [`compare_sources`] compares what is left of the texts from the last place on at which both may be cut. Texts that begin with different
+/// bytes, as most do, have a look of their own.
+#[inline(always)]
+pub fn compare(t: &Table, s: Settings, a: &Passage, b: &Passage) -> Ordering
+    ensures { result ≡ key_order (sort_key t.now s (text_of a.now)) (sort_key t.now s (text_of b.now)) }
+{
+    let (a, b) = (a.as_str(), b.as_str());
+    if begin_apart(a, b) {
+        order_from(t, s, a, b, 0)
+    } else {
+        order_after_front(t, s, a, b)
     }
 }

@@ -1,5 +1,5 @@
 use Rattle.std.proofs.Common.{rules}
 use Rattle.uca_c.proofs.settings.has_zeros.Goals as goal
 
-pub returns-then-raw-eq0-5 : goal.returns-then-raw-eq0-5
-returns-then-raw-eq0-5 c = search rules
+pub returns : goal.returns
+returns c = search rules

@@ -6,7 +6,6 @@ use Rattle.uca_model.specs.DecidingLevel.{OrdersLevel}
 use Rattle.uca_model.proofs.LevelLemmas.{levels-within}
 use Rattle.uca_levels.proofs.ReadsLemmas.{from_ne, from_not_ne}
 use Rattle.uca_levels.proofs.LevelsFromCut.{undecided-first, undecided-next, decided-here}
-use Rattle.uca_levels.proofs.PrimaryLemmas.{orders-apart, safe-apart}
 use Rattle.uca_levels.proofs.WithoutFront.{orders-left, left-safe}
 use Rattle.uca_levels.proofs.text_order.order_by_weights.Goals as goal
 
@@ -14,18 +13,16 @@ pub returns-then-is_ne : goal.returns-then-is_ne
 returns-then-is_ne c =
     let o : Ordering = c.in_ok-order.order in
     let some : 1 ≤ levels c.args.s.strength = (levels-within c.args.s.strength).0 in
-    let orders = orders-apart c.args.t.now c.args.s.weighting _ _ _ _ o c.apart_after.ensures c.in_ok-order.ensures in
-    sym (decided-here c.args.t.now c.args.s (chars c.args.a.now) (chars c.args.b.now) 1 o (undecided-first c.args.t.now c.args.s (chars c.args.a.now) (chars c.args.b.now)) some orders (from_ne o (sym c.is_ne.ensures ∙ c.if-is_ne.true))).0
+    sym (decided-here c.args.t.now c.args.s (chars c.args.a.now) (chars c.args.b.now) 1 o (undecided-first c.args.t.now c.args.s (chars c.args.a.now) (chars c.args.b.now)) some c.in_ok-order.ensures (from_ne o (sym c.is_ne.ensures ∙ c.if-is_ne.true))).0
 
 pub each-init : goal.each-init
 each-init c =
     let o : Ordering = c.in_ok-order.order in
     let some : 1 ≤ levels c.args.s.strength = (levels-within c.args.s.strength).0 in
-    let orders = orders-apart c.args.t.now c.args.s.weighting _ _ _ _ o c.apart_after.ensures c.in_ok-order.ensures in
     record {
       first = omega arith;
       last = omega (arith, some);
-      undecided = undecided-next c.args.t.now c.args.s (chars c.args.a.now) (chars c.args.b.now) 1 o (undecided-first c.args.t.now c.args.s (chars c.args.a.now) (chars c.args.b.now)) some orders (from_not_ne o (sym c.is_ne.ensures ∙ c.if-is_ne.false));
+      undecided = undecided-next c.args.t.now c.args.s (chars c.args.a.now) (chars c.args.b.now) 1 o (undecided-first c.args.t.now c.args.s (chars c.args.a.now) (chars c.args.b.now)) some c.in_ok-order.ensures (from_not_ne o (sym c.is_ne.ensures ∙ c.if-is_ne.false));
     }
 
 pub returns-then-is_ne-2 : goal.returns-then-is_ne-2
@@ -52,12 +49,6 @@ each-preserved c =
       last = omega (arith, inside);
       undecided = undecided-next t c.args.s a b c.each.level o c.each.invariant.undecided inside orders (from_not_ne o (sym c.is_ne-in-each.ensures ∙ c.if-is_ne-2.false));
     }
-
-pub order_at_first-requires-clause-safe_a : goal.order_at_first-requires-clause-safe_a
-order_at_first-requires-clause-safe_a c = (safe-apart c.args.t.now _ _ _ _ c.apart_after.ensures c.requires.safe_a c.requires.safe_b).0
-
-pub order_at_first-requires-clause-safe_b : goal.order_at_first-requires-clause-safe_b
-order_at_first-requires-clause-safe_b c = (safe-apart c.args.t.now _ _ _ _ c.apart_after.ensures c.requires.safe_a c.requires.safe_b).1
 
 pub order_of_weights-requires-clause-safe_a : goal.order_of_weights-requires-clause-safe_a
 order_of_weights-requires-clause-safe_a c = (left-safe c.args.t.now (chars c.args.a.now) (chars c.args.b.now) _ _ c.without_front.ensures c.requires.safe_a c.requires.safe_b).0
