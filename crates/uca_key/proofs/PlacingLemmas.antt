@@ -2,7 +2,7 @@
 use Rattle.std.proofs.Common.{◌≡◌, ℕ, zero, suc, ◌+◌, ◌-◌, ◌^◌, ◌≤◌, ◌<◌, List, [], ◌∷◌, ◌++◌, length, min, take, drop, slice_set, get_or, refl, sym, ap, ap₂, subst, ◌∙◌, arith, inl, inr, append_assoc, append-nil, take-append-drop, length-append}
 use Rattle.std.proofs.lemmas.Bool.{cases_lt}
 use Rattle.std.proofs.lemmas.List.{drop-set-lt, length-drop, length-take-le, take_all}
-use Rattle.uca_key.specs.Placing.{with_bytes_at, PutsAt, IsPutting, StaysAfter}
+use Rattle.uca_key.specs.Placing.{with_bytes_at, PutsAt, IsPutting, StaysAfter, StaysBeyond}
 
 take-nil : (n : ℕ) → take {A = ℕ} n [] ≡ []
 take-nil zero = refl
@@ -155,6 +155,20 @@ stays-more from mid to before then after h k = let later = k.later in record { l
 
 pub stays-set : (at byte : ℕ) (buffer : List ℕ) → StaysAfter at (at + 1) buffer (slice_set buffer at byte)
 stays-set at byte buffer = record { later = omega arith; rest = drop-set-lt (at + 1) buffer at byte (omega arith) }
+
+-- the same where the byte after what was put may have changed
+pub beyond-none : (at : ℕ) (buffer : List ℕ) → StaysBeyond at at buffer buffer
+beyond-none at buffer = record { later = omega arith; rest = refl }
+
+pub stays-beyond : (from to : ℕ) (before after : List ℕ) → StaysAfter from to before after → StaysBeyond from to before after
+stays-beyond from to before after h = record { later = h.later; rest = drop-later to (to + 1) after before (omega arith) h.rest }
+
+pub beyond-more : (from mid to : ℕ) (before then after : List ℕ) → StaysBeyond from mid before then → StaysBeyond mid to then after → StaysBeyond from to before after
+beyond-more from mid to before then after h k = let later = k.later in record { later = omega (arith, h.later, k.later); rest = k.rest ∙ drop-later (mid + 1) (to + 1) then before (omega arith) h.rest }
+
+-- until that byte is put
+pub beyond-set : (from to byte : ℕ) (before after : List ℕ) → StaysBeyond from to before after → StaysAfter from (to + 1) before (slice_set after to byte)
+beyond-set from to byte before after h = record { later = omega (arith, h.later); rest = drop-set-lt (to + 1) after to byte (omega arith) ∙ h.rest }
 
 -- bytes before a place that were put where they fit
 fitted : (from to : ℕ) (before after whole left : List ℕ) → length after ≡ length before → to ≤ length before → StaysAfter from to before after → take to after ++ left ≡ take from before ++ whole

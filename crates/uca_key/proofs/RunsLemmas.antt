@@ -1,6 +1,6 @@
 -- Common weights that are counted together.
-use Rattle.std.proofs.Common.{◌≡◌, ℕ, ◌+◌, ◌-◌, ◌<◌, ◌==◌, not, List, [], ◌∷◌, ◌++◌, drop, filter, get_or, length, slice_index, refl, sym, ap, ◌∙◌, arith, append_assoc, eq-eqb, ne_eqb}
-use Rattle.std.proofs.lemmas.Bool.{cond-true, cond-false}
+use Rattle.std.proofs.Common.{◌≡◌, ℕ, ◌+◌, ◌-◌, ◌<◌, ◌==◌, not, List, [], ◌∷◌, ◌++◌, drop, filter, get_or, length, slice_index, refl, sym, ap, ◌∙◌, arith, append_assoc, eq-eqb, ne_eqb, inl, inr}
+use Rattle.std.proofs.lemmas.Bool.{cases_Bool, cond-true, cond-false}
 use Rattle.std.proofs.lemmas.List.{drop_more}
 use Rattle.uca_weights.specs.declared.element.Element.{Element}
 use Rattle.uca_weights.specs.declared.settings.Variable.{Variable}
@@ -14,15 +14,15 @@ use Rattle.uca_key.proofs.WeighingLemmas.{own_weights-both}
 one-common : (common run : ℕ) (ws : List ℕ) → run + 1 < 62 → runs_after common (run + 1) ws ≡ runs_after common run (common ∷ ws)
 one-common common run ws few = sym (cond-true _ _ _ (eq-eqb common common refl) ∙ cond-false _ _ _ (ne_eqb (run + 1) 62 (λ e. absurd (omega arith))))
 
--- four more
-pub four-common : (common run : ℕ) (ws : List ℕ) → run + 4 < 62 → runs_after common (run + 4) ws ≡ runs_after common run (common ∷ common ∷ common ∷ common ∷ ws)
-four-common common run ws few =
-    let all : run + 4 ≡ run + 1 + 1 + 1 + 1 = omega arith in
-    ap (λ n. runs_after common n ws) all
-    ∙ one-common common (run + 1 + 1 + 1) ws (omega arith)
-    ∙ one-common common (run + 1 + 1) (common ∷ ws) (omega arith)
-    ∙ one-common common (run + 1) (common ∷ common ∷ ws) (omega arith)
-    ∙ one-common common run (common ∷ common ∷ common ∷ ws) (omega arith)
+-- a common weight is not zero
+common-stays : (level : ℕ) → filter (λ w. not (w == 0)) (common_weight level ∷ []) ≡ common_weight level ∷ []
+common-stays level = elim (cases_Bool (level == 2)) [
+  | inl second ↦ let e : common_weight level ≡ 32 = cond-true _ _ _ second in ap (λ (x : ℕ). filter (λ (y : ℕ). not (y == 0)) (x ∷ [])) e ∙ ap (λ (x : ℕ). x ∷ []) (sym e)
+  | inr later ↦ elim (cases_Bool (level == 3)) [
+    | inl third ↦ let e : common_weight level ≡ 2 = cond-false _ _ _ later ∙ cond-true _ _ _ third in ap (λ (x : ℕ). filter (λ (y : ℕ). not (y == 0)) (x ∷ [])) e ∙ ap (λ (x : ℕ). x ∷ []) (sym e)
+    | inr fourth ↦ let e : common_weight level ≡ 65535 = cond-false _ _ _ later ∙ cond-false _ _ _ fourth in ap (λ (x : ℕ). filter (λ (y : ℕ). not (y == 0)) (x ∷ [])) e ∙ ap (λ (x : ℕ). x ∷ []) (sym e)
+  ]
+]
 
 -- none counted
 pub counted-none : (v : Variable) (level : ℕ) (es : List Element) → AreCounted v level 0 es
@@ -55,3 +55,14 @@ weights-one v level i w es d ws within is =
     ∙ ap (λ l. l ++ ws) (own_weights-both v level (e ∷ []) left)
     ∙ append_assoc (weights (e ∷ [])) (weights left) ws
     ∙ ap (λ (x : ℕ). filter (λ (y : ℕ). not (y == 0)) (x ∷ []) ++ (weights left ++ ws)) (sym is)
+
+-- a common weight more, in a run that is not full
+pub run-more : (v : Variable) (level run n : ℕ) (es : List Element) (d : Element) (ws : List ℕ) {w : ℕ} → run + n + 1 < 62 → n < length es → w ≡ common_weight level → w ≡ slice_index (own_weights v (get_or es n d)) (level - 1)
+    → runs_after (common_weight level) (run + (n + 1)) (level_weights level (all_own v (drop (n + 1) es)) ++ ws) ≡ runs_after (common_weight level) (run + n) (level_weights level (all_own v (drop n es)) ++ ws)
+run-more v level run n es d ws {w} few within common is =
+    let c : ℕ = common_weight level in
+    let left : List ℕ = level_weights level (all_own v (drop (n + 1) es)) ++ ws in
+    let all : run + (n + 1) ≡ run + n + 1 = omega arith in
+    let own : filter (λ (x : ℕ). not (x == 0)) (w ∷ []) ≡ c ∷ [] = ap (λ (x : ℕ). filter (λ (y : ℕ). not (y == 0)) (x ∷ [])) common ∙ common-stays level in
+    ap (λ m. runs_after c m left) all ∙ one-common c (run + n) left few
+    ∙ ap (runs_after c (run + n)) (sym (weights-one v level n w es d ws within is ∙ ap (λ l. l ++ left) own))

@@ -1,6 +1,6 @@
 -- Steps of the loops that make a code of primary weights.
-use Rattle.std.proofs.Common.{◌≡◌, ℕ, zero, suc, ◌+◌, ◌-◌, ◌/◌, ◌%◌, ◌==◌, ◌||◌, ◌&&◌, not, ◌≤◌, ◌<◌, ◌^◌, Bool, true, false, cond, nat_le, nat_lt, List, [], ◌∷◌, ◌++◌, length, map, take, get_or, refl, sym, ap, ap₂, subst, ◌∙◌, arith, inl, inr, append_assoc, append-nil, eq-eqb, ne_eqb}
-use Rattle.std.proofs.lemmas.Bool.{and_parts, cases_lt, le-ltb, leb-true, lt-ltb, ltb-true}
+use Rattle.std.proofs.Common.{◌≡◌, ℕ, zero, suc, ◌+◌, ◌-◌, ◌%◌, ◌==◌, ◌||◌, ◌≤◌, ◌<◌, Bool, true, false, cond, nat_le, nat_lt, List, [], ◌∷◌, ◌++◌, length, map, take, get_or, refl, sym, ap, ap₂, subst, ◌∙◌, arith, inl, inr, append_assoc, append-nil, eq-eqb, ne_eqb}
+use Rattle.std.proofs.lemmas.Bool.{and_parts, cases_lt, leb-true, ltb-true}
 use Rattle.std.proofs.lemmas.Grind.{common_steps}
 use Rattle.std.proofs.lemmas.List.{map-append}
 use Rattle.std.specs.List.{list_all, range_with_len}
@@ -10,11 +10,11 @@ use Rattle.uca_weights.specs.declared.element.Element.{Element}
 use Rattle.uca_model.specs.Table.{ElementTable}
 use Rattle.uca_model.specs.CollationElements.{elements}
 use Rattle.uca_model.proofs.RewritingLemmas.{elements_nil}
-use Rattle.uca_key.specs.PrimaryCode.{PrimaryCode, begins_slot, code_of, first_primary, is_common, is_letter, points_of_ranges, primary_of, slot}
+use Rattle.uca_key.specs.PrimaryCode.{PrimaryCode, begins_slot, code_of, first_primary, is_common, points_of_ranges, primary_of, slot}
 use Rattle.uca_key.specs.declared.common_characters.TheConstants.{COMMON_RANGES, FIRST_LETTERS, SINGLE_CHARACTERS}
-use Rattle.uca_key.specs.SlotTables.{AreCommons, AreSlots, IsSlotOf, is_range, kind_of}
+use Rattle.uca_key.specs.SlotTables.{AreCommons, AreSlots, IsSlotOf, is_range}
 use Rattle.uca_key.specs.declared.packed_code.Slot.{Slot}
-use Rattle.uca_key.proofs.PackedSlots.{slot-next, slot-within}
+use Rattle.uca_key.proofs.PackedSlots.{slot-next}
 
 -- one number more
 range-more : (f : ℕ → ℕ) (a n : ℕ) → map f (range_with_len a (n + 1)) ≡ map f (range_with_len a n) ++ f (a + n) ∷ []
@@ -97,41 +97,6 @@ slots-more k w s items after size made each last x d within = elim (cases_lt x w
       subst (IsSlotOf k x) (sym same) (subst (λ n. IsSlotOf k n s) (sym here) last)
 ]
 
--- what is above the number of a slot, by what kind of weight lies there
-pub record IsKind (letter common : Bool) (n : ℕ) : Type 0 where
-  pub number : (s : ℕ) → s < 65536 → (s + n) % 65536 ≡ s
-  pub letters : letter ≡ true → n ≡ 0
-  pub others : letter ≡ false → 131072 ≤ n
-  pub commons : (s : ℕ) → s < 65536 → nat_lt (s + n) 0x40000 ≡ common
-  pub most : n ≤ 0x40000
-
-kinds : (letter common : Bool) → (letter ≡ true → common ≡ true) → IsKind letter common (cond letter 0 (cond common 0x20000 0x40000))
-kinds true true h = record { number = λ s few. omega arith; letters = λ _. refl; others = λ e. absurd (cc); commons = λ s few. lt-ltb (s + 0) 0x40000 (omega arith); most = omega arith }
-kinds true false h = absurd (cc (h refl))
-kinds false true h = record { number = λ s few. omega arith; letters = λ e. absurd (cc); others = λ _. omega arith; commons = λ s few. lt-ltb (s + 0x20000) 0x40000 (omega arith); most = omega arith }
-kinds false false h = record { number = λ s few. omega arith; letters = λ e. absurd (cc); others = λ _. omega arith; commons = λ s few. le-ltb (s + 0x40000) 0x40000 (omega arith); most = omega arith }
-
-pub kind-is : (k : PrimaryCode) (w : ℕ) → IsKind (is_letter k w) (is_common k w) (kind_of k w)
-kind-is k w = kinds (is_letter k w) (is_common k w) (λ e. (and_parts (is_common k w) (not (w / 256 == 0xFB)) ((and_parts (is_common k w && not (w / 256 == 0xFB)) (not (w == 0)) e).0)).0)
-
--- a slot is a number of 16 bits
-pub slot-small : (k : PrimaryCode) (w : ℕ) → w < 65536 → slot k w < 65536
-slot-small k w h = let most = slot-within k w in omega (arith, most)
-
--- what is read of a weight
-module _ (k : PrimaryCode) (w bits : ℕ) (small : w < 65536) (is : bits ≡ slot k w + kind_of k w) where
-  pub slot-read : bits % 65536 ≡ slot k w
-  slot-read = ap (λ n. n % 65536) is ∙ (kind-is k w).number (slot k w) (slot-small k w small)
-
-  pub common-read : nat_lt bits 0x40000 ≡ is_common k w
-  common-read = ap (λ n. nat_lt n 0x40000) is ∙ (kind-is k w).commons (slot k w) (slot-small k w small)
-
-  pub bits-most : bits < 2 ^ 31
-  bits-most = let most = (kind-is k w).most in let own = slot-small k w small in omega (arith, is)
-
-pub kind-other : (k : PrimaryCode) (w : ℕ) → is_common k w ≡ false → kind_of k w ≡ 0x40000
-kind-other k w none = ap (λ c. cond (c && not (w / 256 == 0xFB) && not (w == 0)) 0 (cond c 0x20000 0x40000)) none
-
 -- ---- weights with one high byte, none of which is common
 
 -- they begin at this one
@@ -177,13 +142,15 @@ pub plain-page : (k : PrimaryCode) (flags : List Bool) (first : ℕ) → length 
 plain-page k flags first size within page commons none = record { page = page; none = λ w low high. sym (commons w (omega arith)) ∙ none w low high }
 
 -- one slot for all of them
-pub page-slots : (k : PrimaryCode) (first : ℕ) (s : Slot) (items after : List Slot) → IsPlain k first → s.bits ≡ slot k first + 0x40000
+pub page-slots : (k : PrimaryCode) (first : ℕ) (s : Slot) (items after : List Slot) → IsPlain k first → s.number ≡ slot k first → s.common ≡ false
     → ((w : ℕ) (d : Slot) → w < first → get_or after w d ≡ get_or items w d) → ((w : ℕ) (d : Slot) → first ≤ w → w < first + 256 → get_or after w d ≡ s) → AreSlots k first items → AreSlots k (first + 256) after
-page-slots k first s items after plain bits old new each w d within = elim (cases_lt w first) [
+page-slots k first s items after plain number common old new each w d within = elim (cases_lt w first) [
   | inl before ↦ subst (IsSlotOf k w) (sym (old w d before)) (each w d before)
   | inr later ↦
       let place : first + (w - first) ≡ w = omega arith in
-      let none : is_common k w ≡ false = plain.none w later within in
-      let here : slot k first ≡ slot k w = sym (slot-plain k first (w - first) plain (omega arith)) ∙ ap (slot k) place in
-      subst (IsSlotOf k w) (sym (new w d later within)) (record { bits = bits ∙ ap₂ (λ a b. a + b) here (sym (kind-other k w none)) })
+      let none : false ≡ is_common k w = sym (plain.none w later within) in
+      subst (IsSlotOf k w) (sym (new w d later within)) (record {
+        number = number ∙ sym (slot-plain k first (w - first) plain (omega arith)) ∙ ap (slot k) place;
+        common = common ∙ none;
+      })
 ]

@@ -19,6 +19,11 @@ pub record StaysAfter (from to : ℕ) (before after : List ℕ) : Type 0 where
   pub later : from ≤ to
   pub rest : drop to after ≡ drop to before
 
+-- the same, but for the byte after them, which may have changed
+pub record StaysBeyond (from to : ℕ) (before after : List ℕ) : Type 0 where
+  pub later : from ≤ to
+  pub rest : drop (to + 1) after ≡ drop (to + 1) before
+
 -- a front of the whole was put, and the other bytes are left
 pub record IsPutting (at : ℕ) (before : List ℕ) (next : ℕ) (now whole left : List ℕ) : Type 0 where
   pub put : List ℕ

@@ -1,6 +1,6 @@
 -- The code of primary weights in packed keys. A form of this project (compare UTS #10, 9.1, Reducing Sort Key Lengths). Letters of one script lie in a window, where
 -- a byte says each of the common ones. Two bytes say a letter outside it, and the window goes there.
-use Rattle.std.specs.Prelude.{ℕ, zero, suc, ◌+◌, ◌-◌, ◌/◌, ◌%◌, max, Bool, false, not, ◌==◌, ◌&&◌, ◌||◌, nat_lt, nat_le, List, [], ◌∷◌, ◌++◌, map, flat_map, fold, slice_index, if◌then◌else◌}
+use Rattle.std.specs.Prelude.{ℕ, zero, suc, ◌+◌, ◌-◌, ◌/◌, ◌%◌, max, Bool, false, ◌==◌, ◌&&◌, ◌||◌, nat_lt, nat_le, List, [], ◌∷◌, ◌++◌, map, flat_map, fold, slice_index, if◌then◌else◌}
 use Rattle.std.specs.List.{list_any, range_with_len, sum_by}
 use Rattle.unicode_normalization.specs.Forms.{nfd}
 use Rattle.uca_weights.specs.declared.element.Element.{Element}
@@ -47,10 +47,6 @@ is_common k w = list_any (λ c. c == w) k.commons
 -- the weight has a byte of its own everywhere
 abbrev pub is_single : PrimaryCode → ℕ → Bool
 is_single k w = list_any (λ c. c == w) k.singles
-
--- the weight has a byte of its own in a window, is not zero and begins no implicit pair
-abbrev pub is_letter : PrimaryCode → ℕ → Bool
-is_letter k w = is_common k w && not (w / 256 == 0xFB) && not (w == 0)
 
 -- a slot begins at the weight after this one: there begin 256 weights with one high byte, or either of the two is common
 abbrev pub begins_slot : PrimaryCode → ℕ → Bool

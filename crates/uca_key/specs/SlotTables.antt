@@ -1,23 +1,21 @@
 -- What the vectors of a code of primary weights hold.
-use Rattle.std.specs.Prelude.{◌≡◌, ℕ, ◌+◌, ◌<◌, ◌≤◌, ◌==◌, ◌&&◌, Bool, false, nat_le, nat_lt, List, length, get_or, slice_index, refl, max, fold, if◌then◌else◌}
+use Rattle.std.specs.Prelude.{◌≡◌, ℕ, ◌<◌, ◌≤◌, ◌/◌, ◌==◌, ◌&&◌, Bool, false, All, nat_le, nat_lt, List, [], ◌∷◌, length, get_or, slice_index, refl, max, fold, if◌then◌else◌}
 use Rattle.std.specs.List.{list_any}
 use Rattle.std.specs.Coded.{Coded, code_by, coded×, coded_list, coded_ℕ}
-use Rattle.uca_key.specs.PrimaryCode.{PrimaryCode, is_common, is_letter, is_single, lead, slot}
+use Rattle.uca_key.specs.PrimaryCode.{PrimaryCode, base_after, is_common, is_single, lead, letter_bytes, slot}
 use Rattle.uca_key.specs.declared.packed_code.Outside.{Outside}
 use Rattle.uca_key.specs.declared.packed_code.Slot.{Slot}
 use Rattle.uca_key.specs.declared.packed_code.Window.{Window}
+use Rattle.uca_key.specs.declared.packed_code.WindowBytes.{WindowBytes}
 
 -- ranges from a first code point to a last one, below the surrogates
 abbrev pub is_range : ℕ × ℕ → Bool
 is_range r = nat_le r.0 r.1 && nat_lt r.1 0xD800
 
--- what is above the number of a slot: what kind of weight lies there
-abbrev pub kind_of : PrimaryCode → ℕ → ℕ
-kind_of k w = if is_letter k w then 0 else if is_common k w then 0x20000 else 0x40000
-
--- what a code has of a weight: its slot, and whether it is a letter, or else common
+-- what a code has of a weight: its slot, and whether it is common
 pub record IsSlotOf (k : PrimaryCode) (w : ℕ) (s : Slot) : Type 0 where
-  pub bits : s.bits ≡ slot k w + kind_of k w
+  pub number : s.number ≡ slot k w
+  pub common : s.common ≡ is_common k w
 
 -- flags say of each weight that they have whether it is common
 abbrev pub AreCommons : PrimaryCode → List Bool → Type 0
@@ -53,8 +51,22 @@ AreFlags ws flags = (w : ℕ) → w < length flags → get_or flags w false ≡ 
 abbrev pub AreGreatest : List ℕ → ℕ → List ℕ → Type 0
 AreGreatest ws n table = (w d : ℕ) → w < n → get_or table w d ≡ greatest ws w
 
--- the same of each weight, and the first window
-pub record HoldsSlots (k : PrimaryCode) (slots : List Slot) (outside : List Outside) (begins : List ℕ) (first : Window) : Type 0 where
+-- a byte is all that a weight takes where the window begins at another, and the window stays
+pub record IsShort (k : PrimaryCode) (base w byte : ℕ) : Type 0 where
+  pub alone : letter_bytes k base w ≡ byte ∷ []
+  pub stays : base_after k base w ≡ base
+  pub single : (w / 256 == 0xFB) ≡ false
+
+-- a list has the byte of each weight that takes only one; where it has zero it says nothing, nor does it of the weight zero
+abbrev pub AreShort : PrimaryCode → ℕ → List ℕ → Type 0
+AreShort k base bytes = (w d : ℕ) → 0 < w → w < length bytes → 0 < get_or bytes w d → IsShort k base w (get_or bytes w d)
+
+-- the bytes of a window are those of weights that take only one
+abbrev pub HasShort : PrimaryCode → WindowBytes → Type 0
+HasShort k window = AreShort k window.base window.bytes.items
+
+-- the same of each weight, the first window, and the bytes in windows
+pub record HoldsSlots (k : PrimaryCode) (slots : List Slot) (outside : List Outside) (begins : List ℕ) (first : Window) (windows : List WindowBytes) : Type 0 where
   pub size : length slots ≡ 65536
   pub each : AreSlots k 65536 slots
   pub outside_size : length outside ≡ 65536
@@ -66,6 +78,7 @@ pub record HoldsSlots (k : PrimaryCode) (slots : List Slot) (outside : List Outs
   pub numbered : first.slot ≡ slot k first.base
   pub led : first.lead ≡ lead k first.base
   pub most : first.lead ≤ 135
+  pub short : All (HasShort k) windows
 
 -- a code as its lists
 abbrev pub coded_code : Coded PrimaryCode

@@ -19,6 +19,7 @@ mod packed_levels;
 mod pieces;
 pub mod placing;
 mod runs;
+mod short_bytes;
 pub mod streaming;
 mod weighing;
 mod weight_bytes;

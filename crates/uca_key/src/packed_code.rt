@@ -1,10 +1,11 @@
 //! The code of primary weights in packed keys: what a table says of common characters, with a slot for each weight.
 ghost use Rattle.std.specs.Prelude.{◌≡◌, ◌<◌, ◌≤◌, ◌+◌, ◌-◌, ◌*◌, ◌/◌, ◌%◌, ◌++◌, ◌==◌, ◌^◌, ℕ, true, false, get_or, fold, if◌then◌else◌, length, map, max, nat_le, IsTrue, slice_index, sum_by, OnOk, IfOk, List};
 ghost use Rattle.std.specs.List.{list_all, list_any, range_with_len};
-ghost use Rattle.uca_key.specs.PrimaryCode.{PrimaryCode, anchor_of, begins_slot, code_of, first_primary, is_common, is_letter, is_single, lead, page_of, past, points_of_ranges, primary_of, slot};
-ghost use Rattle.uca_key.specs.SlotTables.{AreCommons, AreFlags, AreGreatest, AreOutside, AreSlots, greatest, greatest_below, IsOutsideOf, IsSlotOf, is_range};
+ghost use Rattle.uca_key.specs.PrimaryCode.{PrimaryCode, anchor_of, begins_slot, code_of, first_primary, is_common, is_single, lead, page_of, past, points_of_ranges, primary_of, slot};
+ghost use Rattle.uca_key.specs.SlotTables.{AreCommons, AreFlags, AreGreatest, AreOutside, AreShort, AreSlots, greatest, greatest_below, IsOutsideOf, IsSlotOf, is_range};
 
 use crate::common_characters::{COMMON_RANGES, FIRST_LETTERS, SINGLE_CHARACTERS};
+use crate::short_bytes::{numbers_of, windows_of};
 use std::alloc::{AllocError, Global};
 use std::marker::Model;
 use uca_table::Table;
@@ -152,15 +153,9 @@ fn slot_of(flags: &[bool], w: usize, number: u32) -> Slot
     requires most { number ≤ w }
     ensures { (k : PrimaryCode) → AreCommons k flags.now → number ≡ slot k w → IsSlotOf k w result }
 {
-    let kind = if !flags[w] {
-        NOT_COMMON
-    } else if w / PAGE == 0xFB || w == 0 {
-        NO_LETTER
-    } else {
-        0
-    };
     Slot {
-        bits: number + kind,
+        number: number as u16,
+        common: flags[w],
     }
 }
 
@@ -222,7 +217,8 @@ fn push_page(
         return push_slots(flags, first, number, slots);
     }
     let slot = Slot {
-        bits: number + NOT_COMMON,
+        number: number as u16,
+        common: false,
     };
     slots.resize(first + PAGE, slot)?;
     Ok(number + 1)
@@ -359,17 +355,13 @@ fn greatest_of(alloc: Global, weights: &[u16]) -> Result<Vec<u16>, AllocError>
     Ok(table)
 }
 
-// What is above the number of a slot where its weight is no letter, since it is zero or begins an implicit pair.
-const NO_LETTER: u32 = 0x2_0000;
-
-// The same where its weight is not common.
-const NOT_COMMON: u32 = 0x4_0000;
-
-// What the code has of a weight: the number of its slot in the lower 16 bits, and above them 0 where the weight is a letter. So one
-// subtraction tells whether it is a letter of a window.
+// What the code has of a weight.
 #[derive(Clone, Copy)]
 struct Slot {
-    bits: u32,
+    // The number of its slot.
+    number: u16,
+    // Whether it is common, and so alone there.
+    common: bool,
 }
 
 // What the code has of a weight outside its window.
@@ -458,15 +450,6 @@ fn outsides_of(alloc: Global, singles: &[u16]) -> Result<Vec<Outside>, AllocErro
     Ok(outside)
 }
 
-// The first of some weights.
-#[inline(always)]
-fn first_of(weights: &[u16]) -> u16
-    requires { 0 < length weights.now }
-    ensures { IsTrue (list_any (λ c. c == result) weights.now) }
-{
-    weights[0]
-}
-
 // The window that begins at a weight, with these slots, and these weights that have leads of their own.
 fn window_of(slots: &[Slot], singles: &[u16], base: u16) -> Window
     requires size { length slots.now ≡ 65536 }
@@ -478,12 +461,20 @@ fn window_of(slots: &[Slot], singles: &[u16], base: u16) -> Window
 {
     Window {
         base,
-        slot: (slots[base as usize].bits % 0x1_0000) as u16,
+        slot: slots[base as usize].number,
         lead: lead_over(singles, base),
     }
 }
 
-/// The code of primary weights under a table. It takes some 520 KiB, and more time to make than many keys, so who makes keys by one
+/// The bytes of weights that take one byte each where the window begins at a weight, and leave it there. Most weights of a text do.
+#[derive(Drop)]
+pub(crate) struct WindowBytes {
+    pub(crate) base: u16,
+    /// Of each weight, or of those below a limit: its byte, or zero where it takes more.
+    pub(crate) bytes: Vec<u8>,
+}
+
+/// The code of primary weights under a table. It takes some 1.1 MB, and more time to make than many keys, so who makes keys by one
 /// table keeps its code beside it.
 #[derive(Drop)]
 pub struct PackedCode {
@@ -497,6 +488,9 @@ pub struct PackedCode {
     begins: Vec<u16>,
     // Of each text.
     first: Window,
+    // Of each window, and which of them begins at a weight, if one does.
+    windows: Vec<WindowBytes>,
+    numbers: Vec<u8>,
 }
 
 impl Model for PackedCode {
@@ -509,12 +503,12 @@ impl Model for PackedCode {
 
     ghost view = { λ c. record { commons = c.commons.items; singles = c.singles; anchors = c.anchors } };
 
-    ghost invariant = { λ c. HoldsSlots (record { commons = c.commons.items; singles = c.singles; anchors = c.anchors }) c.slots.items c.outside.items c.begins.items c.first };
+    ghost invariant = { λ c. HoldsSlots (record { commons = c.commons.items; singles = c.singles; anchors = c.anchors }) c.slots.items c.outside.items c.begins.items c.first c.windows.items };
 }
 
 impl PackedCode {
-    /// Makes the code under a table. `AllocError`: an allocation was refused.
-    pub fn new(alloc: Global, t: &Table) -> Result<PackedCode, AllocError>
+    // Makes the code under a table, but for the bytes in windows, which are made by it.
+    fn without_windows(alloc: Global, t: &Table) -> Result<PackedCode, AllocError>
         ensures { IfOk result (λ k. k ≡ code_of t.now) }
     {
         let commons = weights_of_ranges(alloc, t, &COMMON_RANGES)?;
@@ -535,7 +529,49 @@ impl PackedCode {
             outside,
             begins,
             first,
+            windows: Vec::new(alloc),
+            numbers: Vec::new(alloc),
         })
+    }
+
+    /// Makes the code under a table. `AllocError`: an allocation was refused.
+    pub fn new(alloc: Global, t: &Table) -> Result<PackedCode, AllocError>
+        ensures { IfOk result (λ k. k ≡ code_of t.now) }
+    {
+        let mut code = PackedCode::without_windows(alloc, t)?;
+        code.windows = windows_of(alloc, &code)?;
+        code.numbers = numbers_of(alloc, &code.windows)?;
+        Ok(code)
+    }
+
+    /// The weights that have a byte of their own in a window.
+    pub(crate) fn commons(&self) -> &[u16] {
+        &self.commons
+    }
+
+    /// The weights that have a byte of their own everywhere.
+    pub(crate) fn singles(&self) -> &[u16] {
+        &self.singles
+    }
+
+    /// The weights at which windows begin.
+    pub(crate) fn anchors(&self) -> &[u16] {
+        &self.anchors
+    }
+
+    /// The bytes of weights that take one byte each where the window begins at a weight, and leave it there.
+    #[inline(always)]
+    pub(crate) fn short_bytes(&self, base: u16) -> &[u8]
+        ensures { AreShort self.now base result.now }
+    {
+        let number = match self.numbers.get(base as usize) {
+            Some(number) => *number as usize,
+            None => 0,
+        };
+        match self.windows.get(number) {
+            Some(window) if window.base == base => &window.bytes,
+            _ => &[],
+        }
     }
 
     /// The slot of a weight.
@@ -543,7 +579,7 @@ impl PackedCode {
     pub(crate) fn slot(&self, w: u16) -> u16
         ensures { result ≡ slot self.now w }
     {
-        (self.slots[w as usize].bits % 0x1_0000) as u16
+        self.slots[w as usize].number
     }
 
     /// Whether a weight is common.
@@ -551,18 +587,7 @@ impl PackedCode {
     pub(crate) fn is_common(&self, w: u16) -> bool
         ensures { result ≡ is_common self.now w }
     {
-        self.slots[w as usize].bits < NOT_COMMON
-    }
-
-    /// The slots of letters.
-    #[inline(always)]
-    pub(crate) fn letter_slots(&self) -> LetterSlots<'_>
-        ensures { result.code.now ≡ self.now }
-    {
-        LetterSlots {
-            code: self,
-            slots: &self.slots,
-        }
+        self.slots[w as usize].common
     }
 
     /// Whether a weight has a byte of its own everywhere.
@@ -604,14 +629,6 @@ impl PackedCode {
         }
     }
 
-    /// The weight of the space, which most texts have between their words.
-    #[inline(always)]
-    pub(crate) fn space(&self) -> u16
-        ensures { is_single self.now result ≡ true }
-    {
-        first_of(&self.singles)
-    }
-
     /// The first window.
     #[inline(always)]
     pub(crate) fn first_window(&self) -> Window
@@ -621,26 +638,5 @@ impl PackedCode {
         ensures most { result.lead ≤ 135 }
     {
         self.first
-    }
-}
-
-/// The slots of letters. A loop that puts bytes binds them first, since a byte that it puts could otherwise be a part of the code.
-#[derive(Clone, Copy)]
-pub(crate) struct LetterSlots<'c> {
-    pub(crate) code: &'c PackedCode,
-    slots: &'c [Slot],
-    ghost size: { length slots.now ≡ 65536 },
-    ghost each: { AreSlots code.now 65536 slots.now },
-}
-
-impl<'c> LetterSlots<'c> {
-    /// The slot of a weight that is a letter; of any other weight a number that is far above all slots.
-    #[inline(always)]
-    pub(crate) fn slot(&self, w: u16) -> u32
-        ensures letter { is_letter self.now.code.now w ≡ true → result ≡ slot self.now.code.now w }
-        ensures other { is_letter self.now.code.now w ≡ false → 131072 ≤ result }
-        ensures most { result < 2 ^ 31 }
-    {
-        self.slots[w as usize].bits
     }
 }

@@ -41,7 +41,7 @@ fn put_later(
     }
 }
 
-// Puts the packed sort key of a text whose elements are held.
+// Puts the packed sort key of a text whose elements are held. Each level has code of its own, which asks for no level.
 fn put_held(
     code: &PackedCode,
     reading: &TextReading,
@@ -56,14 +56,24 @@ fn put_held(
     ensures { PutsAt at (packed_key_by code.now reading.now.table.now s (chars reading.now.text.now)) out.old out.new result }
 {
     let last = s.levels();
-    let mut next = weight_bytes::put_whole(code, reading.weighting, elements, at, out);
-    let common = runs::count_common(elements);
-    let mut level = 1;
-    'levels: while level < last {
-        level += 1;
-        next = put_later(reading, level, common, elements, next, out);
+    let next = weight_bytes::put_whole(code, reading.weighting, elements, at, out);
+    if last == 1 {
+        return next;
     }
-    next
+    let common = runs::count_common(elements);
+    let next = put_later(reading, 2, common, elements, next, out);
+    if last == 2 {
+        return next;
+    }
+    let next = put_later(reading, 3, common, elements, next, out);
+    if last == 3 {
+        return next;
+    }
+    let next = put_later(reading, 4, common, elements, next, out);
+    if last == 4 {
+        return next;
+    }
+    put_later(reading, 5, common, elements, next, out)
 }
 
 /// Puts the packed sort key of a text that was read into room, by a code of primary weights, at a place of a buffer, level after level.

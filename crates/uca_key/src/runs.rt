@@ -1,5 +1,5 @@
 // The later levels of a packed key, with runs of common weights, put into a buffer piece by piece.
-ghost use Rattle.std.specs.Prelude.{◌≡◌, IsTrue, ◌≢◌, ◌==◌, ◌+◌, ◌*◌, ◌-◌, ◌^◌, ◌<◌, ◌≤◌, ◌++◌, ◌∷◌, [], ℕ, List, not, chars, filter, length, take};
+ghost use Rattle.std.specs.Prelude.{◌≡◌, IsTrue, ◌≢◌, ◌==◌, ◌+◌, ◌*◌, ◌-◌, ◌^◌, ◌<◌, ◌≤◌, ◌++◌, ◌∷◌, [], ℕ, List, not, chars, drop, filter, length, take};
 ghost use Rattle.unicode_normalization.specs.Forms.{nfd};
 ghost use Rattle.uca_weights.specs.declared.settings.Variable.{Variable};
 ghost use Rattle.uca_model.specs.LevelWeights.{level_weights};
@@ -130,50 +130,29 @@ fn pack_weight(key: &mut [u8], before: Counted, common: u16, weight: u16) -> Cou
     put_after_run(key, before, common, weight)
 }
 
-// Packs the weights of elements at a level, one after the other.
+// How many of the first of some elements have the common weight at a level, as long as the run that they are a part of is not full.
 #[inline(always)]
-fn pack_each(
-    key: &mut [u8],
-    before: Counted,
-    v: Variable,
-    elements: &[Element],
-    level: u8,
-) -> Counted
-    requires few { before.run < 62 }
+fn count_run(v: Variable, elements: &[Element], level: u8, run: u8) -> usize
+    requires few { run < 62 }
     requires first { 2 ≤ level }
     requires last { level ≤ 4 }
-    requires room { before.at + 4 * length elements.now ≤ length key.old }
-    ensures bytes { (ws : List ℕ) → take result.at key.new ++ runs_after (common_weight level) result.run ws ≡ take before.at key.old ++ runs_after (common_weight level) before.run (level_weights level (all_own v elements.now) ++ ws) }
-    ensures few { result.run < 62 }
-    ensures within { result.at ≤ before.at + 4 * length elements.now }
-    ensures stays { StaysAfter before.at result.at key.old key.new }
-    ensures size { length key.new ≡ length key.old }
+    ensures some { result ≤ length elements.now }
+    ensures few { run + result < 62 }
+    ensures counted { (ws : List ℕ) → runs_after (common_weight level) (run + result) (level_weights level (all_own v (drop result elements.now)) ++ ws) ≡ runs_after (common_weight level) run (level_weights level (all_own v elements.now) ++ ws) }
 {
     let common = common_weight(level);
-    let mut packed = before;
-    for element in elements {
-        packed = pack_weight(key, packed, common, own_weight(v, element, level));
+    let most = elements.len().min((FULL_RUN - 1 - run) as usize);
+    let mut n = 0;
+    'each: while n < most {
+        if own_weight(v, &elements[n], level) != common {
+            return n;
+        }
+        n += 1;
     }
-    packed
+    n
 }
 
-// Whether some elements are four, and their weights at a level all the common one.
-#[inline(always)]
-fn are_four_common(v: Variable, elements: &[Element], level: u8) -> bool
-    requires first { 2 ≤ level }
-    requires last { level ≤ 4 }
-    ensures { IsTrue result → level_weights level (all_own v elements.now) ≡ common_weight level ∷ common_weight level ∷ common_weight level ∷ common_weight level ∷ [] }
-{
-    let [a, b, c, d] = elements else {
-        return false;
-    };
-    let common = common_weight(level);
-    let (first, second) = (own_weight(v, a, level), own_weight(v, b, level));
-    let (third, fourth) = (own_weight(v, c, level), own_weight(v, d, level));
-    first == common && second == common && third == common && fourth == common
-}
-
-// Packs the weights of elements at a level. Four common weights, as most are, are counted together.
+// Packs the weights of elements at a level: counts the common ones up to the next other one, and puts that.
 #[inline(always)]
 fn pack_whole(
     key: &mut [u8],
@@ -192,18 +171,20 @@ fn pack_whole(
     ensures stays { StaysAfter before.at result.at key.old key.new }
     ensures size { length key.new ≡ length key.old }
 {
+    let common = common_weight(level);
     let mut packed = before;
     let mut left = elements;
-    while left.len() >= 4 {
-        let (four, rest) = left.split_at(4);
-        if packed.run + 4 < FULL_RUN && are_four_common(v, four, level) {
-            packed.run += 4;
-        } else {
-            packed = pack_each(key, packed, v, four, level);
-        }
+    'runs: while !left.is_empty() {
+        let n = count_run(v, left, level, packed.run);
+        packed.run += n as u8;
+        let (_, after) = left.split_at(n);
+        let Some((first, rest)) = after.split_first() else {
+            return packed;
+        };
+        packed = pack_weight(key, packed, common, own_weight(v, first, level));
         left = rest;
     }
-    pack_each(key, packed, v, left, level)
+    packed
 }
 
 // Packs the weights of elements, at a level from 2 to 4. Each level has a loop of its own, which asks for no level.
@@ -308,7 +289,7 @@ pub(crate) fn put_whole(
     if !has_room(left.len(), OTHER, at.saturating_add(1), out.len()) {
         return put_end(put_elements(v, level, before, left, out), out);
     }
-    let packed = pack(out, before, v, left, level);
+    let packed = pack_whole(out, before, v, left, level);
     out[packed.at] = 2 * packed.run;
     packed.at + 1
 }

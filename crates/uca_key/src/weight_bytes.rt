@@ -5,11 +5,12 @@ ghost use Rattle.uca_model.specs.LevelWeights.{level_weights};
 ghost use Rattle.uca_model.specs.SortKey.{weight_bytes};
 ghost use Rattle.uca_key.specs.Reach.{first_left, state_of};
 ghost use Rattle.uca_key.specs.Pieces.{weights_of};
-ghost use Rattle.uca_key.specs.Placing.{IsPutting, PutsAt, StaysAfter};
-ghost use Rattle.uca_key.specs.PrimaryCode.{after_slot, base_after, has_page, is_common, is_in_window, is_letter, is_single, lead, letter_bytes, primary_bytes, primary_level, second_bytes, slot, start, state_after};
+ghost use Rattle.uca_key.specs.Placing.{IsPutting, PutsAt, StaysAfter, StaysBeyond};
+ghost use Rattle.uca_key.specs.PrimaryCode.{PrimaryCode, after_slot, base_after, has_page, is_common, is_in_window, is_single, lead, letter_bytes, primary_bytes, primary_level, second_bytes, slot, start, state_after};
+ghost use Rattle.uca_key.specs.SlotTables.{AreShort, IsShort};
 ghost use Rattle.uca_key.specs.Weighing.{all_own};
 
-use crate::packed_code::{LetterSlots, PackedCode, Window};
+use crate::packed_code::{PackedCode, Window};
 use crate::pieces::{PIECE, TextReading};
 use crate::placing::{has_room, put_bytes};
 use uca_levels::primary_weight;
@@ -84,9 +85,9 @@ fn put_after_slot(code: &PackedCode, w: u16, key: &mut [u8], at: usize) -> usize
     put_low(w, key, at)
 }
 
-// Whether a window has the slot of a weight.
+/// Whether a window has the slot of a weight.
 #[inline(always)]
-fn is_in_window(code: &PackedCode, window: Window, w: u16) -> bool
+pub(crate) fn is_in_window(code: &PackedCode, window: Window, w: u16) -> bool
     requires { window.slot ≡ slot code.now window.base }
     ensures { result ≡ is_in_window code.now window.base w }
 {
@@ -95,9 +96,9 @@ fn is_in_window(code: &PackedCode, window: Window, w: u16) -> bool
     at.wrapping_sub(from) < WINDOW as u32
 }
 
-// The first byte of a weight in the window.
+/// The first byte of a weight in the window.
 #[inline(always)]
-fn slot_byte(code: &PackedCode, window: Window, w: u16) -> u8
+pub(crate) fn slot_byte(code: &PackedCode, window: Window, w: u16) -> u8
     requires slot { window.slot ≡ slot code.now window.base }
     requires lead { window.lead ≡ lead code.now window.base }
     requires most { window.lead ≤ 135 }
@@ -110,9 +111,9 @@ fn slot_byte(code: &PackedCode, window: Window, w: u16) -> u8
     window.lead + 1 + (at - from) as u8
 }
 
-// The first byte of a weight outside the window, which has this lead.
+/// The first byte of a weight outside the window, which has this lead.
 #[inline(always)]
-fn lead_byte(code: &PackedCode, window: Window, w: u16, own: u8) -> u8
+pub(crate) fn lead_byte(code: &PackedCode, window: Window, w: u16, own: u8) -> u8
     requires slot { window.slot ≡ slot code.now window.base }
     requires lead { own ≡ lead code.now w }
     requires most { own ≤ 135 }
@@ -220,6 +221,7 @@ struct Placed {
 }
 
 // Puts a weight.
+#[inline(always)]
 fn put_weight(code: &PackedCode, before: Placed, w: u16, key: &mut [u8]) -> Placed
     requires slot { before.reach.window.slot ≡ slot code.now before.reach.window.base }
     requires lead { before.reach.window.lead ≡ lead code.now before.reach.window.base }
@@ -262,7 +264,7 @@ fn put_weight(code: &PackedCode, before: Placed, w: u16, key: &mut [u8]) -> Plac
 }
 
 // The same of a weight that may be zero, which is left out.
-#[inline(never)]
+#[inline(always)]
 fn put_some(code: &PackedCode, before: Placed, w: u16, key: &mut [u8]) -> Placed
     requires slot { before.reach.window.slot ≡ slot code.now before.reach.window.base }
     requires lead { before.reach.window.lead ≡ lead code.now before.reach.window.base }
@@ -282,65 +284,32 @@ fn put_some(code: &PackedCode, before: Placed, w: u16, key: &mut [u8]) -> Placed
     put_weight(code, before, w, key)
 }
 
-// The place in the window of a weight that is a letter there: it has one byte, and the window stays.
+// The byte of a weight, if it takes only one in a window, or if it is zero.
 #[inline(always)]
-fn letter_in(slots: LetterSlots, window: Window, w: u16) -> Option<u8>
-    requires { window.slot ≡ slot slots.code.now window.base }
-    ensures place { IfSome result (λ n. (slot slots.entry.code.now w ≡ slot slots.entry.code.now window.base + n) × (n < 119)) }
-    ensures letter { IfSome result (λ _. is_letter slots.entry.code.now w ≡ true) }
+fn short_byte(bytes: &[u8], w: u16) -> Option<u8>
+    ensures { (k : PrimaryCode) (base : ℕ) → AreShort k base bytes.now → 0 < w → IfSome result (IsShort k base w) }
 {
-    let place = slots.slot(w).wrapping_sub(window.slot as u32);
-    if place < WINDOW as u32 {
-        Some(place as u8)
-    } else {
-        None
+    if w as usize >= bytes.len() {
+        return None;
     }
+    let byte = bytes[w as usize];
+    if byte == 0 { None } else { Some(byte) }
 }
 
-// Puts a letter, which has this place in the window.
+// Puts a weight that takes this byte alone, unless it is zero. For a zero the next byte is put over this one: no branch depends on which
+// weights are zero.
 #[inline(always)]
-fn put_letter(
-    code: &PackedCode,
-    reach: Reach,
-    w: u16,
-    place: u8,
-    key: &mut [u8],
-    at: usize,
-) -> usize
-    requires slot { reach.window.slot ≡ slot code.now reach.window.base }
-    requires lead { reach.window.lead ≡ lead code.now reach.window.base }
-    requires most { reach.window.lead ≤ 135 }
+fn put_short(code: &PackedCode, reach: Reach, w: u16, byte: u8, key: &mut [u8], at: usize) -> usize
     requires first { reach.second ≡ false }
-    requires place { slot code.now w ≡ slot code.now reach.window.base + place }
-    requires inside { place < 119 }
-    requires letter { is_letter code.now w ≡ true }
+    requires short { 0 < w → IsShort code.now reach.window.base w byte }
     requires room { at + 1 ≤ length key.old }
     ensures bytes { (ws : List ℕ) → take result key.new ++ primary_level code.now (state_of reach) ws ≡ take at key.old ++ primary_level code.now (state_of reach) (filter (λ x. not (x == 0)) (w ∷ []) ++ ws) }
     ensures within { result ≤ at + 1 }
-    ensures stays { StaysAfter at result key.old key.new }
+    ensures stays { StaysBeyond at result key.old key.new }
     ensures size { length key.new ≡ length key.old }
 {
-    key[at] = reach.window.lead + 1 + place;
-    at + 1
-}
-
-// Puts a weight that has a byte of its own, outside the window.
-#[inline(always)]
-fn put_single(code: &PackedCode, reach: Reach, w: u16, key: &mut [u8], at: usize) -> usize
-    requires slot { reach.window.slot ≡ slot code.now reach.window.base }
-    requires first { reach.second ≡ false }
-    requires some { 0 < w }
-    requires single { is_single code.now w ≡ true }
-    requires outside { is_in_window code.now reach.window.base w ≡ false }
-    requires one { (w / 256 == 251) ≡ false }
-    requires room { at + 1 ≤ length key.old }
-    ensures bytes { (ws : List ℕ) → take result key.new ++ primary_level code.now (state_of reach) ws ≡ take at key.old ++ primary_level code.now (state_of reach) (filter (λ x. not (x == 0)) (w ∷ []) ++ ws) }
-    ensures within { result ≤ at + 1 }
-    ensures stays { StaysAfter at result key.old key.new }
-    ensures size { length key.new ≡ length key.old }
-{
-    key[at] = lead_byte(code, reach.window, w, code.lead(w));
-    at + 1
+    key[at] = byte;
+    at + (w != 0) as usize
 }
 
 // Puts an implicit pair, whose first weight has a byte of its own, outside the window.
@@ -370,61 +339,59 @@ fn put_implicit(
     put_second(second, key, at + 1)
 }
 
-// How far letters are put: the place after their bytes, and how many elements are done.
+// How far weights are put: the place after their bytes, and how many elements are done.
 #[derive(Clone, Copy)]
-struct Letters {
+struct Progress {
     at: usize,
     done: usize,
 }
 
-// Puts the weights of elements as long as they are letters. Most of a text is put here, so it asks little.
+// Puts the weights of elements as long as each takes one of these bytes, or none, and leaves the window as it is. Most of a text is put
+// here, so it asks little.
 #[inline(always)]
-fn put_letters(
+fn put_shorts(
     code: &PackedCode,
+    bytes: &[u8],
     v: Variable,
     before: Placed,
     elements: &[Element],
     key: &mut [u8],
-) -> Letters
-    requires slot { before.reach.window.slot ≡ slot code.now before.reach.window.base }
-    requires lead { before.reach.window.lead ≡ lead code.now before.reach.window.base }
-    requires most { before.reach.window.lead ≤ 135 }
+) -> Progress
+    requires short { AreShort code.now before.reach.window.base bytes.now }
     requires room { before.at + length elements.now ≤ length key.old }
     ensures bytes { (ws : List ℕ) → take result.at key.new ++ primary_level code.now (state_of before.reach) (level_weights 1 (weighted v (drop result.done elements.now)) ++ ws) ≡ take before.at key.old ++ primary_level code.now (state_of before.reach) (level_weights 1 (weighted v elements.now) ++ ws) }
     ensures within { result.at ≤ before.at + result.done }
     ensures some { result.done ≤ length elements.now }
-    ensures stays { StaysAfter before.at result.at key.old key.new }
+    ensures stays { StaysBeyond before.at result.at key.old key.new }
     ensures size { length key.new ≡ length key.old }
 {
     let reach = before.reach;
     let mut next = before.at;
     let mut done = 0;
     if reach.second {
-        return Letters { at: next, done };
+        return Progress { at: next, done };
     }
-    let slots = code.letter_slots();
     'each: while done < elements.len() {
         let w = primary_weight(v, &elements[done]);
-        let Some(place) = letter_in(slots, reach.window, w) else {
-            return Letters { at: next, done };
+        let Some(byte) = short_byte(bytes, w) else {
+            return Progress { at: next, done };
         };
-        next = put_letter(code, reach, w, place, key, next);
+        next = put_short(code, reach, w, byte, key, next);
         done += 1;
     }
-    Letters { at: next, done }
+    Progress { at: next, done }
 }
 
-// Puts the weight of the first of some elements where it is no letter and leaves the window as it is: a zero, which is left out, a
-// weight that has a byte of its own outside the window, such as that of the space, or an implicit pair that begins with one. It
-// puts none of any others.
+// Puts the first weights of some elements if they are an implicit pair whose first weight has a byte of its own outside the window, as
+// those of ideographs have. It puts none of any others.
 #[inline(always)]
-fn put_other(
+fn put_pairs(
     code: &PackedCode,
     v: Variable,
     before: Placed,
     elements: &[Element],
     key: &mut [u8],
-) -> Letters
+) -> Progress
     requires slot { before.reach.window.slot ≡ slot code.now before.reach.window.base }
     requires room { before.at + 3 * length elements.now ≤ length key.old }
     ensures bytes { (ws : List ℕ) → take result.at key.new ++ primary_level code.now (state_of before.reach) (level_weights 1 (weighted v (drop result.done elements.now)) ++ ws) ≡ take before.at key.old ++ primary_level code.now (state_of before.reach) (level_weights 1 (weighted v elements.now) ++ ws) }
@@ -434,36 +401,25 @@ fn put_other(
     ensures size { length key.new ≡ length key.old }
 {
     let (reach, at) = (before.reach, before.at);
-    if elements.is_empty() {
-        return Letters { at, done: 0 };
+    if elements.len() < 2 || reach.second {
+        return Progress { at, done: 0 };
     }
     let w = primary_weight(v, &elements[0]);
-    if w == 0 {
-        return Letters { at, done: 1 };
-    }
-    if reach.second || !code.is_single(w) || is_in_window(code, reach.window, w) {
-        return Letters { at, done: 0 };
-    }
-    if w / 256 != 0xFB {
-        return Letters {
-            at: put_single(code, reach, w, key, at),
-            done: 1,
-        };
-    }
-    if elements.len() == 1 {
-        return Letters { at, done: 0 };
+    if w / 256 != 0xFB || !code.is_single(w) || is_in_window(code, reach.window, w) {
+        return Progress { at, done: 0 };
     }
     let second = primary_weight(v, &elements[1]);
     if second == 0 {
-        return Letters { at, done: 0 };
+        return Progress { at, done: 0 };
     }
-    Letters {
+    Progress {
         at: put_implicit(code, reach, w, second, key, at),
         done: 2,
     }
 }
 
 // Puts the weight of the first of some elements, if there is one.
+#[inline(always)]
 fn put_next(
     code: &PackedCode,
     v: Variable,
@@ -489,7 +445,7 @@ fn put_next(
     }
 }
 
-// Puts the weights of elements, letters together and others one by one.
+// Puts the weights of elements, those that take one byte together and others one by one.
 #[inline(always)]
 fn put_each(
     code: &PackedCode,
@@ -507,23 +463,25 @@ fn put_each(
     ensures lead { result.reach.window.lead ≡ lead code.now result.reach.window.base }
     ensures most { result.reach.window.lead ≤ 135 }
     ensures within { result.at ≤ before.at + 3 * length elements.now }
-    ensures stays { StaysAfter before.at result.at key.old key.new }
+    ensures stays { StaysBeyond before.at result.at key.old key.new }
     ensures size { length key.new ≡ length key.old }
 {
     let mut placed = before;
     let mut left = elements;
+    let mut bytes = code.short_bytes(before.reach.window.base);
     'each: while !left.is_empty() {
-        let letters = put_letters(code, v, placed, left, key);
-        let (_, after) = left.split_at(letters.done);
-        placed.at = letters.at;
-        let other = put_other(code, v, placed, after, key);
-        let (_, others) = after.split_at(other.done);
-        placed.at = other.at;
-        if other.done > 0 {
+        let short = put_shorts(code, bytes, v, placed, left, key);
+        let (_, after) = left.split_at(short.done);
+        placed.at = short.at;
+        let pair = put_pairs(code, v, placed, after, key);
+        let (_, others) = after.split_at(pair.done);
+        placed.at = pair.at;
+        if pair.done > 0 || others.is_empty() {
             left = others;
             continue;
         }
         placed = put_next(code, v, placed, others, key);
+        bytes = code.short_bytes(placed.reach.window.base);
         left = others.split_at(others.len().min(1)).1;
     }
     placed
@@ -546,7 +504,7 @@ fn put_weights(
     ensures lead { result.reach.window.lead ≡ lead code.now result.reach.window.base }
     ensures most { result.reach.window.lead ≤ 135 }
     ensures within { result.at ≤ before.at + 3 * length elements.now }
-    ensures stays { StaysAfter before.at result.at key.old key.new }
+    ensures stays { StaysBeyond before.at result.at key.old key.new }
     ensures size { length key.new ≡ length key.old }
 {
     match v {

@@ -1,49 +1,96 @@
-use Rattle.std.proofs.Common.{◌≡◌, ℕ, List, suc, ◌+◌, ◌-◌, ◌++◌, chars, refl, sym, subst, ap, ◌∙◌, arith}
+use Rattle.std.proofs.Common.{◌≡◌, ℕ, List, suc, ◌+◌, ◌-◌, ◌<◌, ◌^◌, ◌++◌, chars, length, refl, sym, subst, ap, ◌∙◌, arith}
 use Rattle.unicode_normalization.specs.Forms.{nfd}
+use Rattle.uca_weights.specs.declared.settings.Settings.{Settings}
+use Rattle.uca_weights.specs.declared.settings.Variable.{Variable}
 use Rattle.uca_weights.specs.Settings.{levels}
 use Rattle.uca_weights.specs.VariableWeighting.{weighted}
 use Rattle.uca_model.specs.CollationElements.{elements}
 use Rattle.uca_model.specs.LevelWeights.{level_weights}
+use Rattle.uca_model.specs.Table.{ElementTable}
 use Rattle.uca_model.proofs.LevelLemmas.{levels-within}
-use Rattle.uca_key.specs.Placing.{PutsAt}
-use Rattle.uca_key.specs.PrimaryCode.{primary_level, start}
-use Rattle.uca_key.specs.Weighing.{all_own}
+use Rattle.uca_key.specs.Placing.{IsPutting, PutsAt}
+use Rattle.uca_key.specs.PrimaryCode.{PrimaryCode, primary_level, start}
 use Rattle.uca_key.specs.PackedKey.{later_levels, packed_key_by, packed_later}
-use Rattle.uca_key.proofs.PlacingLemmas.{IsPutting-start, IsPutting-more}
+use Rattle.uca_key.proofs.PlacingLemmas.{IsPutting-ends, IsPutting-start, IsPutting-more}
 use Rattle.uca_key.proofs.PackedPieces.{packed-levels}
 use Rattle.uca_key.proofs.packed_levels.put_held.Goals as goal
 
-pub levels-init : goal.levels-init
-levels-init c =
-    let text : List ℕ = chars c.args.reading.now.text.now in let k = c.args.code.now in let v = c.args.s.weighting in
-    let ws : List (List ℕ) = weighted v (elements c.args.reading.now.table.now (nfd text)) in
-    let own : List ℕ = primary_level k (start k) (level_weights 1 ws) in
-    let held : all_own c.args.reading.now.weighting c.args.elements.now ≡ ws = c.requires.elements ∙ ap (λ u. weighted u (elements c.args.reading.now.table.now (nfd text))) (sym c.requires.option) in
-    let puts = subst (λ us. PutsAt c.args.at (primary_level k (start k) (level_weights 1 us)) c.args.out.now c.put_whole-next.new.out c.put_whole-next.result) held c.put_whole-next.ensures in
-    record {
-      first = omega arith;
-      last = (levels-within c.args.s.strength).0;
-      few = c.count_common-common.ensures.few;
-      second = c.count_common-common.ensures.second c.args.reading.now.weighting;
-      third = c.count_common-common.ensures.third c.args.reading.now.weighting;
-      putting = IsPutting-more _ _ _ _ _ _ (IsPutting-start c.args.at c.args.out.now (packed_key_by k c.args.reading.now.table.now c.args.s text) _ c.ranges.at.fits refl) _ _ own (later_levels (levels c.args.s.strength - 1) 2 ws (nfd text)) c.requires.size (packed-levels k c.args.reading.now.table.now c.args.s text) puts;
-    }
+-- the weights of a text by the settings, where a reader has them by the same option
+abbrev weights : ElementTable → Variable → List ℕ → List (List ℕ)
+weights t v text = weighted v (elements t (nfd text))
 
-pub levels-preserved : goal.levels-preserved
-levels-preserved c =
-    let text : List ℕ = chars c.args.reading.now.text.now in let v = c.args.s.weighting in
-    let ws : List (List ℕ) = weighted v (elements c.args.reading.now.table.now (nfd text)) in
-    let at : ℕ = c.levels.level in let top : ℕ = levels c.args.s.strength in
-    let puts =
-    subst (λ u. PutsAt c.levels.next (packed_later (weighted u (elements c.args.reading.now.table.now (nfd text))) (nfd text) (at + 1)) c.levels.out c.put_later-next.new.out c.put_later-next.result) (sym c.requires.option)
-    c.put_later-next.ensures in
-    let some : top - at ≡ suc (top - (at + 1)) = omega (arith, c.levels.invariant.last, c.levels-last.ensures, c.levels-test.true) in
-    let split : later_levels (top - at) (at + 1) ws (nfd text) ≡ packed_later ws (nfd text) (at + 1) ++ later_levels (top - (at + 1)) (at + 1 + 1) ws (nfd text) = ap (λ n. later_levels n (at + 1) ws (nfd text)) some in
-    record {
-      first = omega arith;
-      last = omega (arith, c.levels.invariant.last, c.levels-last.ensures, c.levels-test.true);
-      few = c.levels.invariant.few;
-      second = c.levels.invariant.second;
-      third = c.levels.invariant.third;
-      putting = IsPutting-more _ _ _ _ _ _ c.levels.invariant.putting _ _ (packed_later ws (nfd text) (at + 1)) _ c.requires.size split puts;
-    }
+-- the levels of a key up to one were put
+abbrev Done : PrimaryCode → ElementTable → Settings → List ℕ → ℕ → List ℕ → ℕ → ℕ → List ℕ → Type 0
+Done k t s text at before level next now =
+    IsPutting at before next now (packed_key_by k t s text) (later_levels (levels s.strength - level) (level + 1) (weights t s.weighting text) (nfd text))
+
+module _ (k : PrimaryCode) (t : ElementTable) (s : Settings) (text : List ℕ) (v : Variable) (option : s.weighting ≡ v) (at : ℕ) (before : List ℕ) (small : length before < 2 ^ 64) where
+  first : (own : List (List ℕ)) (now : List ℕ) (next : ℕ) → at < 2 ^ 64 → own ≡ weights t v text → PutsAt at (primary_level k (start k) (level_weights 1 own)) before now next → Done k t s text at before 1 next now
+  first own now next fits held puts =
+      let same : own ≡ weights t s.weighting text = held ∙ ap (λ u. weights t u text) (sym option) in
+      IsPutting-more _ _ _ _ _ _ (IsPutting-start at before (packed_key_by k t s text) _ fits refl) _ _ _ (later_levels (levels s.strength - 1) 2 (weights t s.weighting text) (nfd text)) small (packed-levels k t s text)
+      (subst (λ us. PutsAt at (primary_level k (start k) (level_weights 1 us)) before now next) same puts)
+
+  more : (level next later : ℕ) (now after : List ℕ) → level < levels s.strength → Done k t s text at before level next now → PutsAt next (packed_later (weights t v text) (nfd text) (level + 1)) now after later → Done k t s text at before (level + 1) later after
+  more level next later now after below done puts =
+      let ws : List (List ℕ) = weights t s.weighting text in let top : ℕ = levels s.strength in
+      let some : top - level ≡ suc (top - (level + 1)) = omega (arith, below) in
+      let split : later_levels (top - level) (level + 1) ws (nfd text) ≡ packed_later ws (nfd text) (level + 1) ++ later_levels (top - (level + 1)) (level + 1 + 1) ws (nfd text) = ap (λ n. later_levels n (level + 1) ws (nfd text)) some in
+      IsPutting-more _ _ _ _ _ _ done _ _ (packed_later ws (nfd text) (level + 1)) _ small split
+      (subst (λ u. PutsAt next (packed_later (weights t u text) (nfd text) (level + 1)) now after later) (sym option) puts)
+
+  ends : (level next : ℕ) (now : List ℕ) → levels s.strength ≡ level → Done k t s text at before level next now → PutsAt at (packed_key_by k t s text) before now next
+  ends level next now last done =
+      let none : levels s.strength - level ≡ 0 = omega (arith, last) in
+      IsPutting-ends _ _ _ _ _ _ done (ap (λ n. later_levels n (level + 1) (weights t s.weighting text) (nfd text)) none)
+
+pub returns-then-last-eq1 : goal.returns-then-last-eq1
+returns-then-last-eq1 c =
+    let text : List ℕ = chars c.args.reading.now.text.now in let t = c.args.reading.now.table.now in let k = c.args.code.now in let s = c.args.s in let v = c.args.reading.now.weighting in
+    let small = c.requires.size in let option = c.requires.option in let last = c.levels-last.ensures in
+    ends k t s text v option c.args.at c.args.out.now small 1 _ _ (sym last ∙ c.if-last-eq1.true)
+    (first k t s text v option c.args.at c.args.out.now small _ _ _ c.ranges.at.fits c.requires.elements c.put_whole-next.ensures)
+
+pub returns-then-last-eq2 : goal.returns-then-last-eq2
+returns-then-last-eq2 c =
+    let text : List ℕ = chars c.args.reading.now.text.now in let t = c.args.reading.now.table.now in let k = c.args.code.now in let s = c.args.s in let v = c.args.reading.now.weighting in
+    let small = c.requires.size in let option = c.requires.option in let last = c.levels-last.ensures in
+    let step = more k t s text v option c.args.at c.args.out.now small in
+    let from = (levels-within s.strength).0 in
+    let one = first k t s text v option c.args.at c.args.out.now small _ _ _ c.ranges.at.fits c.requires.elements c.put_whole-next.ensures in
+    ends k t s text v option c.args.at c.args.out.now small 2 _ _ (sym last ∙ c.if-last-eq2.true)
+    (step 1 _ _ _ _ (omega (arith, last, c.if-last-eq2.true)) one c.put_later-next.ensures)
+
+pub returns-then-last-eq3 : goal.returns-then-last-eq3
+returns-then-last-eq3 c =
+    let text : List ℕ = chars c.args.reading.now.text.now in let t = c.args.reading.now.table.now in let k = c.args.code.now in let s = c.args.s in let v = c.args.reading.now.weighting in
+    let small = c.requires.size in let option = c.requires.option in let last = c.levels-last.ensures in
+    let step = more k t s text v option c.args.at c.args.out.now small in
+    let one = first k t s text v option c.args.at c.args.out.now small _ _ _ c.ranges.at.fits c.requires.elements c.put_whole-next.ensures in
+    let top : levels s.strength ≡ 3 = sym last ∙ c.if-last-eq3.true in
+    let two = step 1 _ _ _ _ (omega (arith, top)) one c.put_later-next.ensures in
+    ends k t s text v option c.args.at c.args.out.now small 3 _ _ top (step 2 _ _ _ _ (omega (arith, top)) two c.put_later-next-2.ensures)
+
+pub returns-then-last-eq4 : goal.returns-then-last-eq4
+returns-then-last-eq4 c =
+    let text : List ℕ = chars c.args.reading.now.text.now in let t = c.args.reading.now.table.now in let k = c.args.code.now in let s = c.args.s in let v = c.args.reading.now.weighting in
+    let small = c.requires.size in let option = c.requires.option in let last = c.levels-last.ensures in
+    let step = more k t s text v option c.args.at c.args.out.now small in
+    let one = first k t s text v option c.args.at c.args.out.now small _ _ _ c.ranges.at.fits c.requires.elements c.put_whole-next.ensures in
+    let top : levels s.strength ≡ 4 = sym last ∙ c.if-last-eq4.true in
+    let two = step 1 _ _ _ _ (omega (arith, top)) one c.put_later-next.ensures in
+    let three = step 2 _ _ _ _ (omega (arith, top)) two c.put_later-next-2.ensures in
+    ends k t s text v option c.args.at c.args.out.now small 4 _ _ top (step 3 _ _ _ _ (omega (arith, top)) three c.put_later-next-3.ensures)
+
+pub returns : goal.returns
+returns c =
+    let text : List ℕ = chars c.args.reading.now.text.now in let t = c.args.reading.now.table.now in let k = c.args.code.now in let s = c.args.s in let v = c.args.reading.now.weighting in
+    let small = c.requires.size in let option = c.requires.option in let last = c.levels-last.ensures in
+    let step = more k t s text v option c.args.at c.args.out.now small in
+    let one = first k t s text v option c.args.at c.args.out.now small _ _ _ c.ranges.at.fits c.requires.elements c.put_whole-next.ensures in
+    let bounds = levels-within s.strength in
+    let top : levels s.strength ≡ 5 = omega (arith, bounds.0, bounds.1, last, c.if-last-eq1.false, c.if-last-eq2.false, c.if-last-eq3.false, c.if-last-eq4.false) in
+    let two = step 1 _ _ _ _ (omega (arith, top)) one c.put_later-next.ensures in
+    let three = step 2 _ _ _ _ (omega (arith, top)) two c.put_later-next-2.ensures in
+    let four = step 3 _ _ _ _ (omega (arith, top)) three c.put_later-next-3.ensures in
+    ends k t s text v option c.args.at c.args.out.now small 5 _ _ top (step 4 _ _ _ _ (omega (arith, top)) four c.put_later.ensures)

@@ -6,8 +6,8 @@ use Rattle.uca_key.specs.Weighing.{all_own}
 use Rattle.uca_key.proofs.runs.pack_whole.Given as goal
 
 -- what is packed, what is left and what follows are packed as all is
-abbrev pub invariant-loop-left : goal.invariant-loop-left
-invariant-loop-left l = record {
+abbrev pub invariant-runs : goal.invariant-runs
+invariant-runs l = record {
   few : l.packed.run < 62;
   within : l.packed.at + 4 * length l.left ≤ l.fn.before.at + 4 * length l.elements;
   stays : StaysAfter l.fn.before.at l.packed.at l.fn.key l.key;
@@ -15,5 +15,5 @@ invariant-loop-left l = record {
   same : (ws : List ℕ) → take l.packed.at l.key ++ runs_after (common_weight l.level) l.packed.run (level_weights l.level (all_own l.v l.left) ++ ws) ≡ take l.fn.before.at l.fn.key ++ runs_after (common_weight l.level) l.fn.before.run (level_weights l.level (all_own l.v l.elements) ++ ws);
 }
 
-abbrev pub decreases-loop-left : goal.decreases-loop-left
-decreases-loop-left l = length l.left
+abbrev pub decreases-runs : goal.decreases-runs
+decreases-runs l = length l.left

@@ -20,15 +20,15 @@ returns-then-not-has_room c =
 
 pub returns : goal.returns
 returns c =
-    let v = c.args.v in let level = c.args.level in let packed = c.pack-packed.ensures in
+    let v = c.args.v in let level = c.args.level in let packed = c.pack_whole-packed.ensures in
     let runs : List ℕ → List ℕ = runs_after (common_weight level) c.args.common in
     let left : List ℕ = level_weights level (all_own v c.split_at.result.1.now) in
     let fits = c.has_room.ensures c.if-not-has_room.false in
     let whole : runs (left ++ []) ≡ packed_level (all_own v c.args.elements.now) level =
     ap runs (append-nil left) ∙ ap (λ es. runs (level_weights level (all_own v es))) c.split_at.ensures.back ∙ c.requires.counted.run in
-    let within : c.pack-packed.result.at < length c.pack-packed.new.key = omega (arith, fits, packed.within, c.saturating_add.ensures, c.requires.size) in
+    let within : c.pack_whole-packed.result.at < length c.pack_whole-packed.new.key = omega (arith, fits, packed.within, c.saturating_add.ensures, c.requires.size) in
     let same =
-    append-nil _ ∙ take_more_set c.pack-packed.new.key c.pack-packed.result.at (2 * c.pack-packed.result.run) within
+    append-nil _ ∙ take_more_set c.pack_whole-packed.new.key c.pack_whole-packed.result.at (2 * c.pack_whole-packed.result.run) within
     ∙ packed.bytes [] ∙ ap (λ bytes. take c.args.at c.args.out.now ++ bytes) whole in
-    let stays = stays-more _ _ _ _ _ _ packed.stays (stays-set c.pack-packed.result.at (2 * c.pack-packed.result.run) c.pack-packed.new.key) in
+    let stays = stays-more _ _ _ _ _ _ packed.stays (stays-set c.pack_whole-packed.result.at (2 * c.pack_whole-packed.result.run) c.pack_whole-packed.new.key) in
     IsPutting-ends _ _ _ _ _ _ (IsPutting-fitted _ _ _ _ _ [] (length-set _ _ _ ∙ packed.size) c.requires.size (omega (arith, within)) stays same) refl

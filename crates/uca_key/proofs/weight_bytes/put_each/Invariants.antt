@@ -2,8 +2,9 @@ use Rattle.std.proofs.Common.{◌≡◌, ◌+◌, ◌*◌, ◌≤◌, ◌++◌, 
 use Rattle.uca_weights.specs.VariableWeighting.{weighted}
 use Rattle.uca_model.specs.LevelWeights.{level_weights}
 use Rattle.uca_key.specs.PrimaryCode.{lead, primary_level, slot}
-use Rattle.uca_key.specs.Placing.{StaysAfter}
+use Rattle.uca_key.specs.Placing.{StaysBeyond}
 use Rattle.uca_key.specs.Reach.{state_of}
+use Rattle.uca_key.specs.SlotTables.{AreShort}
 use Rattle.uca_key.proofs.weight_bytes.put_each.Given as goal
 
 -- what is put, what is left and what follows are put as all is
@@ -12,8 +13,9 @@ invariant-each l = record {
   slot : l.placed.reach.window.slot ≡ slot l.code l.placed.reach.window.base;
   lead : l.placed.reach.window.lead ≡ lead l.code l.placed.reach.window.base;
   most : l.placed.reach.window.lead ≤ 135;
+  short : AreShort l.code l.placed.reach.window.base l.bytes;
   within : l.placed.at + 3 * length l.left ≤ l.fn.before.at + 3 * length l.elements;
-  stays : StaysAfter l.fn.before.at l.placed.at l.fn.key l.key;
+  stays : StaysBeyond l.fn.before.at l.placed.at l.fn.key l.key;
   size : length l.key ≡ length l.fn.key;
   same : (ws : List ℕ) → take l.placed.at l.key ++ primary_level l.code (state_of l.placed.reach) (level_weights 1 (weighted l.v l.left) ++ ws) ≡ take l.fn.before.at l.fn.key ++ primary_level l.code (state_of l.fn.before.reach) (level_weights 1 (weighted l.v l.elements) ++ ws);
 }

@@ -5,7 +5,7 @@ use Rattle.uca_model.specs.LevelWeights.{level_weights}
 use Rattle.uca_key.specs.PrimaryCode.{primary_level, start}
 use Rattle.uca_key.specs.Reach.{state_of}
 use Rattle.uca_key.specs.Weighing.{all_own}
-use Rattle.uca_key.proofs.PlacingLemmas.{IsPutting-start, IsPutting-more, IsPutting-ends, IsPutting-fitted, stays-more, stays-set}
+use Rattle.uca_key.proofs.PlacingLemmas.{IsPutting-start, IsPutting-more, IsPutting-ends, IsPutting-fitted, beyond-set}
 use Rattle.uca_key.proofs.WeighingLemmas.{first_weights-own}
 use Rattle.uca_key.proofs.weight_bytes.put_whole.Goals as goal
 
@@ -28,5 +28,5 @@ returns c =
     let same =
     append-nil _ ∙ take_more_set c.put_weights-placed.new.key c.put_weights-placed.result.at 0 within
     ∙ placed.bytes [] ∙ ap (λ bytes. take c.args.at c.args.out.now ++ bytes) whole in
-    let stays = stays-more _ _ _ _ _ _ placed.stays (stays-set c.put_weights-placed.result.at 0 c.put_weights-placed.new.key) in
+    let stays = beyond-set _ _ 0 _ _ placed.stays in
     IsPutting-ends _ _ _ _ _ _ (IsPutting-fitted _ _ _ _ _ [] (length-set _ _ _ ∙ placed.size) c.requires.size (omega (arith, within)) stays same) refl

@@ -2,16 +2,16 @@ use Rattle.std.proofs.Common.{◌≡◌, ◌+◌, ◌-◌, ◌≤◌, ◌++◌, 
 use Rattle.uca_weights.specs.VariableWeighting.{weighted}
 use Rattle.uca_model.specs.LevelWeights.{level_weights}
 use Rattle.uca_key.specs.PrimaryCode.{primary_level}
-use Rattle.uca_key.specs.Placing.{StaysAfter}
+use Rattle.uca_key.specs.Placing.{StaysBeyond}
 use Rattle.uca_key.specs.Reach.{state_of}
-use Rattle.uca_key.proofs.weight_bytes.put_letters.Given as goal
+use Rattle.uca_key.proofs.weight_bytes.put_shorts.Given as goal
 
 -- what is put, what is left and what follows are put as all is
 abbrev pub invariant-each : goal.invariant-each
 invariant-each l = record {
   some : l.done ≤ length l.elements;
   within : l.next ≤ l.fn.before.at + l.done;
-  stays : StaysAfter l.fn.before.at l.next l.fn.key l.key;
+  stays : StaysBeyond l.fn.before.at l.next l.fn.key l.key;
   size : length l.key ≡ length l.fn.key;
   same : (ws : List ℕ) → take l.next l.key ++ primary_level l.code (state_of l.fn.before.reach) (level_weights 1 (weighted l.v (drop l.done l.elements)) ++ ws) ≡ take l.fn.before.at l.fn.key ++ primary_level l.code (state_of l.fn.before.reach) (level_weights 1 (weighted l.v l.elements) ++ ws);
 }

@@ -1,9 +1,9 @@
-use Rattle.std.proofs.Common.{◌≡◌, ◌∙◌, ◌==◌, Bool, List, ap, arith, false, get_or, length, refl, subst, sym, ℕ}
+use Rattle.std.proofs.Common.{rules, ◌≡◌, ◌∙◌, ◌==◌, Bool, List, ap, arith, false, get_or, length, refl, subst, sym, ℕ}
 use Rattle.std.specs.List.{list_any}
 use Rattle.uca_key.specs.PrimaryCode.{PrimaryCode, lead, slot}
 use Rattle.uca_key.specs.SlotTables.{AreCommons, AreSlots}
 use Rattle.uca_key.proofs.SlotSteps.{code-made}
-use Rattle.uca_key.proofs.packed_code.PackedCode.new.Goals as goal
+use Rattle.uca_key.proofs.packed_code.PackedCode.without_windows.Goals as goal
 
 pub invariant_of-result : goal.invariant_of-result
 invariant_of-result c =
@@ -25,6 +25,7 @@ invariant_of-result c =
       numbered = c.window_of-first.ensures.slot k (subst (AreSlots k 65536) (sym c.deref-3.ensures.value) each) ∙ ap (slot k) (sym c.window_of-first.ensures.base);
       led = c.window_of-first.ensures.lead k refl ∙ ap (lead k) (sym c.window_of-first.ensures.base);
       most = c.window_of-first.ensures.most;
+      short = search rules;
     }
 
 pub returns : goal.returns
