@@ -93,6 +93,9 @@ pub(crate) fn is_ascii(bytes: &[u8]) -> bool
         if !front_is_ascii(bytes) {
             return false;
         }
+        if bytes.len() <= 4 * WIDE {
+            return true;
+        }
         at = last.min(4 * WIDE);
     }
     'each: loop {

@@ -1,5 +1,5 @@
-ghost use Rattle.std.specs.Prelude.{◌≡◌, ◌≤◌, ◌<◌, ◌↔◌, length, chars, IfOk, IfErr, IsOk, IfSome, IfNone, IsSome, MatchResult};
-ghost use Rattle.std.specs.Str.{IsAscii};
+ghost use Rattle.std.specs.Prelude.{◌≡◌, ◌≤◌, ◌<◌, ◌↔◌, length, chars, IfOk, IfErr, IsOk, IfSome, IfNone, IsSome, IsTrue, MatchResult};
+ghost use Rattle.std.specs.Str.{IsAscii, IsUtf8};
 ghost use Rattle.unicode_normalization.specs.Decompose.{decompose_canonical};
 ghost use Rattle.uca_model.specs.Lines.{IsTextLine};
 ghost use Rattle.uca_model.specs.SafeText.{IsSafe, IsLongRunAt, longest_run_after};
@@ -82,23 +82,11 @@ impl<'t> Passage<'t> {
         }
     }
 
-    /// The text that bytes are after a look for faults.
+    /// The text that bytes are after a look for faults, in blocks where there are many bytes.
     fn of_any(bytes: &'t [u8]) -> Result<Passage<'t>, TextFault>
         ensures { MatchResult result (λ p. IsTextLine bytes.now × (text_of p ≡ chars bytes.now)) (IsFault bytes.now) }
     {
-        if bytes.len() >= BLOCK_FROM {
-            Passage::of_many(bytes)
-        } else {
-            Passage::of_each(bytes)
-        }
-    }
-
-    /// The text that many bytes are, looked at in blocks. It is not inlined, so that a short text does not pay for its stack frame.
-    #[inline(never)]
-    fn of_many(bytes: &'t [u8]) -> Result<Passage<'t>, TextFault>
-        ensures { MatchResult result (λ p. IsTextLine bytes.now × (text_of p ≡ chars bytes.now)) (IsFault bytes.now) }
-    {
-        if is_utf8(bytes) {
+        if bytes.len() >= BLOCK_FROM && are_utf8(bytes) {
             return Passage::of_text(unsafe { from_utf8_unchecked(bytes) });
         }
         Passage::of_each(bytes)
@@ -150,10 +138,19 @@ impl<'t> Passage<'t> {
     }
 }
 
+/// Whether bytes are UTF-8, by a look at blocks of them. It is not inlined, so that a short text does not pay for its stack frame.
+#[inline(never)]
+fn are_utf8(bytes: &[u8]) -> bool
+    ensures { IsTrue result ↔ IsUtf8 bytes.now }
+{
+    is_utf8(bytes)
+}
+
 /// Goes over the characters to the first with which the text is no longer safe. The NFD has its nonstarters in
 /// another order, but their runs are as long as those of the decompositions, so nothing is put in order. Most characters
 /// are passed: between two of these that are close together nothing is counted, and the nonstarters after one are counted from
-/// its own on.
+/// its own on. It is not inlined, so that a text that needs no scan does not pay for its stack frame.
+#[inline(never)]
 fn scan(text: &str) -> Result<(), LongRun>
     ensures safe { IsOk result ↔ IsSafe (chars text.now) }
     ensures long { IfErr result (λ e. IsLongRunAt (chars text.now) e.at) }

@@ -153,7 +153,8 @@ fn added_in(bytes: &[u8], at: usize) -> usize
 }
 
 /// Whether a text adds so few nonstarters to a run that it is safe whatever it spells. The last block may begin in the one
-/// before it: what lies in both counts twice, so that the count is never too small.
+/// before it: what lies in both counts twice, so that the count is never too small. It is not inlined, for the same reason as `scan`.
+#[inline(never)]
 pub(crate) fn adds_few(bytes: &[u8]) -> bool
     requires { LANES ≤ length bytes.now }
     ensures { IsTrue result → added bytes.now ≤ STRIDE }
