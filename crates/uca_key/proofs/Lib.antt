@@ -13,10 +13,10 @@ pub mod PackedRuns
 pub mod PackedOrder
 pub mod PackedBytes
 pub mod PackedPrefixes
-pub mod SlotSteps
-pub mod OutsidePages
-pub mod GreatestWeights
+pub mod CodeSteps
+pub mod CodePages
 pub mod RunsLemmas
+pub mod MaskLemmas
 pub mod PackedPieces
 pub mod PackedBounds
 pub mod PackedTexts

@@ -12,7 +12,7 @@ use Rattle.uca_key.specs.declared.common_characters.TheConstants.{COMMON_RANGES,
 use Rattle.uca_key.specs.PrimaryCode.{PrimaryCode, code_of, code_points, first_primary, points_of_ranges, primary_of}
 use Rattle.uca_key.specs.PackedKey.{packed_key, packed_key_by, packed_levels}
 use Rattle.uca_key.specs.PackedLaws.{PackedKeysOutliveTables}
-use Rattle.uca_key.proofs.SlotSteps.{the_code}
+use Rattle.uca_key.proofs.CodeSteps.{the_code}
 
 -- the place of a number in a list, and in a longer one
 or-true : (a b : Bool) → b ≡ true → (a || b) ≡ true

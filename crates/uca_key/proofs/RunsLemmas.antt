@@ -5,7 +5,6 @@ use Rattle.std.proofs.lemmas.List.{drop_more}
 use Rattle.uca_weights.specs.declared.element.Element.{Element}
 use Rattle.uca_weights.specs.declared.settings.Variable.{Variable}
 use Rattle.uca_model.specs.LevelWeights.{level_weights}
-use Rattle.uca_key.specs.Runs.{AreCounted}
 use Rattle.uca_key.specs.PackedKey.{common_weight, runs_after}
 use Rattle.uca_key.specs.Weighing.{all_own, own_weights}
 use Rattle.uca_key.proofs.WeighingLemmas.{own_weights-both}
@@ -23,27 +22,6 @@ common-stays level = elim (cases_Bool (level == 2)) [
     | inr fourth ↦ let e : common_weight level ≡ 65535 = cond-false _ _ _ later ∙ cond-false _ _ _ fourth in ap (λ (x : ℕ). filter (λ (y : ℕ). not (y == 0)) (x ∷ [])) e ∙ ap (λ (x : ℕ). x ∷ []) (sym e)
   ]
 ]
-
--- none counted
-pub counted-none : (v : Variable) (level : ℕ) (es : List Element) → AreCounted v level 0 es
-counted-none v level es = record { some = omega arith; run = refl }
-
--- a common weight more, after those that are counted
-counted-more : (v : Variable) (level n : ℕ) (es : List Element) (d : Element) → n + 1 < 62 → n < length es → level_weights level (all_own v (get_or es n d ∷ [])) ≡ common_weight level ∷ [] → AreCounted v level n es → AreCounted v level (n + 1) es
-counted-more v level n es d few within own counted =
-    let common : ℕ = common_weight level in let e : Element = get_or es n d in let left : List Element = drop (n + 1) es in
-    let weights : List Element → List ℕ = λ l. level_weights level (all_own v l) in
-    let here : common ∷ weights left ≡ weights (drop n es) = ap (λ l. l ++ weights left) (sym own) ∙ sym (own_weights-both v level (e ∷ []) left) ∙ ap weights (sym (drop_more es n d within)) in
-    record {
-      some = omega arith;
-      run = one-common common n (weights left) few ∙ ap (runs_after common n) here ∙ counted.run;
-    }
-
-pub counted-second : (v : Variable) (n : ℕ) (es : List Element) (d : Element) → n + 1 < 62 → n < length es → (get_or es n d).l2 ≡ 32 → AreCounted v 2 n es → AreCounted v 2 (n + 1) es
-counted-second v n es d few within common counted = counted-more v 2 n es d few within (ap (λ (x : ℕ). filter (λ (y : ℕ). not (y == 0)) (x ∷ [])) common) counted
-
-pub counted-third : (v : Variable) (n : ℕ) (es : List Element) (d : Element) → n + 1 < 62 → n < length es → (get_or es n d).l3 ≡ 2 → AreCounted v 3 n es → AreCounted v 3 (n + 1) es
-counted-third v n es d few within common counted = counted-more v 3 n es d few within (ap (λ (x : ℕ). filter (λ (y : ℕ). not (y == 0)) (x ∷ [])) common) counted
 
 -- the weights from one element on
 pub weights-one : (v : Variable) (level i w : ℕ) (es : List Element) (d : Element) (ws : List ℕ) → i < length es → w ≡ slice_index (own_weights v (get_or es i d)) (level - 1)

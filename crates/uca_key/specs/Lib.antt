@@ -7,5 +7,5 @@ pub mod Placing
 pub mod PrimaryCode
 pub mod PackedKey
 pub mod PackedLaws
-pub mod SlotTables
+pub mod WeightCodes
 pub mod Reach

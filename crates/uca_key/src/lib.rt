@@ -19,10 +19,11 @@ mod packed_levels;
 mod pieces;
 pub mod placing;
 mod runs;
-mod short_bytes;
 pub mod streaming;
 mod weighing;
 mod weight_bytes;
+mod weight_codes;
+mod windows;
 
 pub use bounds::{PrefixBounds, prefix_bounds};
 pub use key_maker::KeyMaker;

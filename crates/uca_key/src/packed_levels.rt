@@ -1,42 +1,44 @@
 // Packed sort keys that are put into a buffer, level after level.
-ghost use Rattle.std.specs.Prelude.{◌≡◌, ◌<◌, ◌≤◌, ◌^◌, chars, length};
+ghost use Rattle.std.specs.Prelude.{◌≡◌, ◌<◌, ◌≤◌, ◌^◌, chars, length, take};
 ghost use Rattle.unicode_normalization.specs.Forms.{nfd};
 ghost use Rattle.uca_weights.specs.VariableWeighting.{weighted};
 ghost use Rattle.uca_key.specs.Pieces.{HoldsWeights, elements_of, weights_of};
 ghost use Rattle.uca_key.specs.Placing.{PutsAt};
 ghost use Rattle.uca_key.specs.PackedKey.{packed_key_by, packed_later};
-ghost use Rattle.uca_key.specs.Runs.{AreCounted};
+ghost use Rattle.uca_key.specs.Runs.{AreOthers};
 ghost use Rattle.uca_key.specs.Weighing.{all_own};
 
 use crate::packed_code::PackedCode;
 use crate::pieces::TextReading;
 use crate::placing::put_text;
+use crate::runs::LaterOthers;
 use crate::{runs, weight_bytes};
 use uca_weights::{Element, Settings};
 
-// Puts a later level, from 2 to 5, of a text whose elements are held. So many of their first weights at the levels 2 and 3 are common.
+// Puts a later level, from 2 to 5, of a text whose elements are held. The masks say which of the first have another weight than the
+// common one.
 #[inline(always)]
 fn put_later(
     reading: &TextReading,
     level: u8,
-    common: u8,
+    others: LaterOthers,
     elements: &[Element],
     at: usize,
     out: &mut [u8],
 ) -> usize
     requires first { 2 ≤ level }
     requires last { level ≤ 5 }
-    requires few { common < 62 }
-    requires second { AreCounted reading.now.weighting 2 common elements.now }
-    requires third { AreCounted reading.now.weighting 3 common elements.now }
+    requires second { AreOthers reading.now.weighting 2 others.second (take 64 elements.now) }
+    requires third { AreOthers reading.now.weighting 3 others.third (take 64 elements.now) }
     requires elements { all_own reading.now.weighting elements.now ≡ weighted reading.now.weighting (elements_of reading.now) }
     requires size { length out.old < 2 ^ 64 }
     ensures { PutsAt at (packed_later (weights_of reading.now) (nfd (chars reading.now.text.now)) level) out.old out.new result }
 {
+    let v = reading.weighting;
     match level {
-        2 => runs::put_whole(reading.weighting, 2, common, elements, at, out),
-        3 => runs::put_whole(reading.weighting, 3, common, elements, at, out),
-        4 => runs::put_whole(reading.weighting, 4, 0, elements, at, out),
+        2 => runs::put_whole(v, 2, others.second, elements, at, out),
+        3 => runs::put_whole(v, 3, others.third, elements, at, out),
+        4 => runs::put_whole(v, 4, runs::others_of(v, 4, elements), elements, at, out),
         _ => put_text(reading.table, reading.weighting, reading.text, at, out),
     }
 }
@@ -46,34 +48,37 @@ fn put_held(
     code: &PackedCode,
     reading: &TextReading,
     s: Settings,
-    elements: &[Element],
+    room: &[Element],
+    held: usize,
     at: usize,
     out: &mut [u8],
 ) -> usize
     requires option { s.weighting ≡ reading.now.weighting }
-    requires elements { all_own reading.now.weighting elements.now ≡ weighted reading.now.weighting (elements_of reading.now) }
+    requires within { held ≤ length room.now }
+    requires elements { all_own reading.now.weighting (take held room.now) ≡ weighted reading.now.weighting (elements_of reading.now) }
     requires size { length out.old < 2 ^ 64 }
     ensures { PutsAt at (packed_key_by code.now reading.now.table.now s (chars reading.now.text.now)) out.old out.new result }
 {
     let last = s.levels();
+    let elements = &room[..held];
     let next = weight_bytes::put_whole(code, reading.weighting, elements, at, out);
     if last == 1 {
         return next;
     }
-    let common = runs::count_common(elements);
-    let next = put_later(reading, 2, common, elements, next, out);
+    let others = runs::first_others(room, held);
+    let next = put_later(reading, 2, others, elements, next, out);
     if last == 2 {
         return next;
     }
-    let next = put_later(reading, 3, common, elements, next, out);
+    let next = put_later(reading, 3, others, elements, next, out);
     if last == 3 {
         return next;
     }
-    let next = put_later(reading, 4, common, elements, next, out);
+    let next = put_later(reading, 4, others, elements, next, out);
     if last == 4 {
         return next;
     }
-    put_later(reading, 5, common, elements, next, out)
+    put_later(reading, 5, others, elements, next, out)
 }
 
 /// Puts the packed sort key of a text that was read into room, by a code of primary weights, at a place of a buffer, level after level.
@@ -94,7 +99,7 @@ pub(crate) fn put_packed_levels(
     ensures room { length room.new ≡ length room.old }
 {
     if let Some(held) = reading.held {
-        return put_held(code, reading, s, &room[..held], at, out);
+        return put_held(code, reading, s, room, held, at, out);
     }
     let last = s.levels();
     let mut next = weight_bytes::put_again(code, reading, room, at, out);

@@ -1,5 +1,9 @@
 ghost use Rattle.std.specs.Prelude.{◌≡◌, ◌≤◌, ◌<◌, ◌++◌, [], chars, length, take};
+ghost use Rattle.std.specs.Option.{ForSome};
+ghost use Rattle.unicode_normalization.specs.Forms.{nfd};
 ghost use Rattle.uca_weights.specs.declared.settings.Variable.{Variable};
+ghost use Rattle.uca_weights.specs.VariableWeighting.{weighted};
+ghost use Rattle.uca_model.specs.CollationElements.{elements};
 ghost use Rattle.uca_model.specs.SafeText.{IsSafe};
 ghost use Rattle.uca_key.specs.Weighing.{all_own};
 
@@ -23,6 +27,21 @@ pub(crate) struct TextReading<'t> {
     ghost safe: { IsSafe (chars text.now) },
 }
 
+// Reads a text into room, weighs its elements, and returns how many they are where the room holds them all.
+#[inline(always)]
+fn read_and_weigh(t: &Table, v: Variable, text: &str, room: &mut [Element]) -> Option<usize>
+    requires { IsSafe (chars text.now) }
+    ensures holds { ForSome result (λ n. (n ≤ length room.new) × (all_own v (take n room.new) ≡ weighted v (elements t.now (nfd (chars text.now))))) }
+    ensures size { length room.new ≡ length room.old }
+{
+    let (read, rest) = read_text(t, text, room);
+    if !rest.is_empty() {
+        return None;
+    }
+    weigh_all(v, &mut Weigher::new(v), &mut room[..read]);
+    Some(read)
+}
+
 impl<'t> TextReading<'t> {
     ghost use Rattle.uca_key.specs.Pieces.{HoldsWeights, weights_left, weights_of};
 
@@ -41,21 +60,12 @@ impl<'t> TextReading<'t> {
         ensures holds { HoldsWeights result room.new }
         ensures size { length room.new ≡ length room.old }
     {
-        let (read, rest) = read_text(t, text, room);
-        if rest.is_empty() {
-            weigh_all(v, &mut Weigher::new(v), &mut room[..read]);
-            return TextReading {
-                table: t,
-                text,
-                weighting: v,
-                held: Some(read),
-            };
-        }
+        let held = read_and_weigh(t, v, text, room);
         TextReading {
             table: t,
             text,
             weighting: v,
-            held: None,
+            held,
         }
     }
 

@@ -1,11 +1,13 @@
 // The later levels of a packed key, with runs of common weights, put into a buffer piece by piece.
-ghost use Rattle.std.specs.Prelude.{◌≡◌, IsTrue, ◌≢◌, ◌==◌, ◌+◌, ◌*◌, ◌-◌, ◌^◌, ◌<◌, ◌≤◌, ◌++◌, ◌∷◌, [], ℕ, List, not, chars, drop, filter, length, take};
+ghost use Rattle.std.specs.Prelude.{◌≡◌, IsTrue, ◌≢◌, ◌==◌, ◌+◌, ◌*◌, ◌-◌, ◌^◌, ◌<◌, ◌≤◌, ◌++◌, ◌∷◌, [], ℕ, List, not, chars, drop, filter, length, map, min, take, ◌/◌, ◌%◌};
+ghost use Rattle.std.specs.Int.{bit_at};
+ghost use Rattle.std.specs.Simd.Lanes.{chunk, mask_l};
 ghost use Rattle.unicode_normalization.specs.Forms.{nfd};
 ghost use Rattle.uca_weights.specs.declared.settings.Variable.{Variable};
 ghost use Rattle.uca_model.specs.LevelWeights.{level_weights};
 ghost use Rattle.uca_model.specs.SafeText.{IsSafe};
 ghost use Rattle.uca_key.specs.PackedKey.{common_weight, other_bytes, runs_after, packed_later, packed_level};
-ghost use Rattle.uca_key.specs.Runs.{AreCounted, bytes_left};
+ghost use Rattle.uca_key.specs.Runs.{AreOthers, bytes_left, is_other};
 ghost use Rattle.uca_key.specs.Pieces.{weights_of};
 ghost use Rattle.uca_key.specs.Placing.{IsPutting, PutsAt, StaysAfter};
 ghost use Rattle.uca_key.specs.Weighing.{all_own};
@@ -13,21 +15,28 @@ ghost use Rattle.uca_key.specs.Weighing.{all_own};
 use crate::pieces::{PIECE, TextReading};
 use crate::placing::{has_room, put_bytes, put_text};
 use crate::weighing::own_weight;
+use std::simd::prelude::*;
 use uca_weights::{Element, Variable};
 
 // How many common weights one byte counts, and that byte.
-const FULL_RUN: u8 = 62;
+const FULL_RUN: usize = 62;
 
 const FULL_RUN_BYTE: u8 = 124;
 
 /// The most bytes that one weight takes.
 const OTHER: usize = 4;
 
+/// How many elements a mask has bits for.
+const MASKED: usize = 64;
+
+/// How many elements are looked at together.
+const LANES: usize = 16;
+
 // How far a level is packed: the place after its bytes, and how many common weights were counted since.
 #[derive(Clone, Copy)]
 struct Counted {
     at: usize,
-    run: u8,
+    run: usize,
 }
 
 // The weight that most characters have at a level from 2 to 4.
@@ -62,16 +71,20 @@ fn put_other(key: &mut [u8], at: usize, weight: u16) -> usize
 }
 
 // The byte that ends a run before a weight that takes more bytes.
-fn run_end(run: u8, common: u16, weight: u16) -> u8
+fn run_end(run: usize, common: u16, weight: u16) -> u8
     requires few { run < 62 }
     ensures below { weight < common → result ≡ 2 * run + 1 }
     ensures early { common ≤ weight → run < 2 → result ≡ 255 - 35 * run }
     ensures late { common ≤ weight → 2 ≤ run → result ≡ 187 - run }
 {
     if weight < common {
-        return 2 * run + 1;
+        return 2 * run as u8 + 1;
     }
-    if run < 2 { 255 - 35 * run } else { 187 - run }
+    if run < 2 {
+        255 - 35 * run as u8
+    } else {
+        187 - run as u8
+    }
 }
 
 // Puts a weight that ends a run of common ones, after or in the byte that says how long the run was.
@@ -86,7 +99,7 @@ fn put_after_run(key: &mut [u8], before: Counted, common: u16, weight: u16) -> C
     ensures size { length key.new ≡ length key.old }
 {
     if weight > common && before.run < 2 && weight - common < 35 {
-        key[before.at] = 220 - 35 * before.run + (weight - common) as u8;
+        key[before.at] = 220 - 35 * before.run as u8 + (weight - common) as u8;
         return Counted {
             at: before.at + 1,
             run: 0,
@@ -130,40 +143,35 @@ fn pack_weight(key: &mut [u8], before: Counted, common: u16, weight: u16) -> Cou
     put_after_run(key, before, common, weight)
 }
 
-// How many of the first of some elements have the common weight at a level, as long as the run that they are a part of is not full.
+// How many of the first of some elements have the common weight at a level by their mask, as long as the run that they are a part of
+// is not full.
 #[inline(always)]
-fn count_run(v: Variable, elements: &[Element], level: u8, run: u8) -> usize
+fn count_run(others: u64, left: usize, run: usize) -> usize
     requires few { run < 62 }
-    requires first { 2 ≤ level }
-    requires last { level ≤ 4 }
-    ensures some { result ≤ length elements.now }
+    ensures some { result ≤ left }
     ensures few { run + result < 62 }
-    ensures counted { (ws : List ℕ) → runs_after (common_weight level) (run + result) (level_weights level (all_own v (drop result elements.now)) ++ ws) ≡ runs_after (common_weight level) run (level_weights level (all_own v elements.now) ++ ws) }
+    ensures zeros { (i : ℕ) → i < result → bit_at others i ≡ 0 }
 {
-    let common = common_weight(level);
-    let most = elements.len().min((FULL_RUN - 1 - run) as usize);
-    let mut n = 0;
-    'each: while n < most {
-        if own_weight(v, &elements[n], level) != common {
-            return n;
-        }
-        n += 1;
-    }
-    n
+    (others.trailing_zeros() as usize)
+        .min(left)
+        .min(FULL_RUN - 1 - run)
 }
 
-// Packs the weights of elements at a level: counts the common ones up to the next other one, and puts that.
+// Packs the weights of elements at a level, by the mask of those that have another weight than the common one: counts the common ones
+// up to the next other one, and puts that.
 #[inline(always)]
-fn pack_whole(
+fn pack_masked(
     key: &mut [u8],
     before: Counted,
     v: Variable,
     elements: &[Element],
     level: u8,
+    others: u64,
 ) -> Counted
     requires few { before.run < 62 }
     requires first { 2 ≤ level }
     requires last { level ≤ 4 }
+    requires others { AreOthers v level others elements.now }
     requires room { before.at + 4 * length elements.now ≤ length key.old }
     ensures bytes { (ws : List ℕ) → take result.at key.new ++ runs_after (common_weight level) result.run ws ≡ take before.at key.old ++ runs_after (common_weight level) before.run (level_weights level (all_own v elements.now) ++ ws) }
     ensures few { result.run < 62 }
@@ -173,18 +181,98 @@ fn pack_whole(
 {
     let common = common_weight(level);
     let mut packed = before;
+    let mut mask = others;
     let mut left = elements;
     'runs: while !left.is_empty() {
-        let n = count_run(v, left, level, packed.run);
-        packed.run += n as u8;
+        let n = count_run(mask, left.len(), packed.run);
+        packed.run += n;
         let (_, after) = left.split_at(n);
         let Some((first, rest)) = after.split_first() else {
             return packed;
         };
         packed = pack_weight(key, packed, common, own_weight(v, first, level));
+        mask = mask >> n >> 1;
         left = rest;
     }
     packed
+}
+
+// Whether an element has another weight than the common one at level 4. Its parts are asked without a branch between them.
+#[inline(always)]
+fn is_fourth_other(v: Variable, e: &Element) -> bool
+    ensures { result ≡ is_other v 4 e.now }
+{
+    match v {
+        Variable::NonIgnorable | Variable::Blanked => true,
+        Variable::Shifted => {
+            let ignorable = (e.l1 == 0) & (e.l2 == 0) & (e.l3 == 0);
+            (e.starred & (e.l1 != 0xffff)) | (!e.starred & ignorable)
+        }
+    }
+}
+
+// The same at a level from 2 to 4.
+#[inline(always)]
+fn is_other(v: Variable, e: &Element, level: u8) -> bool
+    requires first { 2 ≤ level }
+    requires last { level ≤ 4 }
+    ensures { result ≡ is_other v level e.now }
+{
+    match level {
+        4 => is_fourth_other(v, e),
+        _ => own_weight(v, e, level) != common_weight(level),
+    }
+}
+
+/// Which of the first elements, as many as a mask has bits for, have another weight than the common one at a level from 2 to 4: each
+/// as a bit. They are looked at one by one, with no branch at what is found, since that cannot be foreseen.
+pub(crate) fn others_of(v: Variable, level: u8, elements: &[Element]) -> u64
+    requires first { 2 ≤ level }
+    requires last { level ≤ 4 }
+    ensures { result ≡ mask_l (map (is_other v level) (take 64 elements.now)) }
+{
+    let mut others = 0;
+    let mut n = elements.len().min(MASKED);
+    'each: while n > 0 {
+        n -= 1;
+        others = 2 * others + is_other(v, &elements[n], level) as u64;
+    }
+    others
+}
+
+// Packs the weights of elements at a level, as many at a time as a mask has bits for. The mask of the first is known.
+#[inline(always)]
+fn pack_whole(
+    key: &mut [u8],
+    before: Counted,
+    v: Variable,
+    elements: &[Element],
+    level: u8,
+    others: u64,
+) -> Counted
+    requires few { before.run < 62 }
+    requires first { 2 ≤ level }
+    requires last { level ≤ 4 }
+    requires others { AreOthers v level others (take 64 elements.now) }
+    requires room { before.at + 4 * length elements.now ≤ length key.old }
+    ensures bytes { (ws : List ℕ) → take result.at key.new ++ runs_after (common_weight level) result.run ws ≡ take before.at key.old ++ runs_after (common_weight level) before.run (level_weights level (all_own v elements.now) ++ ws) }
+    ensures few { result.run < 62 }
+    ensures within { result.at ≤ before.at + 4 * length elements.now }
+    ensures stays { StaysAfter before.at result.at key.old key.new }
+    ensures size { length key.new ≡ length key.old }
+{
+    let mut packed = before;
+    let mut mask = others;
+    let mut left = elements;
+    'pieces: loop {
+        let (piece, rest) = left.split_at(left.len().min(MASKED));
+        packed = pack_masked(key, packed, v, piece, level, mask);
+        if rest.is_empty() {
+            return packed;
+        }
+        mask = others_of(v, level, rest);
+        left = rest;
+    }
 }
 
 // Packs the weights of elements, at a level from 2 to 4. Each level has a loop of its own, which asks for no level.
@@ -200,29 +288,112 @@ fn pack(key: &mut [u8], before: Counted, v: Variable, elements: &[Element], leve
     ensures size { length key.new ≡ length key.old }
 {
     match level {
-        2 => pack_whole(key, before, v, elements, 2),
-        3 => pack_whole(key, before, v, elements, 3),
-        _ => pack_whole(key, before, v, elements, 4),
+        2 => pack_whole(key, before, v, elements, 2, others_of(v, 2, elements)),
+        3 => pack_whole(key, before, v, elements, 3, others_of(v, 3, elements)),
+        _ => pack_whole(key, before, v, elements, 4, others_of(v, 4, elements)),
     }
 }
 
-/// How many of the first of some elements have common weights at the levels 2 and 3. Most letters have, so both levels are asked
-/// together, up to the longest run that is not yet put.
-pub(crate) fn count_common(elements: &[Element]) -> u8
-    ensures few { result < 62 }
-    ensures second { (v : Variable) → AreCounted v 2 result elements.now }
-    ensures third { (v : Variable) → AreCounted v 3 result elements.now }
+// The weights of an element at the levels 2 and 3 in one number.
+#[inline(always)]
+fn later_weights(e: &Element) -> u32
+    ensures second { result % 65536 ≡ e.now.l2 }
+    ensures third { result / 65536 ≡ e.now.l3 }
 {
-    let most = elements.len().min(FULL_RUN as usize - 1);
-    let mut n = 0;
-    'each: while n < most {
-        let element = elements[n];
-        if element.l2 != common_weight(2) || element.l3 != common_weight(3) {
-            return n as u8;
-        }
-        n += 1;
+    e.l2 as u32 + 65536 * e.l3 as u32
+}
+
+// The same of sixteen elements.
+#[inline(always)]
+fn later_weights_at(elements: &[Element], at: usize) -> u32x16
+    requires { at + 16 ≤ length elements.now }
+    ensures second { map (λ w. w % 65536) result ≡ map (λ e. e.l2) (chunk at 16 elements.now) }
+    ensures third { map (λ w. w / 65536) result ≡ map (λ e. e.l3) (chunk at 16 elements.now) }
+{
+    u32x16::from_array([
+        later_weights(&elements[at]),
+        later_weights(&elements[at + 1]),
+        later_weights(&elements[at + 2]),
+        later_weights(&elements[at + 3]),
+        later_weights(&elements[at + 4]),
+        later_weights(&elements[at + 5]),
+        later_weights(&elements[at + 6]),
+        later_weights(&elements[at + 7]),
+        later_weights(&elements[at + 8]),
+        later_weights(&elements[at + 9]),
+        later_weights(&elements[at + 10]),
+        later_weights(&elements[at + 11]),
+        later_weights(&elements[at + 12]),
+        later_weights(&elements[at + 13]),
+        later_weights(&elements[at + 14]),
+        later_weights(&elements[at + 15]),
+    ])
+}
+
+// Which of sixteen elements have another weight than the common one at level 2, each as a bit, by the weights at the levels 2 and 3.
+#[inline(always)]
+fn second_others(weights: u32x16) -> u64
+    ensures { result ≡ mask_l (map (λ w. not (w == 32)) (map (λ w. w % 65536) weights)) }
+{
+    (weights & u32x16::splat(0xFFFF))
+        .simd_ne(u32x16::splat(0x20))
+        .to_bitmask()
+}
+
+// The same at level 3.
+#[inline(always)]
+fn third_others(weights: u32x16) -> u64
+    ensures { result ≡ mask_l (map (λ w. not (w == 2)) (map (λ w. w / 65536) weights)) }
+{
+    (weights >> u32x16::splat(16))
+        .simd_ne(u32x16::splat(2))
+        .to_bitmask()
+}
+
+/// Which of the first elements of a text have another weight than the common one at the levels 2 and 3: each as a bit of two masks.
+#[derive(Clone, Copy)]
+pub(crate) struct LaterOthers {
+    pub(crate) second: u64,
+    pub(crate) third: u64,
+}
+
+// The masks of whole blocks of sixteen elements, block by block from the last, which has the highest bits.
+#[inline(always)]
+fn later_others(elements: &[Element]) -> LaterOthers
+    requires whole { length elements.now % 16 ≡ 0 }
+    requires few { length elements.now ≤ 64 }
+    ensures second { (v : Variable) → result.second ≡ mask_l (map (is_other v 2) elements.now) }
+    ensures third { (v : Variable) → result.third ≡ mask_l (map (is_other v 3) elements.now) }
+{
+    let mut second = 0;
+    let mut third = 0;
+    let mut n = elements.len();
+    'each: while n > 0 {
+        n -= LANES;
+        let weights = later_weights_at(elements, n);
+        second = 65536 * second + second_others(weights);
+        third = 65536 * third + third_others(weights);
     }
-    n as u8
+    LaterOthers { second, third }
+}
+
+/// Which of the first elements of a text that was read into room have another weight than the common one at the levels 2 and 3. The
+/// last block may end in elements of the room that are none of the text, whose bits say nothing: so no remainder of a block needs a loop
+/// of its own.
+pub(crate) fn first_others(room: &[Element], held: usize) -> LaterOthers
+    requires { held ≤ length room.now }
+    ensures second { (v : Variable) → AreOthers v 2 result.second (take 64 (take held room.now)) }
+    ensures third { (v : Variable) → AreOthers v 3 result.third (take 64 (take held room.now)) }
+{
+    let first = held.min(MASKED);
+    let whole = first + (LANES - 1) - (first + (LANES - 1)) % LANES;
+    if whole <= room.len() {
+        return later_others(&room[..whole]);
+    }
+    LaterOthers {
+        second: others_of(Variable::NonIgnorable, 2, &room[..first]),
+        third: others_of(Variable::NonIgnorable, 3, &room[..first]),
+    }
 }
 
 // Packs the weights of some elements at a level from 2 to 4, a piece at a time.
@@ -263,34 +434,32 @@ fn put_end(state: Counted, out: &mut [u8]) -> usize
     requires few { state.run < 62 }
     ensures { (level : ℕ) → PutsAt state.at (bytes_left level state []) out.old out.new result }
 {
-    put_bytes(&[2 * state.run], state.at, out)
+    put_bytes(&[2 * state.run as u8], state.at, out)
 }
 
-/// Puts a level, from 2 to 4, of some elements at a place of a buffer. So many of their first weights are common. What fits is put at
-/// once, and else a piece at a time.
+/// Puts a level, from 2 to 4, of some elements at a place of a buffer, by the mask of the first elements that have another weight than
+/// the common one. What fits is put at once, and else a piece at a time.
 #[inline(always)]
 pub(crate) fn put_whole(
     v: Variable,
     level: u8,
-    common: u8,
+    others: u64,
     elements: &[Element],
     at: usize,
     out: &mut [u8],
 ) -> usize
     requires first { 2 ≤ level }
     requires last { level ≤ 4 }
-    requires few { common < 62 }
-    requires counted { AreCounted v level common elements.now }
+    requires others { AreOthers v level others (take 64 elements.now) }
     requires size { length out.old < 2 ^ 64 }
     ensures { PutsAt at (packed_level (all_own v elements.now) level) out.old out.new result }
 {
-    let before = Counted { at, run: common };
-    let (_, left) = elements.split_at(common as usize);
-    if !has_room(left.len(), OTHER, at.saturating_add(1), out.len()) {
-        return put_end(put_elements(v, level, before, left, out), out);
+    let before = Counted { at, run: 0 };
+    if !has_room(elements.len(), OTHER, at.saturating_add(1), out.len()) {
+        return put_end(put_elements(v, level, before, elements, out), out);
     }
-    let packed = pack_whole(out, before, v, left, level);
-    out[packed.at] = 2 * packed.run;
+    let packed = pack_whole(out, before, v, elements, level, others);
+    out[packed.at] = 2 * packed.run as u8;
     packed.at + 1
 }
 

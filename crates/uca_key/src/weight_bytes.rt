@@ -7,17 +7,15 @@ ghost use Rattle.uca_key.specs.Reach.{first_left, state_of};
 ghost use Rattle.uca_key.specs.Pieces.{weights_of};
 ghost use Rattle.uca_key.specs.Placing.{IsPutting, PutsAt, StaysAfter, StaysBeyond};
 ghost use Rattle.uca_key.specs.PrimaryCode.{PrimaryCode, after_slot, base_after, has_page, is_common, is_in_window, is_single, lead, letter_bytes, primary_bytes, primary_level, second_bytes, slot, start, state_after};
-ghost use Rattle.uca_key.specs.SlotTables.{AreShort, IsShort};
+ghost use Rattle.uca_key.specs.WeightCodes.{AreShort, IsShort, IsWindow};
 ghost use Rattle.uca_key.specs.Weighing.{all_own};
 
-use crate::packed_code::{PackedCode, Window};
+use crate::packed_code::PackedCode;
 use crate::pieces::{PIECE, TextReading};
 use crate::placing::{has_room, put_bytes};
+use crate::windows::Window;
 use uca_levels::primary_weight;
 use uca_weights::{Element, Variable};
-
-// How many slots a window has.
-const WINDOW: u8 = 119;
 
 // The most bytes that one weight takes.
 const LETTER: usize = 3;
@@ -49,14 +47,8 @@ fn put_pair(w: u16, key: &mut [u8], at: usize) -> usize
     at + 2
 }
 
-// Whether the high byte of a weight has a lead.
-fn has_page(w: u16) -> bool
-    ensures { result ≡ has_page w }
-{
-    w < 0x7000 || w / 256 == 0xFB
-}
-
 // Puts what follows the lead of a weight that has no byte of its own.
+#[inline(always)]
 fn put_after_lead(w: u16, key: &mut [u8], at: usize) -> usize
     requires { at + 2 ≤ length key.old }
     ensures bytes { take result key.new ≡ take at key.old ++ (if has_page w then (w % 256) ∷ [] else weight_bytes w) }
@@ -64,105 +56,57 @@ fn put_after_lead(w: u16, key: &mut [u8], at: usize) -> usize
     ensures stays { StaysAfter at result key.old key.new }
     ensures size { length key.new ≡ length key.old }
 {
-    if has_page(w) {
+    if w < 0x7000 {
+        return put_low(w, key, at);
+    }
+    if w / 256 == 0xFB {
         return put_low(w, key, at);
     }
     put_pair(w, key, at)
 }
 
-// Puts what follows the byte of a slot.
+// Whether a window has the slot of a weight.
 #[inline(always)]
-fn put_after_slot(code: &PackedCode, w: u16, key: &mut [u8], at: usize) -> usize
-    requires { at + 1 ≤ length key.old }
-    ensures bytes { take result key.new ≡ take at key.old ++ after_slot code.now w }
-    ensures within { result ≤ at + 1 }
-    ensures stays { StaysAfter at result key.old key.new }
-    ensures size { length key.new ≡ length key.old }
+fn is_in_window(code: &PackedCode, window: &Window, w: u16) -> bool
+    requires { IsWindow code.now window.now }
+    ensures { result ≡ is_in_window code.now window.now.base w }
 {
-    if code.is_common(w) {
-        return at;
-    }
-    put_low(w, key, at)
-}
-
-/// Whether a window has the slot of a weight.
-#[inline(always)]
-pub(crate) fn is_in_window(code: &PackedCode, window: Window, w: u16) -> bool
-    requires { window.slot ≡ slot code.now window.base }
-    ensures { result ≡ is_in_window code.now window.base w }
-{
-    let from = window.slot as u32;
-    let at = code.slot(w) as u32;
-    at.wrapping_sub(from) < WINDOW as u32
-}
-
-/// The first byte of a weight in the window.
-#[inline(always)]
-pub(crate) fn slot_byte(code: &PackedCode, window: Window, w: u16) -> u8
-    requires slot { window.slot ≡ slot code.now window.base }
-    requires lead { window.lead ≡ lead code.now window.base }
-    requires most { window.lead ≤ 135 }
-    requires from { slot code.now window.base ≤ slot code.now w }
-    requires inside { slot code.now w < slot code.now window.base + 119 }
-    ensures { result ≡ lead code.now window.base + 1 + (slot code.now w - slot code.now window.base) }
-{
-    let from = window.slot as u32;
-    let at = code.slot(w) as u32;
-    window.lead + 1 + (at - from) as u8
-}
-
-/// The first byte of a weight outside the window, which has this lead.
-#[inline(always)]
-pub(crate) fn lead_byte(code: &PackedCode, window: Window, w: u16, own: u8) -> u8
-    requires slot { window.slot ≡ slot code.now window.base }
-    requires lead { own ≡ lead code.now w }
-    requires most { own ≤ 135 }
-    ensures { result ≡ (if nat_lt (slot code.now w) (slot code.now window.base) then lead code.now w else lead code.now w + 119 + 1) }
-{
-    if code.slot(w) < window.slot {
-        own
-    } else {
-        own + WINDOW + 1
-    }
+    window.has_slot(code.of(w).slot)
 }
 
 // Puts a weight that the window has.
 #[inline(always)]
-fn put_inside(code: &PackedCode, window: Window, w: u16, key: &mut [u8], at: usize) -> usize
-    requires slot { window.slot ≡ slot code.now window.base }
-    requires lead { window.lead ≡ lead code.now window.base }
-    requires most { window.lead ≤ 135 }
-    requires inside { is_in_window code.now window.base w ≡ true }
+fn put_inside(code: &PackedCode, window: &Window, w: u16, key: &mut [u8], at: usize) -> usize
+    requires window { IsWindow code.now window.now }
+    requires inside { is_in_window code.now window.now.base w ≡ true }
     requires room { at + 2 ≤ length key.old }
-    ensures bytes { take result key.new ≡ take at key.old ++ letter_bytes code.now window.base w }
+    ensures bytes { take result key.new ≡ take at key.old ++ letter_bytes code.now window.now.base w }
     ensures within { result ≤ at + 2 }
     ensures stays { StaysAfter at result key.old key.new }
     ensures size { length key.new ≡ length key.old }
 {
-    key[at] = slot_byte(code, window, w);
-    put_after_slot(code, w, key, at + 1)
+    let own = code.of(w);
+    key[at] = window.slot_byte(own.slot);
+    if own.common {
+        return at + 1;
+    }
+    put_low(w, key, at + 1)
 }
 
 // Puts a weight that the window does not have, and that may have a byte of its own.
-fn put_outside(
-    code: &PackedCode,
-    window: Window,
-    w: u16,
-    single: bool,
-    key: &mut [u8],
-    at: usize,
-) -> usize
-    requires slot { window.slot ≡ slot code.now window.base }
-    requires outside { is_in_window code.now window.base w ≡ false }
-    requires single { single ≡ is_single code.now w }
+#[inline(always)]
+fn put_outside(code: &PackedCode, window: &Window, w: u16, key: &mut [u8], at: usize) -> usize
+    requires window { IsWindow code.now window.now }
+    requires outside { is_in_window code.now window.now.base w ≡ false }
     requires room { at + 3 ≤ length key.old }
-    ensures bytes { take result key.new ≡ take at key.old ++ letter_bytes code.now window.base w }
+    ensures bytes { take result key.new ≡ take at key.old ++ letter_bytes code.now window.now.base w }
     ensures within { result ≤ at + 3 }
     ensures stays { StaysAfter at result key.old key.new }
     ensures size { length key.new ≡ length key.old }
 {
-    key[at] = lead_byte(code, window, w, code.lead(w));
-    if single {
+    let own = code.of(w);
+    key[at] = window.lead_byte(own.slot, own.lead);
+    if own.single {
         return at + 1;
     }
     put_after_lead(w, key, at + 1)
@@ -183,99 +127,87 @@ fn put_second(w: u16, key: &mut [u8], at: usize) -> usize
     put_pair(w, key, at)
 }
 
-// Where the window begins after a weight that it does not have, and that may have a byte of its own.
-fn window_after(code: &PackedCode, window: Window, w: u16, single: bool) -> Window
-    requires slot { window.slot ≡ slot code.now window.base }
-    requires lead { window.lead ≡ lead code.now window.base }
-    requires most { window.lead ≤ 135 }
-    requires outside { is_in_window code.now window.base w ≡ false }
-    requires single { single ≡ is_single code.now w }
-    ensures base { result.base ≡ base_after code.now window.base w }
-    ensures slot { result.slot ≡ slot code.now result.base }
-    ensures lead { result.lead ≡ lead code.now result.base }
-    ensures most { result.lead ≤ 135 }
+// The window after a weight that this one does not have.
+#[inline(always)]
+fn window_after<'c>(code: &'c PackedCode, window: &'c Window, w: u16) -> &'c Window
+    requires window { IsWindow code.now window.now }
+    requires outside { is_in_window code.now window.now.base w ≡ false }
+    ensures base { result.now.base ≡ base_after code.now window.now.base w }
+    ensures window { IsWindow code.now result.now }
 {
-    if single {
-        return window;
-    }
-    let anchor = code.anchor(w);
-    if anchor == 0 {
-        window
-    } else {
-        code.window_at(anchor)
+    match code.next_window(w) {
+        Some(next) => next,
+        None => window,
     }
 }
 
-// What the weights before leave to the next one: a window, and whether the second weight of an implicit pair comes next.
+// What the weights before leave to the next one: a window, and how many weights of an implicit pair are due, one or none. That is a whole
+// word: a field after which bytes are unused is copied with them, by parts that overlap, and then the processor waits for its own stores.
 #[derive(Clone, Copy)]
-struct Reach {
-    window: Window,
-    second: bool,
+struct Reach<'c> {
+    window: &'c Window,
+    due: usize,
+}
+
+// How many weights of an implicit pair are due after a weight, where none was due before.
+#[inline(always)]
+fn due_after(w: u16) -> usize
+    ensures { nat_lt 0 result ≡ (w / 256 == 0xFB) }
+{
+    if w / 256 == 0xFB { 1 } else { 0 }
 }
 
 // How far a first level is put: the place after its bytes, and what its weights leave to the next one.
 #[derive(Clone, Copy)]
-struct Placed {
+struct Placed<'c> {
     at: usize,
-    reach: Reach,
+    reach: Reach<'c>,
 }
 
 // Puts a weight.
 #[inline(always)]
-fn put_weight(code: &PackedCode, before: Placed, w: u16, key: &mut [u8]) -> Placed
-    requires slot { before.reach.window.slot ≡ slot code.now before.reach.window.base }
-    requires lead { before.reach.window.lead ≡ lead code.now before.reach.window.base }
-    requires most { before.reach.window.lead ≤ 135 }
+fn put_weight<'c>(code: &'c PackedCode, before: Placed<'c>, w: u16, key: &mut [u8]) -> Placed<'c>
+    requires window { IsWindow code.now before.reach.window.now }
     requires room { before.at + 3 ≤ length key.old }
-    ensures bytes { take result.at key.new ≡ take before.at key.old ++ primary_bytes code.now (state_of before.reach) w }
-    ensures after { state_of result.reach ≡ state_after code.now (state_of before.reach) w }
-    ensures slot { result.reach.window.slot ≡ slot code.now result.reach.window.base }
-    ensures lead { result.reach.window.lead ≡ lead code.now result.reach.window.base }
-    ensures most { result.reach.window.lead ≤ 135 }
-    ensures within { result.at ≤ before.at + 3 }
-    ensures stays { StaysAfter before.at result.at key.old key.new }
+    ensures bytes { take result.at key.new ≡ take before.entry.at key.old ++ primary_bytes code.now (state_of before.entry.reach) w }
+    ensures after { state_of result.reach ≡ state_after code.now (state_of before.entry.reach) w }
+    ensures window { IsWindow code.now result.reach.window.now }
+    ensures within { result.at ≤ before.entry.at + 3 }
+    ensures stays { StaysAfter before.entry.at result.at key.old key.new }
     ensures size { length key.new ≡ length key.old }
 {
     let window = before.reach.window;
-    if before.reach.second {
+    if before.reach.due > 0 {
         return Placed {
             at: put_second(w, key, before.at),
-            reach: Reach {
-                window,
-                second: false,
-            },
+            reach: Reach { window, due: 0 },
         };
     }
-    let second = w / 256 == 0xFB;
+    let due = due_after(w);
     if is_in_window(code, window, w) {
         return Placed {
             at: put_inside(code, window, w, key, before.at),
-            reach: Reach { window, second },
+            reach: Reach { window, due },
         };
     }
-    let single = code.is_single(w);
     Placed {
-        at: put_outside(code, window, w, single, key, before.at),
+        at: put_outside(code, window, w, key, before.at),
         reach: Reach {
-            window: window_after(code, window, w, single),
-            second,
+            window: window_after(code, window, w),
+            due,
         },
     }
 }
 
 // The same of a weight that may be zero, which is left out.
 #[inline(always)]
-fn put_some(code: &PackedCode, before: Placed, w: u16, key: &mut [u8]) -> Placed
-    requires slot { before.reach.window.slot ≡ slot code.now before.reach.window.base }
-    requires lead { before.reach.window.lead ≡ lead code.now before.reach.window.base }
-    requires most { before.reach.window.lead ≤ 135 }
+fn put_some<'c>(code: &'c PackedCode, before: Placed<'c>, w: u16, key: &mut [u8]) -> Placed<'c>
+    requires window { IsWindow code.now before.reach.window.now }
     requires room { before.at + 3 ≤ length key.old }
-    ensures bytes { (ws : List ℕ) → take result.at key.new ++ primary_level code.now (state_of result.reach) ws ≡ take before.at key.old ++ primary_level code.now (state_of before.reach) (filter (λ x. not (x == 0)) (w ∷ []) ++ ws) }
-    ensures slot { result.reach.window.slot ≡ slot code.now result.reach.window.base }
-    ensures lead { result.reach.window.lead ≡ lead code.now result.reach.window.base }
-    ensures most { result.reach.window.lead ≤ 135 }
-    ensures within { result.at ≤ before.at + 3 }
-    ensures stays { StaysAfter before.at result.at key.old key.new }
+    ensures bytes { (ws : List ℕ) → take result.at key.new ++ primary_level code.now (state_of result.reach) ws ≡ take before.entry.at key.old ++ primary_level code.now (state_of before.entry.reach) (filter (λ x. not (x == 0)) (w ∷ []) ++ ws) }
+    ensures window { IsWindow code.now result.reach.window.now }
+    ensures within { result.at ≤ before.entry.at + 3 }
+    ensures stays { StaysAfter before.entry.at result.at key.old key.new }
     ensures size { length key.new ≡ length key.old }
 {
     if w == 0 {
@@ -300,10 +232,10 @@ fn short_byte(bytes: &[u8], w: u16) -> Option<u8>
 // weights are zero.
 #[inline(always)]
 fn put_short(code: &PackedCode, reach: Reach, w: u16, byte: u8, key: &mut [u8], at: usize) -> usize
-    requires first { reach.second ≡ false }
-    requires short { 0 < w → IsShort code.now reach.window.base w byte }
+    requires first { reach.due ≡ 0 }
+    requires short { 0 < w → IsShort code.now reach.window.now.base w byte }
     requires room { at + 1 ≤ length key.old }
-    ensures bytes { (ws : List ℕ) → take result key.new ++ primary_level code.now (state_of reach) ws ≡ take at key.old ++ primary_level code.now (state_of reach) (filter (λ x. not (x == 0)) (w ∷ []) ++ ws) }
+    ensures bytes { (ws : List ℕ) → take result key.new ++ primary_level code.now (state_of reach.entry) ws ≡ take at key.old ++ primary_level code.now (state_of reach.entry) (filter (λ x. not (x == 0)) (w ∷ []) ++ ws) }
     ensures within { result ≤ at + 1 }
     ensures stays { StaysBeyond at result key.old key.new }
     ensures size { length key.new ≡ length key.old }
@@ -322,189 +254,159 @@ fn put_implicit(
     key: &mut [u8],
     at: usize,
 ) -> usize
-    requires slot { reach.window.slot ≡ slot code.now reach.window.base }
-    requires first { reach.second ≡ false }
+    requires window { IsWindow code.now reach.window.now }
+    requires first { reach.due ≡ 0 }
     requires single { is_single code.now w ≡ true }
-    requires outside { is_in_window code.now reach.window.base w ≡ false }
+    requires outside { is_in_window code.now reach.window.now.base w ≡ false }
     requires pair { (w / 256 == 251) ≡ true }
     requires some { 0 < w }
     requires other { 0 < second }
     requires room { at + 4 ≤ length key.old }
-    ensures bytes { (ws : List ℕ) → take result key.new ++ primary_level code.now (state_of reach) ws ≡ take at key.old ++ primary_level code.now (state_of reach) (filter (λ x. not (x == 0)) (w ∷ []) ++ (filter (λ x. not (x == 0)) (second ∷ []) ++ ws)) }
+    ensures bytes { (ws : List ℕ) → take result key.new ++ primary_level code.now (state_of reach.entry) ws ≡ take at key.old ++ primary_level code.now (state_of reach.entry) (filter (λ x. not (x == 0)) (w ∷ []) ++ (filter (λ x. not (x == 0)) (second ∷ []) ++ ws)) }
     ensures within { result ≤ at + 4 }
     ensures stays { StaysAfter at result key.old key.new }
     ensures size { length key.new ≡ length key.old }
 {
-    key[at] = lead_byte(code, reach.window, w, code.lead(w));
+    let own = code.of(w);
+    key[at] = reach.window.lead_byte(own.slot, own.lead);
     put_second(second, key, at + 1)
 }
 
-// How far weights are put: the place after their bytes, and how many elements are done.
+// How far weights are put: the place after their bytes, and the elements that are left.
 #[derive(Clone, Copy)]
-struct Progress {
+struct Progress<'e> {
     at: usize,
-    done: usize,
+    left: &'e [Element],
 }
 
-// Puts the weights of elements as long as each takes one of these bytes, or none, and leaves the window as it is. Most of a text is put
-// here, so it asks little.
+// Puts the weights of elements as long as each takes one byte in the window, or none, and leaves the window as it is. Most of a text is
+// put here, so it asks little.
 #[inline(always)]
-fn put_shorts(
+fn put_shorts<'e>(
     code: &PackedCode,
-    bytes: &[u8],
     v: Variable,
     before: Placed,
-    elements: &[Element],
+    elements: &'e [Element],
     key: &mut [u8],
-) -> Progress
-    requires short { AreShort code.now before.reach.window.base bytes.now }
+) -> Progress<'e>
+    requires window { IsWindow code.now before.reach.window.now }
     requires room { before.at + length elements.now ≤ length key.old }
-    ensures bytes { (ws : List ℕ) → take result.at key.new ++ primary_level code.now (state_of before.reach) (level_weights 1 (weighted v (drop result.done elements.now)) ++ ws) ≡ take before.at key.old ++ primary_level code.now (state_of before.reach) (level_weights 1 (weighted v elements.now) ++ ws) }
-    ensures within { result.at ≤ before.at + result.done }
-    ensures some { result.done ≤ length elements.now }
-    ensures stays { StaysBeyond before.at result.at key.old key.new }
+    ensures bytes { (ws : List ℕ) → take result.at key.new ++ primary_level code.now (state_of before.entry.reach) (level_weights 1 (weighted v result.left.now) ++ ws) ≡ take before.entry.at key.old ++ primary_level code.now (state_of before.entry.reach) (level_weights 1 (weighted v elements.now) ++ ws) }
+    ensures within { result.at + length result.left.now ≤ before.entry.at + length elements.now }
+    ensures some { length result.left.now ≤ length elements.now }
+    ensures stays { StaysBeyond before.entry.at result.at key.old key.new }
     ensures size { length key.new ≡ length key.old }
 {
     let reach = before.reach;
-    let mut next = before.at;
-    let mut done = 0;
-    if reach.second {
-        return Progress { at: next, done };
+    let bytes = reach.window.bytes();
+    let mut at = before.at;
+    let mut left = elements;
+    if reach.due > 0 {
+        return Progress { at, left };
     }
-    'each: while done < elements.len() {
-        let w = primary_weight(v, &elements[done]);
+    'each: while let Some((first, rest)) = left.split_first() {
+        let w = primary_weight(v, first);
         let Some(byte) = short_byte(bytes, w) else {
-            return Progress { at: next, done };
+            return Progress { at, left };
         };
-        next = put_short(code, reach, w, byte, key, next);
-        done += 1;
+        at = put_short(code, reach, w, byte, key, at);
+        left = rest;
     }
-    Progress { at: next, done }
+    Progress { at, left }
 }
 
 // Puts the first weights of some elements if they are an implicit pair whose first weight has a byte of its own outside the window, as
 // those of ideographs have. It puts none of any others.
 #[inline(always)]
-fn put_pairs(
+fn put_pairs<'e>(
     code: &PackedCode,
     v: Variable,
     before: Placed,
-    elements: &[Element],
+    elements: &'e [Element],
     key: &mut [u8],
-) -> Progress
-    requires slot { before.reach.window.slot ≡ slot code.now before.reach.window.base }
+) -> Progress<'e>
+    requires window { IsWindow code.now before.reach.window.now }
     requires room { before.at + 3 * length elements.now ≤ length key.old }
-    ensures bytes { (ws : List ℕ) → take result.at key.new ++ primary_level code.now (state_of before.reach) (level_weights 1 (weighted v (drop result.done elements.now)) ++ ws) ≡ take before.at key.old ++ primary_level code.now (state_of before.reach) (level_weights 1 (weighted v elements.now) ++ ws) }
-    ensures within { result.at ≤ before.at + 3 * result.done }
-    ensures some { result.done ≤ length elements.now }
-    ensures stays { StaysAfter before.at result.at key.old key.new }
+    ensures bytes { (ws : List ℕ) → take result.at key.new ++ primary_level code.now (state_of before.entry.reach) (level_weights 1 (weighted v result.left.now) ++ ws) ≡ take before.entry.at key.old ++ primary_level code.now (state_of before.entry.reach) (level_weights 1 (weighted v elements.now) ++ ws) }
+    ensures within { result.at + 3 * length result.left.now ≤ before.entry.at + 3 * length elements.now }
+    ensures some { length result.left.now ≤ length elements.now }
+    ensures stays { StaysAfter before.entry.at result.at key.old key.new }
     ensures size { length key.new ≡ length key.old }
 {
     let (reach, at) = (before.reach, before.at);
-    if elements.len() < 2 || reach.second {
-        return Progress { at, done: 0 };
+    let none = Progress { at, left: elements };
+    let [first, next, ..] = elements else {
+        return none;
+    };
+    let w = primary_weight(v, first);
+    if w / 256 != 0xFB || reach.due > 0 {
+        return none;
     }
-    let w = primary_weight(v, &elements[0]);
-    if w / 256 != 0xFB || !code.is_single(w) || is_in_window(code, reach.window, w) {
-        return Progress { at, done: 0 };
+    if !code.of(w).single || is_in_window(code, reach.window, w) {
+        return none;
     }
-    let second = primary_weight(v, &elements[1]);
+    let second = primary_weight(v, next);
     if second == 0 {
-        return Progress { at, done: 0 };
+        return none;
     }
     Progress {
         at: put_implicit(code, reach, w, second, key, at),
-        done: 2,
-    }
-}
-
-// Puts the weight of the first of some elements, if there is one.
-#[inline(always)]
-fn put_next(
-    code: &PackedCode,
-    v: Variable,
-    before: Placed,
-    elements: &[Element],
-    key: &mut [u8],
-) -> Placed
-    requires slot { before.reach.window.slot ≡ slot code.now before.reach.window.base }
-    requires lead { before.reach.window.lead ≡ lead code.now before.reach.window.base }
-    requires most { before.reach.window.lead ≤ 135 }
-    requires room { before.at + 3 * length elements.now ≤ length key.old }
-    ensures bytes { (ws : List ℕ) → take result.at key.new ++ primary_level code.now (state_of result.reach) (level_weights 1 (weighted v (drop 1 elements.now)) ++ ws) ≡ take before.at key.old ++ primary_level code.now (state_of before.reach) (level_weights 1 (weighted v elements.now) ++ ws) }
-    ensures slot { result.reach.window.slot ≡ slot code.now result.reach.window.base }
-    ensures lead { result.reach.window.lead ≡ lead code.now result.reach.window.base }
-    ensures most { result.reach.window.lead ≤ 135 }
-    ensures within { result.at + 3 * length (drop 1 elements.now) ≤ before.at + 3 * length elements.now }
-    ensures stays { StaysAfter before.at result.at key.old key.new }
-    ensures size { length key.new ≡ length key.old }
-{
-    match elements {
-        [first, ..] => put_some(code, before, primary_weight(v, first), key),
-        [] => before,
+        left: elements.split_at(2).1,
     }
 }
 
 // Puts the weights of elements, those that take one byte together and others one by one.
 #[inline(always)]
-fn put_each(
-    code: &PackedCode,
+fn put_each<'c>(
+    code: &'c PackedCode,
     v: Variable,
-    before: Placed,
+    before: Placed<'c>,
     elements: &[Element],
     key: &mut [u8],
-) -> Placed
-    requires slot { before.reach.window.slot ≡ slot code.now before.reach.window.base }
-    requires lead { before.reach.window.lead ≡ lead code.now before.reach.window.base }
-    requires most { before.reach.window.lead ≤ 135 }
+) -> Placed<'c>
+    requires window { IsWindow code.now before.reach.window.now }
     requires room { before.at + 3 * length elements.now ≤ length key.old }
-    ensures bytes { (ws : List ℕ) → take result.at key.new ++ primary_level code.now (state_of result.reach) ws ≡ take before.at key.old ++ primary_level code.now (state_of before.reach) (level_weights 1 (weighted v elements.now) ++ ws) }
-    ensures slot { result.reach.window.slot ≡ slot code.now result.reach.window.base }
-    ensures lead { result.reach.window.lead ≡ lead code.now result.reach.window.base }
-    ensures most { result.reach.window.lead ≤ 135 }
-    ensures within { result.at ≤ before.at + 3 * length elements.now }
-    ensures stays { StaysBeyond before.at result.at key.old key.new }
+    ensures bytes { (ws : List ℕ) → take result.at key.new ++ primary_level code.now (state_of result.reach) ws ≡ take before.entry.at key.old ++ primary_level code.now (state_of before.entry.reach) (level_weights 1 (weighted v elements.now) ++ ws) }
+    ensures window { IsWindow code.now result.reach.window.now }
+    ensures within { result.at ≤ before.entry.at + 3 * length elements.now }
+    ensures stays { StaysBeyond before.entry.at result.at key.old key.new }
     ensures size { length key.new ≡ length key.old }
 {
     let mut placed = before;
     let mut left = elements;
-    let mut bytes = code.short_bytes(before.reach.window.base);
-    'each: while !left.is_empty() {
-        let short = put_shorts(code, bytes, v, placed, left, key);
-        let (_, after) = left.split_at(short.done);
+    'each: loop {
+        let short = put_shorts(code, v, placed, left, key);
         placed.at = short.at;
-        let pair = put_pairs(code, v, placed, after, key);
-        let (_, others) = after.split_at(pair.done);
+        let pair = put_pairs(code, v, placed, short.left, key);
         placed.at = pair.at;
-        if pair.done > 0 || others.is_empty() {
-            left = others;
+        if pair.left.len() < short.left.len() {
+            left = pair.left;
             continue;
         }
-        placed = put_next(code, v, placed, others, key);
-        bytes = code.short_bytes(placed.reach.window.base);
-        left = others.split_at(others.len().min(1)).1;
+        let Some((first, rest)) = pair.left.split_first() else {
+            return placed;
+        };
+        placed = put_some(code, placed, primary_weight(v, first), key);
+        left = rest;
     }
-    placed
 }
 
-// The same. Elements that keep their weights have a loop of their own, which does not ask whether one is variable.
-fn put_weights(
-    code: &PackedCode,
+// The same. Elements that keep their weights have a loop of their own, which does not ask whether one is variable. It is not inlined, so
+// that its loop has all registers.
+#[inline(never)]
+fn put_weights<'c>(
+    code: &'c PackedCode,
     v: Variable,
-    before: Placed,
+    before: Placed<'c>,
     elements: &[Element],
     key: &mut [u8],
-) -> Placed
-    requires slot { before.reach.window.slot ≡ slot code.now before.reach.window.base }
-    requires lead { before.reach.window.lead ≡ lead code.now before.reach.window.base }
-    requires most { before.reach.window.lead ≤ 135 }
+) -> Placed<'c>
+    requires window { IsWindow code.now before.reach.window.now }
     requires room { before.at + 3 * length elements.now ≤ length key.old }
-    ensures bytes { (ws : List ℕ) → take result.at key.new ++ primary_level code.now (state_of result.reach) ws ≡ take before.at key.old ++ primary_level code.now (state_of before.reach) (level_weights 1 (weighted v elements.now) ++ ws) }
-    ensures slot { result.reach.window.slot ≡ slot code.now result.reach.window.base }
-    ensures lead { result.reach.window.lead ≡ lead code.now result.reach.window.base }
-    ensures most { result.reach.window.lead ≤ 135 }
-    ensures within { result.at ≤ before.at + 3 * length elements.now }
-    ensures stays { StaysBeyond before.at result.at key.old key.new }
+    ensures bytes { (ws : List ℕ) → take result.at key.new ++ primary_level code.now (state_of result.reach) ws ≡ take before.entry.at key.old ++ primary_level code.now (state_of before.entry.reach) (level_weights 1 (weighted v elements.now) ++ ws) }
+    ensures window { IsWindow code.now result.reach.window.now }
+    ensures within { result.at ≤ before.entry.at + 3 * length elements.now }
+    ensures stays { StaysBeyond before.entry.at result.at key.old key.new }
     ensures size { length key.new ≡ length key.old }
 {
     match v {
@@ -515,33 +417,27 @@ fn put_weights(
 
 // What the weights before the first one leave to it.
 fn first_reach(code: &PackedCode) -> Reach
-    ensures slot { result.window.slot ≡ slot code.now result.window.base }
-    ensures lead { result.window.lead ≡ lead code.now result.window.base }
-    ensures most { result.window.lead ≤ 135 }
+    ensures window { IsWindow code.now result.window.now }
     ensures state { state_of result ≡ start code.now }
 {
     Reach {
         window: code.first_window(),
-        second: false,
+        due: 0,
     }
 }
 
 // Puts the weights of some elements, a piece at a time.
-fn put_elements(
-    code: &PackedCode,
+fn put_elements<'c>(
+    code: &'c PackedCode,
     v: Variable,
-    before: Placed,
+    before: Placed<'c>,
     elements: &[Element],
     out: &mut [u8],
-) -> Placed
-    requires slot { before.reach.window.slot ≡ slot code.now before.reach.window.base }
-    requires lead { before.reach.window.lead ≡ lead code.now before.reach.window.base }
-    requires most { before.reach.window.lead ≤ 135 }
+) -> Placed<'c>
+    requires window { IsWindow code.now before.reach.window.now }
     requires size { length out.old < 2 ^ 64 }
-    ensures bytes { (at : ℕ) (front whole ws : List ℕ) → IsPutting at front before.at out.old whole (first_left code.now before (level_weights 1 (all_own v elements.now) ++ ws)) → IsPutting at front result.at out.new whole (first_left code.now result ws) }
-    ensures slot { result.reach.window.slot ≡ slot code.now result.reach.window.base }
-    ensures lead { result.reach.window.lead ≡ lead code.now result.reach.window.base }
-    ensures most { result.reach.window.lead ≤ 135 }
+    ensures bytes { (at : ℕ) (front whole ws : List ℕ) → IsPutting at front before.entry.at out.old whole (first_left code.now before.entry (level_weights 1 (all_own v elements.now) ++ ws)) → IsPutting at front result.at out.new whole (first_left code.now result ws) }
+    ensures window { IsWindow code.now result.reach.window.now }
     ensures size { length out.new ≡ length out.old }
 {
     let mut bytes = [0; LETTER * PIECE];

@@ -94,3 +94,27 @@ returns c =
     let three = step 2 _ _ _ _ (omega (arith, top)) two c.put_later-next-2.ensures in
     let four = step 3 _ _ _ _ (omega (arith, top)) three c.put_later-next-3.ensures in
     ends k t s text v option c.args.at c.args.out.now small 5 _ _ top (step 4 _ _ _ _ (omega (arith, top)) four c.put_later.ensures)
+
+pub put_later-next-requires-clause-second : goal.put_later-next-requires-clause-second
+put_later-next-requires-clause-second c = c.first_others-others.ensures.second c.args.reading.now.weighting
+
+pub put_later-next-requires-clause-third : goal.put_later-next-requires-clause-third
+put_later-next-requires-clause-third c = c.first_others-others.ensures.third c.args.reading.now.weighting
+
+pub put_later-next-requires-2-clause-second : goal.put_later-next-requires-2-clause-second
+put_later-next-requires-2-clause-second c = c.first_others-others.ensures.second c.args.reading.now.weighting
+
+pub put_later-next-requires-2-clause-third : goal.put_later-next-requires-2-clause-third
+put_later-next-requires-2-clause-third c = c.first_others-others.ensures.third c.args.reading.now.weighting
+
+pub put_later-next-requires-3-clause-second : goal.put_later-next-requires-3-clause-second
+put_later-next-requires-3-clause-second c = c.first_others-others.ensures.second c.args.reading.now.weighting
+
+pub put_later-next-requires-3-clause-third : goal.put_later-next-requires-3-clause-third
+put_later-next-requires-3-clause-third c = c.first_others-others.ensures.third c.args.reading.now.weighting
+
+pub put_later-requires-clause-second : goal.put_later-requires-clause-second
+put_later-requires-clause-second c = c.first_others-others.ensures.second c.args.reading.now.weighting
+
+pub put_later-requires-clause-third : goal.put_later-requires-clause-third
+put_later-requires-clause-third c = c.first_others-others.ensures.third c.args.reading.now.weighting

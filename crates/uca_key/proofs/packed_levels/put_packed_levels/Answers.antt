@@ -12,8 +12,8 @@ use Rattle.uca_key.proofs.PlacingLemmas.{IsPutting-start, IsPutting-more}
 use Rattle.uca_key.proofs.PackedPieces.{packed-levels}
 use Rattle.uca_key.proofs.packed_levels.put_packed_levels.Goals as goal
 
-pub slice_bounds-put_held-end : goal.slice_bounds-put_held-end
-slice_bounds-put_held-end c = (c.requires.holds c.in-Some.held c.in-Some.is).0
+pub put_held-requires-clause-within : goal.put_held-requires-clause-within
+put_held-requires-clause-within c = (c.requires.holds c.in-Some.held c.in-Some.is).0
 
 pub put_held-requires-clause-elements : goal.put_held-requires-clause-elements
 put_held-requires-clause-elements c =

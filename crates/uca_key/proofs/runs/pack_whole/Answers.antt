@@ -1,32 +1,39 @@
-use Rattle.std.proofs.Common.{rules, ◌≡◌, ◌==◌, ℕ, ◌+◌, not, List, [], ◌∷◌, ◌++◌, drop, filter, length, take, subst, sym, ap, ◌∙◌, arith}
+use Rattle.std.proofs.Common.{ap₂, ◌≡◌, ◌≤◌, ℕ, List, ◌++◌, length, take, subst, sym, ap, ◌∙◌, arith, append_assoc, take-append-drop}
 use Rattle.uca_weights.specs.declared.element.Element.{Element}
 use Rattle.uca_weights.specs.declared.settings.Variable.{Variable}
 use Rattle.uca_model.specs.LevelWeights.{level_weights}
 use Rattle.uca_key.specs.PackedKey.{common_weight, runs_after}
+use Rattle.uca_key.specs.Runs.{AreOthers}
 use Rattle.uca_key.specs.Weighing.{all_own}
+use Rattle.uca_key.proofs.MaskLemmas.{others-front, others-marked}
 use Rattle.uca_key.proofs.PlacingLemmas.{stays-more}
-use Rattle.uca_key.proofs.RunsLemmas.{weights-one}
+use Rattle.uca_key.proofs.WeighingLemmas.{own_weights-both}
 use Rattle.uca_key.proofs.runs.pack_whole.Goals as goal
 
-pub runs-preserved : goal.runs-preserved
-runs-preserved c =
-    let v : Variable = c.args.v in let level : ℕ = c.args.level in let i = c.runs.invariant in
-    let packed = c.pack_weight-packed.ensures in let run : ℕ = c.runs.packed.run + c.count_run-n.result in
-    let w : ℕ = c.own_weight.result in let rest : List Element = c.in-Some.rest.now in
-    let after : c.split_at.result.1.now ≡ c.in-Some.first.now ∷ rest = search rules in
-    let dropped : drop c.count_run-n.result c.runs.left.now ≡ c.in-Some.first.now ∷ rest = sym c.split_at.ensures.back ∙ after in
+pub pack_masked-packed-requires-clause-others : goal.pack_masked-packed-requires-clause-others
+pack_masked-packed-requires-clause-others c =
+    let v : Variable = c.args.v in let level : ℕ = c.args.level in let left : List Element = c.pieces.left.now in
+    let few : c.min.result ≤ 64 = omega (arith, c.min.ensures) in
+    subst (AreOthers v level c.pieces.mask) (sym c.split_at.ensures.front) (others-front v level c.pieces.mask c.min.result 64 left few c.pieces.invariant.others)
+
+pub returns-then-is_empty-clause-stays : goal.returns-then-is_empty-clause-stays
+returns-then-is_empty-clause-stays c = stays-more _ _ _ _ _ _ c.pieces.invariant.stays c.pack_masked-packed.ensures.stays
+
+pub pieces-preserved : goal.pieces-preserved
+pieces-preserved c =
+    let v : Variable = c.args.v in let level : ℕ = c.args.level in let i = c.pieces.invariant in
+    let packed = c.pack_masked-packed.ensures in
+    let left : List Element = c.pieces.left.now in
+    let piece : List Element = c.split_at.result.0.now in let rest : List Element = c.split_at.result.1.now in
+    let parts : left ≡ piece ++ rest = sym (ap₂ (λ a b. a ++ b) c.split_at.ensures.front c.split_at.ensures.back ∙ take-append-drop c.min.result left) in
     let weights : List Element → List ℕ = λ es. level_weights level (all_own v es) in
-    let put : List ℕ → List ℕ = λ l. take c.runs.packed.at c.runs.key ++ l in
-    let puts : (ws : List ℕ) → take c.pack_weight-packed.result.at c.pack_weight-packed.new.key ++ runs_after (common_weight level) c.pack_weight-packed.result.run ws ≡ put (runs_after (common_weight level) run (filter (λ (x : ℕ). not (x == 0)) (w ∷ []) ++ ws)) =
-    subst (λ (m : ℕ). (ws : List ℕ) → take c.pack_weight-packed.result.at c.pack_weight-packed.new.key ++ runs_after m c.pack_weight-packed.result.run ws ≡ put (runs_after m run (filter (λ (x : ℕ). not (x == 0)) (w ∷ []) ++ ws))) c.common_weight-common.ensures packed.bytes in
+    let put : List ℕ → List ℕ = λ l. take c.pieces.packed.at c.pieces.key ++ runs_after (common_weight level) c.pieces.packed.run l in
+    let both : (ws : List ℕ) → weights left ++ ws ≡ weights piece ++ (weights rest ++ ws) = λ ws. ap (λ es. weights es ++ ws) parts ∙ ap (λ l. l ++ ws) (own_weights-both v level piece rest) ∙ append_assoc (weights piece) (weights rest) ws in
     record {
       few = packed.few;
-      within = omega (arith, packed.within, i.within, ap length dropped, c.split_at.ensures.back_len, ap length after);
+      others = others-marked v level (take 64 rest) c.others_of-mask.result c.others_of-mask.ensures;
+      within = omega (arith, packed.within, i.within, ap length parts);
       stays = stays-more _ _ _ _ _ _ i.stays packed.stays;
       size = packed.size ∙ i.size;
-      same = λ ws.
-          puts (weights rest ++ ws)
-          ∙ ap (λ l. put (runs_after (common_weight level) run l)) (sym (weights-one v level 0 w (c.in-Some.first.now ∷ rest) c.in-Some.first.now ws (omega arith) c.own_weight.ensures))
-          ∙ ap (λ es. put (runs_after (common_weight level) run (weights es ++ ws))) (sym dropped)
-          ∙ ap put (c.count_run-n.ensures.counted ws) ∙ i.same ws;
+      same = λ ws. packed.bytes (weights rest ++ ws) ∙ sym (ap put (both ws)) ∙ i.same ws;
     }

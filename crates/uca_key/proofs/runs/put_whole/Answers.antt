@@ -10,10 +10,10 @@ use Rattle.uca_key.proofs.runs.put_whole.Goals as goal
 pub returns-then-not-has_room : goal.returns-then-not-has_room
 returns-then-not-has_room c =
     let level = c.args.level in let whole = packed_level (all_own c.args.v c.args.elements.now) level in
-    let runs : List ℕ → List ℕ = runs_after (common_weight level) c.args.common in
-    let weights = all_own c.args.v c.split_at.result.1.now in
+    let runs : List ℕ → List ℕ = runs_after (common_weight level) 0 in
+    let weights = all_own c.args.v c.args.elements.now in
     let begun : runs (level_weights level (weights ++ [])) ≡ whole =
-    ap (λ ws. runs (level_weights level ws)) (append-nil weights) ∙ ap (λ es. runs (level_weights level (all_own c.args.v es))) c.split_at.ensures.back ∙ c.requires.counted.run in
+    ap (λ ws. runs (level_weights level ws)) (append-nil weights) in
     let put = c.put_elements.ensures.bytes c.args.at c.args.out.now whole [] (IsPutting-start _ _ _ _ c.ranges.at.fits begun) in
     let left = bytes_left level c.put_elements.result [] in
     IsPutting-ends _ _ _ _ _ _ (IsPutting-more _ _ _ _ _ _ put _ _ left [] c.requires.size (sym (append-nil left)) (c.put_end.ensures level)) refl
@@ -21,11 +21,11 @@ returns-then-not-has_room c =
 pub returns : goal.returns
 returns c =
     let v = c.args.v in let level = c.args.level in let packed = c.pack_whole-packed.ensures in
-    let runs : List ℕ → List ℕ = runs_after (common_weight level) c.args.common in
-    let left : List ℕ = level_weights level (all_own v c.split_at.result.1.now) in
+    let runs : List ℕ → List ℕ = runs_after (common_weight level) 0 in
+    let left : List ℕ = level_weights level (all_own v c.args.elements.now) in
     let fits = c.has_room.ensures c.if-not-has_room.false in
     let whole : runs (left ++ []) ≡ packed_level (all_own v c.args.elements.now) level =
-    ap runs (append-nil left) ∙ ap (λ es. runs (level_weights level (all_own v es))) c.split_at.ensures.back ∙ c.requires.counted.run in
+    ap runs (append-nil left) in
     let within : c.pack_whole-packed.result.at < length c.pack_whole-packed.new.key = omega (arith, fits, packed.within, c.saturating_add.ensures, c.requires.size) in
     let same =
     append-nil _ ∙ take_more_set c.pack_whole-packed.new.key c.pack_whole-packed.result.at (2 * c.pack_whole-packed.result.run) within

@@ -11,9 +11,7 @@ use Rattle.uca_key.proofs.weight_bytes.put_again.Goals as goal
 pub each-init : goal.each-init
 each-init c = record {
   weighting = c.again-left.ensures.weighting;
-  slot = c.first_reach.ensures.slot;
-  lead = c.first_reach.ensures.lead;
-  most = c.first_reach.ensures.most;
+  window = c.first_reach.ensures.window;
   size = refl;
   out = refl;
   putting =
@@ -31,9 +29,7 @@ returns-then-n-eq0-clause-bytes c =
 pub each-preserved : goal.each-preserved
 each-preserved c = record {
   weighting = c.read-n.ensures.weighting ∙ c.each.invariant.weighting;
-  slot = c.put_elements-state.ensures.slot;
-  lead = c.put_elements-state.ensures.lead;
-  most = c.put_elements-state.ensures.most;
+  window = c.put_elements-state.ensures.window;
   size = c.read-n.ensures.size ∙ c.each.invariant.size;
   out = c.put_elements-state.ensures.size ∙ c.each.invariant.out;
   putting =

@@ -1,19 +1,16 @@
 use Rattle.std.proofs.Common.{◌≡◌, ◌+◌, ◌*◌, ◌≤◌, ◌++◌, ℕ, List, length, take}
 use Rattle.uca_weights.specs.VariableWeighting.{weighted}
 use Rattle.uca_model.specs.LevelWeights.{level_weights}
-use Rattle.uca_key.specs.PrimaryCode.{lead, primary_level, slot}
+use Rattle.uca_key.specs.PrimaryCode.{primary_level}
 use Rattle.uca_key.specs.Placing.{StaysBeyond}
 use Rattle.uca_key.specs.Reach.{state_of}
-use Rattle.uca_key.specs.SlotTables.{AreShort}
+use Rattle.uca_key.specs.WeightCodes.{IsWindow}
 use Rattle.uca_key.proofs.weight_bytes.put_each.Given as goal
 
 -- what is put, what is left and what follows are put as all is
 abbrev pub invariant-each : goal.invariant-each
 invariant-each l = record {
-  slot : l.placed.reach.window.slot ≡ slot l.code l.placed.reach.window.base;
-  lead : l.placed.reach.window.lead ≡ lead l.code l.placed.reach.window.base;
-  most : l.placed.reach.window.lead ≤ 135;
-  short : AreShort l.code l.placed.reach.window.base l.bytes;
+  window : IsWindow l.code l.placed.reach.window.now;
   within : l.placed.at + 3 * length l.left ≤ l.fn.before.at + 3 * length l.elements;
   stays : StaysBeyond l.fn.before.at l.placed.at l.fn.key l.key;
   size : length l.key ≡ length l.fn.key;

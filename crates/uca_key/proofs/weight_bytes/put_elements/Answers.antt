@@ -16,9 +16,7 @@ pieces-preserved c =
     let piece : List Element = c.split_at.result.0.now in let rest : List Element = c.split_at.result.1.now in
     let parts : left ≡ piece ++ rest = sym (ap₂ (λ a b. a ++ b) c.split_at.ensures.front c.split_at.ensures.back ∙ take-append-drop c.min.result left) in
     record {
-      slot = c.put_weights-placed.ensures.slot;
-      lead = c.put_weights-placed.ensures.lead;
-      most = c.put_weights-placed.ensures.most;
+      window = c.put_weights-placed.ensures.window;
       size = c.put_bytes.auto.out ∙ i.size;
       bytes = c.put_weights-placed.ensures.size ∙ i.bytes;
       putting = λ at front whole ws h.

@@ -1,7 +1,0 @@
-use Rattle.std.proofs.Common.{[], chars, ◌∙◌}
-use Rattle.std.proofs.lemmas.Str.{chars-nil}
-use Rattle.uca_key.proofs.SlotSteps.{alone-primary}
-use Rattle.uca_key.proofs.packed_code.primary_of.Goals as goal
-
-pub returns-in-Some : goal.returns-in-Some
-returns-in-Some c = c.first_primary.ensures ∙ alone-primary c.args.t.now c.args.c c.in-Some.elements.now (chars []) chars-nil c.in-Some.ensures

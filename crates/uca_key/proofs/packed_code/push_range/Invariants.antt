@@ -1,7 +1,0 @@
-use Rattle.std.proofs.Common.{◌≡◌, ◌-◌, ◌++◌, map}
-use Rattle.std.specs.List.{range_with_len}
-use Rattle.uca_key.specs.PrimaryCode.{primary_of}
-use Rattle.uca_key.proofs.packed_code.push_range.Given as goal
-
-abbrev pub invariant-loop-point : goal.invariant-loop-point
-invariant-loop-point l = l.weights.items ≡ l.fn.weights.items ++ map (primary_of l.t) (range_with_len l.first (l.point - l.first))

@@ -1,0 +1,10 @@
+use Rattle.std.proofs.Common.{◌≡◌, ◌+◌, ◌*◌, ◌≤◌, take}
+use Rattle.std.specs.List.{sum_by}
+use Rattle.uca_key.specs.PrimaryCode.{page_of, past}
+use Rattle.uca_key.proofs.weight_codes.lead_over.Given as goal
+
+abbrev pub invariant-loop-single : goal.invariant-loop-single
+invariant-loop-single l = record {
+  sum : l.lead ≡ 1 + page_of l.w + sum_by (past l.w) (take l.single-index l.singles);
+  most : l.lead ≤ 115 + 2 * l.single-index;
+}

@@ -1,0 +1,40 @@
+use Rattle.std.proofs.Common.{◌≡◌, ◌+◌, ◌<◌, ◌∷◌, ◌++◌, [], ◌∙◌, List, ℕ, ap, arith, get_or, inl, inr, length, length-append, subst, sym}
+use Rattle.std.proofs.lemmas.Bool.{cases_lt}
+use Rattle.std.proofs.lemmas.Grind.{common_steps}
+use Rattle.uca_key.specs.WeightCodes.{IsWindow}
+use Rattle.uca_key.specs.declared.windows.Window.{Window}
+use Rattle.uca_key.proofs.windows.windows_of.Goals as goal
+
+-- a window more
+more : (P : ℕ → Window → Type 0) (n : ℕ) (w : Window) (items after : List Window) → length items ≡ n → after ≡ items ++ w ∷ [] → ((i : ℕ) (d : Window) → i < n → P i (get_or items i d)) → P n w → (i : ℕ) (d : Window) → i < n + 1 → P i (get_or after i d)
+more P n w items after size made each last i d within = elim (cases_lt i n) [
+  | inl before ↦
+      let same : get_or after i d ≡ get_or items i d = grind (arith, common_steps) in
+      subst (P i) (sym same) (each i d before)
+  | inr at ↦
+      let here : i ≡ n = omega arith in
+      let same : get_or after i d ≡ w = grind (arith, common_steps) in
+      subst (P i) (sym same) (subst (λ m. P m w) (sym here) last)
+]
+
+pub loop-base-preserved : goal.loop-base-preserved
+loop-base-preserved c =
+    let i = c.loop-base.invariant in let items = c.in_ok-push.ensures.items in let k = c.args.codes.now in let w = c.in_ok-window_at.field-0 in
+    record {
+      size = omega (arith, ap length items, length-append c.loop-base.windows.items (w ∷ []), i.size);
+      base = more (λ n window. window.base ≡ get_or k.anchors n 0) c.loop-base.base-index w c.loop-base.windows.items _ i.size items i.base
+          (c.in_ok-window_at.ensures.base ∙ ap (λ (l : List ℕ). get_or l c.loop-base.base-index 0) c.anchors-base-items.ensures.same);
+      each = more (λ n window. IsWindow k window) c.loop-base.base-index w c.loop-base.windows.items _ i.size items i.each c.in_ok-window_at.ensures.window;
+    }
+
+pub returns : goal.returns
+returns c =
+    let i = c.loop-base.invariant in let k = c.args.codes.now in
+    let same : length c.anchors-base-items.result.now ≡ length k.anchors = ap length c.anchors-base-items.ensures.same in
+    let all : c.loop-base.base-index ≡ length k.anchors = omega (arith, c.loop-base.auto, c.loop-base-test.false, same) in
+    record {
+      size = i.size ∙ all;
+      some = omega (arith, i.size, all, same, c.anchors-base-items.ensures.number);
+      base = λ n d within. i.base n d (omega (arith, i.size));
+      each = λ n d within. i.each n d (omega (arith, i.size));
+    }
