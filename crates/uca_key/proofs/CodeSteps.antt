@@ -38,10 +38,6 @@ alone-primary t c es rest end alone =
     let none : elements t (nfd rest) ≡ [] = ap (λ r. elements t (nfd r)) end ∙ ap (elements t) (normalize-nil Nfd) ∙ elements_nil t in
     ap first_primary (sym (append-nil es) ∙ ap (λ l. es ++ l) (sym none) ∙ alone ∙ ap (λ r. elements t (nfd (c ∷ r))) end)
 
--- the flag of a weight more
-pub slot-more : (k : PrimaryCode) (w number : ℕ) (b : Bool) → b ≡ begins_slot k w → number ≡ slot k w → number + cond b 1 0 ≡ slot k (w + 1)
-slot-more k w number b begins here = ap₂ (λ n c. n + cond c 1 0) here begins ∙ sym (slot-next k w)
-
 -- the test holds at each place
 pub all-at : (p : ℕ × ℕ → Bool) (rs : List (ℕ × ℕ)) (i : ℕ) (d : ℕ × ℕ) → list_all p rs ≡ true → i < length rs → p (get_or rs i d) ≡ true
 all-at p [] i d h within = absurd (omega arith)

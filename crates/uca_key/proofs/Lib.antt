@@ -14,7 +14,7 @@ pub mod PackedOrder
 pub mod PackedBytes
 pub mod PackedPrefixes
 pub mod CodeSteps
-pub mod CodePages
+pub mod NextCodes
 pub mod RunsLemmas
 pub mod MaskLemmas
 pub mod PackedPieces

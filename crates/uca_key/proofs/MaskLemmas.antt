@@ -128,7 +128,7 @@ mask-one p i es d m within later = omega (arith, later) ∙ ap (λ l. mask_l (ma
 pub mask-small : (p : Element → Bool) (es : List Element) (m k : ℕ) → length es ≤ k → m ≡ mask_l (map p es) → m < 2 ^ k
 mask-small p es m k few is = omega (arith, is, mask_l-lt (map p es), length-map es p, pow_mono {i = length (map p es)} {j = k} (omega (arith, length-map es p)))
 
-bit-is : (b : Bool) → bool_byte b ≡ cond b 1 0
+pub bit-is : (b : Bool) → bool_byte b ≡ cond b 1 0
 bit-is true = refl
 bit-is false = refl
 

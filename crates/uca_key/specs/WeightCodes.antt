@@ -11,9 +11,13 @@ use Rattle.uca_key.specs.declared.windows.Window.{Window}
 abbrev pub is_range : ℕ × ℕ → Bool
 is_range r = nat_le r.0 r.1 && nat_lt r.1 0xD800
 
--- flags say of each weight that they have whether it is common
+-- flags say of each weight whether it is common
 abbrev pub AreCommons : PrimaryCode → List Bool → Type 0
-AreCommons k flags = (w : ℕ) → w < length flags → get_or flags w false ≡ is_common k w
+AreCommons k flags = (w : ℕ) → w < 65536 → get_or flags w false ≡ is_common k w
+
+-- flags say of each weight whether the code names it
+abbrev pub AreNamed : PrimaryCode → List Bool → Type 0
+AreNamed k flags = (w : ℕ) → w < 65536 → get_or flags w false ≡ (is_single k w || list_any (λ c. c == w) k.anchors)
 
 -- the greatest of some weights up to one, 0 where there is none
 abbrev pub greatest : List ℕ → ℕ → ℕ
@@ -50,9 +54,10 @@ pub record IsCodeOf (k : PrimaryCode) (w : ℕ) (c : WeightCode) : Type 0 where
 abbrev pub AreCodes : PrimaryCode → ℕ → List WeightCode → Type 0
 AreCodes k n codes = (w : ℕ) (d : WeightCode) → w < n → IsCodeOf k w (get_or codes w d)
 
--- a flag of each weight, and few weights
+-- flags of each weight, and few weights
 pub record AreParts (p : Parts) : Type 0 where
-  pub size : length p.commons.now ≡ 65536
+  pub commons : length p.commons.now ≡ 65536
+  pub named : length p.named.now ≡ 65536
   pub few : length p.singles.now ≤ 10
   pub numbered : length p.anchors.now < 256
 
@@ -61,12 +66,7 @@ pub record IsMadeOf (k : PrimaryCode) (p : Parts) : Type 0 where
   pub commons : AreCommons k p.commons.now
   pub singles : k.singles ≡ p.singles.now
   pub anchors : k.anchors ≡ p.anchors.now
-
--- of the weights with this high byte none is one that the code names
-pub record IsPlain (k : PrimaryCode) (page : ℕ) : Type 0 where
-  pub commons : (w : ℕ) → 256 * page ≤ w → w < 256 * page + 256 → is_common k w ≡ false
-  pub singles : list_any (λ c. c / 256 == page) k.singles ≡ false
-  pub anchors : list_any (λ c. c / 256 == page) k.anchors ≡ false
+  pub named : AreNamed k p.named.now
 
 -- a code of each weight
 pub record HoldsCodes (k : PrimaryCode) (codes : List WeightCode) : Type 0 where

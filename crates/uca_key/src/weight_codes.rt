@@ -1,8 +1,8 @@
 //! What the code of primary weights in packed keys has of each weight, by what a table says of common characters.
-ghost use Rattle.std.specs.Prelude.{◌≡◌, ◌<◌, ◌≤◌, ◌+◌, ◌-◌, ◌*◌, ◌/◌, ◌%◌, ◌++◌, ◌==◌, ℕ, false, get_or, length, map, IsTrue, sum_by, OnOk, IfOk};
+ghost use Rattle.std.specs.Prelude.{◌≡◌, ◌<◌, ◌≤◌, ◌+◌, ◌-◌, ◌*◌, ◌/◌, ◌%◌, ◌++◌, ◌==◌, ◌||◌, ℕ, false, get_or, length, map, IsTrue, sum_by, OnOk, IfOk};
 ghost use Rattle.std.specs.List.{list_all, list_any, range_with_len};
-ghost use Rattle.uca_key.specs.PrimaryCode.{PrimaryCode, begins_slot, code_of, first_primary, page_of, past, points_of_ranges, primary_of, slot};
-ghost use Rattle.uca_key.specs.WeightCodes.{AreCodes, AreCommons, AreParts, IsCodeOf, IsMadeOf, IsNext, IsNumber, IsPlain, is_range};
+ghost use Rattle.uca_key.specs.PrimaryCode.{PrimaryCode, code_of, first_primary, page_of, past, points_of_ranges, primary_of, slot};
+ghost use Rattle.uca_key.specs.WeightCodes.{AreCodes, AreParts, IsCodeOf, IsMadeOf, IsNext, IsNumber, is_range};
 
 use crate::common_characters::{COMMON_RANGES, FIRST_LETTERS, SINGLE_CHARACTERS};
 use std::alloc::{AllocError, Global};
@@ -109,53 +109,45 @@ fn unset(alloc: Global, n: usize) -> Result<Vec<bool>, AllocError>
     vec![in alloc; false; n]
 }
 
+// Sets the flags of some weights.
+fn set_flags(flags: &mut [bool], weights: &[u16])
+    requires { length flags.old ≡ 65536 }
+    ensures size { length flags.new ≡ 65536 }
+    ensures flags { (w : ℕ) → w < 65536 → get_or flags.new w false ≡ (get_or flags.old w false || list_any (λ c. c == w) weights.now) }
+{
+    for weight in weights {
+        flags[*weight as usize] = true;
+    }
+}
+
 // Of each weight whether it is one of these.
 fn flags_of(alloc: Global, weights: &[u16]) -> Result<Vec<bool>, AllocError>
     ensures size { IfOk result (λ v. length v.items ≡ 65536) }
     ensures flags { IfOk result (λ v. (w : ℕ) → w < 65536 → get_or v.items w false ≡ list_any (λ c. c == w) weights.now) }
 {
     let mut flags = unset(alloc, WEIGHTS)?;
-    for weight in weights {
-        flags[*weight as usize] = true;
-    }
+    set_flags(flags.as_mut_slice(), weights);
     Ok(flags)
 }
 
-// Whether a slot begins at the weight after this one.
-fn begins_slot(flags: &[bool], w: usize) -> bool
+// Of each weight whether it is one of two lists.
+fn flags_of_both(alloc: Global, some: &[u16], others: &[u16]) -> Result<Vec<bool>, AllocError>
+    ensures size { IfOk result (λ v. length v.items ≡ 65536) }
+    ensures flags { IfOk result (λ v. (w : ℕ) → w < 65536 → get_or v.items w false ≡ (list_any (λ c. c == w) some.now || list_any (λ c. c == w) others.now)) }
+{
+    let mut flags = flags_of(alloc, some)?;
+    set_flags(flags.as_mut_slice(), others);
+    Ok(flags)
+}
+
+// Whether the weight after this one has another high byte, or one of the two has a flag.
+#[inline(always)]
+fn is_apart(flags: &[bool], w: usize) -> bool
     requires size { length flags.now ≡ 65536 }
-    requires within { w < 65536 }
-    ensures { (k : PrimaryCode) → AreCommons k flags.now → result ≡ begins_slot k w }
+    requires within { w + 1 < 65536 }
+    ensures { result ≡ ((w + 1) % 256 == 0 || get_or flags.now w false || get_or flags.now (w + 1) false) }
 {
     (w + 1) % PAGE == 0 || flags[w] || flags[w + 1]
-}
-
-// The slot of the weight after this one.
-fn slot_after(flags: &[bool], w: usize, number: u32) -> u32
-    requires size { length flags.now ≡ 65536 }
-    requires within { w < 65536 }
-    requires most { number ≤ w }
-    ensures next { (k : PrimaryCode) → AreCommons k flags.now → number ≡ slot k w → result ≡ slot k (w + 1) }
-    ensures most { result ≤ w + 1 }
-{
-    if begins_slot(flags, w) {
-        number + 1
-    } else {
-        number
-    }
-}
-
-// Whether one of the weights with a high byte has a flag.
-fn has_flag(flags: &[bool], first: usize) -> bool
-    requires size { length flags.now ≡ 65536 }
-    requires within { first + 256 ≤ 65536 }
-    ensures { result ≡ false → (w : ℕ) → first ≤ w → w < first + 256 → get_or flags.now w false ≡ false }
-{
-    let mut found = false;
-    for w in first..first + PAGE {
-        found = found | flags[w];
-    }
-    found
 }
 
 // Whether a weight is one of these. It looks at each of them, since they are few.
@@ -209,17 +201,6 @@ fn lead_over(singles: &[u16], w: u16) -> u8
     lead
 }
 
-// Whether one of these weights has a high byte.
-fn has_page_of(weights: &[u16], page: usize) -> bool
-    ensures { result ≡ list_any (λ c. c / 256 == page) weights.now }
-{
-    let mut found = false;
-    for weight in weights {
-        found = found || *weight as usize / PAGE == page;
-    }
-    found
-}
-
 // The number, from 1 on, of the greatest of some weights up to this one, or 0.
 fn number_of_greatest(anchors: &[u16], w: u16) -> u8
     requires { length anchors.now < 256 }
@@ -265,88 +246,49 @@ pub(crate) struct WeightCode {
     pub(crate) next: u8,
 }
 
-// What a code is made of: of each weight whether it is common, the weights that have a byte of their own everywhere, and those at which
-// windows begin.
+// What a code is made of: of each weight whether it is common, the weights that have a byte of their own everywhere, those at which
+// windows begin, and of each weight whether it is one of these two.
 #[derive(Clone, Copy)]
 struct Parts<'p> {
     commons: &'p [bool],
     singles: &'p [u16],
     anchors: &'p [u16],
+    named: &'p [bool],
 }
 
 // What the code has of a weight in this slot.
-fn code_in(parts: Parts, w: usize, number: u32) -> WeightCode
+fn code_in(parts: Parts, w: u16, number: u16) -> WeightCode
     requires parts { AreParts parts }
-    requires within { w < 65536 }
-    requires most { number ≤ w }
-    ensures { (k : PrimaryCode) → IsMadeOf k parts.entry → number ≡ slot k w → IsCodeOf k w result }
+    ensures code { (k : PrimaryCode) → IsMadeOf k parts.entry → number ≡ slot k w → IsCodeOf k w result }
+    ensures slot { result.slot ≡ number }
 {
-    let weight = w as u16;
     WeightCode {
-        slot: number as u16,
-        common: parts.commons[w],
-        lead: lead_over(parts.singles, weight),
-        single: has_weight(parts.singles, weight),
-        next: next_window(parts.singles, parts.anchors, weight),
+        slot: number,
+        common: parts.commons[w as usize],
+        lead: lead_over(parts.singles, w),
+        single: has_weight(parts.singles, w),
+        next: next_window(parts.singles, parts.anchors, w),
     }
 }
 
-// Appends the codes of the weights with one high byte, one by one. Returns the slot of the weight after them.
-fn push_codes(
-    parts: Parts,
-    page: usize,
-    number: u32,
-    codes: &mut Vec<WeightCode>,
-) -> Result<u32, AllocError>
+// What the code has of the weight after this one, of which it has this. Most of it is the same unless one of them is named.
+fn code_after(parts: Parts, w: u16, code: WeightCode) -> WeightCode
     requires parts { AreParts parts }
-    requires within { page < 256 }
-    requires place { length codes.old.items ≡ 256 * page }
-    requires most { number ≤ 256 * page }
-    ensures size { OnOk result (length codes.new.items ≡ 256 * page + 256) }
-    ensures most { IfOk result (λ n. n ≤ 256 * page + 256) }
-    ensures next { IfOk result (λ n. (k : PrimaryCode) → IsMadeOf k parts.entry → number ≡ slot k (256 * page) → n ≡ slot k (256 * page + 256)) }
-    ensures codes { OnOk result ((k : PrimaryCode) → IsMadeOf k parts.entry → number ≡ slot k (256 * page) → AreCodes k (256 * page) codes.old.items → AreCodes k (256 * page + 256) codes.new.items) }
+    requires within { w + 1 < 65536 }
+    requires most { code.slot ≤ w }
+    ensures code { (k : PrimaryCode) → IsMadeOf k parts.entry → IsCodeOf k w code → IsCodeOf k (w + 1) result }
+    ensures most { result.slot ≤ w + 1 }
 {
-    let mut here = number;
-    for w in PAGE * page..PAGE * page + PAGE {
-        codes.push(code_in(parts, w, here))?;
-        here = slot_after(parts.commons, w, here);
+    let at = w as usize;
+    let number = code.slot + is_apart(parts.commons, at) as u16;
+    if is_apart(parts.named, at) {
+        return code_in(parts, w + 1, number);
     }
-    Ok(here)
-}
-
-// Whether no weight with a high byte is one of those that the code names: then all of them have one code.
-fn is_plain(parts: Parts, page: usize) -> bool
-    requires parts { AreParts parts }
-    requires within { page < 256 }
-    ensures { (k : PrimaryCode) → IsMadeOf k parts.entry → IsTrue result → IsPlain k page }
-{
-    !has_flag(parts.commons, PAGE * page)
-        && !has_page_of(parts.singles, page)
-        && !has_page_of(parts.anchors, page)
-}
-
-// Appends the codes of the weights with one high byte, all at once where they have one.
-fn push_page(
-    parts: Parts,
-    page: usize,
-    number: u32,
-    codes: &mut Vec<WeightCode>,
-) -> Result<u32, AllocError>
-    requires parts { AreParts parts }
-    requires within { page < 256 }
-    requires place { length codes.old.items ≡ 256 * page }
-    requires most { number ≤ 256 * page }
-    ensures size { OnOk result (length codes.new.items ≡ 256 * page + 256) }
-    ensures most { IfOk result (λ n. n ≤ 256 * page + 256) }
-    ensures next { IfOk result (λ n. (k : PrimaryCode) → IsMadeOf k parts.entry → number ≡ slot k (256 * page) → n ≡ slot k (256 * page + 256)) }
-    ensures codes { OnOk result ((k : PrimaryCode) → IsMadeOf k parts.entry → number ≡ slot k (256 * page) → AreCodes k (256 * page) codes.old.items → AreCodes k (256 * page + 256) codes.new.items) }
-{
-    if !is_plain(parts, page) {
-        return push_codes(parts, page, number, codes);
+    WeightCode {
+        slot: number,
+        common: parts.commons[at + 1],
+        ..code
     }
-    codes.resize(PAGE * page + PAGE, code_in(parts, PAGE * page, number))?;
-    Ok(number + 1)
 }
 
 // The code of each weight.
@@ -356,9 +298,11 @@ fn codes_of(alloc: Global, parts: Parts) -> Result<Vec<WeightCode>, AllocError>
     ensures codes { IfOk result (λ v. (k : PrimaryCode) → IsMadeOf k parts.entry → AreCodes k 65536 v.items) }
 {
     let mut codes = Vec::with_capacity(alloc, WEIGHTS)?;
-    let mut number = 0;
-    for page in 0..WEIGHTS / PAGE {
-        number = push_page(parts, page, number, &mut codes)?;
+    let mut code = code_in(parts, 0, 0);
+    codes.push(code)?;
+    for w in 0..u16::MAX {
+        code = code_after(parts, w, code);
+        codes.push(code)?;
     }
     Ok(codes)
 }
@@ -396,10 +340,12 @@ impl WeightCodes {
         singles.copy_from_slice(weights_of(alloc, t, &SINGLE_CHARACTERS)?.as_slice());
         let mut anchors = [0; ANCHORS];
         anchors.copy_from_slice(weights_of(alloc, t, &FIRST_LETTERS)?.as_slice());
+        let named = flags_of_both(alloc, &singles, &anchors)?;
         let parts = Parts {
             commons: &flags,
             singles: &singles,
             anchors: &anchors,
+            named: &named,
         };
         let codes = codes_of(alloc, parts)?;
         Ok(WeightCodes {

@@ -1,27 +1,27 @@
-use Rattle.std.proofs.Common.{◌≡◌, ◌+◌, ◌*◌, ap, arith, length, subst, sym, ◌∙◌}
-use Rattle.uca_key.specs.PrimaryCode.{slot}
-use Rattle.uca_key.specs.WeightCodes.{AreCodes}
+use Rattle.std.proofs.Common.{◌∷◌, [], ◌+◌, ap, arith, length, length-append, sym, ◌∙◌}
+use Rattle.uca_key.proofs.NextCodes.{codes-more, no-codes}
 use Rattle.uca_key.proofs.PackedSlots.{slot-zero}
 use Rattle.uca_key.proofs.weight_codes.codes_of.Goals as goal
 
-pub loop-page-init : goal.loop-page-init
-loop-page-init c = record {
-  size = ap length c.in_ok-codes.ensures.items;
-  most = omega arith;
-  here = λ k made. sym (slot-zero k);
-  each = λ k made w d h. absurd (omega arith);
-}
-
-pub loop-page-preserved : goal.loop-page-preserved
-loop-page-preserved c =
-    let i = c.loop-page.invariant in
-    let more : 256 * c.loop-page.page + 256 ≡ 256 * (c.loop-page.page + 1) = omega arith in
+pub loop-w-init : goal.loop-w-init
+loop-w-init c =
+    let items = c.in_ok-push.ensures.items in let none = ap length c.in_ok-codes.ensures.items in
     record {
-      size = c.in_ok-number.ensures.size ∙ more;
-      most = omega (arith, c.in_ok-number.ensures.most);
-      here = λ k made. c.in_ok-number.ensures.next k made (i.here k made) ∙ ap (slot k) more;
-      each = λ k made. subst (λ n. AreCodes k n c.push_page.new.codes.items) more (c.in_ok-number.ensures.codes k made (i.here k made) (i.each k made));
+      size = ap length items ∙ length-append c.in_ok-codes.codes.items (c.code_in-code.result ∷ []) ∙ ap (λ n. n + 1) none;
+      most = omega (arith, c.code_in-code.ensures.slot);
+      last = λ k made. c.code_in-code.ensures.code k made (sym (slot-zero k));
+      each = λ k made. codes-more k 0 c.code_in-code.result c.in_ok-codes.codes.items _ none items (no-codes k _) (c.code_in-code.ensures.code k made (sym (slot-zero k)));
+    }
+
+pub loop-w-preserved : goal.loop-w-preserved
+loop-w-preserved c =
+    let i = c.loop-w.invariant in let items = c.in_ok-push-2.ensures.items in
+    record {
+      size = omega (arith, ap length items, length-append c.loop-w.codes.items (c.code_after-code.result ∷ []), i.size);
+      most = c.code_after-code.ensures.most;
+      last = λ k made. c.code_after-code.ensures.code k made (i.last k made);
+      each = λ k made. codes-more k (c.loop-w.w + 1) c.code_after-code.result c.loop-w.codes.items _ i.size items (i.each k made) (c.code_after-code.ensures.code k made (i.last k made));
     }
 
 pub returns-clause-codes : goal.returns-clause-codes
-returns-clause-codes c k made w d h = let done = c.loop-page-test.false in c.loop-page.invariant.each k made w d (omega arith)
+returns-clause-codes c k made w d h = let done = c.loop-w-test.false in c.loop-w.invariant.each k made w d (omega arith)

@@ -1,12 +1,12 @@
-use Rattle.std.proofs.Common.{◌≡◌, ◌*◌, ◌≤◌, length}
-use Rattle.uca_key.specs.PrimaryCode.{PrimaryCode, slot}
-use Rattle.uca_key.specs.WeightCodes.{AreCodes, IsMadeOf}
+use Rattle.std.proofs.Common.{◌≡◌, ◌+◌, ◌≤◌, length}
+use Rattle.uca_key.specs.PrimaryCode.{PrimaryCode}
+use Rattle.uca_key.specs.WeightCodes.{AreCodes, IsCodeOf, IsMadeOf}
 use Rattle.uca_key.proofs.weight_codes.codes_of.Given as goal
 
-abbrev pub invariant-loop-page : goal.invariant-loop-page
-invariant-loop-page l = record {
-  size : length l.codes.items ≡ 256 * l.page;
-  most : l.number ≤ 256 * l.page;
-  here : (k : PrimaryCode) → IsMadeOf k l.parts → l.number ≡ slot k (256 * l.page);
-  each : (k : PrimaryCode) → IsMadeOf k l.parts → AreCodes k (256 * l.page) l.codes.items;
+abbrev pub invariant-loop-w : goal.invariant-loop-w
+invariant-loop-w l = record {
+  size : length l.codes.items ≡ l.w + 1;
+  most : l.code.slot ≤ l.w;
+  last : (k : PrimaryCode) → IsMadeOf k l.parts → IsCodeOf k l.w l.code;
+  each : (k : PrimaryCode) → IsMadeOf k l.parts → AreCodes k (l.w + 1) l.codes.items;
 }

@@ -1,0 +1,102 @@
+-- What a code has of a weight after another, most of which is the same.
+use Rattle.std.proofs.Common.{◌≡◌, ℕ, zero, suc, ◌+◌, ◌-◌, ◌*◌, ◌/◌, ◌%◌, ◌==◌, ◌||◌, ◌≤◌, ◌<◌, Bool, true, false, cond, max, nat_le, fold, List, [], ◌∷◌, ◌++◌, length, get_or, refl, sym, ap, ap₂, subst, ◌∙◌, arith, inl, inr, eq-eqb, ne_eqb}
+use Rattle.std.proofs.lemmas.Bool.{cases_lt, eqb-false}
+use Rattle.std.proofs.lemmas.Bool.Decides.{nat_tests}
+use Rattle.std.proofs.lemmas.Grind.{common_steps}
+use Rattle.std.proofs.lemmas.List.Sums.{sum_by-cons}
+use Rattle.std.specs.List.{list_any, sum_by}
+use Rattle.uca_key.specs.PrimaryCode.{PrimaryCode, anchor_of, begins_slot, is_single, page_of, past, slot}
+use Rattle.uca_key.specs.WeightCodes.{AreCodes, IsCodeOf, IsMadeOf, IsNext, keeps_window}
+use Rattle.uca_key.specs.declared.weight_codes.Parts.{Parts}
+use Rattle.uca_key.specs.declared.weight_codes.WeightCode.{WeightCode}
+use Rattle.uca_key.proofs.MaskLemmas.{bit-is}
+use Rattle.uca_key.proofs.PackedSlots.{slot-next}
+use mir.Val.{bool_byte}
+
+-- a weight more
+pub codes-more : (k : PrimaryCode) (w : ℕ) (c : WeightCode) (items after : List WeightCode) → length items ≡ w → after ≡ items ++ c ∷ [] → AreCodes k w items → IsCodeOf k w c → AreCodes k (w + 1) after
+codes-more k w c items after size made each last x d within = elim (cases_lt x w) [
+  | inl before ↦
+      let same : get_or after x d ≡ get_or items x d = grind (arith, common_steps) in
+      subst (IsCodeOf k x) (sym same) (each x d before)
+  | inr at ↦
+      let here : x ≡ w = omega arith in
+      let same : get_or after x d ≡ c = grind (arith, common_steps) in
+      subst (IsCodeOf k x) (sym same) (subst (λ n. IsCodeOf k n c) (sym here) last)
+]
+
+-- none at first
+pub no-codes : (k : PrimaryCode) (items : List WeightCode) → AreCodes k 0 items
+no-codes k items w d within = absurd (omega arith)
+
+-- ---- the slot
+
+-- by how much it is greater where one begins
+pub next-slot : (k : PrimaryCode) (p : Parts) (w number : ℕ) (b : Bool) → IsMadeOf k p → w + 1 < 65536 → b ≡ ((w + 1) % 256 == 0 || get_or p.commons.now w false || get_or p.commons.now (w + 1) false)
+    → number ≡ slot k w → number + bool_byte b ≡ slot k (w + 1)
+next-slot k p w number b made within apart here =
+    let flags : b ≡ begins_slot k w = apart ∙ ap₂ (λ x y. (w + 1) % 256 == 0 || x || y) (made.commons w (omega arith)) (made.commons (w + 1) within) in
+    ap₂ (λ n c. n + bool_byte c) here flags ∙ ap (λ n. slot k w + n) (bit-is (begins_slot k w)) ∙ sym (slot-next k w)
+
+-- ---- a weight after another, neither of which is named
+
+or-none : (a b : Bool) → (a || b) ≡ false → (a ≡ false) × (b ≡ false)
+or-none true b h = absurd (cc)
+or-none false b h = (refl, h)
+
+-- a weight that is neither raises the leads of both, or of none
+one-past : (w s : ℕ) → (s == w) ≡ false → (s == w + 1) ≡ false → past (w + 1) s ≡ past w s
+one-past w s before after = let x : s ≡ w → ⊥ = eqb-false s w before in let y : s ≡ w + 1 → ⊥ = eqb-false s (w + 1) after in grind (arith, nat_tests)
+
+all-past : (w : ℕ) (ss : List ℕ) → list_any (λ c. c == w) ss ≡ false → list_any (λ c. c == w + 1) ss ≡ false → sum_by (past (w + 1)) ss ≡ sum_by (past w) ss
+all-past w [] before after = refl
+all-past w (s ∷ ss) before after =
+    let b = or-none (s == w) (list_any (λ c. c == w) ss) before in let a = or-none (s == w + 1) (list_any (λ c. c == w + 1) ss) after in
+    sum_by-cons (past (w + 1)) s ss ∙ ap₂ (λ x y. x + y) (one-past w s b.0 a.0) (all-past w ss b.1 a.1) ∙ sym (sum_by-cons (past w) s ss)
+
+one-page : (w : ℕ) → ((w + 1) % 256 == 0) ≡ false → page_of (w + 1) ≡ page_of w
+one-page w inside = let x : (w + 1) % 256 ≡ 0 → ⊥ = eqb-false ((w + 1) % 256) 0 inside in grind (arith, nat_tests)
+
+-- one weight more of those up to another
+abbrev up_to : ℕ → ℕ → ℕ → ℕ
+up_to w best a = cond (nat_le a w) (max best a) best
+
+one-step : (w best a : ℕ) → (a == w + 1) ≡ false → up_to (w + 1) best a ≡ up_to w best a
+one-step w best a after = let y : a ≡ w + 1 → ⊥ = eqb-false a (w + 1) after in grind (arith, nat_tests)
+
+one-greatest : (w best : ℕ) (ws : List ℕ) → list_any (λ c. c == w + 1) ws ≡ false → fold (up_to (w + 1)) best ws ≡ fold (up_to w) best ws
+one-greatest w best [] after = refl
+one-greatest w best (a ∷ ws) after =
+    let parts = or-none (a == w + 1) (list_any (λ c. c == w + 1) ws) after in
+    ap (λ b. fold (up_to (w + 1)) b ws) (one-step w best a parts.0) ∙ one-greatest w (up_to w best a) ws parts.1
+
+-- the window after a weight is that after another, if they are alike
+next-same : (k : PrimaryCode) (w x n : ℕ) → is_single k w ≡ is_single k x → anchor_of k w ≡ anchor_of k x → IsNext k x n → IsNext k w n
+next-same k w x n single same next =
+    let keeps : keeps_window k w ≡ keeps_window k x = ap₂ (λ a (b : ℕ). a || b == 0) single same in
+    record {
+      none = λ zero. keeps ∙ next.none zero;
+      some = λ any. keeps ∙ next.some any;
+      within = next.within;
+      at = λ any. next.at any ∙ sym same;
+    }
+
+-- ---- all of it
+
+-- what the code has of it
+pub next-code : (k : PrimaryCode) (p : Parts) (w : ℕ) (c after : WeightCode) → IsMadeOf k p → w + 1 < 65536 → ((w + 1) % 256 == 0 || get_or p.named.now w false || get_or p.named.now (w + 1) false) ≡ false → IsCodeOf k w c
+    → after.slot ≡ slot k (w + 1) → after.common ≡ get_or p.commons.now (w + 1) false → after.lead ≡ c.lead → after.single ≡ c.single → after.next ≡ c.next → IsCodeOf k (w + 1) after
+next-code k p w c after made within alike code at common lead single next =
+    let ends = or-none ((w + 1) % 256 == 0 || get_or p.named.now w false) (get_or p.named.now (w + 1) false) alike in
+    let inside = or-none ((w + 1) % 256 == 0) (get_or p.named.now w false) ends.0 in
+    let here = or-none (is_single k w) (list_any (λ x. x == w) k.anchors) (sym (made.named w (omega arith)) ∙ inside.1) in
+    let there = or-none (is_single k (w + 1)) (list_any (λ x. x == w + 1) k.anchors) (sym (made.named (w + 1) within) ∙ ends.1) in
+    let alone : is_single k (w + 1) ≡ is_single k w = there.0 ∙ sym here.0 in
+    record {
+      slot = at;
+      common = common ∙ made.commons (w + 1) within;
+      lead = lead ∙ code.lead ∙ sym (ap₂ (λ a b. 1 + a + b) (one-page w inside.0) (all-past w k.singles here.0 there.0));
+      most = subst (λ n. n ≤ 135) (sym lead) code.most;
+      single = single ∙ code.single ∙ sym alone;
+      next = next-same k (w + 1) w after.next alone (one-greatest w 0 k.anchors there.1) (subst (λ n. IsNext k w n) (sym next) code.next);
+    }

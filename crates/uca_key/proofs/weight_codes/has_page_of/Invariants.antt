@@ -1,6 +1,0 @@
-use Rattle.std.proofs.Common.{◌≡◌, ◌/◌, ◌==◌, take}
-use Rattle.std.specs.List.{list_any}
-use Rattle.uca_key.proofs.weight_codes.has_page_of.Given as goal
-
-abbrev pub invariant-loop-weight : goal.invariant-loop-weight
-invariant-loop-weight l = l.found ≡ list_any (λ c. c / 256 == l.page) (take l.weight-index l.weights)
