@@ -1,7 +1,6 @@
 -- Steps of the loops that make a code of primary weights.
-use Rattle.std.proofs.Common.{◌≡◌, ℕ, zero, suc, ◌+◌, ◌-◌, ◌%◌, ◌==◌, ◌||◌, ◌≤◌, ◌<◌, Bool, true, false, cond, nat_le, nat_lt, List, [], ◌∷◌, ◌++◌, length, map, take, get_or, refl, sym, ap, ap₂, subst, ◌∙◌, arith, inl, inr, append_assoc, append-nil, eq-eqb, ne_eqb}
-use Rattle.std.proofs.lemmas.Bool.{and_parts, cases_lt, leb-true, ltb-true}
-use Rattle.std.proofs.lemmas.Grind.{common_steps}
+use Rattle.std.proofs.Common.{◌≡◌, ℕ, zero, suc, ◌+◌, ◌-◌, ◌≤◌, ◌<◌, Bool, true, nat_le, nat_lt, List, [], ◌∷◌, ◌++◌, length, map, take, get_or, sym, ap, ap₂, ◌∙◌, arith, append_assoc, append-nil}
+use Rattle.std.proofs.lemmas.Bool.{and_parts, leb-true, ltb-true}
 use Rattle.std.proofs.lemmas.List.{map-append}
 use Rattle.std.specs.List.{list_all, range_with_len}
 use Rattle.unicode_normalization.specs.Forms.{Nfd, nfd}
@@ -10,10 +9,9 @@ use Rattle.uca_weights.specs.declared.element.Element.{Element}
 use Rattle.uca_model.specs.Table.{ElementTable}
 use Rattle.uca_model.specs.CollationElements.{elements}
 use Rattle.uca_model.proofs.RewritingLemmas.{elements_nil}
-use Rattle.uca_key.specs.PrimaryCode.{PrimaryCode, begins_slot, code_of, first_primary, is_common, points_of_ranges, primary_of, slot}
+use Rattle.uca_key.specs.PrimaryCode.{PrimaryCode, code_of, first_primary, points_of_ranges, primary_of}
 use Rattle.uca_key.specs.declared.common_characters.TheConstants.{COMMON_RANGES, FIRST_LETTERS, SINGLE_CHARACTERS}
 use Rattle.uca_key.specs.WeightCodes.{is_range}
-use Rattle.uca_key.proofs.PackedSlots.{slot-next}
 
 -- one number more
 range-more : (f : ℕ → ℕ) (a n : ℕ) → map f (range_with_len a (n + 1)) ≡ map f (range_with_len a n) ++ f (a + n) ∷ []

@@ -1,5 +1,5 @@
 // The first level of a packed key, put into a buffer.
-ghost use Rattle.std.specs.Prelude.{◌≡◌, ◌==◌, ◌≤◌, ◌<◌, ◌+◌, ◌*◌, ◌-◌, ◌^◌, ◌/◌, ◌%◌, ◌++◌, ◌∷◌, [], ℕ, List, if◌then◌else◌, nat_lt, not, filter, length, take, drop, true, false, IfSome};
+ghost use Rattle.std.specs.Prelude.{◌≡◌, ◌↔◌, ◌==◌, ◌≤◌, ◌<◌, ◌+◌, ◌*◌, ◌-◌, ◌^◌, ◌/◌, ◌%◌, ◌++◌, ◌∷◌, [], ℕ, List, if◌then◌else◌, nat_lt, not, filter, length, take, drop, true, false, IfSome, IfNone, IsSome};
 ghost use Rattle.uca_weights.specs.VariableWeighting.{weighted};
 ghost use Rattle.uca_model.specs.LevelWeights.{level_weights};
 ghost use Rattle.uca_model.specs.SortKey.{weight_bytes};
@@ -216,6 +216,40 @@ fn put_some<'c>(code: &'c PackedCode, before: Placed<'c>, w: u16, key: &mut [u8]
     put_weight(code, before, w, key)
 }
 
+// Puts a weight that the window does not have, has no byte of its own, and moves the window: most letters after one of another script.
+// It puts none of any others.
+#[inline(always)]
+fn put_letter<'c>(
+    code: &'c PackedCode,
+    before: Placed<'c>,
+    w: u16,
+    key: &mut [u8],
+) -> Option<Placed<'c>>
+    requires window { IsWindow code.now before.reach.window.now }
+    requires room { before.at + 3 ≤ length key.old }
+    ensures bytes { IfSome result (λ p. (ws : List ℕ) → take p.at key.new ++ primary_level code.now (state_of p.reach) ws ≡ take before.entry.at key.old ++ primary_level code.now (state_of before.entry.reach) (filter (λ x. not (x == 0)) (w ∷ []) ++ ws)) }
+    ensures window { IfSome result (λ p. IsWindow code.now p.reach.window.now) }
+    ensures within { IfSome result (λ p. p.at ≤ before.entry.at + 3) }
+    ensures stays { IfSome result (λ p. StaysAfter before.entry.at p.at key.old key.new) }
+    ensures none { IfNone result (key.new ≡ key.old) }
+    ensures size { length key.new ≡ length key.old }
+{
+    let Reach { window, due } = before.reach;
+    if w == 0 || w >= 0x7000 || due > 0 || is_in_window(code, window, w) {
+        return None;
+    }
+    let next = code.next_window(w)?;
+    let own = code.of(w);
+    key[before.at] = window.lead_byte(own.slot, own.lead);
+    Some(Placed {
+        at: put_low(w, key, before.at + 1),
+        reach: Reach {
+            window: next,
+            due: 0,
+        },
+    })
+}
+
 // The byte of a weight, if it takes only one in a window, or if it is zero.
 #[inline(always)]
 fn short_byte(bytes: &[u8], w: u16) -> Option<u8>
@@ -318,41 +352,86 @@ fn put_shorts<'e>(
 // Puts the first weights of some elements if they are an implicit pair whose first weight has a byte of its own outside the window, as
 // those of ideographs have. It puts none of any others.
 #[inline(always)]
-fn put_pairs<'e>(
+fn put_pair_of<'e>(
     code: &PackedCode,
     v: Variable,
     before: Placed,
     elements: &'e [Element],
     key: &mut [u8],
-) -> Progress<'e>
+) -> Option<Progress<'e>>
     requires window { IsWindow code.now before.reach.window.now }
     requires room { before.at + 3 * length elements.now ≤ length key.old }
-    ensures bytes { (ws : List ℕ) → take result.at key.new ++ primary_level code.now (state_of before.entry.reach) (level_weights 1 (weighted v result.left.now) ++ ws) ≡ take before.entry.at key.old ++ primary_level code.now (state_of before.entry.reach) (level_weights 1 (weighted v elements.now) ++ ws) }
-    ensures within { result.at + 3 * length result.left.now ≤ before.entry.at + 3 * length elements.now }
-    ensures some { length result.left.now ≤ length elements.now }
-    ensures stays { StaysAfter before.entry.at result.at key.old key.new }
+    ensures bytes { IfSome result (λ p. (ws : List ℕ) → take p.at key.new ++ primary_level code.now (state_of before.entry.reach) (level_weights 1 (weighted v p.left.now) ++ ws) ≡ take before.entry.at key.old ++ primary_level code.now (state_of before.entry.reach) (level_weights 1 (weighted v elements.now) ++ ws)) }
+    ensures within { IfSome result (λ p. p.at + 3 * length p.left.now ≤ before.entry.at + 3 * length elements.now) }
+    ensures fewer { IfSome result (λ p. length p.left.now < length elements.now) }
+    ensures stays { IfSome result (λ p. StaysAfter before.entry.at p.at key.old key.new) }
+    ensures none { IfNone result (key.new ≡ key.old) }
     ensures size { length key.new ≡ length key.old }
 {
-    let (reach, at) = (before.reach, before.at);
-    let none = Progress { at, left: elements };
+    let reach = before.reach;
     let [first, next, ..] = elements else {
-        return none;
+        return None;
     };
     let w = primary_weight(v, first);
     if w / 256 != 0xFB || reach.due > 0 {
-        return none;
+        return None;
     }
     if !code.of(w).single || is_in_window(code, reach.window, w) {
-        return none;
+        return None;
     }
     let second = primary_weight(v, next);
     if second == 0 {
-        return none;
+        return None;
     }
-    Progress {
-        at: put_implicit(code, reach, w, second, key, at),
+    Some(Progress {
+        at: put_implicit(code, reach, w, second, key, before.at),
         left: elements.split_at(2).1,
+    })
+}
+
+// What is put of weights and what they leave, and the elements that are left.
+#[derive(Clone, Copy)]
+struct Step<'c, 'e> {
+    placed: Placed<'c>,
+    left: &'e [Element],
+}
+
+// Puts the first weight of some elements, or both weights of an implicit pair.
+#[inline(always)]
+fn put_first<'c, 'e>(
+    code: &'c PackedCode,
+    v: Variable,
+    before: Placed<'c>,
+    elements: &'e [Element],
+    key: &mut [u8],
+) -> Option<Step<'c, 'e>>
+    requires window { IsWindow code.now before.reach.window.now }
+    requires room { before.at + 3 * length elements.now ≤ length key.old }
+    ensures some { IsSome result ↔ 0 < length elements.now }
+    ensures bytes { IfSome result (λ s. (ws : List ℕ) → take s.placed.at key.new ++ primary_level code.now (state_of s.placed.reach) (level_weights 1 (weighted v s.left.now) ++ ws) ≡ take before.entry.at key.old ++ primary_level code.now (state_of before.entry.reach) (level_weights 1 (weighted v elements.now) ++ ws)) }
+    ensures window { IfSome result (λ s. IsWindow code.now s.placed.reach.window.now) }
+    ensures within { IfSome result (λ s. s.placed.at + 3 * length s.left.now ≤ before.entry.at + 3 * length elements.now) }
+    ensures fewer { IfSome result (λ s. length s.left.now < length elements.now) }
+    ensures stays { IfSome result (λ s. StaysAfter before.entry.at s.placed.at key.old key.new) }
+    ensures none { IfNone result (key.new ≡ key.old) }
+    ensures size { length key.new ≡ length key.old }
+{
+    let (first, rest) = elements.split_first()?;
+    let w = primary_weight(v, first);
+    if let Some(placed) = put_letter(code, before, w, key) {
+        return Some(Step { placed, left: rest });
     }
+    if let Some(pair) = put_pair_of(code, v, before, elements, key) {
+        let reach = before.reach;
+        return Some(Step {
+            placed: Placed { at: pair.at, reach },
+            left: pair.left,
+        });
+    }
+    Some(Step {
+        placed: put_some(code, before, w, key),
+        left: rest,
+    })
 }
 
 // Puts the weights of elements, those that take one byte together and others one by one.
@@ -377,17 +456,11 @@ fn put_each<'c>(
     'each: loop {
         let short = put_shorts(code, v, placed, left, key);
         placed.at = short.at;
-        let pair = put_pairs(code, v, placed, short.left, key);
-        placed.at = pair.at;
-        if pair.left.len() < short.left.len() {
-            left = pair.left;
-            continue;
-        }
-        let Some((first, rest)) = pair.left.split_first() else {
+        let Some(step) = put_first(code, v, placed, short.left, key) else {
             return placed;
         };
-        placed = put_some(code, placed, primary_weight(v, first), key);
-        left = rest;
+        placed = step.placed;
+        left = step.left;
     }
 }
 

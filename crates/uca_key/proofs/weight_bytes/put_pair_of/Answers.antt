@@ -5,7 +5,7 @@ use Rattle.uca_model.specs.LevelWeights.{level_weights}
 use Rattle.uca_key.specs.PrimaryCode.{primary_level}
 use Rattle.uca_key.specs.Reach.{state_of}
 use Rattle.uca_key.proofs.WeighingLemmas.{primary-one}
-use Rattle.uca_key.proofs.weight_bytes.put_pairs.Goals as goal
+use Rattle.uca_key.proofs.weight_bytes.put_pair_of.Goals as goal
 
 pub returns-clause-bytes : goal.returns-clause-bytes
 returns-clause-bytes c ws =
