@@ -7,7 +7,9 @@ ghost use Rattle.uca_window.specs.Scan.{run_after, Fits, IsPassedTo, ScannedTo};
 
 use crate::ascii::is_ascii;
 use crate::fault::TextFault;
-use crate::passing::{STRIDE, adds_few, is_passed, pass, skip};
+use crate::passing::{
+    COARSE, MEDIUM, STRIDE, adds_few, adds_few_coarsely, is_passed, none_dense, pass, skip,
+};
 use simdutf8::compat::from_utf8;
 use simdutf8::is_utf8;
 use std::str::from_utf8_unchecked;
@@ -49,10 +51,17 @@ impl<'t> Passage<'t> {
         ensures same { IfOk result (λ p. bytes_of p ≡ text.now) }
         ensures long { IfErr result (λ e. IsLongRunAt (chars text.now) e.at) }
     {
-        if text.len() <= SHORT {
+        let bytes = text.as_bytes();
+        if bytes.len() <= SHORT {
             return Ok(Passage::of_safe(text));
         }
-        if adds_few(text.as_bytes()) {
+        if bytes.len() <= MEDIUM && none_dense(bytes) {
+            return Ok(Passage::of_safe(text));
+        }
+        if bytes.len() <= COARSE && adds_few_coarsely(bytes) {
+            return Ok(Passage::of_safe(text));
+        }
+        if adds_few(bytes) {
             return Ok(Passage::of_safe(text));
         }
         scan(text)?;
