@@ -10,8 +10,8 @@ use crate::fault::TextFault;
 use crate::passing::{
     COARSE, MEDIUM, STRIDE, adds_few, adds_few_coarsely, is_passed, none_dense, pass, skip,
 };
+use crate::utf8::are_utf8;
 use simdutf8::compat::from_utf8;
-use simdutf8::is_utf8;
 use std::str::from_utf8_unchecked;
 use thiserror::Error;
 use uca_weights::{MAX_DECOMPOSITION, MAX_RUN};
@@ -145,14 +145,6 @@ impl<'t> Passage<'t> {
     {
         self.text
     }
-}
-
-/// Whether bytes are UTF-8, by a look at blocks of them. It is not inlined, so that a short text does not pay for its stack frame.
-#[inline(never)]
-fn are_utf8(bytes: &[u8]) -> bool
-    ensures { IsTrue result ↔ IsUtf8 bytes.now }
-{
-    is_utf8(bytes)
 }
 
 /// Goes over the characters to the first with which the text is no longer safe. The NFD has its nonstarters in
