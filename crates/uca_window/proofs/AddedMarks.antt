@@ -1,4 +1,4 @@
--- How many nonstarters a character adds to a run, and why a text of few bytes, or with few stops, has no long run.
+-- How many nonstarters a character adds to a run, and why a text of few bytes, or one whose bytes add few, has no long run.
 use Rattle.std.proofs.Common.{◌≡◌, ℕ, ◌+◌, ◌-◌, ◌*◌, ◌≤◌, suc, nat_lt, ◌<◌, max, Bool, true, false, cond, not, List, [], ◌∷◌, ◌++◌, length, take, get_or, encode_utf8_all, chars, IsUtf8, refl, sym, ap, subst, ◌∙◌, arith, append_assoc, append-nil, length-append, inl, inr}
 use Rattle.std.proofs.lemmas.Bool.{cases_Bool, cases_eq, cases_lt}
 use Rattle.std.proofs.lemmas.Bool.Decides.{nat_tests}

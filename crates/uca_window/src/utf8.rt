@@ -1,5 +1,5 @@
 //! Whether bytes are UTF-8.
-ghost use Rattle.std.specs.Prelude.{◌≡◌, ◌+◌, ◌-◌, ◌≤◌, ◌<◌, ◌↔◌, ◌++◌, length, replicate, IsTrue};
+ghost use Rattle.std.specs.Prelude.{◌≡◌, ◌+◌, ◌-◌, ◌≤◌, ◌↔◌, ◌++◌, length, drop, replicate, IsTrue};
 ghost use Rattle.std.specs.Simd.Lanes.{chunk, put_chunk};
 ghost use Rattle.std.specs.Str.{IsUtf8};
 
@@ -22,30 +22,37 @@ fn copy(bytes: &[u8], at: usize, block: &mut [u8])
     u8x16::from_slice(&bytes[at..]).copy_to_slice(&mut block[at..]);
 }
 
-/// Bytes that are no more than a block, and zeros after them. The last bytes are copied by a whole load too, so that nothing depends
-/// on how many they are.
+/// Bytes from a place on that are no more than a block, and zeros after them. The last bytes are copied by a whole load too, which may
+/// begin before that place, so that nothing depends on how many they are.
 #[inline(always)]
-fn padded(bytes: &[u8]) -> u8x64
+fn padded(bytes: &[u8], from: usize) -> u8x64
+    requires near { from ≤ WIDE }
     requires some { WIDE ≤ length bytes.now }
-    requires few { length bytes.now ≤ BLOCK }
-    ensures { result ≡ bytes.now ++ replicate (BLOCK - length bytes.now) 0 }
+    requires few { length bytes.now ≤ from + BLOCK }
+    ensures { result ≡ drop from bytes.now ++ replicate (from + BLOCK - length bytes.now) 0 }
 {
     let last = bytes.len() - WIDE;
-    let mut block = [0; BLOCK];
-    copy(bytes, 0, &mut block);
-    copy(bytes, last.min(WIDE), &mut block);
-    copy(bytes, last.min(2 * WIDE), &mut block);
-    copy(bytes, last, &mut block);
-    u8x64::from_slice(&block)
+    let mut room = [0; WIDE + BLOCK];
+    copy(bytes, last.min(from), &mut room);
+    copy(bytes, last.min(from + WIDE), &mut room);
+    copy(bytes, last.min(from + 2 * WIDE), &mut room);
+    copy(bytes, last, &mut room);
+    u8x64::from_slice(&room[from..])
 }
 
-/// Whether bytes are UTF-8, by a look at blocks of them. It is not inlined, so that a short text does not pay for its stack frame.
+/// Whether bytes are UTF-8, by a look at blocks of them. Most texts are one or two. It is not inlined, so that a short text does not
+/// pay for its stack frame.
 #[inline(never)]
 pub(crate) fn are_utf8(bytes: &[u8]) -> bool
     ensures { IsTrue result ↔ IsUtf8 bytes.now }
 {
-    if bytes.len() < WIDE || BLOCK < bytes.len() {
+    if bytes.len() < WIDE || 2 * BLOCK < bytes.len() {
         return is_utf8(bytes);
     }
-    Checker::new().step(padded(bytes)).finish()
+    if bytes.len() <= BLOCK {
+        return Checker::new().step(padded(bytes, 0)).finish();
+    }
+    let first = u8x64::from_slice(bytes);
+    let second = padded(&bytes[BLOCK - WIDE..], WIDE);
+    Checker::new().step(first).step(second).finish()
 }
