@@ -23,18 +23,18 @@ pub copied_none : (from : ℕ) (bytes : List ℕ) → IsCopied from bytes (repli
 copied_none from bytes = record { size = length-replicate {A = ℕ} 80 0; same = λ k a b. absurd (omega (arith, a, b)); zeros = λ k _. zero-at k }
 
 -- those from a place on that are loaded together
-pub copied_more : (from : ℕ) (bytes room : List ℕ) (to at : ℕ) → IsCopied from bytes room to → at ≤ to → at + 16 ≤ length bytes → length bytes ≤ 80 → IsCopied from bytes (put_chunk at room (chunk at 16 bytes)) (at + 16)
-copied_more from bytes room to at c near within few =
-    let long : length (chunk at 16 bytes) ≡ 16 = length-chunk at 16 bytes within in record {
-      size = length-put_chunk at room (chunk at 16 bytes) ∙ c.size;
+pub copied_more : (wide from : ℕ) (bytes room : List ℕ) (to at : ℕ) → IsCopied from bytes room to → at ≤ to → at + wide ≤ length bytes → length bytes ≤ 80 → IsCopied from bytes (put_chunk at room (chunk at wide bytes)) (at + wide)
+copied_more wide from bytes room to at c near within few =
+    let long : length (chunk at wide bytes) ≡ wide = length-chunk at wide bytes within in record {
+      size = length-put_chunk at room (chunk at wide bytes) ∙ c.size;
       same = λ k begun h. elim (cases_lt k at) [
-        | inl before ↦ get_or-put_chunk_below at room (chunk at 16 bytes) k 0 before ∙ c.same k begun (omega arith)
+        | inl before ↦ get_or-put_chunk_below at room (chunk at wide bytes) k 0 before ∙ c.same k begun (omega arith)
         | inr after ↦
             let place : k ≡ at + (k - at) = omega arith in
-            ap (λ i. get_or (put_chunk at room (chunk at 16 bytes)) i 0) place ∙ get_or-put_chunk_at at room (chunk at 16 bytes) (k - at) 0 (omega (arith, long, h, after)) (omega (arith, long, c.size))
-            ∙ get_or-chunk at 16 bytes (k - at) 0 (omega arith) ∙ ap (λ i. get_or bytes i 0) (sym place)
+            ap (λ i. get_or (put_chunk at room (chunk at wide bytes)) i 0) place ∙ get_or-put_chunk_at at room (chunk at wide bytes) (k - at) 0 (omega (arith, long, h, after)) (omega (arith, long, c.size))
+            ∙ get_or-chunk at wide bytes (k - at) 0 (omega arith) ∙ ap (λ i. get_or bytes i 0) (sym place)
       ];
-      zeros = λ k h. get_or-put_chunk_above at room (chunk at 16 bytes) k 0 (omega (arith, long)) ∙ c.zeros k h;
+      zeros = λ k h. get_or-put_chunk_above at room (chunk at wide bytes) k 0 (omega (arith, long)) ∙ c.zeros k h;
     }
 
 -- all of them

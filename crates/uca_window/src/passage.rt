@@ -10,7 +10,7 @@ use crate::fault::TextFault;
 use crate::passing::{
     COARSE, MEDIUM, STRIDE, adds_few, adds_few_coarsely, is_passed, none_dense, pass, skip,
 };
-use crate::utf8::are_utf8;
+use crate::utf8::{BLOCK_FROM, are_utf8};
 use simdutf8::compat::from_utf8;
 use std::str::from_utf8_unchecked;
 use thiserror::Error;
@@ -20,10 +20,6 @@ use unicode_normalization::char::{canonical_combining_class, decomposition};
 
 /// The greatest length in bytes at which every text is known to be safe: no more bytes than may follow a passed character.
 const SHORT: usize = STRIDE;
-
-/// From this length in bytes on, a look at a block of 64 bytes is faster than one at each character, which `from_utf8` takes of less
-/// than a block.
-const BLOCK_FROM: usize = 8;
 
 /// A text is not safe: a run of nonstarters in its NFD is longer than `MAX_RUN`, or the NFD of a character is
 /// longer than `MAX_DECOMPOSITION` code points.

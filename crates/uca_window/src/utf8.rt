@@ -12,14 +12,20 @@ const BLOCK: usize = 64;
 /// How many bytes are copied together.
 const WIDE: usize = 16;
 
-/// Copies the bytes at a place to the same place of a block.
+/// How many bytes are copied together where they are fewer than that.
+const NARROW: usize = 8;
+
+/// From this length in bytes on, a look at a block of 64 bytes is faster than one at each character.
+pub(crate) const BLOCK_FROM: usize = NARROW;
+
+/// Copies the bytes at a place to the same place of a block, by one load and one store.
 #[inline(always)]
-fn copy(bytes: &[u8], at: usize, block: &mut [u8])
-    requires within { at + WIDE ≤ length bytes.now }
-    requires room { at + WIDE ≤ length block.old }
-    ensures { block.new ≡ put_chunk at block.old (chunk at 16 bytes.now) }
+fn copy<const N: usize>(bytes: &[u8], at: usize, block: &mut [u8])
+    requires within { at + N ≤ length bytes.now }
+    requires room { at + N ≤ length block.old }
+    ensures { block.new ≡ put_chunk at block.old (chunk at N bytes.now) }
 {
-    u8x16::from_slice(&bytes[at..]).copy_to_slice(&mut block[at..]);
+    Simd::<u8, N>::from_slice(&bytes[at..]).copy_to_slice(&mut block[at..]);
 }
 
 /// Bytes from a place on that are no more than a block, and zeros after them. The last bytes are copied by a whole load too, which may
@@ -33,11 +39,38 @@ fn padded(bytes: &[u8], from: usize) -> u8x64
 {
     let last = bytes.len() - WIDE;
     let mut room = [0; WIDE + BLOCK];
-    copy(bytes, last.min(from), &mut room);
-    copy(bytes, last.min(from + WIDE), &mut room);
-    copy(bytes, last.min(from + 2 * WIDE), &mut room);
-    copy(bytes, last, &mut room);
+    copy::<WIDE>(bytes, last.min(from), &mut room);
+    copy::<WIDE>(bytes, last.min(from + WIDE), &mut room);
+    copy::<WIDE>(bytes, last.min(from + 2 * WIDE), &mut room);
+    copy::<WIDE>(bytes, last, &mut room);
     u8x64::from_slice(&room[from..])
+}
+
+/// The same of bytes that are too few for a wide load, by two narrow ones.
+#[inline(always)]
+fn padded_narrowly(bytes: &[u8]) -> u8x64
+    requires some { NARROW ≤ length bytes.now }
+    requires few { length bytes.now ≤ WIDE }
+    ensures { result ≡ bytes.now ++ replicate (BLOCK - length bytes.now) 0 }
+{
+    let mut room = [0; WIDE + BLOCK];
+    copy::<NARROW>(bytes, 0, &mut room);
+    copy::<NARROW>(bytes, bytes.len() - NARROW, &mut room);
+    u8x64::from_slice(&room)
+}
+
+/// Bytes that are no more than a block, and zeros after them.
+#[inline(always)]
+fn block_of(bytes: &[u8]) -> u8x64
+    requires some { NARROW ≤ length bytes.now }
+    requires few { length bytes.now ≤ BLOCK }
+    ensures { result ≡ bytes.now ++ replicate (BLOCK - length bytes.now) 0 }
+{
+    if bytes.len() < WIDE {
+        padded_narrowly(bytes)
+    } else {
+        padded(bytes, 0)
+    }
 }
 
 /// Whether bytes are UTF-8, by a look at blocks of them. Most texts are one or two. It is not inlined, so that a short text does not
@@ -46,11 +79,11 @@ fn padded(bytes: &[u8], from: usize) -> u8x64
 pub(crate) fn are_utf8(bytes: &[u8]) -> bool
     ensures { IsTrue result ↔ IsUtf8 bytes.now }
 {
-    if bytes.len() < WIDE || 2 * BLOCK < bytes.len() {
+    if bytes.len() < NARROW || 2 * BLOCK < bytes.len() {
         return is_utf8(bytes);
     }
     if bytes.len() <= BLOCK {
-        return Checker::new().step(padded(bytes, 0)).finish();
+        return Checker::new().step(block_of(bytes)).finish();
     }
     let first = u8x64::from_slice(bytes);
     let second = padded(&bytes[BLOCK - WIDE..], WIDE);

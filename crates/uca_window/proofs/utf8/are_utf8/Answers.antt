@@ -6,7 +6,7 @@ use Rattle.uca_window.proofs.utf8.are_utf8.Goals as goal
 pub returns-then-bytes-le-BLOCK : goal.returns-then-bytes-le-BLOCK
 returns-then-bytes-le-BLOCK c =
     let bs = c.args.bytes.now in
-    let said = c.finish.ensures _ (rw c.padded.ensures at (c.step.ensures _ c.new.ensures)) in
+    let said = c.finish.ensures _ (rw c.block_of.ensures at (c.step.ensures _ c.new.ensures)) in
     let pad = IsUtf8-append_ascii bs _ (IsAscii-replicate (64 - length bs) 0 (omega arith)) in
     (λ t. pad.0 (said.0 t), λ u. said.1 (pad.1 u))
 
