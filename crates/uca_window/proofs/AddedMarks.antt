@@ -1,11 +1,12 @@
--- How many nonstarters a character adds to a run, and why a text of few bytes, or with few stops, has no long run.
-use Rattle.std.proofs.Common.{◌≡◌, ℕ, ◌+◌, ◌-◌, ◌≤◌, ◌<◌, max, Bool, true, false, cond, not, List, [], ◌∷◌, ◌++◌, length, take, get_or, encode_utf8_all, chars, IsUtf8, refl, sym, ap, subst, ◌∙◌, arith, append_assoc, append-nil, length-append, inl, inr}
-use Rattle.std.proofs.lemmas.Bool.{cases_Bool, cases_eq}
+-- How many nonstarters a character adds to a run, and why a text of few bytes, or one whose bytes add few, has no long run.
+use Rattle.std.proofs.Common.{◌≡◌, ℕ, ◌+◌, ◌-◌, ◌*◌, ◌≤◌, suc, nat_lt, ◌<◌, max, Bool, true, false, cond, not, List, [], ◌∷◌, ◌++◌, length, take, get_or, encode_utf8_all, chars, IsUtf8, refl, sym, ap, subst, ◌∙◌, arith, append_assoc, append-nil, length-append, inl, inr}
+use Rattle.std.proofs.lemmas.Bool.{cases_Bool, cases_eq, cases_lt}
 use Rattle.std.proofs.lemmas.Bool.Decides.{nat_tests}
 use Rattle.std.proofs.lemmas.List.{take_all}
 use Rattle.std.proofs.lemmas.List.Sums.{sum_by-append, sum_by-cons, count_by-le-length}
 use Rattle.std.proofs.lemmas.Str.{encodes-chars, length-encode, len_utf8_bounds}
 use Rattle.std.specs.List.{count_by}
+use Rattle.std.specs.Char.{len_utf8}
 use lib.Utf8.{encode}
 use lib.Lanes.{chunk}
 use Rattle.std.proofs.Math.Seq.{take-add}
@@ -14,9 +15,9 @@ use Rattle.unicode_normalization.specs.Decompose.{decompose_canonical}
 use Rattle.uca_weights.specs.declared.limits.TheConstants.{MAX_RUN}
 use Rattle.uca_model.specs.SafeText.{longest_run_after, IsSafe}
 use Rattle.uca_model.proofs.SafeLemmas.{run_after}
-use Rattle.uca_window.specs.Passing.{is_passed, is_pair, is_stop, is_of_pair, added}
+use Rattle.uca_window.specs.Passing.{is_passed, is_pair, is_stop, is_of_pair, is_dense, is_high, added_by}
 use Rattle.uca_window.specs.Scan.{Fits}
-use Rattle.uca_window.proofs.PassedBytes.{first-passed}
+use Rattle.uca_window.proofs.PassedBytes.{first-passed, below_marks, stop-lead}
 use Rattle.uca_window.proofs.PassedCharacters.{decompose-passed, decompose-short, starts, starts-passed, joining, decompose-joins}
 use Rattle.uca_window.proofs.PassedRuns.{longest-short, run-longest}
 use Rattle.uca_window.specs.Scan.{Scanned}
@@ -57,43 +58,68 @@ first-counts p (x ∷ xs) some h =
     omega (arith, one, more)
 
 -- a character that is not passed begins with a stop
-begins-stop : (c : ℕ) → is_passed c ≡ false → 1 ≤ count_by is_stop (encode c)
-begins-stop c other =
-    let some : 0 < length (encode c) = omega (arith, length-encode c, (len_utf8_bounds c).0) in
-    elim (cases_Bool (is_stop (get_or (encode c) 0 0))) [
-      | inl stop ↦ first-counts is_stop (encode c) some stop
-      | inr free ↦
-          let passed : is_passed c ≡ true = first-passed c [] (ap (λ bs. is_stop (get_or bs 0 0)) (append-nil (encode c)) ∙ free) in
-          let clash : true ≡ false = sym passed ∙ other in cc
-    ]
+first-stop : (c : ℕ) → is_passed c ≡ false → is_stop (get_or (encode c) 0 0) ≡ true
+first-stop c other = elim (cases_Bool (is_stop (get_or (encode c) 0 0))) [
+  | inl stop ↦ stop
+  | inr free ↦
+      let passed : is_passed c ≡ true = first-passed c [] (ap (λ bs. is_stop (get_or bs 0 0)) (append-nil (encode c)) ∙ free) in
+      let clash : true ≡ false = sym passed ∙ other in cc
+]
 
--- it adds no more than it has bytes, nor than it has stops and bytes of pairs
+begins : (p : ℕ → Bool) (c : ℕ) → p (get_or (encode c) 0 0) ≡ true → 1 ≤ count_by p (encode c)
+begins p c first = first-counts p (encode c) (omega (arith, length-encode c, (len_utf8_bounds c).0)) first
+
+begins-stop : (c : ℕ) → is_passed c ≡ false → 1 ≤ count_by is_stop (encode c)
+begins-stop c other = begins is_stop c (first-stop c other)
+
+-- which is high
+high-stop : (b : ℕ) → 192 ≤ b → is_high b ≡ true
+high-stop b lead = grind (arith, nat_tests)
+
+begins-high : (c : ℕ) → is_passed c ≡ false → 1 ≤ count_by is_high (encode c)
+begins-high c other =
+    let first = get_or (encode c) 0 0 in
+    begins is_high c (high-stop first (stop-lead first (first-stop c other)))
+
+-- and is no single byte
+long-other : (c : ℕ) → is_passed c ≡ false → 2 ≤ len_utf8 c
+long-other c other = elim (cases_lt c 0x300) [
+  | inl latin ↦ let clash : true ≡ false = sym (below_marks c latin) ∙ other in cc
+  | inr after ↦
+      let big : nat_lt c 0x80 ≡ false = grind (arith, nat_tests) in
+      rw big (elim (cases_Bool (nat_lt c 0x800)) [ inl two ↦ rw two (omega arith) | inr more ↦ rw more (elim (cases_Bool (nat_lt c 0x10000)) [ inl three ↦ rw three (omega arith) | inr four ↦ rw four (omega arith) ]) ])
+]
+
+-- it adds no more than it has bytes, nor two for three bytes if none of them is dense, nor what either look at its bytes counts
 record Bounds (c : ℕ) : Type 0 where
   by_bytes : growth c ≤ length (encode c)
-  by_stops : growth c ≤ added (encode c)
+  by_thirds : 3 * growth c ≤ 2 * length (encode c) + 2 * count_by is_dense (encode c)
+  by_stops : growth c ≤ added_by false (encode c)
+  by_high : growth c ≤ added_by true (encode c)
 
 bounds-344 : Bounds 0x344
 unfolding encode
-bounds-344 = record { by_bytes = omega arith; by_stops = omega arith }
+bounds-344 = record { by_bytes = omega arith; by_thirds = omega arith; by_stops = omega arith; by_high = omega arith }
 
 bounds-F73 : Bounds 0xF73
 unfolding encode
-bounds-F73 = record { by_bytes = omega arith; by_stops = omega arith }
+bounds-F73 = record { by_bytes = omega arith; by_thirds = omega arith; by_stops = omega arith; by_high = omega arith }
 
 bounds-F75 : Bounds 0xF75
 unfolding encode
-bounds-F75 = record { by_bytes = omega arith; by_stops = omega arith }
+bounds-F75 = record { by_bytes = omega arith; by_thirds = omega arith; by_stops = omega arith; by_high = omega arith }
 
 bounds-F81 : Bounds 0xF81
 unfolding encode
-bounds-F81 = record { by_bytes = omega arith; by_stops = omega arith }
+bounds-F81 = record { by_bytes = omega arith; by_thirds = omega arith; by_stops = omega arith; by_high = omega arith }
 
 bounds-other : (c : ℕ) → is_pair c ≡ false → Bounds c
 bounds-other c single = elim (cases_Bool (is_passed c)) [
-  | inl passed ↦ record { by_bytes = rw passed (omega arith); by_stops = rw passed (omega arith) }
+  | inl passed ↦ record { by_bytes = rw passed (omega arith); by_thirds = rw passed (omega arith); by_stops = rw passed (omega arith); by_high = rw passed (omega arith) }
   | inr other ↦
       let one : growth c ≡ 1 = ap (λ b. cond b 0 (joining c)) other ∙ ap (λ b. cond b 2 1) single in
-      record { by_bytes = omega (arith, length-encode c, (len_utf8_bounds c).0); by_stops = omega (arith, begins-stop c other) }
+      let two : 2 ≤ len_utf8 c = long-other c other in
+      record { by_bytes = omega (arith, length-encode c, two); by_thirds = omega (arith, length-encode c, two); by_stops = omega (arith, begins-stop c other); by_high = omega (arith, begins-high c other) }
 ]
 
 bounds : (c : ℕ) → Bounds c
@@ -136,12 +162,26 @@ growths-bytes (c ∷ cs) =
     let size : length (encode_utf8_all (c ∷ cs)) ≡ length (encode c) + length (encode_utf8_all cs) = length-append (encode c) (encode_utf8_all cs) in
     omega (arith, (bounds c).by_bytes, growths-bytes cs)
 
-growths-stops : (cs : List ℕ) → growths cs ≤ added (encode_utf8_all cs)
-growths-stops [] = omega arith
-growths-stops (c ∷ cs) =
-    let stops : count_by is_stop (encode_utf8_all (c ∷ cs)) ≡ count_by is_stop (encode c) + count_by is_stop (encode_utf8_all cs) = sum_by-append (λ b. cond (is_stop b) 1 0) (encode c) (encode_utf8_all cs) in
-    let pairs : count_by is_of_pair (encode_utf8_all (c ∷ cs)) ≡ count_by is_of_pair (encode c) + count_by is_of_pair (encode_utf8_all cs) = sum_by-append (λ b. cond (is_of_pair b) 1 0) (encode c) (encode_utf8_all cs) in
-    omega (arith, (bounds c).by_stops, growths-stops cs)
+growths-thirds : (cs : List ℕ) → 3 * growths cs ≤ 2 * length (encode_utf8_all cs) + 2 * count_by is_dense (encode_utf8_all cs)
+growths-thirds [] = omega arith
+growths-thirds (c ∷ cs) =
+    let size : length (encode_utf8_all (c ∷ cs)) ≡ length (encode c) + length (encode_utf8_all cs) = length-append (encode c) (encode_utf8_all cs) in
+    let dense : count_by is_dense (encode_utf8_all (c ∷ cs)) ≡ count_by is_dense (encode c) + count_by is_dense (encode_utf8_all cs) = sum_by-append (λ b. cond (is_dense b) 1 0) (encode c) (encode_utf8_all cs) in
+    omega (arith, (bounds c).by_thirds, growths-thirds cs)
+
+added-append : (coarsely : Bool) (xs ys : List ℕ) → added_by coarsely (xs ++ ys) ≡ added_by coarsely xs + added_by coarsely ys
+added-append coarsely xs ys =
+    omega (arith, sum_by-append (λ b. cond (cond coarsely is_high is_stop b) 1 0) xs ys, sum_by-append (λ b. cond (cond coarsely is_dense is_of_pair b) 1 0) xs ys)
+
+by_look : (coarsely : Bool) (c : ℕ) → growth c ≤ added_by coarsely (encode c)
+by_look true c = (bounds c).by_high
+by_look false c = (bounds c).by_stops
+
+growths-look : (coarsely : Bool) (cs : List ℕ) → growths cs ≤ added_by coarsely (encode_utf8_all cs)
+growths-look coarsely [] = omega arith
+growths-look coarsely (c ∷ cs) =
+    let whole : added_by coarsely (encode_utf8_all (c ∷ cs)) ≡ added_by coarsely (encode c) + added_by coarsely (encode_utf8_all cs) = added-append coarsely (encode c) (encode_utf8_all cs) in
+    omega (arith, whole, by_look coarsely c, growths-look coarsely cs)
 
 safe_by : (bs : List ℕ) → IsUtf8 bs → 3 + growths (chars bs) ≤ MAX_RUN → IsSafe (chars bs)
 safe_by bs utf8 few = (scanned_few [] (chars bs) 0 scanned_none (omega arith)).1.safe
@@ -152,39 +192,52 @@ short_safe bs utf8 few =
     let size : length (encode_utf8_all (chars bs)) ≡ length bs = ap length (encodes-chars bs utf8) in
     safe_by bs utf8 (omega (arith, growths-bytes (chars bs)))
 
+-- and so are half as many more if none of them is dense
+pub medium_safe : (bs : List ℕ) → IsUtf8 bs → count_by is_dense bs ≡ 0 → 2 * length bs ≤ 3 * (MAX_RUN - 3) → IsSafe (chars bs)
+medium_safe bs utf8 none few =
+    let size : length (encode_utf8_all (chars bs)) ≡ length bs = ap length (encodes-chars bs utf8) in
+    let same : count_by is_dense (encode_utf8_all (chars bs)) ≡ count_by is_dense bs = ap (count_by is_dense) (encodes-chars bs utf8) in
+    safe_by bs utf8 (omega (arith, growths-thirds (chars bs)))
+
 -- and so are bytes that add few
-pub light_safe : (bs : List ℕ) → IsUtf8 bs → 3 + added bs ≤ MAX_RUN → IsSafe (chars bs)
-light_safe bs utf8 few =
-    let same : added (encode_utf8_all (chars bs)) ≡ added bs = ap added (encodes-chars bs utf8) in
-    safe_by bs utf8 (omega (arith, growths-stops (chars bs)))
+pub light_safe : (coarsely : Bool) (bs : List ℕ) → IsUtf8 bs → 3 + added_by coarsely bs ≤ MAX_RUN → IsSafe (chars bs)
+light_safe coarsely bs utf8 few =
+    let same : added_by coarsely (encode_utf8_all (chars bs)) ≡ added_by coarsely bs = ap (added_by coarsely) (encodes-chars bs utf8) in
+    safe_by bs utf8 (omega (arith, growths-look coarsely (chars bs)))
 
 -- ---- a text in blocks
 
-added-append : (xs ys : List ℕ) → added (xs ++ ys) ≡ added xs + added ys
-added-append xs ys = omega (arith, sum_by-append (λ b. cond (is_stop b) 1 0) xs ys, sum_by-append (λ b. cond (is_of_pair b) 1 0) xs ys)
-
 -- the front of some bytes, and the block behind it
-added-block : (bs : List ℕ) (at n : ℕ) → added (take (at + n) bs) ≡ added (take at bs) + added (chunk at n bs)
-added-block bs at n = ap added (take-add at n bs) ∙ added-append (take at bs) (chunk at n bs)
+added-block : (coarsely : Bool) (bs : List ℕ) (at n : ℕ) → added_by coarsely (take (at + n) bs) ≡ added_by coarsely (take at bs) + added_by coarsely (chunk at n bs)
+added-block coarsely bs at n = ap (added_by coarsely) (take-add at n bs) ∙ added-append coarsely (take at bs) (chunk at n bs)
 
 -- a longer front has no less
-added-front : (bs : List ℕ) (m n : ℕ) → m ≤ n → added (take m bs) ≤ added (take n bs)
-added-front bs m n le =
+added-front : (coarsely : Bool) (bs : List ℕ) (m n : ℕ) → m ≤ n → added_by coarsely (take m bs) ≤ added_by coarsely (take n bs)
+added-front coarsely bs m n le =
     let parts : n ≡ m + (n - m) = omega arith in
-    let whole : added (take n bs) ≡ added (take m bs) + added (chunk m (n - m) bs) = ap (λ k. added (take k bs)) parts ∙ added-block bs m (n - m) in
+    let whole : added_by coarsely (take n bs) ≡ added_by coarsely (take m bs) + added_by coarsely (chunk m (n - m) bs) = ap (λ k. added_by coarsely (take k bs)) parts ∙ added-block coarsely bs m (n - m) in
     omega arith
 
 -- up to a place in the block behind what was counted
-pub added-step : (bs : List ℕ) (at count more next : ℕ) → added (take at bs) ≤ count → more ≡ added (chunk at 32 bs) → next ≤ at + 32 → added (take next bs) ≤ count + more
-added-step bs at count more next before is within = omega (arith, added-block bs at 32, added-front bs next (at + 32) within)
+pub added-step : (coarsely : Bool) (bs : List ℕ) (at count more next : ℕ) → added_by coarsely (take at bs) ≤ count → more ≡ added_by coarsely (chunk at 32 bs) → next ≤ at + 32 → added_by coarsely (take next bs) ≤ count + more
+added-step coarsely bs at count more next before is within = omega (arith, added-block coarsely bs at 32, added-front coarsely bs next (at + 32) within)
 
 -- up to the end
-pub added-end : (bs : List ℕ) (at count more : ℕ) → added (take at bs) ≤ count → more ≡ added (chunk at 32 bs) → at + 32 ≡ length bs → added bs ≤ count + more
-added-end bs at count more before is end =
+pub added-end : (coarsely : Bool) (bs : List ℕ) (at count more : ℕ) → added_by coarsely (take at bs) ≤ count → more ≡ added_by coarsely (chunk at 32 bs) → at + 32 ≡ length bs → added_by coarsely bs ≤ count + more
+added-end coarsely bs at count more before is end =
     let whole : take (length bs) bs ≡ bs = take_all (length bs) bs (omega arith) in
-    let same : added (take (length bs) bs) ≡ added bs = ap added whole in
-    omega (arith, added-step bs at count more (length bs) before is (omega arith))
+    let same : added_by coarsely (take (length bs) bs) ≡ added_by coarsely bs = ap (added_by coarsely) whole in
+    omega (arith, added-step coarsely bs at count more (length bs) before is (omega arith))
 
 -- each byte counts twice at most
-pub added-few : (bs : List ℕ) → added bs ≤ length bs + length bs
-added-few bs = omega (arith, count_by-le-length is_stop bs, count_by-le-length is_of_pair bs)
+pub added-few : (coarsely : Bool) (bs : List ℕ) → added_by coarsely bs ≤ length bs + length bs
+added-few coarsely bs = omega (arith, count_by-le-length (cond coarsely is_high is_stop) bs, count_by-le-length (cond coarsely is_dense is_of_pair) bs)
+
+-- ---- bytes of which none passes a test
+
+pub none_counted : (p : ℕ → Bool) (xs : List ℕ) → ((k : ℕ) → k < length xs → p (get_or xs k 0) ≡ false) → count_by p xs ≡ 0
+none_counted p [] none = refl
+none_counted p (x ∷ xs) none =
+    let one : cond {A = ℕ} (p x) 1 0 ≡ 0 = ap (λ b. cond {A = ℕ} b 1 0) (none 0 (omega arith)) in
+    let more : count_by p (x ∷ xs) ≡ cond {A = ℕ} (p x) 1 0 + count_by p xs = sum_by-cons (λ y. cond {A = ℕ} (p y) 1 0) x xs in
+    omega (arith, one, more, none_counted p xs (λ k h. none (suc k) (omega arith)))

@@ -13,3 +13,4 @@ pub mod PassedLanes
 pub mod AddedMarks
 pub mod SkippedRuns
 pub mod AsciiTexts
+pub mod CopiedBytes

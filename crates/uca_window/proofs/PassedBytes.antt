@@ -51,7 +51,7 @@ stop-high : (b : ℕ) → 0xEE ≤ b → is_stop b ≡ true
 stop-high b low = grind (arith, nat_tests)
 
 -- a stop begins a character
-stop-lead : (b : ℕ) → is_stop b ≡ true → 192 ≤ b
+pub stop-lead : (b : ℕ) → is_stop b ≡ true → 192 ≤ b
 stop-lead b stop = elim (cases_lt b 192) [
   | inl low ↦ let none : is_stop b ≡ false = grind (arith, nat_tests) in absurd (not_both b none stop)
   | inr high ↦ high

@@ -1,5 +1,5 @@
 -- Characters that a scan passes without a look at their decompositions, and the bytes at which it looks.
-use Rattle.std.specs.Prelude.{◌≡◌, ℕ, ◌+◌, ◌≤◌, length, true, Bool, ◌&&◌, ◌||◌, ◌==◌, nat_lt, nat_le, List, [], ◌∷◌, ◌++◌, encode_utf8_all}
+use Rattle.std.specs.Prelude.{◌≡◌, ℕ, ◌+◌, ◌≤◌, length, true, Bool, ◌&&◌, ◌||◌, ◌==◌, nat_lt, nat_le, List, [], ◌∷◌, ◌++◌, encode_utf8_all, cond}
 use Rattle.std.specs.List.{list_all, count_by}
 use Rattle.uca_weights.specs.declared.limits.TheConstants.{MAX_RUN}
 
@@ -37,9 +37,18 @@ is_pair c = c == 0x344 || (c == 0xF73 || (c == 0xF75 || c == 0xF81))
 abbrev pub is_of_pair : ℕ → Bool
 is_of_pair b = b == 0xCD || is_within 0xBD 0xBF b
 
--- how many nonstarters some bytes add to a run at most: one for each stop, and one more for each pair
-abbrev pub added : List ℕ → ℕ
-added bytes = count_by is_stop bytes + count_by is_of_pair bytes
+-- the byte with which the only code point begins that adds as many nonstarters as it has bytes in UTF-8, U+0344
+abbrev pub is_dense : ℕ → Bool
+is_dense b = b == 0xCD
+
+-- a byte that begins a code point of several bytes in UTF-8, or is the second of the three others of those four
+abbrev pub is_high : ℕ → Bool
+is_high b = nat_le 0xBD b
+
+-- how many nonstarters some bytes add to a run at most: one for each stop, and one more for each pair; by a coarser look, one for each
+-- byte that is high, and one more for each that is dense
+abbrev pub added_by : Bool → List ℕ → ℕ
+added_by coarsely bytes = count_by (cond coarsely is_high is_stop) bytes + count_by (cond coarsely is_dense is_of_pair) bytes
 
 -- the last of some code points, or another one where there are none
 abbrev pub last_of : ℕ → List ℕ → ℕ

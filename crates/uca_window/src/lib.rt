@@ -16,6 +16,7 @@ pub mod passage_source;
 mod passing;
 pub mod points;
 pub mod source;
+mod utf8;
 pub mod window;
 
 pub use decomposition::nfd_of;

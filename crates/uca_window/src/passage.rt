@@ -7,9 +7,11 @@ ghost use Rattle.uca_window.specs.Scan.{run_after, Fits, IsPassedTo, ScannedTo};
 
 use crate::ascii::is_ascii;
 use crate::fault::TextFault;
-use crate::passing::{STRIDE, adds_few, is_passed, pass, skip};
+use crate::passing::{
+    COARSE, MEDIUM, STRIDE, adds_few, adds_few_coarsely, is_passed, none_dense, pass, skip,
+};
+use crate::utf8::{BLOCK_FROM, are_utf8};
 use simdutf8::compat::from_utf8;
-use simdutf8::is_utf8;
 use std::str::from_utf8_unchecked;
 use thiserror::Error;
 use uca_weights::{MAX_DECOMPOSITION, MAX_RUN};
@@ -18,10 +20,6 @@ use unicode_normalization::char::{canonical_combining_class, decomposition};
 
 /// The greatest length in bytes at which every text is known to be safe: no more bytes than may follow a passed character.
 const SHORT: usize = STRIDE;
-
-/// From this length in bytes on, a look at a block of 64 bytes is faster than one at each character, which `from_utf8` takes of less
-/// than a block.
-const BLOCK_FROM: usize = 8;
 
 /// A text is not safe: a run of nonstarters in its NFD is longer than `MAX_RUN`, or the NFD of a character is
 /// longer than `MAX_DECOMPOSITION` code points.
@@ -49,10 +47,17 @@ impl<'t> Passage<'t> {
         ensures same { IfOk result (λ p. bytes_of p ≡ text.now) }
         ensures long { IfErr result (λ e. IsLongRunAt (chars text.now) e.at) }
     {
-        if text.len() <= SHORT {
+        let bytes = text.as_bytes();
+        if bytes.len() <= SHORT {
             return Ok(Passage::of_safe(text));
         }
-        if adds_few(text.as_bytes()) {
+        if bytes.len() <= MEDIUM && none_dense(bytes) {
+            return Ok(Passage::of_safe(text));
+        }
+        if bytes.len() <= COARSE && adds_few_coarsely(bytes) {
+            return Ok(Passage::of_safe(text));
+        }
+        if adds_few(bytes) {
             return Ok(Passage::of_safe(text));
         }
         scan(text)?;
@@ -136,14 +141,6 @@ impl<'t> Passage<'t> {
     {
         self.text
     }
-}
-
-/// Whether bytes are UTF-8, by a look at blocks of them. It is not inlined, so that a short text does not pay for its stack frame.
-#[inline(never)]
-fn are_utf8(bytes: &[u8]) -> bool
-    ensures { IsTrue result ↔ IsUtf8 bytes.now }
-{
-    is_utf8(bytes)
 }
 
 /// Goes over the characters to the first with which the text is no longer safe. The NFD has its nonstarters in

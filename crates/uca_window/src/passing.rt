@@ -1,8 +1,8 @@
 //! Characters that a scan passes without a look at their decompositions.
-ghost use Rattle.std.specs.Prelude.{◌≡◌, ◌+◌, ◌≤◌, ◌<◌, ℕ, false, true, not, length, map, slice_index, IfSome, IsTrue};
-ghost use Rattle.std.specs.List.{prefix_len};
+ghost use Rattle.std.specs.Prelude.{◌≡◌, ◌+◌, ◌*◌, ◌≤◌, ◌<◌, ℕ, false, true, not, length, map, slice_index, IfSome, IsTrue};
+ghost use Rattle.std.specs.List.{count_by, prefix_len};
 ghost use Rattle.std.specs.Simd.Lanes.{chunk, mask_l};
-ghost use Rattle.uca_window.specs.Passing.{is_passed, is_passed_outside, is_passed_between, is_stop, is_of_pair, added, Passes, Skips};
+ghost use Rattle.uca_window.specs.Passing.{is_passed, is_passed_outside, is_passed_between, is_stop, is_of_pair, is_dense, is_high, added_by, Passes, Skips};
 
 use std::simd::prelude::*;
 use uca_weights::MAX_RUN;
@@ -16,6 +16,16 @@ const LONGEST_NFD: usize = 4;
 /// How many bytes may follow a passed character, whatever they spell: the NFD of that character ends in fewer than
 /// `LONGEST_NFD` nonstarters, and each byte adds at most one more.
 pub(crate) const STRIDE: usize = MAX_RUN - (LONGEST_NFD - 1);
+
+/// The byte with which U+0344 begins, the only character that adds as many nonstarters as it has bytes.
+const DENSE: u8 = 0xCD;
+
+/// The greatest length in bytes at which a text without that byte is safe whatever it spells: each other character adds at most two
+/// nonstarters for three bytes.
+pub(crate) const MEDIUM: usize = STRIDE + STRIDE / 2;
+
+/// The greatest length in bytes at which a coarse look at a text is worth its time: three bytes for each nonstarter.
+pub(crate) const COARSE: usize = 3 * STRIDE;
 
 /// Whether a character before Hebrew or after Lao is of a range in which each NFD begins with a starter: Latin, Greek and
 /// Cyrillic letters, Han, kana, Hangul, punctuation and symbols.
@@ -142,28 +152,49 @@ fn of_pairs(block: u8x32) -> u64
         | (block - u8x32::splat(0xBD)).simd_lt(u8x32::splat(2))).to_bitmask()
 }
 
-/// How many nonstarters the bytes of a block add to a run at most.
+/// Which bytes of a block are dense: each with which U+0344 begins.
 #[inline(always)]
-fn added_in(bytes: &[u8], at: usize) -> usize
+fn dense(block: u8x32) -> u64
+    ensures { result ≡ mask_l (map is_dense block) }
+{
+    block.simd_eq(u8x32::splat(DENSE)).to_bitmask()
+}
+
+/// Which bytes of a block are high: each with which a character of several bytes begins, and the second of each of the three
+/// others whose NFD is two nonstarters.
+#[inline(always)]
+fn high(block: u8x32) -> u64
+    ensures { result ≡ mask_l (map is_high block) }
+{
+    block.simd_ge(u8x32::splat(0xBD)).to_bitmask()
+}
+
+/// How many nonstarters the bytes of a block add to a run at most. By the coarser look, which costs half as much, each character of
+/// several bytes adds one, and one more for each of its bytes that may belong to a pair.
+#[inline(always)]
+fn added_in(bytes: &[u8], at: usize, coarsely: bool) -> usize
     requires { at + LANES ≤ length bytes.now }
-    ensures { result ≡ added (chunk at 32 bytes.now) }
+    ensures { result ≡ added_by coarsely (chunk at 32 bytes.now) }
 {
     let block = u8x32::from_slice(&bytes[at..]);
+    if coarsely {
+        return (high(block).count_ones() + dense(block).count_ones()) as usize;
+    }
     (stops(block).count_ones() + of_pairs(block).count_ones()) as usize
 }
 
 /// Whether a text adds so few nonstarters to a run that it is safe whatever it spells. The last block may begin in the one
-/// before it: what lies in both counts twice, so that the count is never too small. It is not inlined, for the same reason as `scan`.
-#[inline(never)]
-pub(crate) fn adds_few(bytes: &[u8]) -> bool
+/// before it: what lies in both counts twice, so that the count is never too small.
+#[inline(always)]
+fn adds_few_by(bytes: &[u8], coarsely: bool) -> bool
     requires { LANES ≤ length bytes.now }
-    ensures { IsTrue result → added bytes.now ≤ STRIDE }
+    ensures { IsTrue result → added_by coarsely bytes.now ≤ STRIDE }
 {
     let last = bytes.len() - LANES;
     let mut at = 0;
     let mut count = 0;
     'each: loop {
-        count += added_in(bytes, at);
+        count += added_in(bytes, at, coarsely);
         if count > STRIDE {
             return false;
         }
@@ -172,6 +203,49 @@ pub(crate) fn adds_few(bytes: &[u8]) -> bool
         }
         at = last.min(at + LANES);
     }
+}
+
+/// Whether a text adds so few nonstarters to a run that it is safe whatever it spells. It is not inlined, for the same reason as
+/// `scan`.
+#[inline(never)]
+pub(crate) fn adds_few(bytes: &[u8]) -> bool
+    requires { LANES ≤ length bytes.now }
+    ensures { IsTrue result → added_by false bytes.now ≤ STRIDE }
+{
+    adds_few_by(bytes, false)
+}
+
+/// The same by a coarser look, which is enough for most texts of fewer than `STRIDE` characters.
+#[inline(never)]
+pub(crate) fn adds_few_coarsely(bytes: &[u8]) -> bool
+    requires { LANES ≤ length bytes.now }
+    ensures { IsTrue result → added_by true bytes.now ≤ STRIDE }
+{
+    adds_few_by(bytes, true)
+}
+
+/// Whether no byte of the block at a place is dense.
+#[inline(always)]
+fn none_dense_at(bytes: &[u8], at: usize) -> bool
+    requires { at + LANES ≤ length bytes.now }
+    ensures { IsTrue result → (k : ℕ) → at ≤ k → k < at + LANES → is_dense (slice_index bytes.now k) ≡ false }
+{
+    dense(u8x32::from_slice(&bytes[at..])) == 0
+}
+
+/// Whether no byte of a text of one to three blocks is dense. Most texts that are longer than [`STRIDE`] are that short, and such
+/// a byte is rare.
+#[inline(always)]
+pub(crate) fn none_dense(bytes: &[u8]) -> bool
+    requires some { LANES ≤ length bytes.now }
+    requires few { length bytes.now ≤ 3 * LANES }
+    ensures { IsTrue result → count_by is_dense bytes.now ≡ 0 }
+{
+    let last = bytes.len() - LANES;
+    let first = none_dense_at(bytes, 0);
+    let second = none_dense_at(bytes, last.min(LANES));
+    let third = none_dense_at(bytes, last);
+    first & second & third
 }
 
 /// What is left of a text after characters at its front that are all passed, and the last of these; `last` where there is

@@ -1,13 +1,13 @@
 use Rattle.std.proofs.Common.{◌≡◌, ◌+◌, ◌-◌, ◌≤◌, length, take}
-use Rattle.uca_window.specs.Passing.{added}
+use Rattle.uca_window.specs.Passing.{added_by}
 use Rattle.uca_window.specs.declared.passing.TheConstants.{STRIDE}
-use Rattle.uca_window.proofs.passing.adds_few.Given as goal
+use Rattle.uca_window.proofs.passing.adds_few_by.Given as goal
 
 abbrev pub invariant-each : goal.invariant-each
 invariant-each l = record {
   end : l.last + 32 ≡ length l.bytes;
   within : l.at ≤ l.last;
-  counted : added (take l.at l.bytes) ≤ l.count;
+  counted : added_by l.coarsely (take l.at l.bytes) ≤ l.count;
   few : l.count ≤ STRIDE;
 }
 

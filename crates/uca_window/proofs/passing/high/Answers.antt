@@ -1,0 +1,11 @@
+use Rattle.std.proofs.Common.{arith}
+use Rattle.std.proofs.lemmas.Simd.{zip2_splat_left}
+use Rattle.uca_window.specs.Passing.{is_high}
+use Rattle.uca_window.proofs.PassedLanes.{at_most, masked}
+use Rattle.uca_window.proofs.passing.high.Goals as goal
+
+pub returns : goal.returns
+returns c =
+    let v = c.args.block in
+    let long = c.fits-block.0 in
+    masked _ is_high v _ (omega arith) c.fits-block.1 (zip2_splat_left at_most 0xBD 32 v long) tt

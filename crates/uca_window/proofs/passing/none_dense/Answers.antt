@@ -1,0 +1,27 @@
+use Rattle.std.proofs.Common.{◌≡◌, ℕ, ◌+◌, ◌≤◌, ◌<◌, List, false, ◌&&◌, length, slice_index, arith, inl, inr}
+use Rattle.std.specs.List.{count_by}
+use Rattle.std.proofs.lemmas.Bool.{cases_lt, and_parts}
+use Rattle.uca_window.specs.Passing.{is_dense}
+use Rattle.uca_window.proofs.AddedMarks.{none_counted}
+use Rattle.uca_window.proofs.passing.none_dense.Goals as goal
+
+-- no byte from a place on is dense, nor before another one
+abbrev NoneFrom : ℕ → ℕ → List ℕ → Type 0
+NoneFrom from to bytes = (k : ℕ) → from ≤ k → k < to → is_dense (slice_index bytes k) ≡ false
+
+-- three blocks in a row, or fewer that have bytes in common
+all_three : (bytes : List ℕ) (last second : ℕ) → last + 32 ≡ length bytes → last ≤ 64 → second ≤ 32 → last ≤ second + 32 → NoneFrom 0 32 bytes → NoneFrom second (second + 32) bytes → NoneFrom last (last + 32) bytes → count_by is_dense bytes ≡ 0
+all_three bytes last second end few near gap a b c = none_counted is_dense bytes (λ k h. elim (cases_lt k 32) [
+  | inl front ↦ a k (omega arith) front
+  | inr after ↦ elim (cases_lt k last) [
+    | inl middle ↦ b k (omega arith) (omega arith)
+    | inr back ↦ c k back (omega arith)
+  ]
+])
+
+pub returns : goal.returns
+returns c = λ none.
+    let third = and_parts (c.none_dense_at-first.result && c.none_dense_at-second.result) c.none_dense_at-third.result none in
+    let front = and_parts c.none_dense_at-first.result c.none_dense_at-second.result third.0 in
+    all_three c.args.bytes.now _ c.min.result (omega (arith, c.requires.some)) (omega (arith, c.requires.few)) (omega (arith, c.min.ensures)) (omega (arith, c.min.ensures))
+    (c.none_dense_at-first.ensures front.0) (c.none_dense_at-second.ensures front.1) (c.none_dense_at-third.ensures third.1)
