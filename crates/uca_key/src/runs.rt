@@ -396,7 +396,9 @@ pub(crate) fn first_others(room: &[Element], held: usize) -> LaterOthers
     }
 }
 
-// Packs the weights of some elements at a level from 2 to 4, a piece at a time.
+// Packs the weights of some elements at a level from 2 to 4, a piece at a time. It is not inlined, so that what fits at once has all
+// registers.
+#[inline(never)]
 fn put_elements(
     v: Variable,
     level: u8,

@@ -499,7 +499,8 @@ fn first_reach(code: &PackedCode) -> Reach
     }
 }
 
-// Puts the weights of some elements, a piece at a time.
+// Puts the weights of some elements, a piece at a time. It is not inlined, so that what fits at once has all registers.
+#[inline(never)]
 fn put_elements<'c>(
     code: &'c PackedCode,
     v: Variable,
