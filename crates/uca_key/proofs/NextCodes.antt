@@ -5,7 +5,7 @@ use Rattle.std.proofs.lemmas.Bool.Decides.{nat_tests}
 use Rattle.std.proofs.lemmas.Grind.{common_steps}
 use Rattle.std.proofs.lemmas.List.Sums.{sum_by-cons}
 use Rattle.std.specs.List.{list_any, sum_by}
-use Rattle.uca_key.specs.PrimaryCode.{PrimaryCode, anchor_of, begins_slot, is_single, page_of, past, slot}
+use Rattle.uca_key.specs.PrimaryCode.{PrimaryCode, anchor_of, begins_slot, is_common, is_single, page_of, past, slot}
 use Rattle.uca_key.specs.WeightCodes.{AreCodes, IsCodeOf, IsMadeOf, IsNext, keeps_window}
 use Rattle.uca_key.specs.declared.weight_codes.Parts.{Parts}
 use Rattle.uca_key.specs.declared.weight_codes.WeightCode.{WeightCode}
@@ -83,20 +83,60 @@ next-same k w x n single same next =
 
 -- ---- all of it
 
--- what the code has of it
-pub next-code : (k : PrimaryCode) (p : Parts) (w : ℕ) (c after : WeightCode) → IsMadeOf k p → w + 1 < 65536 → ((w + 1) % 256 == 0 || get_or p.named.now w false || get_or p.named.now (w + 1) false) ≡ false → IsCodeOf k w c
-    → after.slot ≡ slot k (w + 1) → after.common ≡ get_or p.commons.now (w + 1) false → after.lead ≡ c.lead → after.single ≡ c.single → after.next ≡ c.next → IsCodeOf k (w + 1) after
-next-code k p w c after made within alike code at common lead single next =
-    let ends = or-none ((w + 1) % 256 == 0 || get_or p.named.now w false) (get_or p.named.now (w + 1) false) alike in
-    let inside = or-none ((w + 1) % 256 == 0) (get_or p.named.now w false) ends.0 in
-    let here = or-none (is_single k w) (list_any (λ x. x == w) k.anchors) (sym (made.named w (omega arith)) ∙ inside.1) in
-    let there = or-none (is_single k (w + 1)) (list_any (λ x. x == w + 1) k.anchors) (sym (made.named (w + 1) within) ∙ ends.1) in
-    let alone : is_single k (w + 1) ≡ is_single k w = there.0 ∙ sym here.0 in
+-- a weight after another, where both are neither common nor named
+pub record AreAlike (k : PrimaryCode) (w : ℕ) : Type 0 where
+  pub inside : ((w + 1) % 256 == 0) ≡ false
+  pub here : (is_single k w ≡ false) × (list_any (λ x. x == w) k.anchors ≡ false)
+  pub there : (is_single k (w + 1) ≡ false) × (list_any (λ x. x == w + 1) k.anchors ≡ false)
+
+-- what the code has of it, but for the slot and whether it is common
+alike-code : (k : PrimaryCode) (w : ℕ) (c after : WeightCode) → AreAlike k w → IsCodeOf k w c → after.slot ≡ slot k (w + 1) → after.common ≡ is_common k (w + 1) → after.lead ≡ c.lead → after.single ≡ c.single → after.next ≡ c.next
+    → IsCodeOf k (w + 1) after
+alike-code k w c after alike code at common lead single next =
+    let alone : is_single k (w + 1) ≡ is_single k w = alike.there.0 ∙ sym alike.here.0 in
     record {
       slot = at;
-      common = common ∙ made.commons (w + 1) within;
-      lead = lead ∙ code.lead ∙ sym (ap₂ (λ a b. 1 + a + b) (one-page w inside.0) (all-past w k.singles here.0 there.0));
+      common = common;
+      lead = lead ∙ code.lead ∙ sym (ap₂ (λ a b. 1 + a + b) (one-page w alike.inside) (all-past w k.singles alike.here.0 alike.there.0));
       most = subst (λ n. n ≤ 135) (sym lead) code.most;
       single = single ∙ code.single ∙ sym alone;
-      next = next-same k (w + 1) w after.next alone (one-greatest w 0 k.anchors there.1) (subst (λ n. IsNext k w n) (sym next) code.next);
+      next = next-same k (w + 1) w after.next alone (one-greatest w 0 k.anchors alike.there.1) (subst (λ n. IsNext k w n) (sym next) code.next);
     }
+
+-- flags that no slot or code begins where there is none
+abbrev pub no_flag : List Bool → ℕ → Bool
+no_flag flags w = (w + 1) % 256 == 0 || get_or flags w false || get_or flags (w + 1) false
+
+pub no-flags : (flags : List Bool) (w : ℕ) → no_flag flags w ≡ false → (((w + 1) % 256 == 0) ≡ false) × ((get_or flags w false ≡ false) × (get_or flags (w + 1) false ≡ false))
+no-flags flags w none =
+    let ends = or-none ((w + 1) % 256 == 0 || get_or flags w false) (get_or flags (w + 1) false) none in
+    let inside = or-none ((w + 1) % 256 == 0) (get_or flags w false) ends.0 in
+    (inside.0, (inside.1, ends.1))
+
+-- where neither is named
+pub next-code : (k : PrimaryCode) (p : Parts) (w : ℕ) (c after : WeightCode) → IsMadeOf k p → w + 1 < 65536 → no_flag p.named.now w ≡ false → IsCodeOf k w c
+    → after.slot ≡ slot k (w + 1) → after.common ≡ get_or p.commons.now (w + 1) false → after.lead ≡ c.lead → after.single ≡ c.single → after.next ≡ c.next → IsCodeOf k (w + 1) after
+next-code k p w c after made within none code at common lead single next =
+    let flags = no-flags p.named.now w none in
+    let alike : AreAlike k w = record {
+      inside = flags.0;
+      here = or-none (is_single k w) (list_any (λ x. x == w) k.anchors) (sym (made.named w (omega arith)) ∙ flags.1.0);
+      there = or-none (is_single k (w + 1)) (list_any (λ x. x == w + 1) k.anchors) (sym (made.named (w + 1) within) ∙ flags.1.1);
+    } in
+    alike-code k w c after alike code at (common ∙ made.commons (w + 1) within) lead single next
+
+-- where neither is named or common: it is the same
+pub same-code : (k : PrimaryCode) (p : Parts) (w : ℕ) (c : WeightCode) → IsMadeOf k p → w + 1 < 65536 → no_flag p.any.now w ≡ false → IsCodeOf k w c → IsCodeOf k (w + 1) c
+same-code k p w c made within none code =
+    let flags = no-flags p.any.now w none in
+    let here = or-none (is_single k w || list_any (λ x. x == w) k.anchors) (is_common k w) (sym (made.any w (omega arith)) ∙ flags.1.0) in
+    let there = or-none (is_single k (w + 1) || list_any (λ x. x == w + 1) k.anchors) (is_common k (w + 1)) (sym (made.any (w + 1) within) ∙ flags.1.1) in
+    let alike : AreAlike k w = record {
+      inside = flags.0;
+      here = or-none (is_single k w) (list_any (λ x. x == w) k.anchors) here.0;
+      there = or-none (is_single k (w + 1)) (list_any (λ x. x == w + 1) k.anchors) there.0;
+    } in
+    let none_begins : begins_slot k w ≡ false = ap₂ (λ x y. x || is_common k w || y) flags.0 there.1 ∙ ap (λ x. x || false) here.1 in
+    let after : slot k (w + 1) ≡ slot k w + 0 = slot-next k w ∙ ap (λ b. slot k w + cond b 1 0) none_begins in
+    let still : slot k (w + 1) ≡ slot k w = omega (arith, after) in
+    alike-code k w c c alike code (code.slot ∙ sym still) (code.common ∙ here.1 ∙ sym there.1) refl refl refl

@@ -19,6 +19,10 @@ AreCommons k flags = (w : ℕ) → w < 65536 → get_or flags w false ≡ is_com
 abbrev pub AreNamed : PrimaryCode → List Bool → Type 0
 AreNamed k flags = (w : ℕ) → w < 65536 → get_or flags w false ≡ (is_single k w || list_any (λ c. c == w) k.anchors)
 
+-- flags say of each weight whether it is common or the code names it
+abbrev pub AreAny : PrimaryCode → List Bool → Type 0
+AreAny k flags = (w : ℕ) → w < 65536 → get_or flags w false ≡ (is_single k w || list_any (λ c. c == w) k.anchors || is_common k w)
+
 -- the greatest of some weights up to one, 0 where there is none
 abbrev pub greatest : List ℕ → ℕ → ℕ
 greatest ws w = fold (λ best a. if nat_le a w then max best a else best) 0 ws
@@ -58,6 +62,7 @@ AreCodes k n codes = (w : ℕ) (d : WeightCode) → w < n → IsCodeOf k w (get_
 pub record AreParts (p : Parts) : Type 0 where
   pub commons : length p.commons.now ≡ 65536
   pub named : length p.named.now ≡ 65536
+  pub any : length p.any.now ≡ 65536
   pub few : length p.singles.now ≤ 10
   pub numbered : length p.anchors.now < 256
 
@@ -67,6 +72,7 @@ pub record IsMadeOf (k : PrimaryCode) (p : Parts) : Type 0 where
   pub singles : k.singles ≡ p.singles.now
   pub anchors : k.anchors ≡ p.anchors.now
   pub named : AreNamed k p.named.now
+  pub any : AreAny k p.any.now
 
 -- a code of each weight
 pub record HoldsCodes (k : PrimaryCode) (codes : List WeightCode) : Type 0 where

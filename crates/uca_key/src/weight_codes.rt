@@ -140,6 +140,21 @@ fn flags_of_both(alloc: Global, some: &[u16], others: &[u16]) -> Result<Vec<bool
     Ok(flags)
 }
 
+// Of each weight whether it is one of three lists.
+fn flags_of_all(
+    alloc: Global,
+    some: &[u16],
+    others: &[u16],
+    more: &[u16],
+) -> Result<Vec<bool>, AllocError>
+    ensures size { IfOk result (λ v. length v.items ≡ 65536) }
+    ensures flags { IfOk result (λ v. (w : ℕ) → w < 65536 → get_or v.items w false ≡ (list_any (λ c. c == w) some.now || list_any (λ c. c == w) others.now || list_any (λ c. c == w) more.now)) }
+{
+    let mut flags = flags_of_both(alloc, some, others)?;
+    set_flags(flags.as_mut_slice(), more);
+    Ok(flags)
+}
+
 // Whether the weight after this one has another high byte, or one of the two has a flag.
 #[inline(always)]
 fn is_apart(flags: &[bool], w: usize) -> bool
@@ -247,13 +262,14 @@ pub(crate) struct WeightCode {
 }
 
 // What a code is made of: of each weight whether it is common, the weights that have a byte of their own everywhere, those at which
-// windows begin, and of each weight whether it is one of these two.
+// windows begin, of each weight whether it is one of these two, and whether it is any of the three.
 #[derive(Clone, Copy)]
 struct Parts<'p> {
     commons: &'p [bool],
     singles: &'p [u16],
     anchors: &'p [u16],
     named: &'p [bool],
+    any: &'p [bool],
 }
 
 // What the code has of a weight in this slot.
@@ -271,7 +287,9 @@ fn code_in(parts: Parts, w: u16, number: u16) -> WeightCode
     }
 }
 
-// What the code has of the weight after this one, of which it has this. Most of it is the same unless one of them is named.
+// What the code has of the weight after this one, of which it has this. That is the same for most weights, and most of it unless one of
+// them is named.
+#[inline(always)]
 fn code_after(parts: Parts, w: u16, code: WeightCode) -> WeightCode
     requires parts { AreParts parts }
     requires within { w + 1 < 65536 }
@@ -280,6 +298,9 @@ fn code_after(parts: Parts, w: u16, code: WeightCode) -> WeightCode
     ensures most { result.slot ≤ w + 1 }
 {
     let at = w as usize;
+    if !is_apart(parts.any, at) {
+        return code;
+    }
     let number = code.slot + is_apart(parts.commons, at) as u16;
     if is_apart(parts.named, at) {
         return code_in(parts, w + 1, number);
@@ -341,11 +362,13 @@ impl WeightCodes {
         let mut anchors = [0; ANCHORS];
         anchors.copy_from_slice(weights_of(alloc, t, &FIRST_LETTERS)?.as_slice());
         let named = flags_of_both(alloc, &singles, &anchors)?;
+        let any = flags_of_all(alloc, &singles, &anchors, &commons)?;
         let parts = Parts {
             commons: &flags,
             singles: &singles,
             anchors: &anchors,
             named: &named,
+            any: &any,
         };
         let codes = codes_of(alloc, parts)?;
         Ok(WeightCodes {
