@@ -13,4 +13,5 @@ pub mod PassedLanes
 pub mod AddedMarks
 pub mod SkippedRuns
 pub mod AsciiTexts
-pub mod CopiedBytes
+pub mod Utf8Lanes
+pub mod Utf8Steps

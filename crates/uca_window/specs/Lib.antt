@@ -6,3 +6,4 @@ pub mod Segment
 pub mod Ascii
 pub mod Filling
 pub mod Passing
+pub mod Utf8

@@ -87,7 +87,9 @@ impl<'t> Passage<'t> {
         }
     }
 
-    /// The text that bytes are after a look for faults, in blocks where there are many bytes.
+    /// The text that bytes are after a look for faults, in blocks where there are many bytes. It is not inlined, so that a text in ASCII
+    /// does not pay for its stack frame.
+    #[inline(never)]
     fn of_any(bytes: &'t [u8]) -> Result<Passage<'t>, TextFault>
         ensures { MatchResult result (λ p. IsTextLine bytes.now × (text_of p ≡ chars bytes.now)) (IsFault bytes.now) }
     {

@@ -1,0 +1,119 @@
+-- Blocks of bytes that are tested lane by lane with the bytes before them, as tests of the places of a text.
+use Rattle.std.proofs.Common.{◌≡◌, ℕ, zero, suc, ◌+◌, ◌-◌, ◌*◌, ◌%◌, ◌^◌, ◌<◌, ◌≤◌, Bool, true, false, cond, ltb, nat_eq, ◌&&◌, ◌||◌, List, [], ◌∷◌, map, length, get_or, replicate, bit_or, bit_and, bit_xor, refl, sym, ap, ap₂, subst, ◌∙◌, arith, inl, inr}
+use Rattle.std.specs.List.{range_with_len}
+use Rattle.std.proofs.lemmas.Bool.{cases_order, agree_below_at}
+use Rattle.std.proofs.lemmas.Bool.Decides.{nat_tests}
+use Rattle.std.proofs.lemmas.List.{length-map}
+use Rattle.std.proofs.lemmas.List.FromFn.{length-range_with_len}
+use Rattle.std.proofs.lemmas.Simd.{zip2_splat, zip2_splat_left, zip2_of_maps, map-map, mask_l-mod, pick_l-range_with_len}
+use lib.Lanes.{zip2, chunk, mask_l, top}
+use Rattle.uca_window.specs.Passing.{is_within}
+use Rattle.uca_window.specs.Utf8.{is_one_of}
+use Rattle.uca_window.proofs.PassedLanes.{less}
+
+-- the lane of a comparison
+abbrev pub lane : Bool → ℕ
+lane t = cond t 255 0
+
+module _ (f : ℕ → ℕ) (d : ℕ) where
+  shifted : (a n : ℕ) → map f (range_with_len a n) ≡ map (λ k. f (k - d)) (range_with_len (a + d) n)
+  shifted a zero = refl
+  shifted a (suc n) =
+      let head : a ≡ a + d - d = omega arith in
+      let next : a + 1 + d ≡ a + d + 1 = omega arith in
+      ap₂ (λ x xs. x ∷ xs) (ap f head) (shifted (a + 1) n ∙ ap (λ b. map (λ k. f (k - d)) (range_with_len b n)) next)
+
+-- the bytes of the block at a place
+pub placed : (bytes : List ℕ) (at n : ℕ) → at + n ≤ length bytes → chunk at n bytes ≡ map (λ k. get_or bytes k 0) (range_with_len at n)
+placed bytes at n room = sym (pick_l-range_with_len 0 bytes at n room)
+
+-- the same d bytes back
+pub placed_back : (bytes : List ℕ) (d at n : ℕ) → d ≤ at → at + n ≤ length bytes → chunk (at - d) n bytes ≡ map (λ k. get_or bytes (k - d) 0) (range_with_len at n)
+placed_back bytes d at n begun room =
+    let place : at - d + d ≡ at = omega arith in
+    sym (pick_l-range_with_len 0 bytes (at - d) n (omega arith)) ∙ shifted (λ k. get_or bytes k 0) d (at - d) n ∙ ap (λ a. map (λ k. get_or bytes (k - d) 0) (range_with_len a n)) place
+
+-- a block that was computed from places, against one number
+module _ (h : ℕ → ℕ → ℕ) (f : ℕ → ℕ) (y at n : ℕ) {a : List ℕ} (is : a ≡ map f (range_with_len at n)) where
+  pub right : zip2 h a (replicate n y) ≡ map (λ k. h (f k) y) (range_with_len at n)
+  right =
+      let ps = range_with_len at n in
+      ap (λ a. zip2 h a (replicate n y)) is ∙ zip2_splat h (map f ps) n y (length-map ps f ∙ length-range_with_len at n) ∙ map-map (λ x. h x y) f ps
+
+  pub left : zip2 h (replicate n y) a ≡ map (λ k. h y (f k)) (range_with_len at n)
+  left =
+      let ps = range_with_len at n in
+      ap (λ a. zip2 h (replicate n y) a) is ∙ zip2_splat_left h y n (map f ps) (length-map ps f ∙ length-range_with_len at n) ∙ map-map (λ x. h y x) f ps
+
+-- ---- two comparisons
+
+or_lanes : (s t : Bool) → bit_or (lane s) (lane t) ≡ lane (s || t)
+or_lanes true true = refl
+or_lanes true false = refl
+or_lanes false true = refl
+or_lanes false false = refl
+
+and_lanes : (s t : Bool) → bit_and (lane s) (lane t) ≡ lane (s && t)
+and_lanes true true = refl
+and_lanes true false = refl
+and_lanes false true = refl
+and_lanes false false = refl
+
+xor_lanes : (s t : Bool) → bit_xor (lane s) (lane t) ≡ lane (is_one_of s t)
+xor_lanes true true = refl
+xor_lanes true false = refl
+xor_lanes false true = refl
+xor_lanes false false = refl
+
+module _ (s t : ℕ → Bool) (ps : List ℕ) {a b : List ℕ} (p : a ≡ map (λ k. lane (s k)) ps) (q : b ≡ map (λ k. lane (t k)) ps) where
+  pub either : zip2 bit_or a b ≡ map (λ k. lane (s k || t k)) ps
+  either = zip2_of_maps bit_or (λ k. lane (s k)) (λ k. lane (t k)) ps p q ∙ (λ i. map (λ k. or_lanes (s k) (t k) i) ps)
+
+  pub both : zip2 bit_and a b ≡ map (λ k. lane (s k && t k)) ps
+  both = zip2_of_maps bit_and (λ k. lane (s k)) (λ k. lane (t k)) ps p q ∙ (λ i. map (λ k. and_lanes (s k) (t k) i) ps)
+
+  pub just_one : zip2 bit_xor a b ≡ map (λ k. lane (is_one_of (s k) (t k))) ps
+  just_one = zip2_of_maps bit_xor (λ k. lane (s k)) (λ k. lane (t k)) ps p q ∙ (λ i. map (λ k. xor_lanes (s k) (t k) i) ps)
+
+-- ---- no lane is set
+
+tops : (t : ℕ → Bool) (ps : List ℕ) → map (top 7) (map (λ k. lane (t k)) ps) ≡ map t ps
+tops t [] = refl
+tops t (p ∷ ps) = ap₂ (λ x xs. x ∷ xs) (one (t p)) (tops t ps)
+  where
+    one : (b : Bool) → top 7 (lane b) ≡ b
+    one true = refl
+    one false = refl
+
+unset : (b : Bool) (m : ℕ) → cond b 1 0 + 2 * m ≡ 0 → (b ≡ false) × (m ≡ 0)
+unset true m e = absurd (omega arith)
+unset false m e = (refl, omega arith)
+
+none_set : (t : ℕ → Bool) (at n : ℕ) → mask_l (map t (range_with_len at n)) ≡ 0 → (k : ℕ) → at ≤ k → k < at + n → t k ≡ false
+none_set t at zero e k from to = absurd (omega arith)
+none_set t at (suc n) e k from to =
+    let parts = unset (t at) (mask_l (map t (range_with_len (at + 1) n))) e in
+    elim (cases_order k at) [
+      | inl same ↦ subst (λ j. t j ≡ false) (sym same) parts.0
+      | inr (inl below) ↦ absurd (omega arith)
+      | inr (inr above) ↦ none_set t (at + 1) n parts.1 k (omega arith) (omega arith)
+    ]
+
+zero_from : (n : ℕ) → nat_eq n 0 ≡ true → n ≡ 0
+zero_from n h = grind (arith, nat_tests)
+
+-- where the mask of a block is empty, no place passes the test that its lanes are
+pub none_passes : (t : ℕ → Bool) (at n : ℕ) {z : List ℕ} → z ≡ map (λ k. lane (t k)) (range_with_len at n) → n ≤ 64 → nat_eq (mask_l (map (top 7) z) % 2 ^ 64) 0 ≡ true
+    → (k : ℕ) → at ≤ k → k < at + n → t k ≡ false
+none_passes t at n is few none =
+    let ps = range_with_len at n in
+    let small = mask_l-mod (map t ps) 64 (omega (arith, length-map ps t, length-range_with_len at n)) in
+    none_set t at n (sym small ∙ sym (ap (λ l. mask_l l % 2 ^ 64) (ap (map (top 7)) is ∙ tops t ps)) ∙ zero_from _ none)
+
+-- ---- ranges of bytes, by one comparison each
+
+pub continues_is : (b : ℕ) → b < 256 → ltb (less b 0x80) 0x40 ≡ is_within 0x80 0xC0 b
+continues_is b h = agree_below_at (λ x. ltb (less x 0x80) 0x40) (is_within 0x80 0xC0) 256 b refl h
+
+pub overlong_is : (b : ℕ) → b < 256 → ltb (less b 0xC0) 2 ≡ is_within 0xC0 0xC2 b
+overlong_is b h = agree_below_at (λ x. ltb (less x 0xC0) 2) (is_within 0xC0 0xC2) 256 b refl h
