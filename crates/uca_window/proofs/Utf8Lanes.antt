@@ -1,12 +1,12 @@
 -- Blocks of bytes that are tested lane by lane with the bytes before them, as tests of the places of a text.
-use Rattle.std.proofs.Common.{◌≡◌, ℕ, zero, suc, ◌+◌, ◌-◌, ◌*◌, ◌%◌, ◌^◌, ◌<◌, ◌≤◌, Bool, true, false, cond, ltb, nat_eq, ◌&&◌, ◌||◌, List, [], ◌∷◌, map, length, get_or, replicate, bit_or, bit_and, bit_xor, refl, sym, ap, ap₂, subst, ◌∙◌, arith, inl, inr}
+use Rattle.std.proofs.Common.{◌≡◌, ℕ, zero, suc, ◌+◌, ◌-◌, ◌*◌, ◌%◌, ◌^◌, ◌<◌, ◌≤◌, Bool, true, false, cond, not, ltb, nat_eq, ◌&&◌, ◌||◌, List, [], ◌∷◌, ◌++◌, map, length, get_or, replicate, w8, Fits, take_all, length-append, bit_or, bit_and, bit_xor, refl, sym, ap, ap₂, subst, ◌∙◌, arith, inl, inr}
 use Rattle.std.specs.List.{range_with_len}
-use Rattle.std.proofs.lemmas.Bool.{cases_order, agree_below_at}
+use Rattle.std.proofs.lemmas.Bool.{cases_lt, cases_order, agree_below_at}
 use Rattle.std.proofs.lemmas.Bool.Decides.{nat_tests}
-use Rattle.std.proofs.lemmas.List.{length-map}
+use Rattle.std.proofs.lemmas.List.{length-map, get_or_append_left, get_or-append-add}
 use Rattle.std.proofs.lemmas.List.FromFn.{length-range_with_len}
-use Rattle.std.proofs.lemmas.Simd.{zip2_splat, zip2_splat_left, zip2_of_maps, map-map, mask_l-mod, pick_l-range_with_len}
-use lib.Lanes.{zip2, chunk, mask_l, top}
+use Rattle.std.proofs.lemmas.Simd.{zip2_splat, zip2_splat_left, zip2_of_maps, map-map, mask_l-mod, pick_l-range_with_len, length-replicate, get_or-replicate, length-chunk, get_or-chunk}
+use lib.Lanes.{zip2, pick_l, chunk, mask_l, top, Each1}
 use Rattle.uca_window.specs.Passing.{is_within}
 use Rattle.uca_window.specs.Utf8.{is_one_of}
 use Rattle.uca_window.proofs.PassedLanes.{less}
@@ -32,6 +32,15 @@ pub placed_back : (bytes : List ℕ) (d at n : ℕ) → d ≤ at → at + n ≤ 
 placed_back bytes d at n begun room =
     let place : at - d + d ≡ at = omega arith in
     sym (pick_l-range_with_len 0 bytes (at - d) n (omega arith)) ∙ shifted (λ k. get_or bytes k 0) d (at - d) n ∙ ap (λ a. map (λ k. get_or bytes (k - d) 0) (range_with_len a n)) place
+
+-- the lanes of a vector
+pub lanes_of : (v : List ℕ) (n : ℕ) → length v ≡ n → v ≡ map (λ k. get_or v k 0) (range_with_len 0 n)
+lanes_of v n long = sym (take_all n v (omega (arith, long))) ∙ placed v 0 n (omega (arith, long))
+
+pub lane_fits : (v : List ℕ) (i : ℕ) → Each1 (Fits w8) v → get_or v i 0 < 256
+lane_fits [] i h = omega arith
+lane_fits (x ∷ xs) zero h = h.0.fits
+lane_fits (x ∷ xs) (suc i) h = lane_fits xs i h.1
 
 -- a block that was computed from places, against one number
 module _ (h : ℕ → ℕ → ℕ) (f : ℕ → ℕ) (y at n : ℕ) {a : List ℕ} (is : a ≡ map f (range_with_len at n)) where
@@ -75,6 +84,14 @@ module _ (s t : ℕ → Bool) (ps : List ℕ) {a b : List ℕ} (p : a ≡ map (�
   pub just_one : zip2 bit_xor a b ≡ map (λ k. lane (is_one_of (s k) (t k))) ps
   just_one = zip2_of_maps bit_xor (λ k. lane (s k)) (λ k. lane (t k)) ps p q ∙ (λ i. map (λ k. xor_lanes (s k) (t k) i) ps)
 
+-- the lanes that are not set
+flipped : (s : Bool) → 255 - lane s ≡ lane (not s)
+flipped true = refl
+flipped false = refl
+
+pub opposite : (s : ℕ → Bool) (ps : List ℕ) {a : List ℕ} → a ≡ map (λ k. lane (s k)) ps → map (λ x. 255 - x) a ≡ map (λ k. lane (not (s k))) ps
+opposite s ps p = ap (map (λ x. 255 - x)) p ∙ map-map (λ x. 255 - x) (λ k. lane (s k)) ps ∙ (λ i. map (λ k. flipped (s k) i) ps)
+
 -- ---- no lane is set
 
 tops : (t : ℕ → Bool) (ps : List ℕ) → map (top 7) (map (λ k. lane (t k)) ps) ≡ map t ps
@@ -117,3 +134,28 @@ continues_is b h = agree_below_at (λ x. ltb (less x 0x80) 0x40) (is_within 0x80
 
 pub overlong_is : (b : ℕ) → b < 256 → ltb (less b 0xC0) 2 ≡ is_within 0xC0 0xC2 b
 overlong_is b h = agree_below_at (λ x. ltb (less x 0xC0) 2) (is_within 0xC0 0xC2) 256 b refl h
+
+-- ---- the bytes before those of the first block of a text
+
+-- a block after n zeros, d places back
+pub after_zeros : (bytes : List ℕ) (n d i : ℕ) → d ≤ n → i < n → n ≤ length bytes → get_or (replicate n 0 ++ chunk 0 n bytes) (n - d + i) 0 ≡ get_or (replicate d 0 ++ bytes) i 0
+after_zeros bytes n d i few h room = elim (cases_lt i d) [
+  | inl before ↦
+      let left : n - d + i < length (replicate {A = ℕ} n 0) = omega (arith, length-replicate {A = ℕ} n 0, before, few) in
+      let right : i < length (replicate {A = ℕ} d 0) = omega (arith, length-replicate {A = ℕ} d 0, before) in
+      get_or_append_left (replicate n 0) (chunk 0 n bytes) 0 (n - d + i) left ∙ get_or-replicate {A = ℕ} n (n - d + i) 0 0 (omega (arith, before, few))
+      ∙ sym (get_or_append_left (replicate d 0) bytes 0 i right ∙ get_or-replicate {A = ℕ} d i 0 0 before)
+  | inr after ↦
+      let far : n - d + i ≡ length (replicate {A = ℕ} n 0) + (i - d) = omega (arith, length-replicate {A = ℕ} n 0, after, few) in
+      let rest : 0 + (i - d) ≡ i - d = omega arith in
+      let near : length (replicate {A = ℕ} d 0) + (i - d) ≡ i = omega (arith, length-replicate {A = ℕ} d 0, after) in
+      ap (λ k. get_or (replicate n 0 ++ chunk 0 n bytes) k 0) far ∙ get_or-append-add (replicate n 0) (chunk 0 n bytes) (i - d) 0 ∙ get_or-chunk 0 n bytes (i - d) 0 (omega arith) ∙ ap (λ k. get_or bytes k 0) rest
+      ∙ sym (get_or-append-add (replicate d 0) bytes (i - d) 0) ∙ ap (λ k. get_or (replicate d 0 ++ bytes) k 0) near
+]
+
+-- the first block, d places back
+pub first_back : (bytes : List ℕ) (n d i : ℕ) → d ≤ n → i < n → n ≤ length bytes → get_or (pick_l 0 (replicate n 0 ++ chunk 0 n bytes) (range_with_len (n - d) n)) i 0 ≡ get_or (replicate d 0 ++ bytes) i 0
+first_back bytes n d i few h room =
+    let both = replicate n 0 ++ chunk 0 n bytes in
+    let size : length both ≡ n + n = length-append (replicate n 0) (chunk 0 n bytes) ∙ ap₂ (λ a b. a + b) (length-replicate {A = ℕ} n 0) (length-chunk 0 n bytes (omega arith)) in
+    ap (λ l. get_or l i 0) (pick_l-range_with_len 0 both (n - d) n (omega (arith, size))) ∙ get_or-chunk (n - d) n both i 0 h ∙ after_zeros bytes n d i few h room

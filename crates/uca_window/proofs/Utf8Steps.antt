@@ -1,5 +1,5 @@
 -- Texts in which no byte is a fault after the two before it are UTF-8.
-use Rattle.std.proofs.Common.{◌≡◌, ℕ, zero, suc, ◌-◌, ◌<◌, ◌≤◌, ◌⊎◌, Bool, true, false, nat_le, nat_lt, ◌==◌, ◌&&◌, ◌||◌, List, [], ◌∷◌, length, get_or, refl, sym, ap, subst, ◌∙◌, arith, inl, inr}
+use Rattle.std.proofs.Common.{◌≡◌, ℕ, zero, suc, ◌-◌, ◌<◌, ◌≤◌, ◌⊎◌, Bool, not, true, false, nat_le, nat_lt, ◌==◌, ◌&&◌, ◌||◌, List, [], ◌∷◌, length, get_or, refl, sym, ap, subst, ◌∙◌, arith, inl, inr}
 use Rattle.std.specs.Str.{IsUtf8}
 use Rattle.std.proofs.lemmas.Bool.{cases_lt, or_parts}
 use Rattle.std.proofs.lemmas.Bool.Decides.{nat_tests}
@@ -9,7 +9,7 @@ use Rattle.simdutf8.specs.Tracks.{last_three}
 use Rattle.simdutf8.proofs.Chars.{least_is, most_is, StepsThen-IsUtf8}
 use Rattle.simdutf8.proofs.StepsLemmas.{At, StepsThen_parts, Steps_by_index}
 use Rattle.uca_window.specs.Passing.{is_within}
-use Rattle.uca_window.specs.Utf8.{is_one_of, is_unpaired, is_fault, AreNarrow, ArePaired, AreFine}
+use Rattle.uca_window.specs.Utf8.{is_one_of, is_unpaired, is_fault, AreShort, ArePaired, AreFine}
 
 one_of_none : (a b : Bool) → is_one_of a b ≡ false → a ≡ b
 one_of_none true true h = refl
@@ -37,7 +37,7 @@ short_from b h = grind (arith, nat_tests)
 overlong_from : (z b : ℕ) → ((z == 0xE0) && nat_lt b 0xA0) ≡ false → (0xA0 ≤ b) ⊎ (z ≡ 0xE0 → ⊥)
 overlong_from z b h = grind (arith, nat_tests)
 
-surrogate_from : (z b : ℕ) → ((z == 0xED) && nat_le 0xA0 b) ≡ false → (b < 0xA0) ⊎ (z ≡ 0xED → ⊥)
+surrogate_from : (z b : ℕ) → ((z == 0xED) && not (nat_lt b 0xA0)) ≡ false → (b < 0xA0) ⊎ (z ≡ 0xED → ⊥)
 surrogate_from z b h = grind (arith, nat_tests)
 
 fine_from : (y z b : ℕ) → is_fault y z b ≡ false → Fine y z b
@@ -67,14 +67,10 @@ step_from x y z b low f g low-y = elim g.continues [
   ]
 ]
 
--- no byte of a text is a fault, where zeros come before it
-abbrev pub AllFine : List ℕ → Type 0
-AllFine bs = (i : ℕ) → i < length bs → is_fault (get_or (0 ∷ 0 ∷ bs) i 0) (get_or (0 ∷ bs) i 0) (get_or bs i 0) ≡ false
-
-module _ (bs : List ℕ) (all : AllFine bs) where
+module _ (bs : List ℕ) (all : AreFine 0 (length bs) bs) where
   low_at : (i : ℕ) → get_or bs i 0 < 0xF0
   low_at i = elim (cases_lt i (length bs)) [
-    | inl l ↦ (fine_from (get_or (0 ∷ 0 ∷ bs) i 0) (get_or (0 ∷ bs) i 0) (get_or bs i 0) (all i l)).short
+    | inl l ↦ (fine_from (get_or (0 ∷ 0 ∷ bs) i 0) (get_or (0 ∷ bs) i 0) (get_or bs i 0) (all i (omega arith) l)).short
     | inr g ↦ subst (λ b. b < 0xF0) (sym (get_or_past bs i 0 g)) (omega arith)
   ]
 
@@ -86,55 +82,47 @@ module _ (bs : List ℕ) (all : AllFine bs) where
 
   fine_before : (i : ℕ) → i < length bs → Fine (get_or (0 ∷ 0 ∷ 0 ∷ bs) i 0) (get_or (0 ∷ 0 ∷ bs) i 0) (get_or (0 ∷ bs) i 0)
   fine_before zero h = fine_from 0 0 0 refl
-  fine_before (suc i) h = fine_from _ _ _ (all i (omega arith))
+  fine_before (suc i) h = fine_from _ _ _ (all i (omega arith) (omega arith))
 
   steps : Steps 0 0 0 bs
-  steps = (Steps_by_index 0 0 0 bs).1 (λ i h. step_from _ _ _ _ (low_before i).0 (fine_before i h) (fine_from _ _ _ (all i h)) (low_before i).1)
+  steps = (Steps_by_index 0 0 0 bs).1 (λ i h. step_from _ _ _ _ (low_before i).0 (fine_before i h) (fine_from _ _ _ (all i (omega arith) h)) (low_before i).1)
 
 closed_end : (x y z : ℕ) (bs : List ℕ) → get_or (x ∷ y ∷ z ∷ bs) (length bs) 0 < 0xF0 → get_or (y ∷ z ∷ bs) (length bs) 0 < 0xE0 → get_or (z ∷ bs) (length bs) 0 < 0xC0 → At IsClosed (last_three x y z bs)
 closed_end x y z [] p q r = (p, q, r)
 closed_end x y z (b ∷ bs) p q r = closed_end y z b bs p q r
 
-fine_utf8 : (bs : List ℕ) → AllFine bs → get_or (0 ∷ 0 ∷ bs) (length bs) 0 < 0xE0 → get_or (0 ∷ bs) (length bs) 0 < 0xC0 → IsUtf8 bs
-fine_utf8 bs all p q = (StepsThen-IsUtf8 bs).0 ((StepsThen_parts IsClosed 0 0 0 bs).1 (steps bs all, closed_end 0 0 0 bs (low_before bs all (length bs)).0 p q))
+closed_utf8 : (bs : List ℕ) → AreFine 0 (length bs) bs → get_or (0 ∷ 0 ∷ bs) (length bs) 0 < 0xE0 → get_or (0 ∷ bs) (length bs) 0 < 0xC0 → IsUtf8 bs
+closed_utf8 bs all p q = (StepsThen-IsUtf8 bs).0 ((StepsThen_parts IsClosed 0 0 0 bs).1 (steps bs all, closed_end 0 0 0 bs (low_before bs all (length bs)).0 p q))
 
 -- the byte before a place, where there is one
-behind : (x : ℕ) (bs : List ℕ) (i : ℕ) → 1 ≤ i → get_or (x ∷ bs) i 0 ≡ get_or bs (i - 1) 0
+pub behind : (x : ℕ) (bs : List ℕ) (i : ℕ) → 1 ≤ i → get_or (x ∷ bs) i 0 ≡ get_or bs (i - 1) 0
 behind x bs zero h = absurd (omega arith)
 behind x bs (suc i) h = let place : i ≡ suc i - 1 = omega arith in ap (λ k. get_or bs k 0) place
 
-behind_two : (x y : ℕ) (bs : List ℕ) (i : ℕ) → 2 ≤ i → get_or (x ∷ y ∷ bs) i 0 ≡ get_or bs (i - 2) 0
+-- and the one before that
+pub behind_two : (x y : ℕ) (bs : List ℕ) (i : ℕ) → 2 ≤ i → get_or (x ∷ y ∷ bs) i 0 ≡ get_or bs (i - 2) 0
 behind_two x y bs i h = let place : i - 1 - 1 ≡ i - 2 = omega arith in behind x (y ∷ bs) i (omega arith) ∙ behind y bs (i - 1) (omega arith) ∙ ap (λ k. get_or bs k 0) place
 
 -- a text of characters of up to three bytes
-pub wide_utf8 : (bs : List ℕ) → 2 ≤ length bs → (is_fault 0 0 (get_or bs 0 0) ≡ false) × (is_fault 0 (get_or bs 0 0) (get_or bs 1 0) ≡ false) → AreFine 2 (length bs) bs
-    → (get_or bs (length bs - 2) 0 < 0xE0) × (get_or bs (length bs - 1) 0 < 0xC0) → IsUtf8 bs
-wide_utf8 bs some front fine end =
-    let all : AllFine bs = elim [
-      | zero ↦ λ h. front.0
-      | suc zero ↦ λ h. front.1
-      | suc (suc i) ↦ λ h.
-          subst (λ y. is_fault y (get_or bs (suc i) 0) (get_or bs (suc (suc i)) 0) ≡ false) (sym (behind_two 0 0 bs (suc (suc i)) (omega arith)))
-          (subst (λ z. is_fault (get_or bs (suc (suc i) - 2) 0) z (get_or bs (suc (suc i)) 0) ≡ false) (sym (behind 0 bs (suc (suc i)) (omega arith))) (fine (suc (suc i)) (omega arith) h))
-    ] in
-    fine_utf8 bs all (subst (λ b. b < 0xE0) (sym (behind_two 0 0 bs (length bs) some)) end.0) (subst (λ b. b < 0xC0) (sym (behind 0 bs (length bs) (omega arith))) end.1)
+pub fine_utf8 : (bs : List ℕ) → 2 ≤ length bs → AreFine 0 (length bs) bs → (get_or bs (length bs - 2) 0 < 0xE0) × (get_or bs (length bs - 1) 0 < 0xC0) → IsUtf8 bs
+fine_utf8 bs some fine end = closed_utf8 bs fine (subst (λ b. b < 0xE0) (sym (behind_two 0 0 bs (length bs) some)) end.0) (subst (λ b. b < 0xC0) (sym (behind 0 bs (length bs) (omega arith))) end.1)
 
 -- of those that are below E0, a byte that is not unpaired is no fault
 paired_fine : (y z b : ℕ) → y < 0xE0 → z < 0xE0 → b < 0xE0 → is_unpaired z b ≡ false → is_fault y z b ≡ false
 paired_fine y z b p q r h = grind (arith, nat_tests)
 
 -- a text of characters of up to two bytes
-pub narrow_utf8 : (bs : List ℕ) → 0 < length bs → AreNarrow 0 (length bs) bs → ArePaired 1 (length bs) bs → (is_unpaired 0 (get_or bs 0 0) ≡ false) × (get_or bs (length bs - 1) 0 < 0xC0) → IsUtf8 bs
-narrow_utf8 bs some narrow paired ends =
+pub short_utf8 : (bs : List ℕ) → 0 < length bs → AreShort 0 (length bs) bs → ArePaired 1 (length bs) bs → (is_unpaired 0 (get_or bs 0 0) ≡ false) × (get_or bs (length bs - 1) 0 < 0xC0) → IsUtf8 bs
+short_utf8 bs some short paired ends =
     let low : (i : ℕ) → get_or bs i 0 < 0xE0 = λ i. elim (cases_lt i (length bs)) [
-      | inl l ↦ narrow i (omega arith) l
+      | inl l ↦ short i (omega arith) l
       | inr g ↦ subst (λ b. b < 0xE0) (sym (get_or_past bs i 0 g)) (omega arith)
     ] in
     let low-after : (i : ℕ) → get_or (0 ∷ bs) i 0 < 0xE0 = elim [ zero ↦ omega arith | suc i ↦ low i ] in
     let low-later : (i : ℕ) → get_or (0 ∷ 0 ∷ bs) i 0 < 0xE0 = elim [ zero ↦ omega arith | suc i ↦ low-after i ] in
-    let all : AllFine bs = elim [
+    let all : (i : ℕ) → i < length bs → is_fault (get_or (0 ∷ 0 ∷ bs) i 0) (get_or (0 ∷ bs) i 0) (get_or bs i 0) ≡ false = elim [
       | zero ↦ λ h. paired_fine 0 0 (get_or bs 0 0) (omega arith) (omega arith) (low 0) ends.0
       | suc i ↦ λ h. paired_fine (get_or (0 ∷ bs) i 0) (get_or bs i 0) (get_or bs (suc i) 0) (low-after i) (low i) (low (suc i))
           (subst (λ z. is_unpaired z (get_or bs (suc i) 0) ≡ false) (sym (behind 0 bs (suc i) (omega arith))) (paired (suc i) (omega arith) h))
     ] in
-    fine_utf8 bs all (low-later (length bs)) (subst (λ b. b < 0xC0) (sym (behind 0 bs (length bs) (omega arith))) ends.1)
+    closed_utf8 bs (λ i _ h. all i h) (low-later (length bs)) (subst (λ b. b < 0xC0) (sym (behind 0 bs (length bs) (omega arith))) ends.1)

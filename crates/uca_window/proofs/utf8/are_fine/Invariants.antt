@@ -7,7 +7,7 @@ invariant-each l = record {
   end : l.last + 16 ≡ length l.bytes;
   begun : 2 ≤ l.at;
   within : l.at ≤ l.last;
-  fine : AreFine 2 l.at l.bytes;
+  fine : AreFine 0 (l.at + 16) l.bytes;
 }
 
 abbrev pub decreases-each : goal.decreases-each

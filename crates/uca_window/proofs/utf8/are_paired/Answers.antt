@@ -1,7 +1,7 @@
 use Rattle.std.proofs.Common.{ℕ, ◌+◌, ◌≤◌, ◌&&◌, List, arith, inl, inr}
 use Rattle.std.proofs.lemmas.Bool.{cases_lt, and_parts}
 use Rattle.uca_window.specs.Utf8.{ArePaired}
-use Rattle.uca_window.proofs.Utf8Steps.{narrow_utf8}
+use Rattle.uca_window.proofs.Utf8Steps.{short_utf8}
 use Rattle.uca_window.proofs.utf8.are_paired.Goals as goal
 
 -- a block after others, or one that has bytes in common with them
@@ -18,5 +18,5 @@ returns c = λ told.
     let two = more bytes 17 c.min.result (omega (arith, c.min.ensures)) (c.are_paired_at-first.ensures first.1) (c.are_paired_at-second.ensures second.1) in
     let three = more bytes (c.min.result + 16) c.min-2.result (omega (arith, c.min.ensures, c.min-2.ensures)) two (c.are_paired_at-third.ensures third.1) in
     let four = more bytes (c.min-2.result + 16) c.min-3.result (omega (arith, c.min-2.ensures, c.min-3.ensures)) three (c.are_paired_at-fourth.ensures fourth.1) in
-    narrow_utf8 bytes (omega (arith, c.requires.some)) c.requires.narrow
+    short_utf8 bytes (omega (arith, c.requires.some)) c.requires.short
     (λ k from to. four k from (omega (arith, to, c.min-3.ensures, c.requires.some, c.requires.few))) (c.are_ends_paired.ensures first.0)

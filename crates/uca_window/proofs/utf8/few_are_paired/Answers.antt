@@ -1,7 +1,7 @@
 use Rattle.std.proofs.Common.{◌≡◌, ℕ, ◌+◌, ◌≤◌, ◌&&◌, List, length, arith, inl, inr}
 use Rattle.std.proofs.lemmas.Bool.{cases_lt, and_parts}
 use Rattle.uca_window.specs.Utf8.{ArePaired}
-use Rattle.uca_window.proofs.Utf8Steps.{narrow_utf8}
+use Rattle.uca_window.proofs.Utf8Steps.{short_utf8}
 use Rattle.uca_window.proofs.utf8.few_are_paired.Goals as goal
 
 -- two blocks in a row, or two that have bytes in common
@@ -13,5 +13,5 @@ returns c = λ told.
     let bytes = c.args.bytes.now in
     let back = and_parts (c.are_ends_paired.result && c.are_paired_at-front.result) c.are_paired_at-back.result told in
     let front = and_parts c.are_ends_paired.result c.are_paired_at-front.result back.0 in
-    narrow_utf8 bytes (omega (arith, c.requires.some)) c.requires.narrow
+    short_utf8 bytes (omega (arith, c.requires.some)) c.requires.short
     (both_blocks bytes _ (omega (arith, c.requires.some)) (omega (arith, c.requires.few)) (c.are_paired_at-front.ensures front.1) (c.are_paired_at-back.ensures back.1)) (c.are_ends_paired.ensures front.0)

@@ -1,7 +1,7 @@
 use Rattle.std.proofs.Common.{ℕ, Bool, nat_le, get_or, leb-false}
 use Rattle.uca_window.proofs.PassedLanes.{at_most}
 use Rattle.uca_window.proofs.Utf8Lanes.{placed, left, none_passes}
-use Rattle.uca_window.proofs.utf8.are_narrow_at.Goals as goal
+use Rattle.uca_window.proofs.utf8.are_short_at.Goals as goal
 
 pub returns : goal.returns
 returns g c = λ none k from to.
