@@ -9,14 +9,14 @@ use std::simd::prelude::*;
 /// How many bytes are looked at together where they are too few for a wide block.
 const NARROW: usize = 8;
 
-/// How many bytes are looked at together at the end of a text that is one byte longer than a narrow block.
+/// How many bytes are looked at together at the end of a text that is at most one byte longer than a narrow block.
 const HALF: usize = NARROW / 2;
 
 /// How many bytes are looked at together.
 const WIDE: usize = 16;
 
-/// From this length in bytes on, a look at blocks is faster than one at each character: each block is read with the bytes before it.
-pub(crate) const BLOCK_FROM: usize = NARROW + 1;
+/// From this length in bytes on, a look at blocks is faster than one at each character.
+pub(crate) const BLOCK_FROM: usize = NARROW;
 
 /// Whether no byte of the block at a place begins a character of three bytes or four.
 #[inline(always)]
@@ -188,10 +188,10 @@ fn is_closed(bytes: &[u8]) -> bool
     (bytes[bytes.len() - 2] < 0xE0) & (bytes[bytes.len() - 1] < 0xC0)
 }
 
-/// Whether no byte of a text that is a little longer than a narrow block is a fault.
+/// Whether no byte of a text that is no shorter than a narrow block, and not much longer than a wide one, is a fault.
 #[inline(always)]
 fn few_are_fine(bytes: &[u8]) -> bool
-    requires some { NARROW < length bytes.now }
+    requires some { NARROW ≤ length bytes.now }
     requires few { length bytes.now < 2 + WIDE }
     ensures { IsTrue result → AreFine 0 (length bytes.now) bytes.now }
 {
@@ -229,7 +229,7 @@ fn are_fine(bytes: &[u8]) -> bool
 /// Whether a text of characters of up to three bytes is UTF-8. Others are refused.
 #[inline(always)]
 fn are_fine_utf8(bytes: &[u8]) -> bool
-    requires { NARROW < length bytes.now }
+    requires { NARROW ≤ length bytes.now }
     ensures { IsTrue result → IsUtf8 bytes.now }
 {
     let closed = is_closed(bytes);
@@ -249,7 +249,7 @@ fn are_common_utf8(bytes: &[u8]) -> bool
         return false;
     }
     if bytes.len() <= 2 * NARROW {
-        if few_are_short(bytes) {
+        if NARROW < bytes.len() && few_are_short(bytes) {
             return few_are_paired(bytes);
         }
     } else if bytes.len() <= 4 * WIDE {
