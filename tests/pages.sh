@@ -21,7 +21,7 @@ find crates -path '*/must-fail/*.edit' | sed 's,^crates/\([^/]*\)/must-fail/\(.*
 # All words that the page may use.
 {
     sed 's/^[^ ]* //' "$work/declared"
-    sed -n 's/.*\/\([A-Za-z]*\)\.antt$/\1/p' "$work/sources"
+    sed -n 's/.*\/\([A-Za-z0-9]*\)\.antt$/\1/p' "$work/sources"
     ls crates
     grep -oE '\b[a-z_]+\(' bindings/*/uca.c | sed 's/.*://; s/($//'
     printf '%s\n' bool true Option Some
