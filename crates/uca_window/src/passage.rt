@@ -81,20 +81,8 @@ impl<'t> Passage<'t> {
     pub fn of_bytes(bytes: &'t [u8]) -> Result<Passage<'t>, TextFault>
         ensures { MatchResult result (λ p. IsTextLine bytes.now × (text_of p ≡ chars bytes.now)) (IsFault bytes.now) }
     {
-        match Passage::of_ascii(bytes) {
-            Some(passage) => Ok(passage),
-            None => Passage::of_any(bytes),
-        }
-    }
-
-    /// The text that bytes are after a look for faults, in blocks where there are many bytes. It is not inlined, so that a text in ASCII
-    /// does not pay for its stack frame.
-    #[inline(never)]
-    fn of_any(bytes: &'t [u8]) -> Result<Passage<'t>, TextFault>
-        ensures { MatchResult result (λ p. IsTextLine bytes.now × (text_of p ≡ chars bytes.now)) (IsFault bytes.now) }
-    {
-        if bytes.len() >= BLOCK_FROM && are_utf8(bytes) {
-            return Passage::of_text(unsafe { from_utf8_unchecked(bytes) });
+        if is_ascii(bytes) || is_common_line(bytes) {
+            return Ok(Passage::of_checked(bytes));
         }
         Passage::of_each(bytes)
     }
@@ -143,6 +131,17 @@ impl<'t> Passage<'t> {
     {
         self.text
     }
+}
+
+/// Whether bytes are the text of a line, by a look at blocks of them. The shortest texts are left to a look at each character. It is
+/// not inlined, so that a text in ASCII does not pay for its stack frame, and returns its answer in a register.
+#[inline(never)]
+fn is_common_line(bytes: &[u8]) -> bool
+    ensures { IsTrue result → IsTextLine bytes.now }
+{
+    bytes.len() >= BLOCK_FROM
+        && are_utf8(bytes)
+        && Passage::check(unsafe { from_utf8_unchecked(bytes) }).is_ok()
 }
 
 /// Goes over the characters to the first with which the text is no longer safe. The NFD has its nonstarters in
