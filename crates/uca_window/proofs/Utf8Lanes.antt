@@ -1,12 +1,12 @@
 -- Blocks of bytes that are tested lane by lane with the bytes before them, as tests of the places of a text.
-use Rattle.std.proofs.Common.{◌≡◌, ℕ, zero, suc, ◌+◌, ◌-◌, ◌*◌, ◌%◌, ◌^◌, ◌<◌, ◌≤◌, Bool, true, false, cond, not, ltb, nat_eq, ◌&&◌, ◌||◌, List, [], ◌∷◌, ◌++◌, map, length, get_or, replicate, w8, Fits, take_all, length-append, bit_or, bit_and, bit_xor, refl, sym, ap, ap₂, subst, ◌∙◌, arith, inl, inr}
+use Rattle.std.proofs.Common.{◌≡◌, ℕ, zero, suc, ◌+◌, ◌-◌, ◌*◌, ◌%◌, ◌^◌, ◌<◌, ◌≤◌, Bool, true, false, cond, ltb, nat_eq, ◌||◌, List, [], ◌∷◌, ◌++◌, map, length, get_or, replicate, w8, Fits, take_all, length-append, bit_or, bit_xor, refl, sym, ap, ap₂, subst, ◌∙◌, arith, inl, inr}
 use Rattle.std.specs.List.{range_with_len}
 use Rattle.std.proofs.lemmas.Bool.{cases_lt, cases_order, agree_below_at}
 use Rattle.std.proofs.lemmas.Bool.Decides.{nat_tests}
 use Rattle.std.proofs.lemmas.List.{length-map, get_or_append_left, get_or-append-add}
 use Rattle.std.proofs.lemmas.List.FromFn.{length-range_with_len}
 use Rattle.std.proofs.lemmas.Simd.{zip2_splat, zip2_splat_left, zip2_of_maps, map-map, mask_l-mod, pick_l-range_with_len, length-replicate, get_or-replicate, length-chunk, get_or-chunk}
-use lib.Lanes.{zip2, pick_l, chunk, mask_l, top, Each1}
+use lib.Lanes.{zip2, pick_l, sel_l, chunk, mask_l, top, Each1}
 use Rattle.uca_window.specs.Passing.{is_within}
 use Rattle.uca_window.specs.Utf8.{is_one_of}
 use Rattle.uca_window.proofs.PassedLanes.{less}
@@ -62,12 +62,6 @@ or_lanes true false = refl
 or_lanes false true = refl
 or_lanes false false = refl
 
-and_lanes : (s t : Bool) → bit_and (lane s) (lane t) ≡ lane (s && t)
-and_lanes true true = refl
-and_lanes true false = refl
-and_lanes false true = refl
-and_lanes false false = refl
-
 xor_lanes : (s t : Bool) → bit_xor (lane s) (lane t) ≡ lane (is_one_of s t)
 xor_lanes true true = refl
 xor_lanes true false = refl
@@ -78,19 +72,8 @@ module _ (s t : ℕ → Bool) (ps : List ℕ) {a b : List ℕ} (p : a ≡ map (�
   pub either : zip2 bit_or a b ≡ map (λ k. lane (s k || t k)) ps
   either = zip2_of_maps bit_or (λ k. lane (s k)) (λ k. lane (t k)) ps p q ∙ (λ i. map (λ k. or_lanes (s k) (t k) i) ps)
 
-  pub both : zip2 bit_and a b ≡ map (λ k. lane (s k && t k)) ps
-  both = zip2_of_maps bit_and (λ k. lane (s k)) (λ k. lane (t k)) ps p q ∙ (λ i. map (λ k. and_lanes (s k) (t k) i) ps)
-
   pub just_one : zip2 bit_xor a b ≡ map (λ k. lane (is_one_of (s k) (t k))) ps
   just_one = zip2_of_maps bit_xor (λ k. lane (s k)) (λ k. lane (t k)) ps p q ∙ (λ i. map (λ k. xor_lanes (s k) (t k) i) ps)
-
--- the lanes that are not set
-flipped : (s : Bool) → 255 - lane s ≡ lane (not s)
-flipped true = refl
-flipped false = refl
-
-pub opposite : (s : ℕ → Bool) (ps : List ℕ) {a : List ℕ} → a ≡ map (λ k. lane (s k)) ps → map (λ x. 255 - x) a ≡ map (λ k. lane (not (s k))) ps
-opposite s ps p = ap (map (λ x. 255 - x)) p ∙ map-map (λ x. 255 - x) (λ k. lane (s k)) ps ∙ (λ i. map (λ k. flipped (s k) i) ps)
 
 -- ---- no lane is set
 
@@ -101,6 +84,15 @@ tops t (p ∷ ps) = ap₂ (λ x xs. x ∷ xs) (one (t p)) (tops t ps)
     one : (b : Bool) → top 7 (lane b) ≡ b
     one true = refl
     one false = refl
+
+-- one of two numbers in each lane
+module _ (t : ℕ → Bool) (x y : ℕ) where
+  chosen_of : (at n : ℕ) → sel_l (map t (range_with_len at n)) (replicate n x) (replicate n y) ≡ map (λ k. cond (t k) x y) (range_with_len at n)
+  chosen_of at zero = refl
+  chosen_of at (suc n) = ap (λ l. cond (t at) x y ∷ l) (chosen_of (at + 1) n)
+
+  pub chosen : (at n : ℕ) {m : List ℕ} → m ≡ map (λ k. lane (t k)) (range_with_len at n) → sel_l (map (top 7) m) (replicate n x) (replicate n y) ≡ map (λ k. cond (t k) x y) (range_with_len at n)
+  chosen at n is = ap (λ l. sel_l l (replicate n x) (replicate n y)) (ap (map (top 7)) is ∙ tops t (range_with_len at n)) ∙ chosen_of at n
 
 unset : (b : Bool) (m : ℕ) → cond b 1 0 + 2 * m ≡ 0 → (b ≡ false) × (m ≡ 0)
 unset true m e = absurd (omega arith)
@@ -132,8 +124,11 @@ none_passes t at n is few none =
 pub continues_is : (b : ℕ) → b < 256 → ltb (less b 0x80) 0x40 ≡ is_within 0x80 0xC0 b
 continues_is b h = agree_below_at (λ x. ltb (less x 0x80) 0x40) (is_within 0x80 0xC0) 256 b refl h
 
-pub overlong_is : (b : ℕ) → b < 256 → ltb (less b 0xC0) 2 ≡ is_within 0xC0 0xC2 b
-overlong_is b h = agree_below_at (λ x. ltb (less x 0xC0) 2) (is_within 0xC0 0xC2) 256 b refl h
+pub begins_two_is : (b : ℕ) → b < 256 → ltb (less b 0xC2) 0x1E ≡ is_within 0xC2 0xE0 b
+begins_two_is b h = agree_below_at (λ x. ltb (less x 0xC2) 0x1E) (is_within 0xC2 0xE0) 256 b refl h
+
+pub begins_is : (b : ℕ) → b < 256 → ltb (less b 0xC2) 0x2E ≡ is_within 0xC2 0xF0 b
+begins_is b h = agree_below_at (λ x. ltb (less x 0xC2) 0x2E) (is_within 0xC2 0xF0) 256 b refl h
 
 -- ---- the bytes before those of the first block of a text
 

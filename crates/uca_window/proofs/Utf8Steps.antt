@@ -1,7 +1,7 @@
 -- Texts in which no byte is a fault after the two before it are UTF-8.
-use Rattle.std.proofs.Common.{◌≡◌, ℕ, zero, suc, ◌-◌, ◌<◌, ◌≤◌, ◌⊎◌, Bool, not, true, false, nat_le, nat_lt, ◌==◌, ◌&&◌, ◌||◌, List, [], ◌∷◌, length, get_or, refl, sym, ap, subst, ◌∙◌, arith, inl, inr}
+use Rattle.std.proofs.Common.{◌≡◌, ℕ, zero, suc, ◌-◌, ◌<◌, ◌≤◌, ◌⊎◌, Bool, cond, true, false, nat_le, nat_lt, ◌==◌, ◌||◌, List, [], ◌∷◌, length, get_or, refl, sym, ap, subst, ◌∙◌, arith, inl, inr}
 use Rattle.std.specs.Str.{IsUtf8}
-use Rattle.std.proofs.lemmas.Bool.{cases_lt, or_parts}
+use Rattle.std.proofs.lemmas.Bool.{cases_lt, cases_order, or_parts}
 use Rattle.std.proofs.lemmas.Bool.Decides.{nat_tests}
 use Rattle.std.proofs.lemmas.List.{get_or_past}
 use Rattle.simdutf8.specs.Steps.{IsContinuation, IsClosed, Step, first, second, later, Steps}
@@ -9,7 +9,7 @@ use Rattle.simdutf8.specs.Tracks.{last_three}
 use Rattle.simdutf8.proofs.Chars.{least_is, most_is, StepsThen-IsUtf8}
 use Rattle.simdutf8.proofs.StepsLemmas.{At, StepsThen_parts, Steps_by_index}
 use Rattle.uca_window.specs.Passing.{is_within}
-use Rattle.uca_window.specs.Utf8.{is_one_of, is_unpaired, is_fault, AreShort, ArePaired, AreFine}
+use Rattle.uca_window.specs.Utf8.{is_one_of, is_unpaired, is_fault, ArePaired, AreFine}
 
 one_of_none : (a b : Bool) → is_one_of a b ≡ false → a ≡ b
 one_of_none true true h = refl
@@ -19,39 +19,38 @@ one_of_none false false h = refl
 
 -- what it says of b that it is no fault after y and z
 record Fine (y z b : ℕ) : Type 0 where
-  pub short : b < 0xF0
-  pub begins : (b < 0xC0) ⊎ (0xC2 ≤ b)
+  pub short : z < 0xF0
+  pub begins : (z < 0xC0) ⊎ (0xC2 ≤ z)
   pub continues : (IsContinuation b × ((0xC0 ≤ z) ⊎ (0xE0 ≤ y))) ⊎ (((b < 0x80) ⊎ (0xC0 ≤ b)) × ((z < 0xC0) × (y < 0xE0)))
   pub overlong : (0xA0 ≤ b) ⊎ (z ≡ 0xE0 → ⊥)
   pub surrogate : (b < 0xA0) ⊎ (z ≡ 0xED → ⊥)
 
-begins_from : (b : ℕ) → is_within 0xC0 0xC2 b ≡ false → (b < 0xC0) ⊎ (0xC2 ≤ b)
-begins_from b h = grind (arith, nat_tests)
+-- what begins a character is below F0, and from C2 on
+begins_from : (z : ℕ) → is_within 0xC2 0xF0 z ≡ nat_le 0xC0 z → (z < 0xF0) × ((z < 0xC0) ⊎ (0xC2 ≤ z))
+begins_from z h = (grind (arith, nat_tests), grind (arith, nat_tests))
 
-continues_from : (y z b : ℕ) → is_within 0x80 0xC0 b ≡ (nat_le 0xC0 z || nat_le 0xE0 y) → (IsContinuation b × ((0xC0 ≤ z) ⊎ (0xE0 ≤ y))) ⊎ (((b < 0x80) ⊎ (0xC0 ≤ b)) × ((z < 0xC0) × (y < 0xE0)))
-continues_from y z b h = grind (arith, nat_tests)
+continues_from : (y z b : ℕ) → is_within 0x80 0xC0 b ≡ (is_within 0xC2 0xF0 z || nat_le 0xE0 y) → is_within 0xC2 0xF0 z ≡ nat_le 0xC0 z
+    → (IsContinuation b × ((0xC0 ≤ z) ⊎ (0xE0 ≤ y))) ⊎ (((b < 0x80) ⊎ (0xC0 ≤ b)) × ((z < 0xC0) × (y < 0xE0)))
+continues_from y z b h g = grind (arith, nat_tests)
 
-short_from : (b : ℕ) → nat_le 0xF0 b ≡ false → b < 0xF0
-short_from b h = grind (arith, nat_tests)
-
-overlong_from : (z b : ℕ) → ((z == 0xE0) && nat_lt b 0xA0) ≡ false → (0xA0 ≤ b) ⊎ (z ≡ 0xE0 → ⊥)
-overlong_from z b h = grind (arith, nat_tests)
-
-surrogate_from : (z b : ℕ) → ((z == 0xED) && not (nat_lt b 0xA0)) ≡ false → (b < 0xA0) ⊎ (z ≡ 0xED → ⊥)
-surrogate_from z b h = grind (arith, nat_tests)
+-- E0 and ED, each with the bytes that may follow it
+out_from : (z b : ℕ) → (z == cond (nat_lt b 0xA0) 0xE0 0xED) ≡ false → ((0xA0 ≤ b) ⊎ (z ≡ 0xE0 → ⊥)) × ((b < 0xA0) ⊎ (z ≡ 0xED → ⊥))
+out_from z b h = elim (cases_lt b 0xA0) [
+  | inl low ↦ (inr (λ e. grind (arith, nat_tests)), inl low)
+  | inr high ↦ (inl high, inr (λ e. grind (arith, nat_tests)))
+]
 
 fine_from : (y z b : ℕ) → is_fault y z b ≡ false → Fine y z b
 fine_from y z b h =
-    let fifth = or_parts _ _ h in
-    let fourth = or_parts _ _ fifth.0 in
-    let third = or_parts _ _ fourth.0 in
-    let front = or_parts _ _ third.0 in
+    let last = or_parts _ _ h in
+    let front = or_parts _ _ last.0 in
+    let begins = one_of_none _ _ front.1 in
     record {
-      short = short_from b third.1;
-      begins = begins_from b front.1;
-      continues = continues_from y z b (one_of_none _ _ front.0);
-      overlong = overlong_from z b fourth.1;
-      surrogate = surrogate_from z b fifth.1;
+      short = (begins_from z begins).0;
+      begins = (begins_from z begins).1;
+      continues = continues_from y z b (one_of_none _ _ front.0) begins;
+      overlong = (out_from z b last.1).0;
+      surrogate = (out_from z b last.1).1;
     }
 
 -- where no character has four bytes, a byte may follow the three before it just by these rules
@@ -60,19 +59,24 @@ step_from x y z b low f g low-y = elim g.continues [
   | inr none ↦ first (omega (arith, low, none.1.0, none.1.1)) none.0
   | inl some ↦ elim (cases_lt z 0xC0) [
     | inl after ↦ later (inr (omega (arith, some.1, after))) (omega (arith, f.continues, some.1, after)) some.0
-    | inr lead ↦ second (omega (arith, low, f.continues, lead)) (omega (arith, f.begins, f.short, lead)) (
-      omega (arith, least_is z, some.0, g.overlong, f.short),
-      omega (arith, most_is z, some.0, g.surrogate, f.short),
+    | inr lead ↦ second (omega (arith, low, f.continues, lead)) (omega (arith, g.begins, g.short, lead)) (
+      omega (arith, least_is z, some.0, g.overlong, g.short),
+      omega (arith, most_is z, some.0, g.surrogate, g.short),
     )
   ]
 ]
 
-module _ (bs : List ℕ) (all : AreFine 0 (length bs) bs) where
+-- where all bytes but the last have a bound, and the last has a lower one, so has each
+low_by : (bs : List ℕ) (most : ℕ) → 0xC0 ≤ most → get_or (0 ∷ bs) (length bs) 0 < 0xC0 → ((i : ℕ) → suc i < length bs → get_or bs i 0 < most) → (i : ℕ) → get_or bs i 0 < most
+low_by bs most from last before i = elim (cases_order (suc i) (length bs)) [
+  | inl end ↦ let least : get_or bs i 0 < 0xC0 = subst (λ n. get_or (0 ∷ bs) n 0 < 0xC0) (sym end) last in omega (arith, least, from)
+  | inr (inl inside) ↦ before i inside
+  | inr (inr past) ↦ subst (λ b. b < most) (sym (get_or_past bs i 0 (omega (arith, past)))) (omega (arith, from))
+]
+
+module _ (bs : List ℕ) (all : AreFine 0 (length bs) bs) (last : get_or (0 ∷ bs) (length bs) 0 < 0xC0) where
   low_at : (i : ℕ) → get_or bs i 0 < 0xF0
-  low_at i = elim (cases_lt i (length bs)) [
-    | inl l ↦ (fine_from (get_or (0 ∷ 0 ∷ bs) i 0) (get_or (0 ∷ bs) i 0) (get_or bs i 0) (all i (omega arith) l)).short
-    | inr g ↦ subst (λ b. b < 0xF0) (sym (get_or_past bs i 0 g)) (omega arith)
-  ]
+  low_at = low_by bs 0xF0 (omega arith) last (λ i l. (fine_from (get_or (0 ∷ bs) i 0) (get_or bs i 0) (get_or bs (suc i) 0) (all (suc i) (omega arith) l)).short)
 
   low_before : (i : ℕ) → (get_or (0 ∷ 0 ∷ 0 ∷ bs) i 0 < 0xF0) × (get_or (0 ∷ 0 ∷ bs) i 0 < 0xF0)
   low_before zero = (omega arith, omega arith)
@@ -92,7 +96,7 @@ closed_end x y z [] p q r = (p, q, r)
 closed_end x y z (b ∷ bs) p q r = closed_end y z b bs p q r
 
 closed_utf8 : (bs : List ℕ) → AreFine 0 (length bs) bs → get_or (0 ∷ 0 ∷ bs) (length bs) 0 < 0xE0 → get_or (0 ∷ bs) (length bs) 0 < 0xC0 → IsUtf8 bs
-closed_utf8 bs all p q = (StepsThen-IsUtf8 bs).0 ((StepsThen_parts IsClosed 0 0 0 bs).1 (steps bs all, closed_end 0 0 0 bs (low_before bs all (length bs)).0 p q))
+closed_utf8 bs all p q = (StepsThen-IsUtf8 bs).0 ((StepsThen_parts IsClosed 0 0 0 bs).1 (steps bs all q, closed_end 0 0 0 bs (low_before bs all q (length bs)).0 p q))
 
 -- the byte before a place, where there is one
 pub behind : (x : ℕ) (bs : List ℕ) (i : ℕ) → 1 ≤ i → get_or (x ∷ bs) i 0 ≡ get_or bs (i - 1) 0
@@ -107,22 +111,39 @@ behind_two x y bs i h = let place : i - 1 - 1 ≡ i - 2 = omega arith in behind 
 pub fine_utf8 : (bs : List ℕ) → 2 ≤ length bs → AreFine 0 (length bs) bs → (get_or bs (length bs - 2) 0 < 0xE0) × (get_or bs (length bs - 1) 0 < 0xC0) → IsUtf8 bs
 fine_utf8 bs some fine end = closed_utf8 bs fine (subst (λ b. b < 0xE0) (sym (behind_two 0 0 bs (length bs) some)) end.0) (subst (λ b. b < 0xC0) (sym (behind 0 bs (length bs) (omega arith))) end.1)
 
--- of those that are below E0, a byte that is not unpaired is no fault
-paired_fine : (y z b : ℕ) → y < 0xE0 → z < 0xE0 → b < 0xE0 → is_unpaired z b ≡ false → is_fault y z b ≡ false
-paired_fine y z b p q r h = grind (arith, nat_tests)
+-- a byte after which one is not unpaired begins no character of three bytes
+short_from : (z b : ℕ) → is_unpaired z b ≡ false → z < 0xE0
+short_from z b h =
+    let none : is_within 0xC2 0xE0 z ≡ nat_le 0xC0 z = one_of_none _ _ (or_parts (is_one_of (is_within 0x80 0xC0 b) (is_within 0xC2 0xE0 z)) (is_one_of (is_within 0xC2 0xE0 z) (nat_le 0xC0 z)) h).1 in
+    grind (arith, nat_tests)
+
+not_out : (t : Bool) (z : ℕ) → z < 0xE0 → (z == cond t 0xE0 0xED) ≡ false
+not_out true z h = grind (arith, nat_tests)
+not_out false z h = grind (arith, nat_tests)
+
+either_none : (a b : Bool) → a ≡ false → b ≡ false → (a || b) ≡ false
+either_none true b p q = absurd (cc)
+either_none false b p q = q
+
+-- after bytes below E0, one that is not unpaired is no fault
+paired_fine : (y z b : ℕ) → y < 0xE0 → z < 0xE0 → is_unpaired z b ≡ false → is_fault y z b ≡ false
+paired_fine y z b p q h =
+    let begins : is_within 0xC2 0xE0 z ≡ is_within 0xC2 0xF0 z = grind (arith, nat_tests) in
+    let needed : is_within 0xC2 0xE0 z ≡ (is_within 0xC2 0xF0 z || nat_le 0xE0 y) = grind (arith, nat_tests) in
+    let parts = or_parts (is_one_of (is_within 0x80 0xC0 b) (is_within 0xC2 0xE0 z)) (is_one_of (is_within 0xC2 0xE0 z) (nat_le 0xC0 z)) h in
+    either_none _ _ (either_none _ _ (subst (λ t. is_one_of (is_within 0x80 0xC0 b) t ≡ false) needed parts.0) (subst (λ t. is_one_of t (nat_le 0xC0 z) ≡ false) begins parts.1)) (not_out (nat_lt b 0xA0) z q)
 
 -- a text of characters of up to two bytes
-pub short_utf8 : (bs : List ℕ) → 0 < length bs → AreShort 0 (length bs) bs → ArePaired 1 (length bs) bs → (is_unpaired 0 (get_or bs 0 0) ≡ false) × (get_or bs (length bs - 1) 0 < 0xC0) → IsUtf8 bs
-short_utf8 bs some short paired ends =
-    let low : (i : ℕ) → get_or bs i 0 < 0xE0 = λ i. elim (cases_lt i (length bs)) [
-      | inl l ↦ short i (omega arith) l
-      | inr g ↦ subst (λ b. b < 0xE0) (sym (get_or_past bs i 0 g)) (omega arith)
-    ] in
+pub short_utf8 : (bs : List ℕ) → 0 < length bs → ArePaired 1 (length bs) bs → (is_unpaired 0 (get_or bs 0 0) ≡ false) × (get_or bs (length bs - 1) 0 < 0xC0) → IsUtf8 bs
+short_utf8 bs some paired ends =
+    let last = subst (λ b. b < 0xC0) (sym (behind 0 bs (length bs) (omega arith))) ends.1 in
+    let pair : (i : ℕ) → suc i < length bs → is_unpaired (get_or bs i 0) (get_or bs (suc i) 0) ≡ false =
+    λ i h. subst (λ z. is_unpaired z (get_or bs (suc i) 0) ≡ false) (sym (behind 0 bs (suc i) (omega arith))) (paired (suc i) (omega arith) h) in
+    let low : (i : ℕ) → get_or bs i 0 < 0xE0 = low_by bs 0xE0 (omega arith) last (λ i h. short_from (get_or bs i 0) (get_or bs (suc i) 0) (pair i h)) in
     let low-after : (i : ℕ) → get_or (0 ∷ bs) i 0 < 0xE0 = elim [ zero ↦ omega arith | suc i ↦ low i ] in
     let low-later : (i : ℕ) → get_or (0 ∷ 0 ∷ bs) i 0 < 0xE0 = elim [ zero ↦ omega arith | suc i ↦ low-after i ] in
     let all : (i : ℕ) → i < length bs → is_fault (get_or (0 ∷ 0 ∷ bs) i 0) (get_or (0 ∷ bs) i 0) (get_or bs i 0) ≡ false = elim [
-      | zero ↦ λ h. paired_fine 0 0 (get_or bs 0 0) (omega arith) (omega arith) (low 0) ends.0
-      | suc i ↦ λ h. paired_fine (get_or (0 ∷ bs) i 0) (get_or bs i 0) (get_or bs (suc i) 0) (low-after i) (low i) (low (suc i))
-          (subst (λ z. is_unpaired z (get_or bs (suc i) 0) ≡ false) (sym (behind 0 bs (suc i) (omega arith))) (paired (suc i) (omega arith) h))
+      | zero ↦ λ h. paired_fine 0 0 (get_or bs 0 0) (omega arith) (omega arith) ends.0
+      | suc i ↦ λ h. paired_fine (get_or (0 ∷ bs) i 0) (get_or bs i 0) (get_or bs (suc i) 0) (low-after i) (low i) (pair i h)
     ] in
-    closed_utf8 bs (λ i _ h. all i h) (low-later (length bs)) (subst (λ b. b < 0xC0) (sym (behind 0 bs (length bs) (omega arith))) ends.1)
+    closed_utf8 bs (λ i _ h. all i h) (low-later (length bs)) last

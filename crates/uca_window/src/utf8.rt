@@ -1,7 +1,7 @@
 //! Whether bytes are UTF-8.
 ghost use Rattle.std.specs.Prelude.{◌≡◌, ℕ, ◌+◌, ◌-◌, ◌*◌, ◌≤◌, ◌<◌, ◌↔◌, false, not, length, slice_index, IsTrue};
 ghost use Rattle.std.specs.Str.{IsUtf8};
-ghost use Rattle.uca_window.specs.Utf8.{is_unpaired, is_fault, AreShort, ArePaired, AreFine};
+ghost use Rattle.uca_window.specs.Utf8.{is_unpaired, is_fault, ArePaired, AreFine};
 
 use simdutf8::is_utf8;
 use std::simd::prelude::*;
@@ -18,18 +18,8 @@ const WIDE: usize = 16;
 /// From this length in bytes on, a look at blocks is faster than one at each character.
 pub(crate) const BLOCK_FROM: usize = NARROW;
 
-/// Whether no byte of the block at a place begins a character of three bytes or four.
-#[inline(always)]
-fn are_short_at<const N: usize>(bytes: &[u8], at: usize) -> bool
-    requires within { at + N ≤ length bytes.now }
-    requires few { N ≤ 64 }
-    ensures { IsTrue result → AreShort at (at + N) bytes.now }
-{
-    let block = Simd::<u8, N>::from_slice(&bytes[at..]);
-    block.simd_ge(Simd::splat(0xE0)).to_bitmask() == 0
-}
-
-/// Whether each byte of the block at a place continues a character just where the one before it begins one of two bytes.
+/// Whether each byte of the block at a place continues a character just where the one before it begins one of two bytes, and none
+/// before one of them begins another.
 #[inline(always)]
 fn are_paired_at<const N: usize>(bytes: &[u8], at: usize) -> bool
     requires begun { 1 ≤ at }
@@ -40,8 +30,8 @@ fn are_paired_at<const N: usize>(bytes: &[u8], at: usize) -> bool
     let before = Simd::<u8, N>::from_slice(&bytes[at - 1..]);
     let block = Simd::<u8, N>::from_slice(&bytes[at..]);
     let continues = (block - Simd::splat(0x80)).simd_lt(Simd::splat(0x40));
-    let overlong = (block - Simd::splat(0xC0)).simd_lt(Simd::splat(2));
-    ((continues ^ before.simd_ge(Simd::splat(0xC0))) | overlong).to_bitmask() == 0
+    let needed = (before - Simd::splat(0xC2)).simd_lt(Simd::splat(0x1E));
+    ((continues ^ needed) | (needed ^ before.simd_ge(Simd::splat(0xC0)))).to_bitmask() == 0
 }
 
 /// Whether no byte of a block is a fault after the bytes of two others, which are those two places and one place before it.
@@ -55,13 +45,12 @@ fn are_fine_after<const N: usize>(
     ensures { IsTrue result → (k : ℕ) → k < N → is_fault (slice_index second.entry k) (slice_index first.entry k) (slice_index block.entry k) ≡ false }
 {
     let continues = (block - Simd::splat(0x80)).simd_lt(Simd::splat(0x40));
-    let needed = first.simd_ge(Simd::splat(0xC0)) | second.simd_ge(Simd::splat(0xE0));
-    let overlong = (block - Simd::splat(0xC0)).simd_lt(Simd::splat(2));
-    let long = block.simd_ge(Simd::splat(0xF0));
+    let begins = (first - Simd::splat(0xC2)).simd_lt(Simd::splat(0x2E));
+    let needed = begins | second.simd_ge(Simd::splat(0xE0));
+    let other = begins ^ first.simd_ge(Simd::splat(0xC0));
     let is_low = block.simd_lt(Simd::splat(0xA0));
-    let low = first.simd_eq(Simd::splat(0xE0)) & is_low;
-    let surrogate = first.simd_eq(Simd::splat(0xED)) & !is_low;
-    ((continues ^ needed) | overlong | long | low | surrogate).to_bitmask() == 0
+    let out = first.simd_eq(is_low.select(Simd::splat(0xE0), Simd::splat(0xED)));
+    ((continues ^ needed) | other | out).to_bitmask() == 0
 }
 
 /// Whether no byte of the block at a place is a fault.
@@ -113,49 +102,21 @@ fn few_first_fine(bytes: &[u8]) -> bool
     are_fine_after(second, first, block)
 }
 
-/// Whether a text has no character of three bytes or four, by two narrow blocks.
-#[inline(always)]
-fn few_are_short(bytes: &[u8]) -> bool
-    requires some { NARROW ≤ length bytes.now }
-    requires few { length bytes.now ≤ 2 * NARROW }
-    ensures { IsTrue result → AreShort 0 (length bytes.now) bytes.now }
-{
-    let front = are_short_at::<NARROW>(bytes, 0);
-    let back = are_short_at::<NARROW>(bytes, bytes.len() - NARROW);
-    front & back
-}
-
-/// The same by four wide blocks.
-#[inline(always)]
-fn are_short(bytes: &[u8]) -> bool
-    requires some { WIDE ≤ length bytes.now }
-    requires few { length bytes.now ≤ 4 * WIDE }
-    ensures { IsTrue result → AreShort 0 (length bytes.now) bytes.now }
-{
-    let last = bytes.len() - WIDE;
-    let first = are_short_at::<WIDE>(bytes, 0);
-    let second = are_short_at::<WIDE>(bytes, last.min(WIDE));
-    let third = are_short_at::<WIDE>(bytes, last.min(2 * WIDE));
-    let fourth = are_short_at::<WIDE>(bytes, last.min(3 * WIDE));
-    first & second & third & fourth
-}
-
-/// Whether the first byte of a text with no character of three bytes or four continues none, and the last begins none.
+/// Whether the first byte of a text continues no character, and the last begins none.
 #[inline(always)]
 fn are_ends_paired(bytes: &[u8]) -> bool
     requires { 0 < length bytes.now }
     ensures { IsTrue result → (is_unpaired 0 (slice_index bytes.now 0) ≡ false) × (slice_index bytes.now (length bytes.now - 1) < 0xC0) }
 {
     let first = bytes[0];
-    ((first < 0x80) | (0xC2 <= first)) & (bytes[bytes.len() - 1] < 0xC0)
+    ((first < 0x80) | (0xC0 <= first)) & (bytes[bytes.len() - 1] < 0xC0)
 }
 
-/// Whether a text with no character of three bytes or four is UTF-8, by two narrow blocks.
+/// Whether a text of characters of up to two bytes is UTF-8, by two narrow blocks. Others are refused.
 #[inline(always)]
 fn few_are_paired(bytes: &[u8]) -> bool
     requires some { NARROW < length bytes.now }
     requires few { length bytes.now ≤ 2 * NARROW }
-    requires short { AreShort 0 (length bytes.now) bytes.now }
     ensures { IsTrue result → IsUtf8 bytes.now }
 {
     let front = are_paired_at::<NARROW>(bytes, 1);
@@ -168,7 +129,6 @@ fn few_are_paired(bytes: &[u8]) -> bool
 fn are_paired(bytes: &[u8]) -> bool
     requires some { WIDE < length bytes.now }
     requires few { length bytes.now ≤ 4 * WIDE }
-    requires short { AreShort 0 (length bytes.now) bytes.now }
     ensures { IsTrue result → IsUtf8 bytes.now }
 {
     let last = bytes.len() - WIDE;
@@ -239,8 +199,20 @@ fn are_fine_utf8(bytes: &[u8]) -> bool
     closed & are_fine(bytes)
 }
 
-/// Whether a text of characters of up to three bytes is UTF-8. Others are refused, and so are the shortest. Where no character of a
-/// text of up to four wide blocks has three bytes, less is asked of each byte.
+/// Whether a text that is no longer than four wide blocks has only characters of up to two bytes and is UTF-8. Others are refused.
+#[inline(always)]
+fn are_paired_utf8(bytes: &[u8]) -> bool
+    requires { NARROW ≤ length bytes.now }
+    ensures { IsTrue result → IsUtf8 bytes.now }
+{
+    if bytes.len() <= 2 * NARROW {
+        return NARROW < bytes.len() && few_are_paired(bytes);
+    }
+    bytes.len() <= 4 * WIDE && are_paired(bytes)
+}
+
+/// Whether a text of characters of up to three bytes is UTF-8. Others are refused, and so are the shortest. Where the first character
+/// and the last have fewer than three bytes, those between mostly do too, and then less is asked of each byte.
 #[inline(always)]
 fn are_common_utf8(bytes: &[u8]) -> bool
     ensures { IsTrue result → IsUtf8 bytes.now }
@@ -248,14 +220,10 @@ fn are_common_utf8(bytes: &[u8]) -> bool
     if bytes.len() < BLOCK_FROM {
         return false;
     }
-    if bytes.len() <= 2 * NARROW {
-        if NARROW < bytes.len() && few_are_short(bytes) {
-            return few_are_paired(bytes);
-        }
-    } else if bytes.len() <= 4 * WIDE {
-        if are_short(bytes) {
-            return are_paired(bytes);
-        }
+    let first_is_short = bytes[0] < 0xE0;
+    let last_is_short = bytes[bytes.len() - 3] < 0xE0;
+    if first_is_short & last_is_short && are_paired_utf8(bytes) {
+        return true;
     }
     are_fine_utf8(bytes)
 }

@@ -1,7 +1,8 @@
-use Rattle.std.proofs.Common.{ℕ, ◌<◌, ◌∙◌, sym, not, ◌==◌, ◌&&◌, ◌||◌, nat_le, nat_lt, get_or, arith}
+use Rattle.std.proofs.Common.{ℕ, ◌<◌, ◌∙◌, sym, cond, ◌==◌, ◌||◌, nat_le, nat_lt, get_or, arith}
+use Rattle.std.proofs.lemmas.Simd.{zip2_of_maps}
 use Rattle.uca_window.specs.Utf8.{is_one_of}
 use Rattle.uca_window.proofs.PassedLanes.{hit, at_most, below, less}
-use Rattle.uca_window.proofs.Utf8Lanes.{lanes_of, lane_fits, left, right, either, both, opposite, just_one, none_passes, continues_is, overlong_is}
+use Rattle.uca_window.proofs.Utf8Lanes.{lanes_of, lane_fits, left, right, either, just_one, chosen, none_passes, continues_is, begins_is}
 use Rattle.uca_window.proofs.utf8.are_fine_after.Goals as goal
 
 pub returns : goal.returns
@@ -14,13 +15,13 @@ returns g c = λ none k to.
     let first = lanes_of c.args.first n c.fits-first.0 in
     let second = lanes_of c.args.second n c.fits-second.0 in
     let continues = right below (λ j. less (here j) 0x80) 0x40 0 n (right less here 0x80 0 n block) in
-    let needed = either _ _ _ (left at_most one 0xC0 0 n first) (left at_most two 0xE0 0 n second) in
-    let overlong = right below (λ j. less (here j) 0xC0) 2 0 n (right less here 0xC0 0 n block) in
-    let long = left at_most here 0xF0 0 n block in
-    let is_low = right below here 0xA0 0 n block in
-    let low = both _ _ _ (right hit one 0xE0 0 n first) is_low in
-    let surrogate = both _ _ _ (right hit one 0xED 0 n first) (opposite _ _ is_low) in
-    let lanes = either _ _ _ (either _ _ _ (either _ _ _ (either _ _ _ (just_one _ _ _ continues needed) overlong) long) low) surrogate in
+    let begins = right below (λ j. less (one j) 0xC2) 0x2E 0 n (right less one 0xC2 0 n first) in
+    let needed = either _ _ _ begins (left at_most two 0xE0 0 n second) in
+    let other = just_one _ _ _ begins (left at_most one 0xC0 0 n first) in
+    let bound = chosen (λ j. nat_lt (here j) 0xA0) 0xE0 0xED 0 n (right below here 0xA0 0 n block) in
+    let out = zip2_of_maps hit one _ _ first bound in
+    let lanes = either _ _ _ (either _ _ _ (just_one _ _ _ continues needed) other) out in
     let fits : here k < 256 = lane_fits c.args.block k c.fits-block.1 in
+    let led = begins_is (one k) (lane_fits c.args.first k c.fits-first.1) in
     let told = none_passes _ 0 n lanes c.requires none k (omega arith) (omega (arith, to)) in
-    (λ i. (((is_one_of (sym (continues_is (here k) fits) i) (nat_le 0xC0 (one k) || nat_le 0xE0 (two k)) || sym (overlong_is (here k) fits) i) || nat_le 0xF0 (here k)) || ((one k == 0xE0) && nat_lt (here k) 0xA0)) || ((one k == 0xED) && not (nat_lt (here k) 0xA0))) ∙ told
+    (λ i. (is_one_of (sym (continues_is (here k) fits) i) (sym led i || nat_le 0xE0 (two k)) || is_one_of (sym led i) (nat_le 0xC0 (one k))) || (one k == cond (nat_lt (here k) 0xA0) 0xE0 0xED)) ∙ told

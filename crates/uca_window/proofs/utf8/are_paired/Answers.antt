@@ -18,5 +18,5 @@ returns c = λ told.
     let two = more bytes 17 c.min.result (omega (arith, c.min.ensures)) (c.are_paired_at-first.ensures first.1) (c.are_paired_at-second.ensures second.1) in
     let three = more bytes (c.min.result + 16) c.min-2.result (omega (arith, c.min.ensures, c.min-2.ensures)) two (c.are_paired_at-third.ensures third.1) in
     let four = more bytes (c.min-2.result + 16) c.min-3.result (omega (arith, c.min-2.ensures, c.min-3.ensures)) three (c.are_paired_at-fourth.ensures fourth.1) in
-    short_utf8 bytes (omega (arith, c.requires.some)) c.requires.short
+    short_utf8 bytes (omega (arith, c.requires.some))
     (λ k from to. four k from (omega (arith, to, c.min-3.ensures, c.requires.some, c.requires.few))) (c.are_ends_paired.ensures first.0)

@@ -13,5 +13,5 @@ returns c = λ told.
     let bytes = c.args.bytes.now in
     let back = and_parts (c.are_ends_paired.result && c.are_paired_at-front.result) c.are_paired_at-back.result told in
     let front = and_parts c.are_ends_paired.result c.are_paired_at-front.result back.0 in
-    short_utf8 bytes (omega (arith, c.requires.some)) c.requires.short
+    short_utf8 bytes (omega (arith, c.requires.some))
     (both_blocks bytes _ (omega (arith, c.requires.some)) (omega (arith, c.requires.few)) (c.are_paired_at-front.ensures front.1) (c.are_paired_at-back.ensures back.1)) (c.are_ends_paired.ensures front.0)
