@@ -78,6 +78,7 @@ impl<'t> Passage<'t> {
 
     /// The text that bytes are. Most texts of databases are ASCII, and many are empty: these need no look for faults. It does not
     /// allocate.
+    #[inline(always)]
     pub fn of_bytes(bytes: &'t [u8]) -> Result<Passage<'t>, TextFault>
         ensures { MatchResult result (λ p. IsTextLine bytes.now × (text_of p ≡ chars bytes.now)) (IsFault bytes.now) }
     {

@@ -24,16 +24,16 @@ some_lane : (p : ℕ → Bool) (xs : List ℕ) → 0 < mask_l (map p xs) → pre
 some_lane p [] some = absurd (omega arith)
 some_lane p (x ∷ xs) some = one_lane (p x) (mask_l (map p xs)) (prefix_len (λ y. not (p y)) xs) (length xs) some (some_lane p xs)
 
-told : (bytes : List ℕ) (at found : ℕ) → at + 16 ≤ length bytes → found ≡ mask_l (map (nat_le 0x80) (chunk at 16 bytes)) → MatchBool (nat_eq found 0) (IsAsciiFrom at (at + 16) bytes) (IsNotAscii bytes)
-told bytes at found room is = elim (cases_eq found 0) [
-  | inl none ↦ subst (λ b. MatchBool b (IsAsciiFrom at (at + 16) bytes) (IsNotAscii bytes)) (sym (eq-eqb found 0 none))
-      (λ k from to. low (slice_index bytes k) (none_from_empty_mask (nat_le 0x80) bytes at 16 0 room (sym is ∙ none) k from to))
+told : (bytes : List ℕ) (at n found : ℕ) → at + n ≤ length bytes → found ≡ mask_l (map (nat_le 0x80) (chunk at n bytes)) → MatchBool (nat_eq found 0) (IsAsciiFrom at (at + n) bytes) (IsNotAscii bytes)
+told bytes at n found room is = elim (cases_eq found 0) [
+  | inl none ↦ subst (λ b. MatchBool b (IsAsciiFrom at (at + n) bytes) (IsNotAscii bytes)) (sym (eq-eqb found 0 none))
+      (λ k from to. low (slice_index bytes k) (none_from_empty_mask (nat_le 0x80) bytes at n 0 room (sym is ∙ none) k from to))
   | inr some ↦
-      let r = prefix_len (λ b. not (nat_le 0x80 b)) (chunk at 16 bytes) in
-      let set : 0 < mask_l (map (nat_le 0x80) (chunk at 16 bytes)) = omega (arith, is, some) in
-      let short : r < 16 = subst (λ n. r < n) (length-chunk at 16 bytes room) (some_lane (nat_le 0x80) (chunk at 16 bytes) set) in
-      subst (λ b. MatchBool b (IsAsciiFrom at (at + 16) bytes) (IsNotAscii bytes)) (sym (ne_eqb found 0 some)) (at + r, high _ (run_in_chunk_stops (nat_le 0x80) bytes at 16 r 0 room refl short))
+      let r = prefix_len (λ b. not (nat_le 0x80 b)) (chunk at n bytes) in
+      let set : 0 < mask_l (map (nat_le 0x80) (chunk at n bytes)) = omega (arith, is, some) in
+      let short : r < n = subst (λ m. r < m) (length-chunk at n bytes room) (some_lane (nat_le 0x80) (chunk at n bytes) set) in
+      subst (λ b. MatchBool b (IsAsciiFrom at (at + n) bytes) (IsNotAscii bytes)) (sym (ne_eqb found 0 some)) (at + r, high _ (run_in_chunk_stops (nat_le 0x80) bytes at n r 0 room refl short))
 ]
 
 pub returns : goal.returns
-returns c = told c.args.bytes.now c.args.at c.wide_others.result c.requires c.wide_others.ensures
+returns g c = told c.args.bytes.now c.args.at g.row.N c.others.result c.requires.within c.others.ensures

@@ -4,6 +4,6 @@ use Rattle.uca_window.proofs.PassedLanes.{at_most, masked}
 use Rattle.uca_window.proofs.ascii.others.Goals as goal
 
 pub returns : goal.returns
-returns c =
+returns g c =
     let v = c.args.block in
-    masked _ (nat_le 0x80) v _ (omega (arith, c.fits-block.0)) c.fits-block.1 (zip2_splat_left at_most 0x80 8 v c.fits-block.0) tt
+    masked _ (nat_le 0x80) v _ (omega (arith, c.fits-block.0, c.requires)) c.fits-block.1 (zip2_splat_left at_most 0x80 g.row.N v c.fits-block.0) tt
