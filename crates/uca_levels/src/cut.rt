@@ -50,7 +50,8 @@ fn few_in_common(a: &[u8], b: &[u8]) -> usize
     at
 }
 
-// How many bytes two texts have in common from their start. The last block may begin in the one before it.
+// How many bytes two texts have in common from their start. The last block may begin in the one before it. There is no branch between
+// the first two: in which of them sorted texts differ cannot be foreseen.
 fn common_len(a: &[u8], b: &[u8]) -> usize
     ensures { take result a.now ≡ take result b.now }
 {
@@ -59,17 +60,15 @@ fn common_len(a: &[u8], b: &[u8]) -> usize
         return few_in_common(a, b);
     }
     let last = shorter - LANES;
-    let mut at = 0;
-    'each: loop {
-        let common = common_in_block(a, b, at);
-        if common < LANES {
-            return at + common;
-        }
-        if at == last {
-            return shorter;
-        }
+    let mut at = last.min(LANES);
+    let first = common_in_block(a, b, 0);
+    let second = common_in_block(a, b, at);
+    let mut common = if first < LANES { first } else { at + second };
+    'each: while common == at + LANES && at < last {
         at = last.min(at + LANES);
+        common = at + common_in_block(a, b, at);
     }
+    common
 }
 
 // Whether no character of two texts lies on both sides of a place.
