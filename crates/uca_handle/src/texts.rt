@@ -21,12 +21,12 @@ pub fn check(text: &[u8]) -> Result<(), TextFault>
 pub(crate) fn order_of(t: &Table, s: Settings, a: &[u8], b: &[u8]) -> Result<Ordering, CompareFault>
     ensures { ComparesBy t.now s a.now b.now result }
 {
-    let left = match Passage::of_bytes(a) {
-        Ok(left) => left,
-        Err(fault) => return Err(CompareFault::First(fault)),
-    };
-    match Passage::of_bytes(b) {
-        Ok(right) => Ok(compare(t, s, &left, &right)),
-        Err(fault) => Err(CompareFault::Second(fault)),
+    if let Err(fault) = check(a) {
+        return Err(CompareFault::First(fault));
     }
+    if let Err(fault) = check(b) {
+        return Err(CompareFault::Second(fault));
+    }
+    let (left, right) = (Passage::of_checked(a), Passage::of_checked(b));
+    Ok(compare(t, s, &left, &right))
 }
