@@ -7,6 +7,7 @@ ghost use Rattle.uca_window.specs.Passage.{bytes_of, text_of};
 
 use crate::faults::KeyFault;
 use crate::opened::Opened;
+use crate::texts::check;
 use std::alloc::Global;
 use uca_key::{SHORT, copy_front, key_of, packed_key_by};
 use uca_table::Table;
@@ -32,10 +33,10 @@ pub(crate) fn put_key(
 ) -> Result<usize, KeyFault>
     ensures { MakesKeyBy (sort_key t.now s (chars text.now)) text.now out.old out.new result }
 {
-    match Passage::of_bytes(text) {
-        Ok(passage) => put_text_key(alloc, t, s, &passage, out),
-        Err(fault) => Err(KeyFault::Text(fault)),
+    if let Err(fault) = check(text) {
+        return Err(KeyFault::Text(fault));
     }
+    put_text_key(alloc, t, s, &Passage::of_checked(text), out)
 }
 
 /// The same of the packed sort key.
@@ -48,10 +49,10 @@ pub(crate) fn put_packed_key(
 ) -> Result<usize, KeyFault>
     ensures { MakesKeyBy (packed_key opened.now s (chars text.now)) text.now out.old out.new result }
 {
-    match Passage::of_bytes(text) {
-        Ok(passage) => put_packed_text_key(alloc, opened, s, &passage, out),
-        Err(fault) => Err(KeyFault::Text(fault)),
+    if let Err(fault) = check(text) {
+        return Err(KeyFault::Text(fault));
     }
+    put_packed_text_key(alloc, opened, s, &Passage::of_checked(text), out)
 }
 
 /// Puts the sort key of a text that was checked into the front of a buffer, or as many of its bytes as fit. That of a short text
@@ -102,8 +103,8 @@ pub(crate) fn write_key_of(
 ) -> Result<usize, KeyFault>
     ensures { WritesKeyBy t.now s text.now out.old out.new result }
 {
-    match Passage::of_bytes(text) {
-        Ok(passage) => Ok(uca_key::put_key(t, s, &passage, out)),
-        Err(fault) => Err(KeyFault::Text(fault)),
+    if let Err(fault) = check(text) {
+        return Err(KeyFault::Text(fault));
     }
+    Ok(uca_key::put_key(t, s, &Passage::of_checked(text), out))
 }

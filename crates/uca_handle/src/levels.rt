@@ -7,6 +7,7 @@ ghost use Rattle.uca_window.specs.Passage.{text_of};
 ghost use Rattle.uca_handle.specs.Levels.{ComparesLevelsBy};
 
 use crate::faults::CompareFault;
+use crate::texts::check;
 use std::cmp::Ordering;
 use uca_levels::compare;
 use uca_table::Table;
@@ -71,12 +72,12 @@ pub(crate) fn decision_of(
 ) -> Result<Decision, CompareFault>
     ensures { ComparesLevelsBy t.now s a.now b.now result }
 {
-    let left = match Passage::of_bytes(a) {
-        Ok(left) => left,
-        Err(fault) => return Err(CompareFault::First(fault)),
-    };
-    match Passage::of_bytes(b) {
-        Ok(right) => Ok(decide(t, s, &left, &right)),
-        Err(fault) => Err(CompareFault::Second(fault)),
+    if let Err(fault) = check(a) {
+        return Err(CompareFault::First(fault));
     }
+    if let Err(fault) = check(b) {
+        return Err(CompareFault::Second(fault));
+    }
+    let (left, right) = (Passage::of_checked(a), Passage::of_checked(b));
+    Ok(decide(t, s, &left, &right))
 }

@@ -32,15 +32,15 @@ within-front (true ∷ ms) = omega arith
 within-front (false ∷ ms) = let h : prefix_len (λ m. not m) ms ≤ length ms = within-front ms in omega arith
 
 -- how many lanes come before the first that differs, by the mask of those that do
-pub in-block : (xs ys : List ℕ) (mask : ℕ) → length xs ≡ 8 → length ys ≡ 8 → mask ≡ mask_l (map (top 7) (zip2 (λ a b. cond (differ a b) 255 0) xs ys)) % 2 ^ 64
-    → (cond (eqb mask 0) 8 (count_trailing_zeros 64 mask) ≤ 8) × (take (cond (eqb mask 0) 8 (count_trailing_zeros 64 mask)) xs ≡ take (cond (eqb mask 0) 8 (count_trailing_zeros 64 mask)) ys)
-in-block xs ys mask long_x long_y is =
+pub in-block : (n : ℕ) (xs ys : List ℕ) (mask : ℕ) → n ≤ 64 → length xs ≡ n → length ys ≡ n → mask ≡ mask_l (map (top 7) (zip2 (λ a b. cond (differ a b) 255 0) xs ys)) % 2 ^ 64
+    → (cond (eqb mask 0) n (count_trailing_zeros 64 mask) ≤ n) × (take (cond (eqb mask 0) n (count_trailing_zeros 64 mask)) xs ≡ take (cond (eqb mask 0) n (count_trailing_zeros 64 mask)) ys)
+in-block n xs ys mask few long_x long_y is =
     let ms = zip2 differ xs ys in
-    let long : length ms ≡ 8 = length-zip2 differ xs ys (long_x ∙ sym long_y) ∙ long_x in
+    let long : length ms ≡ n = length-zip2 differ xs ys (long_x ∙ sym long_y) ∙ long_x in
     let mask_is : mask ≡ mask_l (map (λ m. m) ms) =
-    is ∙ ap (λ l. mask_l l % 2 ^ 64) (tops_compared w8 differ xs ys) ∙ mask_l-mod ms 64 (omega (arith, long)) ∙ ap mask_l (sym (map-itself ms)) in
-    let counted : cond (eqb mask 0) 8 (count_trailing_zeros 64 mask) ≡ prefix_len (λ m. not m) ms =
-    ap (λ n. cond (eqb n 0) 8 (count_trailing_zeros 64 n)) mask_is ∙ first_set_mask_l (λ m. m) ms 8 long (omega arith) in (
+    is ∙ ap (λ l. mask_l l % 2 ^ 64) (tops_compared w8 differ xs ys) ∙ mask_l-mod ms 64 (omega (arith, long, few)) ∙ ap mask_l (sym (map-itself ms)) in
+    let counted : cond (eqb mask 0) n (count_trailing_zeros 64 mask) ≡ prefix_len (λ m. not m) ms =
+    ap (λ k. cond (eqb k 0) n (count_trailing_zeros 64 k)) mask_is ∙ first_set_mask_l (λ m. m) ms n long few in (
       omega (arith, counted, within-front ms, long),
       subst (λ k. take k xs ≡ take k ys) (sym counted) (same-front xs ys (long_x ∙ sym long_y)),
     )
@@ -50,8 +50,8 @@ pub common-fewer : (a b : List ℕ) (more at : ℕ) → at ≤ more → take mor
 common-fewer a b more at fewer same = sym (take-take at more a fewer) ∙ ap (take at) same ∙ take-take at more b fewer
 
 -- more bytes in common from a place on
-pub common-more : (a b : List ℕ) (at k : ℕ) → take at a ≡ take at b → k ≤ 8 → take k (chunk at 8 a) ≡ take k (chunk at 8 b) → take (at + k) a ≡ take (at + k) b
-common-more a b at k before small more = take-add at k a ∙ ap₂ (λ x y. x ++ y) before (part a ∙ more ∙ sym (part b)) ∙ sym (take-add at k b)
+pub common-more : (n : ℕ) (a b : List ℕ) (at k : ℕ) → take at a ≡ take at b → k ≤ n → take k (chunk at n a) ≡ take k (chunk at n b) → take (at + k) a ≡ take (at + k) b
+common-more n a b at k before small more = take-add at k a ∙ ap₂ (λ x y. x ++ y) before (part a ∙ more ∙ sym (part b)) ∙ sym (take-add at k b)
   where
-    part : (l : List ℕ) → take k (drop at l) ≡ take k (chunk at 8 l)
-    part l = sym (take-take k 8 (drop at l) small)
+    part : (l : List ℕ) → take k (drop at l) ≡ take k (chunk at n l)
+    part l = sym (take-take k n (drop at l) small)

@@ -1,4 +1,4 @@
-ghost use Rattle.std.specs.Prelude.{◌≡◌, IsTrue, chars, length, take, ◌+◌, ◌≤◌};
+ghost use Rattle.std.specs.Prelude.{◌≡◌, IsTrue, chars, length, take, ◌+◌, ◌<◌, ◌≤◌};
 ghost use Rattle.std.specs.Str.{IsCharBoundary};
 ghost use Rattle.std.specs.Simd.Lanes.{chunk};
 ghost use Rattle.uca_model.specs.SafeCut.{is_cut};
@@ -9,8 +9,18 @@ use uca_match::completeness::split_last;
 use uca_match::joins_nothing;
 use uca_table::Table;
 
-/// How many bytes are looked at together.
-const LANES: usize = 8;
+/// How many bytes are looked at together where a text is shorter than a wide block.
+const NARROW: usize = 8;
+
+/// How many bytes are looked at together in longer texts.
+const WIDE: usize = 16;
+
+/// What is left of two texts.
+#[derive(Clone, Copy)]
+pub(crate) struct Rest<'t> {
+    pub(crate) a: &'t str,
+    pub(crate) b: &'t str,
+}
 
 // Whether a text may be cut before these characters.
 fn may_follow(t: &Table, left: &str) -> bool
@@ -22,18 +32,19 @@ fn may_follow(t: &Table, left: &str) -> bool
     }
 }
 
-// How many bytes of a block two texts have in common from its start.
+// How many bytes of the block at a place two texts have in common from its start.
 #[inline(always)]
-fn common_in_block(a: &[u8], b: &[u8], at: usize) -> usize
-    requires in_a { at + LANES ≤ length a.now }
-    requires in_b { at + LANES ≤ length b.now }
-    ensures within { result ≤ LANES }
-    ensures same { take result (chunk at 8 a.now) ≡ take result (chunk at 8 b.now) }
+fn common_in_block<const N: usize>(a: &[u8], b: &[u8], at: usize) -> usize
+    requires in_a { at + N ≤ length a.now }
+    requires in_b { at + N ≤ length b.now }
+    requires few { N ≤ 64 }
+    ensures within { result ≤ N }
+    ensures same { take result (chunk at N a.now) ≡ take result (chunk at N b.now) }
 {
-    let block = u8x8::from_slice(&a[at..]);
-    let differ = block.simd_ne(u8x8::from_slice(&b[at..])).to_bitmask();
+    let block = Simd::<u8, N>::from_slice(&a[at..]);
+    let differ = block.simd_ne(Simd::from_slice(&b[at..])).to_bitmask();
     if differ == 0 {
-        LANES
+        N
     } else {
         differ.trailing_zeros() as usize
     }
@@ -50,25 +61,40 @@ fn few_in_common(a: &[u8], b: &[u8]) -> usize
     at
 }
 
-// How many bytes two texts have in common from their start. The last block may begin in the one before it. There is no branch between
+// How many bytes two texts have in common from their start, by blocks. The last may begin in the one before it. There is no branch between
 // the first two: in which of them sorted texts differ cannot be foreseen.
+#[inline(always)]
+fn common_by_blocks<const N: usize>(a: &[u8], b: &[u8]) -> usize
+    requires in_a { N ≤ length a.now }
+    requires in_b { N ≤ length b.now }
+    requires some { 0 < N }
+    requires few { N ≤ 64 }
+    ensures { take result a.now ≡ take result b.now }
+{
+    let last = a.len().min(b.len()) - N;
+    let mut at = last.min(N);
+    let first = common_in_block::<N>(a, b, 0);
+    let second = common_in_block::<N>(a, b, at);
+    let mut common = if first < N { first } else { at + second };
+    'each: while common == at + N && at < last {
+        at = last.min(at + N);
+        common = at + common_in_block::<N>(a, b, at);
+    }
+    common
+}
+
+// How many bytes two texts have in common from their start.
 fn common_len(a: &[u8], b: &[u8]) -> usize
     ensures { take result a.now ≡ take result b.now }
 {
     let shorter = a.len().min(b.len());
-    if shorter < LANES {
+    if shorter < NARROW {
         return few_in_common(a, b);
     }
-    let last = shorter - LANES;
-    let mut at = last.min(LANES);
-    let first = common_in_block(a, b, 0);
-    let second = common_in_block(a, b, at);
-    let mut common = if first < LANES { first } else { at + second };
-    'each: while common == at + LANES && at < last {
-        at = last.min(at + LANES);
-        common = at + common_in_block(a, b, at);
+    if shorter < WIDE {
+        return common_by_blocks::<NARROW>(a, b);
     }
-    common
+    common_by_blocks::<WIDE>(a, b)
 }
 
 // Whether no character of two texts lies on both sides of a place.
@@ -145,25 +171,24 @@ fn is_apart(t: &Table, front: &str, left: &str) -> bool
 
 /// What is left of two texts from the last place on at which each may be cut for its elements, of those in the bytes that they have
 /// in common.
-pub(crate) fn apart_after<'t>(
-    t: &Table,
-    a: &'t str,
-    b: &'t str,
-    common: usize,
-) -> (&'t str, &'t str)
-    requires { take common a.now ≡ take common b.now }
-    ensures { AreApart t.now (chars a.now) (chars b.now) (chars result.0.now) (chars result.1.now) }
+pub(crate) fn apart_after<'t>(t: &Table, texts: Rest<'t>, common: usize) -> Rest<'t>
+    requires { take common texts.a.now ≡ take common texts.b.now }
+    ensures { AreApart t.now (chars texts.entry.a.now) (chars texts.entry.b.now) (chars result.a.now) (chars result.b.now) }
 {
+    let Rest { a, b } = texts;
     let mut at = common;
     'back: while at > 0 {
         if are_whole(a, b, at) {
             let (front, left_a) = a.split_at(at);
             let left_b = b.split_at(at).1;
             if is_apart(t, front, left_a) && is_apart(t, front, left_b) {
-                return (left_a, left_b);
+                return Rest {
+                    a: left_a,
+                    b: left_b,
+                };
             }
         }
         at -= 1;
     }
-    (a, b)
+    texts
 }

@@ -13,6 +13,7 @@ use uca_weights::{Element, MAX_DECOMPOSITION, MAX_LOOKAHEAD};
 use uca_window::points::{ROOM, push_decomposed};
 
 /// Whether a text joins nothing before it.
+#[inline(always)]
 pub fn joins_nothing(t: &Table, text: &str) -> bool
     ensures { IsTrue result → JoinsNothing t.now (chars text.now) }
 {

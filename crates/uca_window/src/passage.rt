@@ -10,7 +10,7 @@ use crate::fault::TextFault;
 use crate::passing::{
     COARSE, MEDIUM, STRIDE, adds_few, adds_few_coarsely, is_passed, none_dense, pass, skip,
 };
-use crate::utf8::{BLOCK_FROM, are_utf8};
+use crate::utf8::{BLOCK_FROM, are_short_utf8, are_utf8};
 use simdutf8::compat::from_utf8;
 use std::str::from_utf8_unchecked;
 use thiserror::Error;
@@ -82,7 +82,7 @@ impl<'t> Passage<'t> {
     pub fn of_bytes(bytes: &'t [u8]) -> Result<Passage<'t>, TextFault>
         ensures { MatchResult result (λ p. IsTextLine bytes.now × (text_of p ≡ chars bytes.now)) (IsFault bytes.now) }
     {
-        if is_ascii(bytes) || is_common_line(bytes) {
+        if is_short_line(bytes) || is_ascii(bytes) || is_common_line(bytes) {
             return Ok(Passage::of_checked(bytes));
         }
         Passage::of_each(bytes)
@@ -132,6 +132,14 @@ impl<'t> Passage<'t> {
     {
         self.text
     }
+}
+
+/// Whether bytes are the text of a line that is short and whose characters have up to two bytes each. Others are refused.
+#[inline(always)]
+fn is_short_line(bytes: &[u8]) -> bool
+    ensures { IsTrue result → IsTextLine bytes.now }
+{
+    bytes.len() <= SHORT && are_short_utf8(bytes)
 }
 
 /// Whether bytes are the text of a line, by a look at blocks of them. The shortest texts are left to a look at each character. It is

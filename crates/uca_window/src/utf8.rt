@@ -18,8 +18,19 @@ const WIDE: usize = 16;
 /// From this length in bytes on, a look at blocks is faster than one at each character.
 pub(crate) const BLOCK_FROM: usize = NARROW;
 
-/// Whether each byte of the block at a place continues a character just where the one before it begins one of two bytes, and none
-/// before one of them begins another.
+/// Whether the bytes of a block spell characters of one or two bytes: each continues a character just where the byte before it, which is in
+/// the other block, begins one of two bytes, and none before one of them begins a longer character.
+#[inline(always)]
+fn are_paired_after<const N: usize>(before: Simd<u8, N>, block: Simd<u8, N>) -> bool
+    requires { N ≤ 64 }
+    ensures { IsTrue result → (k : ℕ) → k < N → is_unpaired (slice_index before.entry k) (slice_index block.entry k) ≡ false }
+{
+    let continues = (block - Simd::splat(0x80)).simd_lt(Simd::splat(0x40));
+    let needed = (before - Simd::splat(0xC2)).simd_lt(Simd::splat(0x1E));
+    ((continues ^ needed) | (needed ^ before.simd_ge(Simd::splat(0xC0)))).to_bitmask() == 0
+}
+
+/// The same of the block at a place.
 #[inline(always)]
 fn are_paired_at<const N: usize>(bytes: &[u8], at: usize) -> bool
     requires begun { 1 ≤ at }
@@ -28,10 +39,7 @@ fn are_paired_at<const N: usize>(bytes: &[u8], at: usize) -> bool
     ensures { IsTrue result → ArePaired at (at + N) bytes.now }
 {
     let before = Simd::<u8, N>::from_slice(&bytes[at - 1..]);
-    let block = Simd::<u8, N>::from_slice(&bytes[at..]);
-    let continues = (block - Simd::splat(0x80)).simd_lt(Simd::splat(0x40));
-    let needed = (before - Simd::splat(0xC2)).simd_lt(Simd::splat(0x1E));
-    ((continues ^ needed) | (needed ^ before.simd_ge(Simd::splat(0xC0)))).to_bitmask() == 0
+    are_paired_after(before, Simd::<u8, N>::from_slice(&bytes[at..]))
 }
 
 /// Whether no byte of a block is a fault after the bytes of two others, which are those two places and one place before it.
@@ -112,6 +120,19 @@ fn are_ends_paired(bytes: &[u8]) -> bool
     ((first < 0x80) | (0xC0 <= first)) & (bytes[bytes.len() - 1] < 0xC0)
 }
 
+/// Two narrow blocks of a text, one after the other.
+#[inline(always)]
+fn two_blocks(bytes: &[u8], first: usize, second: usize) -> u8x16
+    requires in_first { first + NARROW ≤ length bytes.now }
+    requires in_second { second + NARROW ≤ length bytes.now }
+    ensures front { (k : ℕ) → k < NARROW → slice_index result k ≡ slice_index bytes.now (first + k) }
+    ensures back { (k : ℕ) → k < NARROW → slice_index result (NARROW + k) ≡ slice_index bytes.now (second + k) }
+{
+    let front = u8x8::from_slice(&bytes[first..]);
+    let back = u8x8::from_slice(&bytes[second..]);
+    front.shuffle(back, [0, 1, 2, 3, 4, 5, 6, 7, 8, 9, 10, 11, 12, 13, 14, 15])
+}
+
 /// Whether a text of characters of up to two bytes is UTF-8, by two narrow blocks. Others are refused.
 #[inline(always)]
 fn few_are_paired(bytes: &[u8]) -> bool
@@ -119,9 +140,10 @@ fn few_are_paired(bytes: &[u8]) -> bool
     requires few { length bytes.now ≤ 2 * NARROW }
     ensures { IsTrue result → IsUtf8 bytes.now }
 {
-    let front = are_paired_at::<NARROW>(bytes, 1);
-    let back = are_paired_at::<NARROW>(bytes, bytes.len() - NARROW);
-    are_ends_paired(bytes) & front & back
+    let last = bytes.len() - NARROW;
+    let before = two_blocks(bytes, 0, last - 1);
+    let block = two_blocks(bytes, 1, last);
+    are_ends_paired(bytes) & are_paired_after(before, block)
 }
 
 /// The same by four wide blocks.
@@ -199,33 +221,35 @@ fn are_fine_utf8(bytes: &[u8]) -> bool
     closed & are_fine(bytes)
 }
 
-/// Whether a text that is no longer than four wide blocks has only characters of up to two bytes and is UTF-8. Others are refused.
+/// Whether the first character of a text and the last begin with bytes below E0. Then those between mostly have up to two bytes too.
 #[inline(always)]
-fn are_paired_utf8(bytes: &[u8]) -> bool
-    requires { NARROW ≤ length bytes.now }
-    ensures { IsTrue result → IsUtf8 bytes.now }
+fn are_ends_short(bytes: &[u8]) -> bool
+    requires { 3 ≤ length bytes.now }
 {
-    if bytes.len() <= 2 * NARROW {
-        return NARROW < bytes.len() && few_are_paired(bytes);
-    }
-    bytes.len() <= 4 * WIDE && are_paired(bytes)
+    (bytes[0] < 0xE0) & (bytes[bytes.len() - 3] < 0xE0)
 }
 
-/// Whether a text of characters of up to three bytes is UTF-8. Others are refused, and so are the shortest. Where the first character
-/// and the last have fewer than three bytes, those between mostly do too, and then less is asked of each byte.
+/// Whether a text has only characters of up to two bytes and is UTF-8. Others are refused, and so are the shortest and the longest.
+/// There is no branch for ASCII: whether a word has an accent cannot be foreseen.
+#[inline(always)]
+pub(crate) fn are_short_utf8(bytes: &[u8]) -> bool
+    ensures { IsTrue result → IsUtf8 bytes.now }
+{
+    if bytes.len() <= NARROW || 4 * WIDE < bytes.len() || !are_ends_short(bytes) {
+        return false;
+    }
+    if bytes.len() <= 2 * NARROW {
+        return few_are_paired(bytes);
+    }
+    are_paired(bytes)
+}
+
+/// Whether a text of characters of up to three bytes is UTF-8. Others are refused, and so are the shortest.
 #[inline(always)]
 fn are_common_utf8(bytes: &[u8]) -> bool
     ensures { IsTrue result → IsUtf8 bytes.now }
 {
-    if bytes.len() < BLOCK_FROM {
-        return false;
-    }
-    let first_is_short = bytes[0] < 0xE0;
-    let last_is_short = bytes[bytes.len() - 3] < 0xE0;
-    if first_is_short & last_is_short && are_paired_utf8(bytes) {
-        return true;
-    }
-    are_fine_utf8(bytes)
+    bytes.len() >= BLOCK_FROM && are_fine_utf8(bytes)
 }
 
 /// Whether bytes are UTF-8, whatever characters they spell. It is not inlined, so that other texts do not pay for its stack frame.

@@ -7,19 +7,21 @@ use Rattle.uca_levels.proofs.CommonFront.{differ, in-block}
 use Rattle.uca_levels.proofs.cut.common_in_block.Goals as goal
 
 pub returns-then-differ-eq0 : goal.returns-then-differ-eq0
-returns-then-differ-eq0 c =
-    let xs = chunk c.args.at 8 c.args.a.now in
-    let ys = chunk c.args.at 8 c.args.b.now in
+returns-then-differ-eq0 g c =
+    let n = g.row.N in
+    let xs = chunk c.args.at n c.args.a.now in
+    let ys = chunk c.args.at n c.args.b.now in
     let m : ℕ = mask_l (map (top 7) (zip2 (λ a b. cond (differ a b) 255 0) xs ys)) % 2 ^ 64 in
-    let h = in-block xs ys m (length-chunk c.args.at 8 c.args.a.now c.requires.in_a) (length-chunk c.args.at 8 c.args.b.now c.requires.in_b) refl in
-    let all : cond (eqb m 0) 8 (count_trailing_zeros 64 m) ≡ 8 = cond-true (eqb m 0) _ _ (eq-eqb m 0 c.if-differ-eq0.true) in
+    let h = in-block n xs ys m c.requires.few (length-chunk c.args.at n c.args.a.now c.requires.in_a) (length-chunk c.args.at n c.args.b.now c.requires.in_b) refl in
+    let all : cond (eqb m 0) n (count_trailing_zeros 64 m) ≡ n = cond-true (eqb m 0) _ _ (eq-eqb m 0 c.if-differ-eq0.true) in
     record { within = omega arith; same = subst (λ k. take k xs ≡ take k ys) all h.1 }
 
 pub returns-else-differ-eq0 : goal.returns-else-differ-eq0
-returns-else-differ-eq0 c =
-    let xs = chunk c.args.at 8 c.args.a.now in
-    let ys = chunk c.args.at 8 c.args.b.now in
+returns-else-differ-eq0 g c =
+    let n = g.row.N in
+    let xs = chunk c.args.at n c.args.a.now in
+    let ys = chunk c.args.at n c.args.b.now in
     let m : ℕ = mask_l (map (top 7) (zip2 (λ a b. cond (differ a b) 255 0) xs ys)) % 2 ^ 64 in
-    let h = in-block xs ys m (length-chunk c.args.at 8 c.args.a.now c.requires.in_a) (length-chunk c.args.at 8 c.args.b.now c.requires.in_b) refl in
-    let first : cond (eqb m 0) 8 (count_trailing_zeros 64 m) ≡ count_trailing_zeros 64 m = cond-false (eqb m 0) _ _ (ne_eqb m 0 c.if-differ-eq0.false) in
-    record { within = subst (λ k. k ≤ 8) first h.0; same = subst (λ k. take k xs ≡ take k ys) first h.1 }
+    let h = in-block n xs ys m c.requires.few (length-chunk c.args.at n c.args.a.now c.requires.in_a) (length-chunk c.args.at n c.args.b.now c.requires.in_b) refl in
+    let first : cond (eqb m 0) n (count_trailing_zeros 64 m) ≡ count_trailing_zeros 64 m = cond-false (eqb m 0) _ _ (ne_eqb m 0 c.if-differ-eq0.false) in
+    record { within = subst (λ k. k ≤ n) first h.0; same = subst (λ k. take k xs ≡ take k ys) first h.1 }

@@ -1,6 +1,6 @@
-use Rattle.std.proofs.Common.{◌≡◌, ℕ, ◌+◌, ◌≤◌, ◌&&◌, List, length, arith, inl, inr}
+use Rattle.std.proofs.Common.{◌≡◌, ℕ, ◌+◌, ◌-◌, ◌<◌, ◌≤◌, List, length, get_or, sym, ap, ◌∙◌, arith, inl, inr}
 use Rattle.std.proofs.lemmas.Bool.{cases_lt, and_parts}
-use Rattle.uca_window.specs.Utf8.{ArePaired}
+use Rattle.uca_window.specs.Utf8.{is_unpaired, ArePaired}
 use Rattle.uca_window.proofs.Utf8Steps.{short_utf8}
 use Rattle.uca_window.proofs.utf8.few_are_paired.Goals as goal
 
@@ -11,7 +11,24 @@ both_blocks bytes last end near a b k from to = elim (cases_lt k 9) [ inl front 
 pub returns : goal.returns
 returns c = λ told.
     let bytes = c.args.bytes.now in
-    let back = and_parts (c.are_ends_paired.result && c.are_paired_at-front.result) c.are_paired_at-back.result told in
-    let front = and_parts c.are_ends_paired.result c.are_paired_at-front.result back.0 in
-    short_utf8 bytes (omega (arith, c.requires.some))
-    (both_blocks bytes _ (omega (arith, c.requires.some)) (omega (arith, c.requires.few)) (c.are_paired_at-front.ensures front.1) (c.are_paired_at-back.ensures back.1)) (c.are_ends_paired.ensures front.0)
+    let last = length bytes - 8 in
+    let some : 8 < length bytes = c.requires.some in
+    let parts = and_parts c.are_ends_paired.result c.are_paired_after.result told in
+    let unpaired = c.are_paired_after.ensures parts.1 in
+    let front : ArePaired 1 9 bytes = λ k from to.
+    let i = k - 1 in
+    let near : i < 8 = omega (arith, from, to) in
+    let here : 1 + i ≡ k = omega (arith, from) in
+    let back : 0 + i ≡ k - 1 = omega arith in
+    let b = c.two_blocks-block.ensures.front i near ∙ ap (λ j. get_or bytes j 0) here in
+    let z = c.two_blocks-before.ensures.front i near ∙ ap (λ j. get_or bytes j 0) back in
+    sym (λ j. is_unpaired (z j) (b j)) ∙ unpaired i (omega (arith, near)) in
+    let rear : ArePaired last (last + 8) bytes = λ k from to.
+    let i = k - last in
+    let near : i < 8 = omega (arith, from, to) in
+    let here : last + i ≡ k = omega (arith, from) in
+    let back : last - 1 + i ≡ k - 1 = omega (arith, from, some) in
+    let b = c.two_blocks-block.ensures.back i near ∙ ap (λ j. get_or bytes j 0) here in
+    let z = c.two_blocks-before.ensures.back i near ∙ ap (λ j. get_or bytes j 0) back in
+    sym (λ j. is_unpaired (z j) (b j)) ∙ unpaired (8 + i) (omega (arith, near)) in
+    short_utf8 bytes (omega (arith, some)) (both_blocks bytes last (omega (arith, some)) (omega (arith, c.requires.few)) front rear) (c.are_ends_paired.ensures parts.0)
