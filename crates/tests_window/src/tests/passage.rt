@@ -1,7 +1,7 @@
 use std::alloc::{AllocError, Global};
 use std::process::Abort;
 use std::test::Fail;
-use uca_window::{LongRun, Passage};
+use uca_window::{LongRun, Passage, TextFault};
 
 /// Pieces of a text, each with how often it occurs there.
 type Pieces = &'static [(&'static str, usize)];
@@ -75,6 +75,48 @@ fn one_byte_that_is_not_ascii_is_seen(rt: HostRuntime) {
             bytes[at] = 0x80;
             assert!(rt; Passage::of_ascii(&bytes[..n]).is_none(), "{at} of {n}");
             bytes[at] = b'a';
+        }
+    }
+}
+
+/// Where `of_bytes` finds that bytes are not UTF-8.
+fn broken_at(bytes: &[u8]) -> Option<usize> {
+    match Passage::of_bytes(bytes) {
+        Err(TextFault::NotUtf8(at)) => Some(at),
+        _ => None,
+    }
+}
+
+#[test]
+fn one_byte_that_breaks_a_text_is_found(rt: HostRuntime) {
+    let mut bytes = [b'a'; 100];
+    for n in 1..101 {
+        for at in 0..n {
+            for broken in &[0x80, 0xC3, 0xE0, 0xF0, 0xFF] {
+                bytes[at] = *broken;
+                assert!(rt;
+                    broken_at(&bytes[..n]) == Some(at),
+                    "{broken} at {at} of {n}"
+                );
+            }
+            bytes[at] = b'a';
+        }
+    }
+}
+
+#[test]
+fn a_character_of_two_bytes_is_read_at_each_place(rt: HostRuntime) {
+    let mut bytes = [b'a'; 100];
+    for n in 1..100 {
+        for at in 0..n {
+            bytes[at] = 0xC3;
+            bytes[at + 1] = 0xA9;
+            assert!(rt;
+                Passage::of_bytes(&bytes[..n + 1]).is_ok(),
+                "at {at} of {n}"
+            );
+            bytes[at] = b'a';
+            bytes[at + 1] = b'a';
         }
     }
 }
