@@ -15,13 +15,6 @@ const NARROW: usize = 8;
 /// How many bytes are looked at together in longer texts.
 const WIDE: usize = 16;
 
-/// What is left of two texts.
-#[derive(Clone, Copy)]
-pub(crate) struct Rest<'t> {
-    pub(crate) a: &'t str,
-    pub(crate) b: &'t str,
-}
-
 // Whether a text may be cut before these characters.
 fn may_follow(t: &Table, left: &str) -> bool
     ensures { IsTrue result → MayFollow t.now (chars left.now) }
@@ -171,24 +164,25 @@ fn is_apart(t: &Table, front: &str, left: &str) -> bool
 
 /// What is left of two texts from the last place on at which each may be cut for its elements, of those in the bytes that they have
 /// in common.
-pub(crate) fn apart_after<'t>(t: &Table, texts: Rest<'t>, common: usize) -> Rest<'t>
-    requires { take common texts.a.now ≡ take common texts.b.now }
-    ensures { AreApart t.now (chars texts.entry.a.now) (chars texts.entry.b.now) (chars result.a.now) (chars result.b.now) }
+pub(crate) fn apart_after<'t>(
+    t: &Table,
+    a: &'t str,
+    b: &'t str,
+    common: usize,
+) -> (&'t str, &'t str)
+    requires { take common a.now ≡ take common b.now }
+    ensures { AreApart t.now (chars a.now) (chars b.now) (chars result.0.now) (chars result.1.now) }
 {
-    let Rest { a, b } = texts;
     let mut at = common;
     'back: while at > 0 {
         if are_whole(a, b, at) {
             let (front, left_a) = a.split_at(at);
             let left_b = b.split_at(at).1;
             if is_apart(t, front, left_a) && is_apart(t, front, left_b) {
-                return Rest {
-                    a: left_a,
-                    b: left_b,
-                };
+                return (left_a, left_b);
             }
         }
         at -= 1;
     }
-    texts
+    (a, b)
 }

@@ -12,12 +12,27 @@ ghost use Rattle.uca_levels.specs.Primaries.{primary_of};
 ghost use Rattle.uca_levels.specs.Reads.{InStep};
 ghost use Rattle.uca_levels.specs.Streams.{weight_before};
 
-use crate::cut::{Rest, apart_after, common_front};
+use crate::cut::common_front;
 use crate::decided::{decided, widened};
 use std::cmp::Ordering;
-use uca_match::{ANY_TEXT, joins_nothing};
 use uca_table::Table;
 use uca_weights::{Element, Variable};
+
+/// What is left of two texts after characters with the same primary weights.
+#[derive(Clone, Copy)]
+pub(crate) struct Rest<'t> {
+    pub(crate) a: &'t str,
+    pub(crate) b: &'t str,
+}
+
+/// What is known of the first characters after bytes in common where they do not decide an order.
+#[derive(Clone, Copy)]
+pub(crate) enum Sight {
+    /// They have the same primary weight, each by itself.
+    Alike,
+    /// Nothing is known of them.
+    Unknown,
+}
 
 /// The weight of an element at the first level, whatever comes before it (UTS #10, section 4, Variable Weighting).
 #[inline(always)]
@@ -82,12 +97,11 @@ fn own_primary<'t>(t: &Table, v: Variable, text: &'t str) -> Option<(Option<u16>
     let Some(c) = characters.next() else {
         return Some((None, text));
     };
-    let character = t.character_after(0, c)?;
-    let rest = characters.as_str();
-    if character.bearing < ANY_TEXT && !joins_nothing(t, rest) {
+    if !t.joins_nothing(c) {
         return None;
     }
-    let weight = only_primary(v, character.elements)?;
+    let rest = characters.as_str();
+    let weight = only_primary(v, t.alone_before(c, rest)?)?;
     if weight == 0 {
         return None;
     }
@@ -95,9 +109,36 @@ fn own_primary<'t>(t: &Table, v: Variable, text: &'t str) -> Option<(Option<u16>
 }
 
 /// The order of two texts at the first level by the first characters after bytes that they have in common, where each has a primary
-/// weight by itself. Most texts differ in these. If that is not so, what is left has the order of the texts.
+/// weight by itself. Most texts differ in these.
 #[inline(always)]
-pub(crate) fn order_at_once<'t>(
+pub(crate) fn order_at_once(
+    t: &Table,
+    v: Variable,
+    a: &str,
+    b: &str,
+    common: usize,
+) -> Result<Ordering, Sight>
+    requires in_a { IsCharBoundary a.now common }
+    requires in_b { IsCharBoundary b.now common }
+    requires common { take common a.now ≡ take common b.now }
+    ensures { IfOk result (OrdersLevel 1 (level_list t.now v (chars a.now) 1) (level_list t.now v (chars b.now) 1)) }
+{
+    let Some((x, _)) = own_primary(t, v, a.split_at(common).1) else {
+        return Err(Sight::Unknown);
+    };
+    let Some((y, _)) = own_primary(t, v, b.split_at(common).1) else {
+        return Err(Sight::Unknown);
+    };
+    match decided(widened(x), widened(y)) {
+        Some(order) => Ok(order),
+        None => Err(Sight::Alike),
+    }
+}
+
+/// The order of two texts at the first level by turns: the bytes that they have in common are passed over, the characters after these are
+/// compared, and then what comes after them in turn, as far as each of these characters has a primary weight by itself. What is left has
+/// the order of the texts.
+pub(crate) fn order_by_turns<'t>(
     t: &Table,
     v: Variable,
     a: &'t str,
@@ -114,44 +155,14 @@ pub(crate) fn order_at_once<'t>(
         (λ left. InStep (level_list t.now v (chars a.now) 1) (level_list t.now v (chars b.now) 1) (level_list t.now v (chars left.a.now) 1) (level_list t.now v (chars left.b.now) 1)) }
     ensures safe { IfErr result (λ left. IsSafe (chars left.a.now) × IsSafe (chars left.b.now)) }
 {
-    let Some((x, left_a)) = own_primary(t, v, a.split_at(common).1) else {
-        return Err(Rest { a, b });
-    };
-    let Some((y, left_b)) = own_primary(t, v, b.split_at(common).1) else {
-        return Err(Rest { a, b });
-    };
-    match decided(widened(x), widened(y)) {
-        Some(order) => Ok(order),
-        None => Err(Rest {
-            a: left_a,
-            b: left_b,
-        }),
-    }
-}
-
-/// The order of two texts at the first level by turns: the bytes that they have in common are passed over, the characters after these are
-/// compared, and then what comes after them in turn, as far as each of these characters has a primary weight by itself. What is left has
-/// the order of the texts.
-pub(crate) fn order_by_turns<'t>(
-    t: &Table,
-    v: Variable,
-    texts: Rest<'t>,
-) -> Result<Ordering, Rest<'t>>
-    requires safe_a { IsSafe (chars texts.a.now) }
-    requires safe_b { IsSafe (chars texts.b.now) }
-    ensures order { MatchResult result
-        (OrdersLevel 1 (level_list t.now v (chars texts.entry.a.now) 1) (level_list t.now v (chars texts.entry.b.now) 1))
-        (λ left. InStep (level_list t.now v (chars texts.entry.a.now) 1) (level_list t.now v (chars texts.entry.b.now) 1) (level_list t.now v (chars left.a.now) 1) (level_list t.now v (chars left.b.now) 1)) }
-    ensures safe { IfErr result (λ left. IsSafe (chars left.a.now) × IsSafe (chars left.b.now)) }
-{
-    let mut left = texts;
+    let mut left = Rest { a, b };
+    let mut same = common;
     'turns: loop {
-        let common = common_front(left.a, left.b);
-        let Some((x, after_a)) = own_primary(t, v, left.a.split_at(common).1) else {
-            return Err(apart_after(t, left, common));
+        let Some((x, after_a)) = own_primary(t, v, left.a.split_at(same).1) else {
+            return Err(left);
         };
-        let Some((y, after_b)) = own_primary(t, v, left.b.split_at(common).1) else {
-            return Err(apart_after(t, left, common));
+        let Some((y, after_b)) = own_primary(t, v, left.b.split_at(same).1) else {
+            return Err(left);
         };
         if let Some(order) = decided(widened(x), widened(y)) {
             return Ok(order);
@@ -160,6 +171,7 @@ pub(crate) fn order_by_turns<'t>(
             a: after_a,
             b: after_b,
         };
+        same = common_front(after_a, after_b);
     }
 }
 

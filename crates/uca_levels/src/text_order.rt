@@ -12,9 +12,9 @@ ghost use Rattle.uca_levels.specs.Streams.{given_before};
 
 use crate::cell_weights::CellWeights;
 use crate::comparison::compare_sources;
-use crate::cut::{Rest, begin_apart, common_front, without_front};
+use crate::cut::{apart_after, begin_apart, common_front, without_front};
 use crate::joined_weights::JoinedWeights;
-use crate::primaries::{order_at_once, order_by_turns, order_of_primaries};
+use crate::primaries::{Rest, Sight, order_at_once, order_by_turns, order_of_primaries};
 use crate::stream::order_of;
 use std::cmp::Ordering;
 use uca_table::Table;
@@ -70,15 +70,58 @@ fn order_of_weights(t: &Table, v: Variable, level: u8, a: &str, b: &str) -> Opti
     }
 }
 
-// The order of two texts at the first level, by turns and then by their weights. `None`: many characters join each other. The letters of
-// most scripts have one primary weight, and most texts differ in one soon.
+// The order of two texts at the first level as far as the characters after bytes in common tell it. If that is not so, what is left has
+// the order of the texts: after characters that are alike, or else from the last place in those bytes at which both may be cut.
 #[inline(always)]
-fn order_at_first(t: &Table, v: Variable, texts: Rest) -> Option<Ordering>
-    requires safe_a { IsSafe (chars texts.a.now) }
-    requires safe_b { IsSafe (chars texts.b.now) }
-    ensures { IfSome result (OrdersLevel 1 (level_list t.now v (chars texts.entry.a.now) 1) (level_list t.now v (chars texts.entry.b.now) 1)) }
+fn order_after_sight<'t>(
+    t: &Table,
+    v: Variable,
+    a: &'t str,
+    b: &'t str,
+    common: usize,
+    sight: Sight,
+) -> Result<Ordering, Rest<'t>>
+    requires safe_a { IsSafe (chars a.now) }
+    requires safe_b { IsSafe (chars b.now) }
+    requires in_a { IsCharBoundary a.now common }
+    requires in_b { IsCharBoundary b.now common }
+    requires common { take common a.now ≡ take common b.now }
+    ensures order { MatchResult result
+        (OrdersLevel 1 (level_list t.now v (chars a.now) 1) (level_list t.now v (chars b.now) 1))
+        (λ left. InStep (level_list t.now v (chars a.now) 1) (level_list t.now v (chars b.now) 1) (level_list t.now v (chars left.a.now) 1) (level_list t.now v (chars left.b.now) 1)) }
+    ensures safe { IfErr result (λ left. IsSafe (chars left.a.now) × IsSafe (chars left.b.now)) }
 {
-    let left = match order_by_turns(t, v, texts) {
+    match sight {
+        Sight::Alike => order_by_turns(t, v, a, b, common),
+        Sight::Unknown => {
+            let (left_a, left_b) = apart_after(t, a, b, common);
+            Err(Rest {
+                a: left_a,
+                b: left_b,
+            })
+        }
+    }
+}
+
+// The order of two texts at the first level, after a look at the first characters after the bytes that they have in common. `None`: many
+// characters join each other. The letters of most scripts have one primary weight, and most texts differ in one soon.
+#[inline(always)]
+fn order_at_first(
+    t: &Table,
+    v: Variable,
+    a: &str,
+    b: &str,
+    common: usize,
+    sight: Sight,
+) -> Option<Ordering>
+    requires safe_a { IsSafe (chars a.now) }
+    requires safe_b { IsSafe (chars b.now) }
+    requires in_a { IsCharBoundary a.now common }
+    requires in_b { IsCharBoundary b.now common }
+    requires common { take common a.now ≡ take common b.now }
+    ensures { IfSome result (OrdersLevel 1 (level_list t.now v (chars a.now) 1) (level_list t.now v (chars b.now) 1)) }
+{
+    let left = match order_after_sight(t, v, a, b, common, sight) {
         Ok(order) => return Some(order),
         Err(left) => left,
     };
@@ -88,27 +131,26 @@ fn order_at_first(t: &Table, v: Variable, texts: Rest) -> Option<Ordering>
     }
 }
 
-// The order of two texts at the first four levels, as many of them as there are. At the first one, what is left of them has their order.
-// Later levels begin at the last place at which both may be cut for all weights, of those in the bytes that they have in common. `None`:
-// the fifth level is asked for, or many characters join each other.
+// The order of two texts at the first four levels, as many of them as there are. Both begin with bytes in common: the first level
+// begins at the last place in them at which both texts may be cut for their elements, and later levels at the last one at which they
+// may be cut for all weights. `None`: the fifth level is asked for, or many characters join each other.
 fn order_by_weights(
     t: &Table,
     s: Settings,
     a: &str,
     b: &str,
     common: usize,
-    left: Rest,
+    sight: Sight,
 ) -> Option<Ordering>
     requires safe_a { IsSafe (chars a.now) }
     requires safe_b { IsSafe (chars b.now) }
+    requires in_a { IsCharBoundary a.now common }
+    requires in_b { IsCharBoundary b.now common }
     requires common { take common a.now ≡ take common b.now }
-    requires safe_left_a { IsSafe (chars left.a.now) }
-    requires safe_left_b { IsSafe (chars left.b.now) }
-    requires left { InStep (level_list t.now s.weighting (chars a.now) 1) (level_list t.now s.weighting (chars b.now) 1) (level_list t.now s.weighting (chars left.a.now) 1) (level_list t.now s.weighting (chars left.b.now) 1) }
     ensures { IfSome result (λ order. order ≡ key_order (sort_key t.now s (chars a.now)) (sort_key t.now s (chars b.now))) }
 {
     let _longest = t.longest();
-    let order = order_at_first(t, s.weighting, left)?;
+    let order = order_at_first(t, s.weighting, a, b, common, sight)?;
     if order.is_ne() {
         return Some(order);
     }
@@ -142,19 +184,40 @@ fn order_by_sources(t: &Table, s: Settings, a: &str, b: &str, common: usize) -> 
     compare_sources(t, s, &mut left, &mut right)
 }
 
-// The order of two texts of which what is left has their order at the first level. It is not inlined, so that a comparison that ends at
-// the first characters does not pay for its stack frame.
+// The order of two texts that differ at the first level in the first characters after the bytes that they have in common, as most do.
+// Else what is known of these characters.
+#[inline(always)]
+fn order_at_sight(
+    t: &Table,
+    s: Settings,
+    a: &str,
+    b: &str,
+    common: usize,
+) -> Result<Ordering, Sight>
+    requires in_a { IsCharBoundary a.now common }
+    requires in_b { IsCharBoundary b.now common }
+    requires common { take common a.now ≡ take common b.now }
+    ensures { IfOk result (λ order. order ≡ key_order (sort_key t.now s (chars a.now)) (sort_key t.now s (chars b.now))) }
+{
+    let order = order_at_once(t, s.weighting, a, b, common)?;
+    if order.is_ne() {
+        Ok(order)
+    } else {
+        Err(Sight::Alike)
+    }
+}
+
+// The order of two texts. It is not inlined, so that a comparison that ends at the first characters does not pay for its stack frame.
 #[inline(never)]
-fn order_after(t: &Table, s: Settings, a: &str, b: &str, common: usize, left: Rest) -> Ordering
+fn order_after(t: &Table, s: Settings, a: &str, b: &str, common: usize, sight: Sight) -> Ordering
     requires safe_a { IsSafe (chars a.now) }
     requires safe_b { IsSafe (chars b.now) }
+    requires in_a { IsCharBoundary a.now common }
+    requires in_b { IsCharBoundary b.now common }
     requires common { take common a.now ≡ take common b.now }
-    requires safe_left_a { IsSafe (chars left.a.now) }
-    requires safe_left_b { IsSafe (chars left.b.now) }
-    requires left { InStep (level_list t.now s.weighting (chars a.now) 1) (level_list t.now s.weighting (chars b.now) 1) (level_list t.now s.weighting (chars left.a.now) 1) (level_list t.now s.weighting (chars left.b.now) 1) }
     ensures { result ≡ key_order (sort_key t.now s (chars a.now)) (sort_key t.now s (chars b.now)) }
 {
-    match order_by_weights(t, s, a, b, common, left) {
+    match order_by_weights(t, s, a, b, common, sight) {
         Some(order) => order,
         None => order_by_sources(t, s, a, b, common),
     }
@@ -170,16 +233,10 @@ fn order_from(t: &Table, s: Settings, a: &str, b: &str, common: usize) -> Orderi
     requires common { take common a.now ≡ take common b.now }
     ensures { result ≡ key_order (sort_key t.now s (chars a.now)) (sort_key t.now s (chars b.now)) }
 {
-    let left = match order_at_once(t, s.weighting, a, b, common) {
-        Ok(order) => {
-            if order.is_ne() {
-                return order;
-            }
-            Rest { a, b }
-        }
-        Err(left) => left,
-    };
-    order_after(t, s, a, b, common, left)
+    match order_at_sight(t, s, a, b, common) {
+        Ok(order) => order,
+        Err(sight) => order_after(t, s, a, b, common, sight),
+    }
 }
 
 // The order of two texts, of which the bytes that they have in common are passed over.

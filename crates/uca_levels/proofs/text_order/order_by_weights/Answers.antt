@@ -1,10 +1,10 @@
-use Rattle.std.proofs.Common.{◌≤◌, chars, refl, sym, ◌∙◌, arith}
+use Rattle.std.proofs.Common.{◌≤◌, chars, sym, ◌∙◌, arith}
 use Rattle.std.specs.declared.cmp.Ordering.{Ordering}
 use Rattle.uca_weights.specs.Settings.{levels}
 use Rattle.uca_model.specs.LevelWeights.{level_list}
 use Rattle.uca_model.specs.DecidingLevel.{OrdersLevel}
 use Rattle.uca_model.proofs.LevelLemmas.{levels-within}
-use Rattle.uca_levels.proofs.ReadsLemmas.{InStep-orders, from_ne, from_not_ne}
+use Rattle.uca_levels.proofs.ReadsLemmas.{from_ne, from_not_ne}
 use Rattle.uca_levels.proofs.LevelsFromCut.{undecided-first, undecided-next, decided-here}
 use Rattle.uca_levels.proofs.WithoutFront.{orders-left, left-safe}
 use Rattle.uca_levels.proofs.text_order.order_by_weights.Goals as goal
@@ -13,7 +13,7 @@ pub returns-then-is_ne : goal.returns-then-is_ne
 returns-then-is_ne c =
     let o : Ordering = c.in_ok-order.order in
     let some : 1 ≤ levels c.args.s.strength = (levels-within c.args.s.strength).0 in
-    sym (decided-here c.args.t.now c.args.s (chars c.args.a.now) (chars c.args.b.now) 1 o (undecided-first c.args.t.now c.args.s (chars c.args.a.now) (chars c.args.b.now)) some (InStep-orders 1 _ _ _ _ _ _ o c.requires.left refl refl c.in_ok-order.ensures) (from_ne o (sym c.is_ne.ensures ∙ c.if-is_ne.true))).0
+    sym (decided-here c.args.t.now c.args.s (chars c.args.a.now) (chars c.args.b.now) 1 o (undecided-first c.args.t.now c.args.s (chars c.args.a.now) (chars c.args.b.now)) some c.in_ok-order.ensures (from_ne o (sym c.is_ne.ensures ∙ c.if-is_ne.true))).0
 
 pub each-init : goal.each-init
 each-init c =
@@ -22,7 +22,7 @@ each-init c =
     record {
       first = omega arith;
       last = omega (arith, some);
-      undecided = undecided-next c.args.t.now c.args.s (chars c.args.a.now) (chars c.args.b.now) 1 o (undecided-first c.args.t.now c.args.s (chars c.args.a.now) (chars c.args.b.now)) some (InStep-orders 1 _ _ _ _ _ _ o c.requires.left refl refl c.in_ok-order.ensures) (from_not_ne o (sym c.is_ne.ensures ∙ c.if-is_ne.false));
+      undecided = undecided-next c.args.t.now c.args.s (chars c.args.a.now) (chars c.args.b.now) 1 o (undecided-first c.args.t.now c.args.s (chars c.args.a.now) (chars c.args.b.now)) some c.in_ok-order.ensures (from_not_ne o (sym c.is_ne.ensures ∙ c.if-is_ne.false));
     }
 
 pub returns-then-is_ne-2 : goal.returns-then-is_ne-2
