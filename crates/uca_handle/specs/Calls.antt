@@ -53,6 +53,13 @@ abbrev pub Checks : List ℕ → Result (Unit {0}) TextFault → Type 0
 Checks text (Ok _) = IsTextLine text
 Checks text (Err f) = IsFault text f
 
+-- the first of two texts that is none has this fault, or both are texts
+abbrev pub TellsFault : List ℕ → List ℕ → Option CompareFault → Type 0
+TellsFault a b None = IsTextLine a × IsTextLine b
+TellsFault a b (Some compare.Closed) = ⊥
+TellsFault a b (Some (compare.First f)) = IsFault a f
+TellsFault a b (Some (compare.Second f)) = IsTextLine a × IsFault b f
+
 -- two texts are compared by a table
 pub record IsOrder (t : ElementTable) (s : Settings) (a b : List ℕ) (order : Ordering) : Type 0 where
   pub first : IsTextLine a

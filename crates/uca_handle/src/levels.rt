@@ -7,7 +7,7 @@ ghost use Rattle.uca_window.specs.Passage.{text_of};
 ghost use Rattle.uca_handle.specs.Levels.{ComparesLevelsBy};
 
 use crate::faults::CompareFault;
-use crate::texts::check;
+use crate::texts::fault_of;
 use std::cmp::Ordering;
 use uca_levels::compare;
 use uca_table::Table;
@@ -72,11 +72,8 @@ pub(crate) fn decision_of(
 ) -> Result<Decision, CompareFault>
     ensures { ComparesLevelsBy t.now s a.now b.now result }
 {
-    if let Err(fault) = check(a) {
-        return Err(CompareFault::First(fault));
-    }
-    if let Err(fault) = check(b) {
-        return Err(CompareFault::Second(fault));
+    if let Some(fault) = fault_of(a, b) {
+        return Err(fault);
     }
     let (left, right) = (Passage::of_checked(a), Passage::of_checked(b));
     Ok(decide(t, s, &left, &right))

@@ -1,4 +1,6 @@
-ghost use Rattle.uca_handle.specs.Calls.{Checks, ComparesBy};
+ghost use Rattle.std.specs.Prelude.{IsTrue};
+ghost use Rattle.uca_model.specs.Lines.{IsTextLine};
+ghost use Rattle.uca_handle.specs.Calls.{Checks, ComparesBy, TellsFault};
 
 use crate::faults::CompareFault;
 use std::cmp::Ordering;
@@ -17,15 +19,45 @@ pub fn check(text: &[u8]) -> Result<(), TextFault>
     }
 }
 
+/// Whether bytes are a text that can be collated, as far as that is told in a register.
+#[inline(never)]
+fn is_line(text: &[u8]) -> bool
+    ensures { IsTrue result → IsTextLine text.now }
+{
+    Passage::of_bytes(text).is_ok()
+}
+
+/// The fault of the first of two texts that has one. It is not inlined, so that texts without one do not pay for its stack frame.
+#[inline(never)]
+fn find_fault(a: &[u8], b: &[u8]) -> Option<CompareFault>
+    ensures { TellsFault a.now b.now result }
+{
+    if let Err(fault) = check(a) {
+        return Some(CompareFault::First(fault));
+    }
+    if let Err(fault) = check(b) {
+        return Some(CompareFault::Second(fault));
+    }
+    None
+}
+
+/// The same. Most texts have no fault, and then none is put into memory.
+#[inline(always)]
+pub(crate) fn fault_of(a: &[u8], b: &[u8]) -> Option<CompareFault>
+    ensures { TellsFault a.now b.now result }
+{
+    if is_line(a) && is_line(b) {
+        return None;
+    }
+    find_fault(a, b)
+}
+
 /// The order of the sort keys of two texts, or the fault of the first of them that has one.
 pub(crate) fn order_of(t: &Table, s: Settings, a: &[u8], b: &[u8]) -> Result<Ordering, CompareFault>
     ensures { ComparesBy t.now s a.now b.now result }
 {
-    if let Err(fault) = check(a) {
-        return Err(CompareFault::First(fault));
-    }
-    if let Err(fault) = check(b) {
-        return Err(CompareFault::Second(fault));
+    if let Some(fault) = fault_of(a, b) {
+        return Err(fault);
     }
     let (left, right) = (Passage::of_checked(a), Passage::of_checked(b));
     Ok(compare(t, s, &left, &right))
