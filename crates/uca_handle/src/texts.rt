@@ -9,8 +9,9 @@ use uca_table::Table;
 use uca_weights::Settings;
 use uca_window::{Passage, TextFault};
 
-/// Whether bytes are a text that can be collated: UTF-8 whose runs of nonstarters are short. It does not allocate.
-pub fn check(text: &[u8]) -> Result<(), TextFault>
+/// The fault of a text, if it has one. It is not inlined, so that texts without one do not pay for its stack frame.
+#[inline(never)]
+fn look(text: &[u8]) -> Result<(), TextFault>
     ensures { Checks text.now result }
 {
     match Passage::of_bytes(text) {
@@ -19,23 +20,41 @@ pub fn check(text: &[u8]) -> Result<(), TextFault>
     }
 }
 
-/// Whether bytes are a text that can be collated, as far as that is told in a register.
+/// Whether bytes that are not ASCII are a text that can be collated, in a register.
 #[inline(never)]
-fn is_line(text: &[u8]) -> bool
+fn is_other_line(text: &[u8]) -> bool
     ensures { IsTrue result → IsTextLine text.now }
 {
     Passage::of_bytes(text).is_ok()
 }
 
-/// The fault of the first of two texts that has one. It is not inlined, so that texts without one do not pay for its stack frame.
+/// Whether bytes are a text that can be collated. Most texts of databases are ASCII, so that is asked first.
+#[inline(always)]
+fn is_line(text: &[u8]) -> bool
+    ensures { IsTrue result → IsTextLine text.now }
+{
+    Passage::of_ascii(text).is_some() || is_other_line(text)
+}
+
+/// Whether bytes are a text that can be collated: UTF-8 whose runs of nonstarters are short. It does not allocate.
+pub fn check(text: &[u8]) -> Result<(), TextFault>
+    ensures { Checks text.now result }
+{
+    if is_line(text) {
+        return Ok(());
+    }
+    look(text)
+}
+
+/// The fault of the first of two texts that has one.
 #[inline(never)]
 fn find_fault(a: &[u8], b: &[u8]) -> Option<CompareFault>
     ensures { TellsFault a.now b.now result }
 {
-    if let Err(fault) = check(a) {
+    if let Err(fault) = look(a) {
         return Some(CompareFault::First(fault));
     }
-    if let Err(fault) = check(b) {
+    if let Err(fault) = look(b) {
         return Some(CompareFault::Second(fault));
     }
     None

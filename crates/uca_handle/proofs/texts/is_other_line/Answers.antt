@@ -1,6 +1,6 @@
 use Rattle.std.proofs.Common.{◌≡◌, true, Result, Ok, Err, is_ok, MatchResult, sym, ◌∙◌}
 use Rattle.uca_model.specs.Lines.{IsTextLine}
-use Rattle.uca_handle.proofs.texts.is_line.Goals as goal
+use Rattle.uca_handle.proofs.texts.is_other_line.Goals as goal
 
 -- what holds of each value
 of_ok : {A E : Type 0} (P : Type 0) (Q : A → Type 0) (R : E → Type 0) (r : Result A E) → MatchResult r (λ a. P × Q a) R → is_ok r ≡ true → P
