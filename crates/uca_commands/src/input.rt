@@ -9,7 +9,7 @@ use crate::lines::{first_line, is_one_line};
 use std::alloc::Global;
 use uca_io::{Stop, read_whole};
 use uca_weights::{MAX_INPUT, Reader};
-use uca_window::{Passage, TextFault};
+use uca_window::{Passage, TextFault, is_text_line};
 
 /// A fault of no line.
 fn refused(cause: InputCause) -> InputFault
@@ -40,7 +40,7 @@ fn read_input<I: Reader>(alloc: Global, input: &mut I) -> Result<Vec<u8>, InputF
 fn is_safe_text(bytes: &[u8]) -> bool
     ensures { IsTrue result → All IsTextLine (lines_of bytes.now) }
 {
-    Passage::of_bytes(bytes).is_ok()
+    is_text_line(bytes)
 }
 
 /// The fault of a line as one of the input.

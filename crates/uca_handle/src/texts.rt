@@ -1,5 +1,3 @@
-ghost use Rattle.std.specs.Prelude.{IsTrue};
-ghost use Rattle.uca_model.specs.Lines.{IsTextLine};
 ghost use Rattle.uca_handle.specs.Calls.{Checks, ComparesBy, TellsFault};
 
 use crate::faults::CompareFault;
@@ -7,7 +5,7 @@ use std::cmp::Ordering;
 use uca_levels::compare;
 use uca_table::Table;
 use uca_weights::Settings;
-use uca_window::{Passage, TextFault};
+use uca_window::{Passage, TextFault, is_text_line};
 
 /// The fault of a text, if it has one. It is not inlined, so that texts without one do not pay for its stack frame.
 #[inline(never)]
@@ -20,27 +18,11 @@ fn look(text: &[u8]) -> Result<(), TextFault>
     }
 }
 
-/// Whether bytes that are not ASCII are a text that can be collated, in a register.
-#[inline(never)]
-fn is_other_line(text: &[u8]) -> bool
-    ensures { IsTrue result → IsTextLine text.now }
-{
-    Passage::of_bytes(text).is_ok()
-}
-
-/// Whether bytes are a text that can be collated. Most texts of databases are ASCII, so that is asked first.
-#[inline(always)]
-fn is_line(text: &[u8]) -> bool
-    ensures { IsTrue result → IsTextLine text.now }
-{
-    Passage::of_ascii(text).is_some() || is_other_line(text)
-}
-
 /// Whether bytes are a text that can be collated: UTF-8 whose runs of nonstarters are short. It does not allocate.
 pub fn check(text: &[u8]) -> Result<(), TextFault>
     ensures { Checks text.now result }
 {
-    if is_line(text) {
+    if is_text_line(text) {
         return Ok(());
     }
     look(text)
@@ -65,7 +47,7 @@ fn find_fault(a: &[u8], b: &[u8]) -> Option<CompareFault>
 pub(crate) fn fault_of(a: &[u8], b: &[u8]) -> Option<CompareFault>
     ensures { TellsFault a.now b.now result }
 {
-    if is_line(a) && is_line(b) {
+    if is_text_line(a) && is_text_line(b) {
         return None;
     }
     find_fault(a, b)

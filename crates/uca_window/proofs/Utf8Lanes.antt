@@ -15,23 +15,9 @@ use Rattle.uca_window.proofs.PassedLanes.{less}
 abbrev pub lane : Bool → ℕ
 lane t = cond t 255 0
 
-module _ (f : ℕ → ℕ) (d : ℕ) where
-  shifted : (a n : ℕ) → map f (range_with_len a n) ≡ map (λ k. f (k - d)) (range_with_len (a + d) n)
-  shifted a zero = refl
-  shifted a (suc n) =
-      let head : a ≡ a + d - d = omega arith in
-      let next : a + 1 + d ≡ a + d + 1 = omega arith in
-      ap₂ (λ x xs. x ∷ xs) (ap f head) (shifted (a + 1) n ∙ ap (λ b. map (λ k. f (k - d)) (range_with_len b n)) next)
-
 -- the bytes of the block at a place
 pub placed : (bytes : List ℕ) (at n : ℕ) → at + n ≤ length bytes → chunk at n bytes ≡ map (λ k. get_or bytes k 0) (range_with_len at n)
 placed bytes at n room = sym (pick_l-range_with_len 0 bytes at n room)
-
--- the same d bytes back
-pub placed_back : (bytes : List ℕ) (d at n : ℕ) → d ≤ at → at + n ≤ length bytes → chunk (at - d) n bytes ≡ map (λ k. get_or bytes (k - d) 0) (range_with_len at n)
-placed_back bytes d at n begun room =
-    let place : at - d + d ≡ at = omega arith in
-    sym (pick_l-range_with_len 0 bytes (at - d) n (omega arith)) ∙ shifted (λ k. get_or bytes k 0) d (at - d) n ∙ ap (λ a. map (λ k. get_or bytes (k - d) 0) (range_with_len a n)) place
 
 -- the lanes of a vector
 pub lanes_of : (v : List ℕ) (n : ℕ) → length v ≡ n → v ≡ map (λ k. get_or v k 0) (range_with_len 0 n)

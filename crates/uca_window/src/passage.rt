@@ -10,7 +10,7 @@ use crate::fault::TextFault;
 use crate::passing::{
     COARSE, MEDIUM, STRIDE, adds_few, adds_few_coarsely, is_passed, none_dense, pass, skip,
 };
-use crate::utf8::{BLOCK_FROM, are_short_utf8, are_utf8};
+use crate::utf8::{are_short_utf8, are_utf8};
 use simdutf8::compat::from_utf8;
 use std::str::from_utf8_unchecked;
 use thiserror::Error;
@@ -76,19 +76,18 @@ impl<'t> Passage<'t> {
         Some(Passage::of_safe(unsafe { from_utf8_unchecked(bytes) }))
     }
 
-    /// The text that bytes are. Most texts of databases are ASCII, and many are empty: these need no look for faults. It does not
-    /// allocate.
+    /// The text that bytes are. It does not allocate.
     #[inline(always)]
     pub fn of_bytes(bytes: &'t [u8]) -> Result<Passage<'t>, TextFault>
         ensures { MatchResult result (λ p. IsTextLine bytes.now × (text_of p ≡ chars bytes.now)) (IsFault bytes.now) }
     {
-        if is_short_line(bytes) || is_ascii(bytes) || is_common_line(bytes) {
+        if is_text_line(bytes) {
             return Ok(Passage::of_checked(bytes));
         }
         Passage::of_each(bytes)
     }
 
-    /// The text that bytes are, or the first fault in them. It is not inlined, so that a text in ASCII does not pay for its stack frame.
+    /// The text that bytes are, or the first fault in them. It is not inlined, so that a text does not pay for its stack frame.
     #[inline(never)]
     fn of_each(bytes: &'t [u8]) -> Result<Passage<'t>, TextFault>
         ensures { MatchResult result (λ p. IsTextLine bytes.now × (text_of p ≡ chars bytes.now)) (IsFault bytes.now) }
@@ -142,15 +141,29 @@ fn is_short_line(bytes: &[u8]) -> bool
     bytes.len() <= SHORT && are_short_utf8(bytes)
 }
 
-/// Whether bytes are the text of a line, by a look at blocks of them. The shortest texts are left to a look at each character. It is
-/// not inlined, so that a text in ASCII does not pay for its stack frame, and returns its answer in a register.
+/// Whether bytes are the text of a line, whatever they spell.
 #[inline(never)]
-fn is_common_line(bytes: &[u8]) -> bool
-    ensures { IsTrue result → IsTextLine bytes.now }
+fn is_any_line(bytes: &[u8]) -> bool
+    ensures { IsTrue result ↔ IsTextLine bytes.now }
 {
-    bytes.len() >= BLOCK_FROM
-        && are_utf8(bytes)
-        && Passage::check(unsafe { from_utf8_unchecked(bytes) }).is_ok()
+    are_utf8(bytes) && Passage::check(unsafe { from_utf8_unchecked(bytes) }).is_ok()
+}
+
+/// The same. It is not inlined, so that a text in ASCII does not pay for its registers.
+#[inline(never)]
+fn is_other_line(bytes: &[u8]) -> bool
+    ensures { IsTrue result ↔ IsTextLine bytes.now }
+{
+    is_short_line(bytes) || is_any_line(bytes)
+}
+
+/// Whether bytes are a text that [`Passage::of_bytes`] takes. Most texts of databases are ASCII, and many are empty, so that is asked
+/// first, without a stack frame. It does not allocate.
+#[inline(always)]
+pub fn is_text_line(bytes: &[u8]) -> bool
+    ensures { IsTrue result ↔ IsTextLine bytes.now }
+{
+    is_ascii(bytes) || is_other_line(bytes)
 }
 
 /// Goes over the characters to the first with which the text is no longer safe. The NFD has its nonstarters in

@@ -15,9 +15,6 @@ const HALF: usize = NARROW / 2;
 /// How many bytes are looked at together.
 const WIDE: usize = 16;
 
-/// From this length in bytes on, a look at blocks is faster than one at each character.
-pub(crate) const BLOCK_FROM: usize = NARROW;
-
 /// Whether the bytes of a block spell characters of one or two bytes: each continues a character just where the byte before it, which is in
 /// the other block, begins one of two bytes, and none before one of them begins a longer character.
 #[inline(always)]
@@ -230,7 +227,6 @@ fn are_ends_short(bytes: &[u8]) -> bool
 }
 
 /// Whether a text has only characters of up to two bytes and is UTF-8. Others are refused, and so are the shortest and the longest.
-/// There is no branch for ASCII: whether a word has an accent cannot be foreseen.
 #[inline(always)]
 pub(crate) fn are_short_utf8(bytes: &[u8]) -> bool
     ensures { IsTrue result → IsUtf8 bytes.now }
@@ -249,7 +245,7 @@ pub(crate) fn are_short_utf8(bytes: &[u8]) -> bool
 fn are_common_utf8(bytes: &[u8]) -> bool
     ensures { IsTrue result → IsUtf8 bytes.now }
 {
-    bytes.len() >= BLOCK_FROM && are_fine_utf8(bytes)
+    bytes.len() >= NARROW && are_fine_utf8(bytes)
 }
 
 /// Whether bytes are UTF-8, whatever characters they spell. It is not inlined, so that other texts do not pay for its stack frame.

@@ -1,7 +1,7 @@
 use std::alloc::{AllocError, Global};
 use std::process::Abort;
 use std::test::Fail;
-use uca_window::{LongRun, Passage, TextFault};
+use uca_window::{LongRun, Passage, TextFault, is_text_line};
 
 /// Pieces of a text, each with how often it occurs there.
 type Pieces = &'static [(&'static str, usize)];
@@ -111,10 +111,9 @@ fn a_character_of_two_bytes_is_read_at_each_place(rt: HostRuntime) {
         for at in 0..n {
             bytes[at] = 0xC3;
             bytes[at + 1] = 0xA9;
-            assert!(rt;
-                Passage::of_bytes(&bytes[..n + 1]).is_ok(),
-                "at {at} of {n}"
-            );
+            let text = &bytes[..n + 1];
+            assert!(rt; is_text_line(text), "at {at} of {n}");
+            assert!(rt; Passage::of_bytes(text).is_ok(), "at {at} of {n}");
             bytes[at] = b'a';
             bytes[at + 1] = b'a';
         }
