@@ -366,6 +366,11 @@ fn prepare(table: &mut Table, alloc: Global) -> bool {
     table.prepare(alloc).is_ok() || table.prepare(alloc).is_ok()
 }
 
+/// The primary weight of the element that stands for a character at the first level.
+fn lead_weight(table: &Table, c: char) -> Option<u16> {
+    table.lead(c).map(|element| element.l1)
+}
+
 const CELL_ENTRIES: [Entry; 2] = [
     (&['\u{1F600}'], false, [0x1001, 0x20, 2]),
     (&['\u{1F601}', '\u{1F602}'], false, [0x1001, 0x20, 2]),
@@ -381,6 +386,8 @@ fn characters_beyond_the_first_plane_have_cells(rt: HostRuntime) {
     assert_primary(&rt, table.always_alone('\u{1F601}'), None);
     assert_primary(&rt, table.always_alone('\u{20000}'), None);
     assert_primary(&rt, table.always_alone('\u{1D165}'), None);
+    assert!(rt; lead_weight(&table, '\u{1F600}') == Some(0x1001));
+    assert!(rt; lead_weight(&table, '\u{1F601}').is_none());
 }
 
 /// How much the text before a character bears, the character, and how much it bears itself, if it may follow.

@@ -1,17 +1,20 @@
 -- The primary weights of a text, character after character.
-use Rattle.std.proofs.Common.{◌≡◌, ℕ, Bool, not, ◌==◌, List, [], ◌∷◌, ◌++◌, map, filter, slice_index, ne_eqb, refl, sym, ap, ap₂, ◌∙◌, arith}
+use Rattle.std.proofs.Common.{◌≡◌, ℕ, Bool, true, false, cond, not, ◌==◌, List, [], ◌∷◌, ◌++◌, drop, map, filter, slice_index, ne_eqb, refl, sym, ap, ap₂, ◌∙◌, arith}
 use Rattle.std.proofs.lemmas.Grind.{common_steps}
-use Rattle.std.proofs.lemmas.Bool.{cond-true, cond-false}
+use Rattle.std.specs.List.{list_all}
+use Rattle.std.proofs.lemmas.Bool.{and_parts, cond-true, cond-false}
 use Rattle.std.proofs.lemmas.List.{map-append}
 use Rattle.std.proofs.lemmas.List.Elements.{filter-append}
 use Rattle.unicode_normalization.specs.Forms.{nfd}
 use Rattle.uca_weights.specs.declared.element.Element.{Element}
 use Rattle.uca_weights.specs.declared.settings.Variable.{Variable}
 use Rattle.uca_weights.specs.declared.settings.Variable.TheVariants.{NonIgnorable, Blanked, Shifted}
+use Rattle.uca_weights.specs.Element.{is_variable}
 use Rattle.uca_weights.specs.VariableWeighting.{is_after_variable, weighted, weighted_after, weights}
 use Rattle.uca_model.specs.CollationElements.{elements}
 use Rattle.uca_model.specs.LevelWeights.{level_list, level_weights}
 use Rattle.uca_model.specs.Table.{ElementTable}
+use Rattle.uca_table.specs.Lead.{IsLead}
 use Rattle.uca_levels.specs.Primaries.{primary_of}
 use Rattle.uca_levels.specs.Streams.{weight_before}
 
@@ -50,3 +53,29 @@ module _ (t : ElementTable) (v : Variable) (c w : ℕ) (rest : List ℕ) (es : L
 
   pub no-weight : w ≡ 0 → level_list t v (c ∷ rest) 1 ≡ level_list t v rest 1
   no-weight none = step ∙ ap (λ l. l ++ level_list t v rest 1) (cond-false (not (w == 0)) _ _ (ap (λ n. not (n == 0)) none))
+
+-- ---- elements of which only the first may have a primary weight
+
+zero-primary : (v : Variable) (d : Element) → (d.l1 == 0) ≡ true → (primary_of v d == 0) ≡ true
+zero-primary NonIgnorable d h = h
+zero-primary Blanked d h = variable (is_variable d) h where
+  variable : (b : Bool) → (d.l1 == 0) ≡ true → (cond b 0 d.l1 == 0) ≡ true
+  variable true h = refl
+  variable false h = h
+zero-primary Shifted d h = variable (is_variable d) h where
+  variable : (b : Bool) → (d.l1 == 0) ≡ true → (cond b 0 d.l1 == 0) ≡ true
+  variable true h = refl
+  variable false h = h
+
+none-left : (v : Variable) (ds : List Element) → list_all (λ x. x.l1 == 0) ds ≡ true → primaries v ds ≡ []
+none-left v [] h = refl
+none-left v (d ∷ ds) h =
+    let parts = and_parts (d.l1 == 0) (list_all (λ x. x.l1 == 0) ds) h in
+    cond-false (not (primary_of v d == 0)) _ _ (ap not (zero-primary v d parts.0)) ∙ none-left v ds parts.1
+
+pub lead-weight : (v : Variable) (e : Element) (es : List Element) {w : ℕ} → IsLead e es → w ≡ primary_of v e → level_weights 1 (weighted v es) ≡ weight_before w []
+lead-weight v e es lead is =
+    primaries-are v es
+    ∙ ap (primaries v) lead.first
+    ∙ ap (λ l. cond (not (primary_of v e == 0)) (primary_of v e ∷ l) l) (none-left v (drop 1 es) lead.none)
+    ∙ ap (λ w. weight_before w []) (sym is)

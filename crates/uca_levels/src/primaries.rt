@@ -11,8 +11,9 @@ ghost use Rattle.uca_levels.specs.Decides.{IsOfLevel};
 ghost use Rattle.uca_levels.specs.Primaries.{primary_of};
 ghost use Rattle.uca_levels.specs.Reads.{InStep};
 ghost use Rattle.uca_levels.specs.Streams.{weight_before};
+ghost use Rattle.uca_levels.specs.WithoutFront.{AreApart};
 
-use crate::cut::common_front;
+use crate::cut::{apart_after, common_front};
 use crate::decided::{decided, widened};
 use std::cmp::Ordering;
 use uca_table::Table;
@@ -84,7 +85,7 @@ fn next_primary<'t>(t: &Table, v: Variable, text: &'t str) -> Option<(Option<u16
 }
 
 // The primary weight of the first character of a text, or that the text is empty, and what is left of the text. It joins nothing before
-// it, and the text after it does not change its elements. `None`: that is not known, or it has no primary weight or several.
+// it, and no text after it changes its elements. `None`: that is not known, or it has no primary weight or several.
 #[inline(always)]
 fn own_primary<'t>(t: &Table, v: Variable, text: &'t str) -> Option<(Option<u16>, &'t str)>
     ensures joins { OnSome result (JoinsNothing t.now (chars text.now)) }
@@ -97,15 +98,11 @@ fn own_primary<'t>(t: &Table, v: Variable, text: &'t str) -> Option<(Option<u16>
     let Some(c) = characters.next() else {
         return Some((None, text));
     };
-    if !t.joins_nothing(c) {
-        return None;
-    }
-    let rest = characters.as_str();
-    let weight = only_primary(v, t.alone_before(c, rest)?)?;
+    let weight = primary_weight(v, t.lead(c)?);
     if weight == 0 {
         return None;
     }
-    Some((Some(weight), rest))
+    Some((Some(weight), characters.as_str()))
 }
 
 /// The order of two texts at the first level by the first characters after bytes that they have in common, where each has a primary
@@ -135,9 +132,20 @@ pub(crate) fn order_at_once(
     }
 }
 
+// What is left of two texts from the last place on at which each may be cut for its elements, of those in bytes that they have in common.
+#[inline(never)]
+fn rest_apart<'t>(t: &Table, left: Rest<'t>, common: usize) -> Rest<'t>
+    requires { take common left.a.now ≡ take common left.b.now }
+    ensures { AreApart t.now (chars left.entry.a.now) (chars left.entry.b.now) (chars result.a.now) (chars result.b.now) }
+{
+    let (a, b) = apart_after(t, left.a, left.b, common);
+    Rest { a, b }
+}
+
 /// The order of two texts at the first level by turns: the bytes that they have in common are passed over, the characters after these are
 /// compared, and then what comes after them in turn, as far as each of these characters has a primary weight by itself. What is left has
-/// the order of the texts.
+/// the order of the texts. It is not inlined, so that it has all registers.
+#[inline(never)]
 pub(crate) fn order_by_turns<'t>(
     t: &Table,
     v: Variable,
@@ -159,10 +167,10 @@ pub(crate) fn order_by_turns<'t>(
     let mut same = common;
     'turns: loop {
         let Some((x, after_a)) = own_primary(t, v, left.a.split_at(same).1) else {
-            return Err(left);
+            return Err(rest_apart(t, left, same));
         };
         let Some((y, after_b)) = own_primary(t, v, left.b.split_at(same).1) else {
-            return Err(left);
+            return Err(rest_apart(t, left, same));
         };
         if let Some(order) = decided(widened(x), widened(y)) {
             return Ok(order);

@@ -48,6 +48,7 @@ IsCell-grown t es more c cell grows h =
           ∙ ap (take cell.count) (drop-append-le cell.start es (drop (length es) more) (omega (arith, h.within)))
           ∙ take-append-le cell.count (drop cell.start es) (drop (length es) more) (few h.within) ∙ h.elements some;
       one = h.one;
+      lead = h.lead;
     } where
       few : cell.start + cell.count ≤ length es → cell.count ≤ length (drop cell.start es)
       few within = let n : length (drop cell.start es) ≡ length es - cell.start = length-drop cell.start es in omega arith

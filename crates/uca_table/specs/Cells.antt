@@ -6,6 +6,7 @@ use Rattle.uca_model.specs.Table.{ElementTable}
 use Rattle.uca_model.specs.CollationElements.{elements}
 use Rattle.uca_model.specs.SafeCut.{is_cut}
 use Rattle.uca_model.specs.StandAlone.{joining, bearing}
+use Rattle.uca_table.specs.Lead.{IsLead, first_of}
 use Rattle.uca_table.specs.Marks.{HoldsMarks, place}
 use Rattle.uca_table.specs.declared.characters.Cell.{Cell}
 use Rattle.uca_table.specs.declared.cells.Cells.{Cells}
@@ -17,6 +18,7 @@ pub record IsCell (t : ElementTable) (es : List Element) (c : ℕ) (cell : Cell)
   pub cut : cell.cut ≡ true → is_cut t c ≡ true
   pub within : cell.start + cell.count ≤ length es
   pub one : cell.count ≡ 1 → cell.element ≡ elements t (nfd (c ∷ []))
+  pub lead : 0 < (first_of cell.element).l1 → IsLead (first_of cell.element) (elements t (nfd (c ∷ [])))
   pub elements : 0 < cell.count → take cell.count (drop cell.start es) ≡ elements t (nfd (c ∷ []))
 
 -- a cell that says nothing

@@ -7,6 +7,7 @@ pub mod Bounds
 pub mod Running
 pub mod Cells
 pub mod Characters
+pub mod Lead
 pub mod Marks
 pub mod Fronts
 pub mod Walk

@@ -7,6 +7,7 @@ ghost use Rattle.uca_model.specs.CollationElements.{elements};
 ghost use Rattle.uca_model.specs.SafeCut.{begins_apart};
 ghost use Rattle.uca_model.specs.StandAlone.{leads, joining_of, bearing_of, ends_all_matches, ends_in_starter};
 ghost use Rattle.uca_table.specs.Cells.{IsCell, HoldsCells, Grows, unknown};
+ghost use Rattle.uca_table.specs.Lead.{IsLead, first_of};
 ghost use Rattle.uca_table.specs.Characters.{table_of_characters};
 ghost use Rattle.uca_table.specs.Marks.{HoldsMarks, marks};
 
@@ -44,7 +45,7 @@ const UNKNOWN: Cell = Cell {
     cut: false,
 };
 
-// What a cell has in place of its element where it does not have just one.
+// What a cell has in place of its first element where others may have a primary weight, or none is known.
 const NO_ELEMENT: Element = Element {
     starred: false,
     l1: 0,
@@ -273,15 +274,18 @@ impl Cells {
         self.elements.extend_from_slice(&buffers.elements)
     }
 
-    // The element of a cell that has one, and otherwise any.
-    fn first_of(&self, start: u32, count: u8) -> [Element; 1]
+    // The first element of a cell that has one, or two of which the second has no primary weight, and otherwise none.
+    fn lead_of(&self, start: u32, count: u8) -> [Element; 1]
         requires { start + count ≤ length self.now.elements.items }
         ensures one { count ≡ 1 → result ≡ take count (drop start self.now.elements.items) }
+        ensures some { 0 < (first_of result).l1 → 0 < count }
+        ensures lead { 0 < (first_of result).l1 → IsLead (first_of result) (take count (drop start self.now.elements.items)) }
     {
-        if count == 1 {
-            [self.elements[start as usize]]
-        } else {
-            [NO_ELEMENT]
+        let start = start as usize;
+        match &self.elements[start..start + count as usize] {
+            [e] => [*e],
+            [e, mark] if mark.l1 == 0 => [*e],
+            _ => [NO_ELEMENT],
         }
     }
 
@@ -306,7 +310,7 @@ impl Cells {
         let before = self.elements.len();
         self.push_elements(alloc, t, c, points, buffers)?;
         let (start, count) = extent(before, self.elements.len());
-        let element = self.first_of(start, count);
+        let element = self.lead_of(start, count);
         Ok(Cell {
             element,
             start,

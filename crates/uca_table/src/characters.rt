@@ -13,7 +13,8 @@ use uca_weights::Element;
 /// looked up.
 #[derive(Clone, Copy)]
 pub(crate) struct Cell {
-    // Its element, where it has just one: most characters of a text are read without a look at the elements of all cells.
+    // Its first element, where no other has a primary weight: most characters of a text are read without a look at the elements of all
+    // cells. Otherwise an element without weights.
     pub(crate) element: [Element; 1],
     // Where its elements begin among those of all cells.
     pub(crate) start: u32,
@@ -51,6 +52,7 @@ pub struct Characters<'t> {
 
 impl<'t> Characters<'t> {
     ghost use Rattle.uca_table.specs.Characters.{IsCharacter, table_of_characters};
+    ghost use Rattle.uca_table.specs.Lead.{IsLead};
 
     /// What these cells say. They are at the places of the marks.
     #[inline(always)]
@@ -190,6 +192,22 @@ impl<'t> Characters<'t> {
             return None;
         }
         self.elements_of(cell)
+    }
+
+    /// The first element of a character, where it has a primary weight and no other has. The character joins nothing before it, and
+    /// its elements stand alone before every text. `None`: that is not known. Most comparisons end here, so it asks all at once.
+    #[inline(always)]
+    pub(crate) fn lead(&self, c: char) -> Option<&'t Element>
+        ensures joins { IfSome result (λ _. joining (table_of_characters self.now) c ≡ 0) }
+        ensures lead { IfSome result (λ e. IsLead e.now (elements (table_of_characters self.now) (nfd (c ∷ [])))) }
+        ensures alone { IfSome result (λ _. (after : List ℕ) → elements (table_of_characters self.now) (nfd (c ∷ [])) ++ elements (table_of_characters self.now) (nfd after) ≡ elements (table_of_characters self.now) (nfd (c ∷ after))) }
+    {
+        let cell = self.cell(c);
+        let [lead] = &cell.element;
+        if (cell.joining > 0) | (cell.bearing < 2) | (lead.l1 == 0) {
+            return None;
+        }
+        Some(lead)
     }
 
     /// The elements of a character, where they stand alone before every text.

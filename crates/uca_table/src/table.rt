@@ -52,6 +52,7 @@ impl Table {
     ghost use Rattle.uca_model.specs.Table.{ElementTable, IsElement, IsTable, elements_at, key_cmp, longest, with_ideographs};
     ghost use Rattle.uca_model.specs.UnifiedIdeographs.{AreIdeographs};
     ghost use Rattle.uca_table.specs.Characters.{IsCharacter, table_of_characters};
+    ghost use Rattle.uca_table.specs.Lead.{IsLead};
     ghost use Rattle.uca_table.specs.Marks.{marks};
     ghost use Rattle.uca_table.specs.Builder.{ideographs_fault, reported_range_fault, with_more_ideographs};
     ghost use Rattle.uca_model.specs.ImplicitWeights.{implicit};
@@ -291,6 +292,17 @@ impl Table {
         ensures { IfSome result (λ es. es.now ++ elements self.now (nfd (chars after.now)) ≡ elements self.now (nfd (c ∷ chars after.now))) }
     {
         self.characters()?.alone_before(c, after)
+    }
+
+    /// The first collation element of a character, where it has a primary weight and no other has. Neither the text before the
+    /// character nor that after it changes its elements (UTS #10, section 7.2). It does not allocate. `None`: that is not known.
+    #[inline(always)]
+    pub fn lead(&self, c: char) -> Option<&Element>
+        ensures joins { IfSome result (λ _. joining self.now c ≡ 0) }
+        ensures lead { IfSome result (λ e. IsLead e.now (elements self.now (nfd (c ∷ [])))) }
+        ensures alone { IfSome result (λ _. (after : List ℕ) → elements self.now (nfd (c ∷ [])) ++ elements self.now (nfd after) ≡ elements self.now (nfd (c ∷ after))) }
+    {
+        self.characters()?.lead(c)
     }
 
     /// The collation elements of a character, where no text after it changes them (UTS #10, section 7.2). It does not

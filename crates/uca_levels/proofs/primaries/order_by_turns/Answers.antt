@@ -40,3 +40,15 @@ turns-preserved c =
       in_b = c.common_front-same.ensures.in_b;
       common = c.common_front-same.ensures.same;
     }
+
+pub returns-in_default-clause-order : goal.returns-in_default-clause-order
+returns-in_default-clause-order c = in-step-apart c.args.t.now c.args.v _ _ _ _ _ _ c.rest_apart.ensures c.turns.invariant.lists
+
+pub returns-in_default-clause-safe : goal.returns-in_default-clause-safe
+returns-in_default-clause-safe c = safe-apart c.args.t.now _ _ _ _ c.rest_apart.ensures c.turns.invariant.safe_a c.turns.invariant.safe_b
+
+pub returns-in_default-own_primary-clause-order : goal.returns-in_default-own_primary-clause-order
+returns-in_default-own_primary-clause-order c = in-step-apart c.args.t.now c.args.v _ _ _ _ _ _ c.rest_apart-in_default-own_primary.ensures c.turns.invariant.lists
+
+pub returns-in_default-own_primary-clause-safe : goal.returns-in_default-own_primary-clause-safe
+returns-in_default-own_primary-clause-safe c = safe-apart c.args.t.now _ _ _ _ c.rest_apart-in_default-own_primary.ensures c.turns.invariant.safe_a c.turns.invariant.safe_b
