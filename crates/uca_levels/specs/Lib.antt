@@ -9,3 +9,4 @@ pub mod CellWeights
 pub mod JoinedWeights
 pub mod FirstWeight
 pub mod Primaries
+pub mod Turns

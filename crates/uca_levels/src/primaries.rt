@@ -1,16 +1,18 @@
 //! Primary weights of characters that stand alone and have at most one: by these most comparisons are decided.
-ghost use Rattle.std.specs.Prelude.{◌≡◌, [], ◌<◌, ◌≤◌, chars, length, take, IfErr, IfOk, IfSome, OnSome, MatchResult};
+ghost use Rattle.std.specs.Prelude.{◌≡◌, ℕ, List, [], ◌∷◌, ◌<◌, ◌≤◌, chars, length, take, IfErr, IfOk, IfSome, OnSome, MatchResult};
 ghost use Rattle.std.specs.Str.{IsCharBoundary};
 ghost use Rattle.uca_weights.specs.VariableWeighting.{weighted};
 ghost use Rattle.uca_model.specs.DecidingLevel.{OrdersLevel};
 ghost use Rattle.uca_model.specs.LevelWeights.{level_list, level_weights};
 ghost use Rattle.uca_model.specs.SafeText.{IsSafe};
+ghost use Rattle.uca_model.specs.StandAlone.{joining};
 ghost use Rattle.uca_match.specs.JoinsNothing.{JoinsNothing};
 ghost use Rattle.uca_match.specs.Yields.{YieldsFirst};
 ghost use Rattle.uca_levels.specs.Decides.{IsOfLevel};
 ghost use Rattle.uca_levels.specs.Primaries.{primary_of};
 ghost use Rattle.uca_levels.specs.Reads.{InStep};
 ghost use Rattle.uca_levels.specs.Streams.{weight_before};
+ghost use Rattle.uca_levels.specs.Turns.{LeavesSafe, TellsOrder};
 ghost use Rattle.uca_levels.specs.WithoutFront.{AreApart};
 
 use crate::cut::{apart_after, common_front};
@@ -84,8 +86,48 @@ fn next_primary<'t>(t: &Table, v: Variable, text: &'t str) -> Option<(Option<u16
     }
 }
 
+// The primary weight of a character that joins nothing before it, and whose elements no text after it changes. `None`: that is not known,
+// or it has no primary weight or several.
+#[inline(always)]
+fn lead_primary(t: &Table, v: Variable, c: char) -> Option<u16>
+    ensures joins { IfSome result (λ _. joining t.now c ≡ 0) }
+    ensures some { IfSome result (λ w. 0 < w) }
+    ensures own { IfSome result (λ w. (rest : List ℕ) → level_list t.now v (c ∷ rest) 1 ≡ w ∷ level_list t.now v rest 1) }
+{
+    let weight = primary_weight(v, t.lead(c)?);
+    if weight == 0 { None } else { Some(weight) }
+}
+
+// The same of a character before other text, which may change its elements. It is not inlined, so that other characters do not pay for
+// its registers.
+#[inline(never)]
+fn single_primary(t: &Table, v: Variable, c: char, rest: &str) -> Option<u16>
+    ensures joins { IfSome result (λ _. joining t.now c ≡ 0) }
+    ensures some { IfSome result (λ w. 0 < w) }
+    ensures own { IfSome result (λ w. level_list t.now v (c ∷ chars rest.now) 1 ≡ w ∷ level_list t.now v (chars rest.now) 1) }
+{
+    if !t.joins_nothing(c) {
+        return None;
+    }
+    let weight = only_primary(v, t.alone_before(c, rest)?)?;
+    if weight == 0 { None } else { Some(weight) }
+}
+
+// The same of any character.
+#[inline(always)]
+fn primary_before(t: &Table, v: Variable, c: char, rest: &str) -> Option<u16>
+    ensures joins { IfSome result (λ _. joining t.now c ≡ 0) }
+    ensures some { IfSome result (λ w. 0 < w) }
+    ensures own { IfSome result (λ w. level_list t.now v (c ∷ chars rest.now) 1 ≡ w ∷ level_list t.now v (chars rest.now) 1) }
+{
+    match lead_primary(t, v, c) {
+        Some(weight) => Some(weight),
+        None => single_primary(t, v, c, rest),
+    }
+}
+
 // The primary weight of the first character of a text, or that the text is empty, and what is left of the text. It joins nothing before
-// it, and no text after it changes its elements. `None`: that is not known, or it has no primary weight or several.
+// it, and the text after it does not change its elements. `None`: that is not known, or it has no primary weight or several.
 #[inline(always)]
 fn own_primary<'t>(t: &Table, v: Variable, text: &'t str) -> Option<(Option<u16>, &'t str)>
     ensures joins { OnSome result (JoinsNothing t.now (chars text.now)) }
@@ -98,11 +140,9 @@ fn own_primary<'t>(t: &Table, v: Variable, text: &'t str) -> Option<(Option<u16>
     let Some(c) = characters.next() else {
         return Some((None, text));
     };
-    let weight = primary_weight(v, t.lead(c)?);
-    if weight == 0 {
-        return None;
-    }
-    Some((Some(weight), characters.as_str()))
+    let rest = characters.as_str();
+    let weight = primary_before(t, v, c, rest)?;
+    Some((Some(weight), rest))
 }
 
 /// The order of two texts at the first level by the first characters after bytes that they have in common, where each has a primary
@@ -132,9 +172,9 @@ pub(crate) fn order_at_once(
     }
 }
 
-// What is left of two texts from the last place on at which each may be cut for its elements, of those in bytes that they have in common.
+/// What is left of two texts from the last place on at which each may be cut for its elements, of those in bytes that they have in common.
 #[inline(never)]
-fn rest_apart<'t>(t: &Table, left: Rest<'t>, common: usize) -> Rest<'t>
+pub(crate) fn rest_apart<'t>(t: &Table, left: Rest<'t>, common: usize) -> Rest<'t>
     requires { take common left.a.now ≡ take common left.b.now }
     ensures { AreApart t.now (chars left.entry.a.now) (chars left.entry.b.now) (chars result.a.now) (chars result.b.now) }
 {
@@ -144,8 +184,7 @@ fn rest_apart<'t>(t: &Table, left: Rest<'t>, common: usize) -> Rest<'t>
 
 /// The order of two texts at the first level by turns: the bytes that they have in common are passed over, the characters after these are
 /// compared, and then what comes after them in turn, as far as each of these characters has a primary weight by itself. What is left has
-/// the order of the texts. It is not inlined, so that it has all registers.
-#[inline(never)]
+/// the order of the texts.
 pub(crate) fn order_by_turns<'t>(
     t: &Table,
     v: Variable,
@@ -158,10 +197,8 @@ pub(crate) fn order_by_turns<'t>(
     requires in_a { IsCharBoundary a.now common }
     requires in_b { IsCharBoundary b.now common }
     requires common { take common a.now ≡ take common b.now }
-    ensures order { MatchResult result
-        (OrdersLevel 1 (level_list t.now v (chars a.now) 1) (level_list t.now v (chars b.now) 1))
-        (λ left. InStep (level_list t.now v (chars a.now) 1) (level_list t.now v (chars b.now) 1) (level_list t.now v (chars left.a.now) 1) (level_list t.now v (chars left.b.now) 1)) }
-    ensures safe { IfErr result (λ left. IsSafe (chars left.a.now) × IsSafe (chars left.b.now)) }
+    ensures order { TellsOrder t.now v (chars a.now) (chars b.now) result }
+    ensures safe { LeavesSafe result }
 {
     let mut left = Rest { a, b };
     let mut same = common;

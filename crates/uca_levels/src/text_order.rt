@@ -7,14 +7,16 @@ ghost use Rattle.uca_model.specs.SortKey.{key_order, sort_key};
 ghost use Rattle.uca_window.specs.Passage.{text_of};
 ghost use Rattle.uca_levels.specs.CellWeights.{cell_weights_left};
 ghost use Rattle.uca_levels.specs.Decides.{IsOfLevel};
-ghost use Rattle.uca_levels.specs.Reads.{InStep};
 ghost use Rattle.uca_levels.specs.Streams.{given_before};
+ghost use Rattle.uca_levels.specs.Turns.{LeavesSafe, MayLeave, MayTell, TellsOrder};
 
 use crate::cell_weights::CellWeights;
 use crate::comparison::compare_sources;
-use crate::cut::{apart_after, begin_apart, common_front, without_front};
+use crate::cut::{begin_apart, common_front, without_front};
 use crate::joined_weights::JoinedWeights;
-use crate::primaries::{Rest, Sight, order_at_once, order_by_turns, order_of_primaries};
+use crate::primaries::{
+    Rest, Sight, order_at_once, order_by_turns, order_of_primaries, rest_apart,
+};
 use crate::stream::order_of;
 use std::cmp::Ordering;
 use uca_table::Table;
@@ -70,58 +72,50 @@ fn order_of_weights(t: &Table, v: Variable, level: u8, a: &str, b: &str) -> Opti
     }
 }
 
-// The order of two texts at the first level as far as the characters after bytes in common tell it. If that is not so, what is left has
-// the order of the texts: after characters that are alike, or else from the last place in those bytes at which both may be cut.
+// What turns told of two texts at the first level. Where nothing was told, it begins at the last place in the bytes that they have in
+// common at which both may be cut for their elements.
 #[inline(always)]
-fn order_after_sight<'t>(
+fn order_or_rest<'t>(
     t: &Table,
     v: Variable,
     a: &'t str,
     b: &'t str,
     common: usize,
-    sight: Sight,
+    turns: Option<Result<Ordering, Rest<'t>>>,
 ) -> Result<Ordering, Rest<'t>>
     requires safe_a { IsSafe (chars a.now) }
     requires safe_b { IsSafe (chars b.now) }
-    requires in_a { IsCharBoundary a.now common }
-    requires in_b { IsCharBoundary b.now common }
     requires common { take common a.now ≡ take common b.now }
-    ensures order { MatchResult result
-        (OrdersLevel 1 (level_list t.now v (chars a.now) 1) (level_list t.now v (chars b.now) 1))
-        (λ left. InStep (level_list t.now v (chars a.now) 1) (level_list t.now v (chars b.now) 1) (level_list t.now v (chars left.a.now) 1) (level_list t.now v (chars left.b.now) 1)) }
-    ensures safe { IfErr result (λ left. IsSafe (chars left.a.now) × IsSafe (chars left.b.now)) }
+    requires turns { MayTell t.now v (chars a.now) (chars b.now) turns }
+    requires left { MayLeave turns }
+    ensures order { TellsOrder t.now v (chars a.now) (chars b.now) result }
+    ensures safe { LeavesSafe result }
 {
-    match sight {
-        Sight::Alike => order_by_turns(t, v, a, b, common),
-        Sight::Unknown => {
-            let (left_a, left_b) = apart_after(t, a, b, common);
-            Err(Rest {
-                a: left_a,
-                b: left_b,
-            })
-        }
+    match turns {
+        Some(told) => told,
+        None => Err(rest_apart(t, Rest { a, b }, common)),
     }
 }
 
-// The order of two texts at the first level, after a look at the first characters after the bytes that they have in common. `None`: many
-// characters join each other. The letters of most scripts have one primary weight, and most texts differ in one soon.
+// The order of two texts at the first level, of which turns may have told something. `None`: many characters join each other. The letters
+// of most scripts have one primary weight, and most texts differ in one soon.
 #[inline(always)]
-fn order_at_first(
+fn order_at_first<'t>(
     t: &Table,
     v: Variable,
-    a: &str,
-    b: &str,
+    a: &'t str,
+    b: &'t str,
     common: usize,
-    sight: Sight,
+    turns: Option<Result<Ordering, Rest<'t>>>,
 ) -> Option<Ordering>
     requires safe_a { IsSafe (chars a.now) }
     requires safe_b { IsSafe (chars b.now) }
-    requires in_a { IsCharBoundary a.now common }
-    requires in_b { IsCharBoundary b.now common }
     requires common { take common a.now ≡ take common b.now }
+    requires turns { MayTell t.now v (chars a.now) (chars b.now) turns }
+    requires left { MayLeave turns }
     ensures { IfSome result (OrdersLevel 1 (level_list t.now v (chars a.now) 1) (level_list t.now v (chars b.now) 1)) }
 {
-    let left = match order_after_sight(t, v, a, b, common, sight) {
+    let left = match order_or_rest(t, v, a, b, common, turns) {
         Ok(order) => return Some(order),
         Err(left) => left,
     };
@@ -134,23 +128,23 @@ fn order_at_first(
 // The order of two texts at the first four levels, as many of them as there are. Both begin with bytes in common: the first level
 // begins at the last place in them at which both texts may be cut for their elements, and later levels at the last one at which they
 // may be cut for all weights. `None`: the fifth level is asked for, or many characters join each other.
-fn order_by_weights(
+fn order_by_weights<'t>(
     t: &Table,
     s: Settings,
-    a: &str,
-    b: &str,
+    a: &'t str,
+    b: &'t str,
     common: usize,
-    sight: Sight,
+    turns: Option<Result<Ordering, Rest<'t>>>,
 ) -> Option<Ordering>
     requires safe_a { IsSafe (chars a.now) }
     requires safe_b { IsSafe (chars b.now) }
-    requires in_a { IsCharBoundary a.now common }
-    requires in_b { IsCharBoundary b.now common }
     requires common { take common a.now ≡ take common b.now }
+    requires turns { MayTell t.now s.weighting (chars a.now) (chars b.now) turns }
+    requires left { MayLeave turns }
     ensures { IfSome result (λ order. order ≡ key_order (sort_key t.now s (chars a.now)) (sort_key t.now s (chars b.now))) }
 {
     let _longest = t.longest();
-    let order = order_at_first(t, s.weighting, a, b, common, sight)?;
+    let order = order_at_first(t, s.weighting, a, b, common, turns)?;
     if order.is_ne() {
         return Some(order);
     }
@@ -209,7 +203,31 @@ fn order_at_sight(
 
 // The order of two texts. It is not inlined, so that a comparison that ends at the first characters does not pay for its stack frame.
 #[inline(never)]
-fn order_after(t: &Table, s: Settings, a: &str, b: &str, common: usize, sight: Sight) -> Ordering
+fn order_after<'t>(
+    t: &Table,
+    s: Settings,
+    a: &'t str,
+    b: &'t str,
+    common: usize,
+    turns: Option<Result<Ordering, Rest<'t>>>,
+) -> Ordering
+    requires safe_a { IsSafe (chars a.now) }
+    requires safe_b { IsSafe (chars b.now) }
+    requires common { take common a.now ≡ take common b.now }
+    requires turns { MayTell t.now s.weighting (chars a.now) (chars b.now) turns }
+    requires left { MayLeave turns }
+    ensures { result ≡ key_order (sort_key t.now s (chars a.now)) (sort_key t.now s (chars b.now)) }
+{
+    match order_by_weights(t, s, a, b, common, turns) {
+        Some(order) => order,
+        None => order_by_sources(t, s, a, b, common),
+    }
+}
+
+// The order of two texts whose first characters after the bytes that they have in common have the same primary weight. By turns most of
+// these differ soon. It is not inlined, for the same reason.
+#[inline(never)]
+fn order_of_alike(t: &Table, s: Settings, a: &str, b: &str, common: usize) -> Ordering
     requires safe_a { IsSafe (chars a.now) }
     requires safe_b { IsSafe (chars b.now) }
     requires in_a { IsCharBoundary a.now common }
@@ -217,10 +235,13 @@ fn order_after(t: &Table, s: Settings, a: &str, b: &str, common: usize, sight: S
     requires common { take common a.now ≡ take common b.now }
     ensures { result ≡ key_order (sort_key t.now s (chars a.now)) (sort_key t.now s (chars b.now)) }
 {
-    match order_by_weights(t, s, a, b, common, sight) {
-        Some(order) => order,
-        None => order_by_sources(t, s, a, b, common),
+    let turns = order_by_turns(t, s.weighting, a, b, common);
+    if let Ok(order) = turns {
+        if order.is_ne() {
+            return order;
+        }
     }
+    order_after(t, s, a, b, common, Some(turns))
 }
 
 // The order of two texts after bytes that they have in common.
@@ -235,7 +256,8 @@ fn order_from(t: &Table, s: Settings, a: &str, b: &str, common: usize) -> Orderi
 {
     match order_at_sight(t, s, a, b, common) {
         Ok(order) => order,
-        Err(sight) => order_after(t, s, a, b, common, sight),
+        Err(Sight::Alike) => order_of_alike(t, s, a, b, common),
+        Err(Sight::Unknown) => order_after(t, s, a, b, common, None),
     }
 }
 

@@ -6,7 +6,6 @@ use Rattle.uca_model.specs.LevelWeights.{level_list, level_weights}
 use Rattle.uca_model.specs.SafeText.{IsSafe}
 use Rattle.uca_model.proofs.StandAloneLemmas.{elements_none}
 use Rattle.uca_match.proofs.TextLemmas.{IsSafe-rest}
-use Rattle.uca_levels.proofs.PrimarySteps.{first-weight, lead-weight}
 use Rattle.uca_levels.proofs.primaries.own_primary.Goals as goal
 
 pub returns-in_default-clause-joins : goal.returns-in_default-clause-joins
@@ -21,22 +20,21 @@ returns-in_default-clause-first c =
 
 pub returns-clause-joins : goal.returns-clause-joins
 returns-clause-joins c =
-    let step : c.args.text.now ≡ encode_utf8 c.in-Some.c ++ c.as_str.result.now = sym c.chars-characters.ensures.rest ∙ c.in-Some.ensures.steps.0 ∙ ap (λ u. encode_utf8 c.in-Some.c ++ u) (sym c.as_str.ensures) in
+    let step : c.args.text.now ≡ encode_utf8 c.in-Some.c ++ c.as_str-rest.result.now = sym c.chars-characters.ensures.rest ∙ c.in-Some.ensures.steps.0 ∙ ap (λ u. encode_utf8 c.in-Some.c ++ u) (sym c.as_str-rest.ensures) in
     inr (record {
       c = c.in-Some.c;
-      later = chars c.as_str.result.now;
-      same = chars_past_char c.args.text.now c.as_str.result.now c.in-Some.c c.utf8.text step;
+      later = chars c.as_str-rest.result.now;
+      same = chars_past_char c.args.text.now c.as_str-rest.result.now c.in-Some.c c.utf8.text step;
       apart = search rules;
     })
 
 pub returns-clause-first : goal.returns-clause-first
 returns-clause-first c =
     let t = c.args.t.now in
-    let step : c.args.text.now ≡ encode_utf8 c.in-Some.c ++ c.as_str.result.now = sym c.chars-characters.ensures.rest ∙ c.in-Some.ensures.steps.0 ∙ ap (λ u. encode_utf8 c.in-Some.c ++ u) (sym c.as_str.ensures) in
-    ap (λ cs. level_list t c.args.v cs 1) (chars_past_char c.args.text.now c.as_str.result.now c.in-Some.c c.utf8.text step)
-    ∙ first-weight t c.args.v c.in-Some.c c.primary_weight-weight.result (chars c.as_str.result.now) _ (c.in_ok-lead.ensures.alone (chars c.as_str.result.now)) (lead-weight c.args.v _ _ c.in_ok-lead.ensures.lead c.primary_weight-weight.ensures) c.if-weight-eq0.false
+    let step : c.args.text.now ≡ encode_utf8 c.in-Some.c ++ c.as_str-rest.result.now = sym c.chars-characters.ensures.rest ∙ c.in-Some.ensures.steps.0 ∙ ap (λ u. encode_utf8 c.in-Some.c ++ u) (sym c.as_str-rest.ensures) in
+    ap (λ cs. level_list t c.args.v cs 1) (chars_past_char c.args.text.now c.as_str-rest.result.now c.in-Some.c c.utf8.text step) ∙ c.in_ok-weight.ensures.own
 
 pub returns-clause-safe : goal.returns-clause-safe
 returns-clause-safe c =
-    let step : c.args.text.now ≡ encode_utf8 c.in-Some.c ++ c.as_str.result.now = sym c.chars-characters.ensures.rest ∙ c.in-Some.ensures.steps.0 ∙ ap (λ u. encode_utf8 c.in-Some.c ++ u) (sym c.as_str.ensures) in
-    λ safe. IsSafe-rest (c.in-Some.c ∷ []) (chars c.as_str.result.now) (subst IsSafe (chars_past_char c.args.text.now c.as_str.result.now c.in-Some.c c.utf8.text step) safe)
+    let step : c.args.text.now ≡ encode_utf8 c.in-Some.c ++ c.as_str-rest.result.now = sym c.chars-characters.ensures.rest ∙ c.in-Some.ensures.steps.0 ∙ ap (λ u. encode_utf8 c.in-Some.c ++ u) (sym c.as_str-rest.ensures) in
+    λ safe. IsSafe-rest (c.in-Some.c ∷ []) (chars c.as_str-rest.result.now) (subst IsSafe (chars_past_char c.args.text.now c.as_str-rest.result.now c.in-Some.c c.utf8.text step) safe)
