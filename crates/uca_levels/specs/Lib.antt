@@ -9,4 +9,3 @@ pub mod CellWeights
 pub mod JoinedWeights
 pub mod FirstWeight
 pub mod Primaries
-pub mod Turns

@@ -12,10 +12,8 @@ ghost use Rattle.uca_levels.specs.Decides.{IsOfLevel};
 ghost use Rattle.uca_levels.specs.Primaries.{primary_of};
 ghost use Rattle.uca_levels.specs.Reads.{InStep};
 ghost use Rattle.uca_levels.specs.Streams.{weight_before};
-ghost use Rattle.uca_levels.specs.Turns.{LeavesSafe, TellsOrder};
-ghost use Rattle.uca_levels.specs.WithoutFront.{AreApart};
 
-use crate::cut::{apart_after, common_front};
+use crate::cut::common_front;
 use crate::decided::{decided, widened};
 use std::cmp::Ordering;
 use uca_table::Table;
@@ -172,45 +170,30 @@ pub(crate) fn order_at_once(
     }
 }
 
-/// What is left of two texts from the last place on at which each may be cut for its elements, of those in bytes that they have in common.
-#[inline(never)]
-pub(crate) fn rest_apart<'t>(t: &Table, left: Rest<'t>, common: usize) -> Rest<'t>
-    requires { take common left.a.now ≡ take common left.b.now }
-    ensures { AreApart t.now (chars left.entry.a.now) (chars left.entry.b.now) (chars result.a.now) (chars result.b.now) }
-{
-    let (a, b) = apart_after(t, left.a, left.b, common);
-    Rest { a, b }
-}
-
 /// The order of two texts at the first level by turns: the bytes that they have in common are passed over, the characters after these are
-/// compared, and then what comes after them in turn, as far as each of these characters has a primary weight by itself. What is left has
-/// the order of the texts.
-pub(crate) fn order_by_turns<'t>(
+/// compared, and then what comes after them in turn, as far as each of these characters has a primary weight by itself. `None`: that does
+/// not tell it.
+pub(crate) fn order_by_turns(
     t: &Table,
     v: Variable,
-    a: &'t str,
-    b: &'t str,
+    a: &str,
+    b: &str,
     common: usize,
-) -> Result<Ordering, Rest<'t>>
+) -> Option<Ordering>
     requires safe_a { IsSafe (chars a.now) }
     requires safe_b { IsSafe (chars b.now) }
     requires in_a { IsCharBoundary a.now common }
     requires in_b { IsCharBoundary b.now common }
     requires common { take common a.now ≡ take common b.now }
-    ensures order { TellsOrder t.now v (chars a.now) (chars b.now) result }
-    ensures safe { LeavesSafe result }
+    ensures { IfSome result (OrdersLevel 1 (level_list t.now v (chars a.now) 1) (level_list t.now v (chars b.now) 1)) }
 {
     let mut left = Rest { a, b };
     let mut same = common;
     'turns: loop {
-        let Some((x, after_a)) = own_primary(t, v, left.a.split_at(same).1) else {
-            return Err(rest_apart(t, left, same));
-        };
-        let Some((y, after_b)) = own_primary(t, v, left.b.split_at(same).1) else {
-            return Err(rest_apart(t, left, same));
-        };
+        let (x, after_a) = own_primary(t, v, left.a.split_at(same).1)?;
+        let (y, after_b) = own_primary(t, v, left.b.split_at(same).1)?;
         if let Some(order) = decided(widened(x), widened(y)) {
-            return Ok(order);
+            return Some(order);
         }
         left = Rest {
             a: after_a,

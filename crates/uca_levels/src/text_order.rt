@@ -8,15 +8,12 @@ ghost use Rattle.uca_window.specs.Passage.{text_of};
 ghost use Rattle.uca_levels.specs.CellWeights.{cell_weights_left};
 ghost use Rattle.uca_levels.specs.Decides.{IsOfLevel};
 ghost use Rattle.uca_levels.specs.Streams.{given_before};
-ghost use Rattle.uca_levels.specs.Turns.{LeavesSafe, MayLeave, MayTell, TellsOrder};
 
 use crate::cell_weights::CellWeights;
 use crate::comparison::compare_sources;
-use crate::cut::{begin_apart, common_front, without_front};
+use crate::cut::{apart_after, begin_apart, common_front, without_front};
 use crate::joined_weights::JoinedWeights;
-use crate::primaries::{
-    Rest, Sight, order_at_once, order_by_turns, order_of_primaries, rest_apart,
-};
+use crate::primaries::{Sight, order_at_once, order_by_turns, order_of_primaries};
 use crate::stream::order_of;
 use std::cmp::Ordering;
 use uca_table::Table;
@@ -72,54 +69,29 @@ fn order_of_weights(t: &Table, v: Variable, level: u8, a: &str, b: &str) -> Opti
     }
 }
 
-// What turns told of two texts at the first level. Where nothing was told, it begins at the last place in the bytes that they have in
-// common at which both may be cut for their elements.
+// The order of two texts at the first level, if it is not known. Both begin with bytes in common: it begins at the last place in them at
+// which both may be cut for their elements. `None`: many characters join each other. The letters of most scripts have one primary weight,
+// and most texts differ in one soon.
 #[inline(always)]
-fn order_or_rest<'t>(
+fn order_at_first(
     t: &Table,
     v: Variable,
-    a: &'t str,
-    b: &'t str,
+    a: &str,
+    b: &str,
     common: usize,
-    turns: Option<Result<Ordering, Rest<'t>>>,
-) -> Result<Ordering, Rest<'t>>
-    requires safe_a { IsSafe (chars a.now) }
-    requires safe_b { IsSafe (chars b.now) }
-    requires common { take common a.now ≡ take common b.now }
-    requires turns { MayTell t.now v (chars a.now) (chars b.now) turns }
-    requires left { MayLeave turns }
-    ensures order { TellsOrder t.now v (chars a.now) (chars b.now) result }
-    ensures safe { LeavesSafe result }
-{
-    match turns {
-        Some(told) => told,
-        None => Err(rest_apart(t, Rest { a, b }, common)),
-    }
-}
-
-// The order of two texts at the first level, of which turns may have told something. `None`: many characters join each other. The letters
-// of most scripts have one primary weight, and most texts differ in one soon.
-#[inline(always)]
-fn order_at_first<'t>(
-    t: &Table,
-    v: Variable,
-    a: &'t str,
-    b: &'t str,
-    common: usize,
-    turns: Option<Result<Ordering, Rest<'t>>>,
+    known: Option<Ordering>,
 ) -> Option<Ordering>
     requires safe_a { IsSafe (chars a.now) }
     requires safe_b { IsSafe (chars b.now) }
     requires common { take common a.now ≡ take common b.now }
-    requires turns { MayTell t.now v (chars a.now) (chars b.now) turns }
-    requires left { MayLeave turns }
+    requires known { IfSome known (OrdersLevel 1 (level_list t.now v (chars a.now) 1) (level_list t.now v (chars b.now) 1)) }
     ensures { IfSome result (OrdersLevel 1 (level_list t.now v (chars a.now) 1) (level_list t.now v (chars b.now) 1)) }
 {
-    let left = match order_or_rest(t, v, a, b, common, turns) {
-        Ok(order) => return Some(order),
-        Err(left) => left,
-    };
-    match order_of_primaries(t, v, left.a, left.b) {
+    if let Some(order) = known {
+        return Some(order);
+    }
+    let (left_a, left_b) = apart_after(t, a, b, common);
+    match order_of_primaries(t, v, left_a, left_b) {
         Ok(order) => Some(order),
         Err(rest) => order_of_weights(t, v, 1, rest.a, rest.b),
     }
@@ -128,23 +100,22 @@ fn order_at_first<'t>(
 // The order of two texts at the first four levels, as many of them as there are. Both begin with bytes in common: the first level
 // begins at the last place in them at which both texts may be cut for their elements, and later levels at the last one at which they
 // may be cut for all weights. `None`: the fifth level is asked for, or many characters join each other.
-fn order_by_weights<'t>(
+fn order_by_weights(
     t: &Table,
     s: Settings,
-    a: &'t str,
-    b: &'t str,
+    a: &str,
+    b: &str,
     common: usize,
-    turns: Option<Result<Ordering, Rest<'t>>>,
+    known: Option<Ordering>,
 ) -> Option<Ordering>
     requires safe_a { IsSafe (chars a.now) }
     requires safe_b { IsSafe (chars b.now) }
     requires common { take common a.now ≡ take common b.now }
-    requires turns { MayTell t.now s.weighting (chars a.now) (chars b.now) turns }
-    requires left { MayLeave turns }
+    requires known { IfSome known (OrdersLevel 1 (level_list t.now s.weighting (chars a.now) 1) (level_list t.now s.weighting (chars b.now) 1)) }
     ensures { IfSome result (λ order. order ≡ key_order (sort_key t.now s (chars a.now)) (sort_key t.now s (chars b.now))) }
 {
     let _longest = t.longest();
-    let order = order_at_first(t, s.weighting, a, b, common, turns)?;
+    let order = order_at_first(t, s.weighting, a, b, common, known)?;
     if order.is_ne() {
         return Some(order);
     }
@@ -203,22 +174,21 @@ fn order_at_sight(
 
 // The order of two texts. It is not inlined, so that a comparison that ends at the first characters does not pay for its stack frame.
 #[inline(never)]
-fn order_after<'t>(
+fn order_after(
     t: &Table,
     s: Settings,
-    a: &'t str,
-    b: &'t str,
+    a: &str,
+    b: &str,
     common: usize,
-    turns: Option<Result<Ordering, Rest<'t>>>,
+    known: Option<Ordering>,
 ) -> Ordering
     requires safe_a { IsSafe (chars a.now) }
     requires safe_b { IsSafe (chars b.now) }
     requires common { take common a.now ≡ take common b.now }
-    requires turns { MayTell t.now s.weighting (chars a.now) (chars b.now) turns }
-    requires left { MayLeave turns }
+    requires known { IfSome known (OrdersLevel 1 (level_list t.now s.weighting (chars a.now) 1) (level_list t.now s.weighting (chars b.now) 1)) }
     ensures { result ≡ key_order (sort_key t.now s (chars a.now)) (sort_key t.now s (chars b.now)) }
 {
-    match order_by_weights(t, s, a, b, common, turns) {
+    match order_by_weights(t, s, a, b, common, known) {
         Some(order) => order,
         None => order_by_sources(t, s, a, b, common),
     }
@@ -235,13 +205,13 @@ fn order_of_alike(t: &Table, s: Settings, a: &str, b: &str, common: usize) -> Or
     requires common { take common a.now ≡ take common b.now }
     ensures { result ≡ key_order (sort_key t.now s (chars a.now)) (sort_key t.now s (chars b.now)) }
 {
-    let turns = order_by_turns(t, s.weighting, a, b, common);
-    if let Ok(order) = turns {
+    let known = order_by_turns(t, s.weighting, a, b, common);
+    if let Some(order) = known {
         if order.is_ne() {
             return order;
         }
     }
-    order_after(t, s, a, b, common, Some(turns))
+    order_after(t, s, a, b, common, known)
 }
 
 // The order of two texts after bytes that they have in common.

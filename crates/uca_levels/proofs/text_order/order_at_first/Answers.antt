@@ -1,11 +1,18 @@
 use Rattle.std.proofs.Common.{refl}
+use Rattle.uca_levels.proofs.PrimaryLemmas.{orders-apart, safe-apart}
 use Rattle.uca_levels.proofs.ReadsLemmas.{InStep-orders}
 use Rattle.uca_levels.proofs.StreamLemmas.{if_some}
 use Rattle.uca_levels.proofs.text_order.order_at_first.Goals as goal
 
-pub returns-in-Ok-order_of_primaries : goal.returns-in-Ok-order_of_primaries
-returns-in-Ok-order_of_primaries c = InStep-orders 1 _ _ _ _ _ _ c.in-Ok-order_of_primaries.order c.in-Err.ensures.order refl refl c.in-Ok-order_of_primaries.ensures.order
+pub order_of_primaries-requires-clause-safe_a : goal.order_of_primaries-requires-clause-safe_a
+order_of_primaries-requires-clause-safe_a c = (safe-apart c.args.t.now _ _ _ _ c.apart_after.ensures c.requires.safe_a c.requires.safe_b).0
 
-pub returns-in-Err-order_of_primaries : goal.returns-in-Err-order_of_primaries
-returns-in-Err-order_of_primaries c =
-    if_some c.order_of_weights.result _ _ (λ o orders. InStep-orders 1 _ _ _ _ _ _ o c.in-Err.ensures.order refl refl (InStep-orders 1 _ _ _ _ _ _ o c.in-Err-order_of_primaries.ensures.order refl refl orders)) c.order_of_weights.ensures
+pub order_of_primaries-requires-clause-safe_b : goal.order_of_primaries-requires-clause-safe_b
+order_of_primaries-requires-clause-safe_b c = (safe-apart c.args.t.now _ _ _ _ c.apart_after.ensures c.requires.safe_a c.requires.safe_b).1
+
+pub returns-in-Ok : goal.returns-in-Ok
+returns-in-Ok c = orders-apart c.args.t.now c.args.v _ _ _ _ c.in-Ok.order c.apart_after.ensures c.in-Ok.ensures.order
+
+pub returns-in-Err : goal.returns-in-Err
+returns-in-Err c =
+    if_some c.order_of_weights.result _ _ (λ o orders. orders-apart c.args.t.now c.args.v _ _ _ _ o c.apart_after.ensures (InStep-orders 1 _ _ _ _ _ _ o c.in-Err.ensures.order refl refl orders)) c.order_of_weights.ensures

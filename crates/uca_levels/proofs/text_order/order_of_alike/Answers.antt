@@ -8,6 +8,6 @@ use Rattle.uca_levels.proofs.text_order.order_of_alike.Goals as goal
 
 pub returns-then-is_ne : goal.returns-then-is_ne
 returns-then-is_ne c =
-    let o : Ordering = c.in-Ok.order in
+    let o : Ordering = c.in-Some.order in
     let some : 1 ≤ levels c.args.s.strength = (levels-within c.args.s.strength).0 in
-    sym (decided-here c.args.t.now c.args.s (chars c.args.a.now) (chars c.args.b.now) 1 o (undecided-first c.args.t.now c.args.s (chars c.args.a.now) (chars c.args.b.now)) some c.in-Ok.ensures.order (from_ne o (sym c.is_ne.ensures ∙ c.if-is_ne.true))).0
+    sym (decided-here c.args.t.now c.args.s (chars c.args.a.now) (chars c.args.b.now) 1 o (undecided-first c.args.t.now c.args.s (chars c.args.a.now) (chars c.args.b.now)) some c.in-Some.ensures (from_ne o (sym c.is_ne.ensures ∙ c.if-is_ne.true))).0
