@@ -10,7 +10,7 @@ use std::simd::prelude::*;
 /// How many bytes are looked at together where they are fewer than a narrow block.
 const SMALL: usize = 4;
 
-/// How many bytes are looked at together in a text of up to four such blocks.
+/// How many bytes are looked at together in a text that is shorter than a wide block.
 const NARROW: usize = 8;
 
 /// How many bytes are looked at together in a longer text.
@@ -74,7 +74,7 @@ pub(crate) fn is_ascii(bytes: &[u8]) -> bool
     if bytes.len() < NARROW {
         return front_is_ascii::<SMALL>(bytes);
     }
-    if bytes.len() <= 4 * NARROW {
+    if bytes.len() < WIDE {
         return front_is_ascii::<NARROW>(bytes);
     }
     if !front_is_ascii::<WIDE>(bytes) {
