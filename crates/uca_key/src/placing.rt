@@ -43,6 +43,15 @@ pub(crate) fn has_room(elements: usize, each: usize, at: usize, room: usize) -> 
     at <= room && elements <= (room - at) / each
 }
 
+/// Whether bytes of each of so many elements, and one more that ends them, fit between a place of a buffer and its end.
+#[inline(always)]
+pub(crate) fn has_room_for_end(elements: usize, each: usize, at: usize, room: usize) -> bool
+    requires { 0 < each }
+    ensures { IsTrue result → at + each * elements < room }
+{
+    at < room && elements <= (room - at - 1) / each
+}
+
 /// Puts bytes at a place of a buffer, or as many of them as fit there, and returns the place after them.
 pub(crate) fn put_bytes(bytes: &[u8], at: usize, out: &mut [u8]) -> usize
     ensures { PutsAt at bytes.now out.old out.new result }

@@ -13,7 +13,7 @@ ghost use Rattle.uca_key.specs.Placing.{IsPutting, PutsAt, StaysAfter};
 ghost use Rattle.uca_key.specs.Weighing.{all_own};
 
 use crate::pieces::{PIECE, TextReading};
-use crate::placing::{has_room, put_bytes, put_text};
+use crate::placing::{has_room_for_end, put_bytes, put_text};
 use crate::weighing::own_weight;
 use std::simd::prelude::*;
 use uca_weights::{Element, Variable};
@@ -439,6 +439,16 @@ fn put_end(state: Counted, out: &mut [u8]) -> usize
     put_bytes(&[2 * state.run as u8], state.at, out)
 }
 
+// Whether a mask of some elements says that all have the common weight of a level, so that the level is one run. So are most levels of
+// short texts.
+#[inline(always)]
+fn is_one_run(others: u64, elements: usize) -> bool
+    ensures few { IsTrue result → elements < 62 }
+    ensures zeros { IsTrue result → (i : ℕ) → i < elements → bit_at others i ≡ 0 }
+{
+    elements < FULL_RUN && others.trailing_zeros() as usize >= elements
+}
+
 /// Puts a level, from 2 to 4, of some elements at a place of a buffer, by the mask of the first elements that have another weight than
 /// the common one. What fits is put at once, and else a piece at a time.
 #[inline(always)]
@@ -457,8 +467,12 @@ pub(crate) fn put_whole(
     ensures { PutsAt at (packed_level (all_own v elements.now) level) out.old out.new result }
 {
     let before = Counted { at, run: 0 };
-    if !has_room(elements.len(), OTHER, at.saturating_add(1), out.len()) {
+    if !has_room_for_end(elements.len(), OTHER, at, out.len()) {
         return put_end(put_elements(v, level, before, elements, out), out);
+    }
+    if is_one_run(others, elements.len()) {
+        out[at] = 2 * elements.len() as u8;
+        return at + 1;
     }
     let packed = pack_whole(out, before, v, elements, level, others);
     out[packed.at] = 2 * packed.run as u8;

@@ -12,7 +12,7 @@ ghost use Rattle.uca_key.specs.Weighing.{all_own};
 
 use crate::packed_code::PackedCode;
 use crate::pieces::{PIECE, TextReading};
-use crate::placing::{has_room, put_bytes};
+use crate::placing::{has_room_for_end, put_bytes};
 use crate::windows::Window;
 use uca_levels::primary_weight;
 use uca_weights::{Element, Variable};
@@ -334,19 +334,22 @@ fn put_shorts<'e>(
     let reach = before.reach;
     let bytes = reach.window.bytes();
     let mut at = before.at;
-    let mut left = elements;
     if reach.due > 0 {
-        return Progress { at, left };
+        return Progress { at, left: elements };
     }
-    'each: while let Some((first, rest)) = left.split_first() {
-        let w = primary_weight(v, first);
+    let mut n = 0;
+    'each: while n < elements.len() {
+        let w = primary_weight(v, &elements[n]);
         let Some(byte) = short_byte(bytes, w) else {
-            return Progress { at, left };
+            return Progress {
+                at,
+                left: elements.split_at(n).1,
+            };
         };
         at = put_short(code, reach, w, byte, key, at);
-        left = rest;
+        n += 1;
     }
-    Progress { at, left }
+    Progress { at, left: &[] }
 }
 
 // Puts the first weights of some elements if they are an implicit pair whose first weight has a byte of its own outside the window, as
@@ -434,7 +437,8 @@ fn put_first<'c, 'e>(
     })
 }
 
-// Puts the weights of elements, those that take one byte together and others one by one.
+// Puts the weights of elements: one by itself, since the first letter of a text moves the window, then together those that take one byte,
+// and so on.
 #[inline(always)]
 fn put_each<'c>(
     code: &'c PackedCode,
@@ -454,19 +458,20 @@ fn put_each<'c>(
     let mut placed = before;
     let mut left = elements;
     'each: loop {
-        let short = put_shorts(code, v, placed, left, key);
-        placed.at = short.at;
-        let Some(step) = put_first(code, v, placed, short.left, key) else {
+        let Some(step) = put_first(code, v, placed, left, key) else {
             return placed;
         };
-        placed = step.placed;
-        left = step.left;
+        let short = put_shorts(code, v, step.placed, step.left, key);
+        placed = Placed {
+            at: short.at,
+            reach: step.placed.reach,
+        };
+        left = short.left;
     }
 }
 
-// The same. Elements that keep their weights have a loop of their own, which does not ask whether one is variable. It is not inlined, so
-// that its loop has all registers.
-#[inline(never)]
+// The same. Elements that keep their weights have a loop of their own, which does not ask whether one is variable.
+#[inline(always)]
 fn put_weights<'c>(
     code: &'c PackedCode,
     v: Variable,
@@ -531,7 +536,9 @@ fn put_elements<'c>(
     state
 }
 
-/// Puts the first level of some elements at a place of a buffer. It ends itself. What fits is put at once, and else a piece at a time.
+/// Puts the first level of some elements at a place of a buffer. It ends itself. What fits is put at once, and else a piece at a time. It
+/// is not inlined, so that its loop has all registers.
+#[inline(never)]
 pub(crate) fn put_whole(
     code: &PackedCode,
     v: Variable,
@@ -546,7 +553,7 @@ pub(crate) fn put_whole(
         at,
         reach: first_reach(code),
     };
-    if !has_room(elements.len(), LETTER, at.saturating_add(1), out.len()) {
+    if !has_room_for_end(elements.len(), LETTER, at, out.len()) {
         let placed = put_elements(code, v, first, elements, out);
         return put_bytes(&[0], placed.at, out);
     }

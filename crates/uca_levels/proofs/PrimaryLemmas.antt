@@ -1,5 +1,6 @@
 -- Two texts after what both have in common, where both may be cut for their elements.
-use Rattle.std.proofs.Common.{◌≡◌, ℕ, List, ◌++◌, sym, subst, ap, ap₂, ◌∙◌, inl, inr, append_assoc}
+use Rattle.std.proofs.Common.{◌≡◌, ℕ, List, [], ◌∷◌, ◌++◌, chars, drop, take, IsUtf8, sym, subst, ap, ap₂, ◌∙◌, inl, inr, append_assoc}
+use Rattle.std.specs.Str.{IsCharBoundary}
 use Rattle.unicode_normalization.specs.Forms.{nfd}
 use Rattle.uca_weights.specs.declared.element.Element.{Element}
 use Rattle.uca_weights.specs.declared.settings.Variable.{Variable}
@@ -11,7 +12,7 @@ use Rattle.uca_model.specs.DecidingLevel.{OrdersLevel}
 use Rattle.uca_model.specs.SafeText.{IsSafe}
 use Rattle.uca_model.proofs.PrefixLemmas.{first_level-is, first_level-append}
 use Rattle.uca_model.proofs.LevelLemmas.{OrdersLevel-front}
-use Rattle.uca_match.proofs.TextLemmas.{IsSafe-rest}
+use Rattle.uca_match.proofs.TextLemmas.{IsSafe-rest, parts-at}
 use Rattle.uca_levels.specs.Reads.{InStep}
 use Rattle.uca_levels.specs.WithoutFront.{AreApart, IsApart}
 
@@ -51,3 +52,20 @@ in-step-apart t v a b x y xs ys h lists =
             second = lists.second ∙ ap (λ l. lists.front ++ l) (ap (λ l. level_list t v l 1) h.second ∙ lists-apart t v h.front y both.1) ∙ sym (append_assoc lists.front passed (level_list t v y 1));
           }
     ]
+
+-- a text without its first character
+pub safe-after : (cs : List ℕ) → IsSafe cs → IsSafe (drop 1 cs)
+safe-after [] safe = safe
+safe-after (c ∷ cs) safe = IsSafe-rest (c ∷ []) cs safe
+
+-- what is left of a text from a place on, without its first character
+pub safe-left : (a x p : List ℕ) (at : ℕ) → IsUtf8 a → IsCharBoundary a at → x ≡ drop at a → chars p ≡ drop 1 (chars x) → IsSafe (chars a) → IsSafe (chars p)
+safe-left a x p at utf8 inside of_a rest safe = subst IsSafe (sym rest) (safe-after (chars x) (IsSafe-rest (chars (take at a)) (chars x) (subst IsSafe (parts-at a x at utf8 inside of_a) safe)))
+
+-- what is left of a text from a place on, without its first character, has the weights of what comes after the character there
+pub list-left : (t : ElementTable) (v : Variable) (a x p : List ℕ) (at : ℕ) → x ≡ drop at a → chars p ≡ drop 1 (chars x) → level_list t v (chars p) 1 ≡ level_list t v (drop 1 (chars (drop at a))) 1
+list-left t v a x p at of_a rest = ap (λ cs. level_list t v cs 1) (rest ∙ ap (λ l. drop 1 (chars l)) of_a)
+
+-- the same lists are left
+pub in-step-same : (xs ys x y left right : List ℕ) → x ≡ left → y ≡ right → InStep xs ys x y → InStep xs ys left right
+in-step-same xs ys x y left right e f lists = record { front = lists.front; first = lists.first ∙ ap (λ l. lists.front ++ l) e; second = lists.second ∙ ap (λ l. lists.front ++ l) f }

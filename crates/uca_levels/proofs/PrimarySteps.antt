@@ -56,16 +56,15 @@ module _ (t : ElementTable) (v : Variable) (c w : ℕ) (rest : List ℕ) (es : L
 
 -- ---- elements of which only the first may have a primary weight
 
+-- a weight that is zero stays so where a variable element loses its own
+zero-if : (b : Bool) (w : ℕ) → (w == 0) ≡ true → (cond b 0 w == 0) ≡ true
+zero-if true w h = refl
+zero-if false w h = h
+
 zero-primary : (v : Variable) (d : Element) → (d.l1 == 0) ≡ true → (primary_of v d == 0) ≡ true
 zero-primary NonIgnorable d h = h
-zero-primary Blanked d h = variable (is_variable d) h where
-  variable : (b : Bool) → (d.l1 == 0) ≡ true → (cond b 0 d.l1 == 0) ≡ true
-  variable true h = refl
-  variable false h = h
-zero-primary Shifted d h = variable (is_variable d) h where
-  variable : (b : Bool) → (d.l1 == 0) ≡ true → (cond b 0 d.l1 == 0) ≡ true
-  variable true h = refl
-  variable false h = h
+zero-primary Blanked d h = zero-if (is_variable d) d.l1 h
+zero-primary Shifted d h = zero-if (is_variable d) d.l1 h
 
 none-left : (v : Variable) (ds : List Element) → list_all (λ x. x.l1 == 0) ds ≡ true → primaries v ds ≡ []
 none-left v [] h = refl

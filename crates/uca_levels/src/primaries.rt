@@ -1,5 +1,5 @@
 //! Primary weights of characters that stand alone and have at most one: by these most comparisons are decided.
-ghost use Rattle.std.specs.Prelude.{◌≡◌, ℕ, List, [], ◌∷◌, ◌<◌, ◌≤◌, chars, length, take, IfErr, IfOk, IfSome, OnSome, MatchResult};
+ghost use Rattle.std.specs.Prelude.{◌≡◌, ℕ, List, [], ◌∷◌, ◌<◌, ◌≤◌, chars, drop, length, take, IfErr, IfOk, IfSome, OnSome, MatchResult};
 ghost use Rattle.std.specs.Str.{IsCharBoundary};
 ghost use Rattle.uca_weights.specs.VariableWeighting.{weighted};
 ghost use Rattle.uca_model.specs.DecidingLevel.{OrdersLevel};
@@ -9,9 +9,10 @@ ghost use Rattle.uca_model.specs.StandAlone.{joining};
 ghost use Rattle.uca_match.specs.JoinsNothing.{JoinsNothing};
 ghost use Rattle.uca_match.specs.Yields.{YieldsFirst};
 ghost use Rattle.uca_levels.specs.Decides.{IsOfLevel};
-ghost use Rattle.uca_levels.specs.Primaries.{primary_of};
+ghost use Rattle.uca_levels.specs.Primaries.{AreAlike, primary_of};
 ghost use Rattle.uca_levels.specs.Reads.{InStep};
 ghost use Rattle.uca_levels.specs.Streams.{weight_before};
+ghost use Rattle.uca_levels.specs.declared.primaries.Sight.TheVariants.{Alike};
 
 use crate::cut::common_front;
 use crate::decided::{decided, widened};
@@ -131,7 +132,7 @@ fn own_primary<'t>(t: &Table, v: Variable, text: &'t str) -> Option<(Option<u16>
     ensures joins { OnSome result (JoinsNothing t.now (chars text.now)) }
     ensures first { IfSome result (λ r. YieldsFirst (level_list t.now v (chars text.now) 1) r.0 (level_list t.now v (chars r.1.now) 1)) }
     ensures weight { IfSome result (λ r. IfSome r.0 (IsOfLevel 1)) }
-    ensures safe { IfSome result (λ r. IsSafe (chars text.now) → IsSafe (chars r.1.now)) }
+    ensures rest { IfSome result (λ r. chars r.1.now ≡ drop 1 (chars text.now)) }
     ensures shorter { IfSome result (λ r. IfSome r.0 (λ _. length r.1.now < length text.now)) }
 {
     let mut characters = text.chars();
@@ -141,6 +142,18 @@ fn own_primary<'t>(t: &Table, v: Variable, text: &'t str) -> Option<(Option<u16>
     let rest = characters.as_str();
     let weight = primary_before(t, v, c, rest)?;
     Some((Some(weight), rest))
+}
+
+// What is left of a text after its first character.
+#[inline(always)]
+fn after_first(text: &str) -> &str
+    ensures { chars result.now ≡ drop 1 (chars text.now) }
+{
+    let mut characters = text.chars();
+    match characters.next() {
+        Some(_) => characters.as_str(),
+        None => text,
+    }
 }
 
 /// The order of two texts at the first level by the first characters after bytes that they have in common, where each has a primary
@@ -156,7 +169,8 @@ pub(crate) fn order_at_once(
     requires in_a { IsCharBoundary a.now common }
     requires in_b { IsCharBoundary b.now common }
     requires common { take common a.now ≡ take common b.now }
-    ensures { IfOk result (OrdersLevel 1 (level_list t.now v (chars a.now) 1) (level_list t.now v (chars b.now) 1)) }
+    ensures order { IfOk result (OrdersLevel 1 (level_list t.now v (chars a.now) 1) (level_list t.now v (chars b.now) 1)) }
+    ensures alike { IfErr result (λ sight. sight ≡ Alike → AreAlike t.now v a.now b.now common) }
 {
     let Some((x, _)) = own_primary(t, v, a.split_at(common).1) else {
         return Err(Sight::Unknown);
@@ -170,9 +184,9 @@ pub(crate) fn order_at_once(
     }
 }
 
-/// The order of two texts at the first level by turns: the bytes that they have in common are passed over, the characters after these are
-/// compared, and then what comes after them in turn, as far as each of these characters has a primary weight by itself. `None`: that does
-/// not tell it.
+/// The order of two texts at the first level by turns, where the first characters after the bytes that they have in common are alike: the
+/// bytes in common after these are passed over, the characters after them are compared, and so on, as far as each of these characters has
+/// a primary weight by itself. `None`: that does not tell it.
 pub(crate) fn order_by_turns(
     t: &Table,
     v: Variable,
@@ -184,12 +198,15 @@ pub(crate) fn order_by_turns(
     requires safe_b { IsSafe (chars b.now) }
     requires in_a { IsCharBoundary a.now common }
     requires in_b { IsCharBoundary b.now common }
-    requires common { take common a.now ≡ take common b.now }
+    requires alike { AreAlike t.now v a.now b.now common }
     ensures { IfSome result (OrdersLevel 1 (level_list t.now v (chars a.now) 1) (level_list t.now v (chars b.now) 1)) }
 {
-    let mut left = Rest { a, b };
-    let mut same = common;
+    let mut left = Rest {
+        a: after_first(a.split_at(common).1),
+        b: after_first(b.split_at(common).1),
+    };
     'turns: loop {
+        let same = common_front(left.a, left.b);
         let (x, after_a) = own_primary(t, v, left.a.split_at(same).1)?;
         let (y, after_b) = own_primary(t, v, left.b.split_at(same).1)?;
         if let Some(order) = decided(widened(x), widened(y)) {
@@ -199,7 +216,6 @@ pub(crate) fn order_by_turns(
             a: after_a,
             b: after_b,
         };
-        same = common_front(after_a, after_b);
     }
 }
 

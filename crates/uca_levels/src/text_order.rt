@@ -7,7 +7,9 @@ ghost use Rattle.uca_model.specs.SortKey.{key_order, sort_key};
 ghost use Rattle.uca_window.specs.Passage.{text_of};
 ghost use Rattle.uca_levels.specs.CellWeights.{cell_weights_left};
 ghost use Rattle.uca_levels.specs.Decides.{IsOfLevel};
+ghost use Rattle.uca_levels.specs.Primaries.{AreAlike};
 ghost use Rattle.uca_levels.specs.Streams.{given_before};
+ghost use Rattle.uca_levels.specs.declared.primaries.Sight.TheVariants.{Alike};
 
 use crate::cell_weights::CellWeights;
 use crate::comparison::compare_sources;
@@ -162,13 +164,14 @@ fn order_at_sight(
     requires in_a { IsCharBoundary a.now common }
     requires in_b { IsCharBoundary b.now common }
     requires common { take common a.now ≡ take common b.now }
-    ensures { IfOk result (λ order. order ≡ key_order (sort_key t.now s (chars a.now)) (sort_key t.now s (chars b.now))) }
+    ensures order { IfOk result (λ order. order ≡ key_order (sort_key t.now s (chars a.now)) (sort_key t.now s (chars b.now))) }
+    ensures alike { IfErr result (λ sight. sight ≡ Alike → AreAlike t.now s.weighting a.now b.now common) }
 {
     let order = order_at_once(t, s.weighting, a, b, common)?;
     if order.is_ne() {
         Ok(order)
     } else {
-        Err(Sight::Alike)
+        Err(Sight::Unknown)
     }
 }
 
@@ -203,6 +206,7 @@ fn order_of_alike(t: &Table, s: Settings, a: &str, b: &str, common: usize) -> Or
     requires in_a { IsCharBoundary a.now common }
     requires in_b { IsCharBoundary b.now common }
     requires common { take common a.now ≡ take common b.now }
+    requires alike { AreAlike t.now s.weighting a.now b.now common }
     ensures { result ≡ key_order (sort_key t.now s (chars a.now)) (sort_key t.now s (chars b.now)) }
 {
     let known = order_by_turns(t, s.weighting, a, b, common);

@@ -9,12 +9,11 @@ each-preserved c =
     record {
       window = step.window;
       within = omega (arith, step.within, short.within, short.some, i.within);
-      stays = beyond-more _ _ _ _ _ _ (beyond-more _ _ _ _ _ _ i.stays short.stays) (stays-beyond _ _ _ _ step.stays);
-      size = step.size ∙ short.size ∙ i.size;
-      same = λ ws. step.bytes ws ∙ short.bytes ws ∙ i.same ws;
+      stays = beyond-more _ _ _ _ _ _ (beyond-more _ _ _ _ _ _ i.stays (stays-beyond _ _ _ _ step.stays)) short.stays;
+      size = short.size ∙ step.size ∙ i.size;
+      same = λ ws. short.bytes ws ∙ step.bytes ws ∙ i.same ws;
     }
 
 pub returns-in_default-clause-stays : goal.returns-in_default-clause-stays
 returns-in_default-clause-stays c =
-    let short = c.put_shorts-short.ensures in
-    subst (λ (key : List ℕ). StaysBeyond c.args.before.at c.put_shorts-short.result.at c.args.key.now key) (sym c.in_default.ensures.none) (beyond-more _ _ _ _ _ _ c.each.invariant.stays short.stays)
+    subst (λ (key : List ℕ). StaysBeyond c.args.before.at c.each.placed.at c.args.key.now key) (sym c.in_default.ensures.none) c.each.invariant.stays

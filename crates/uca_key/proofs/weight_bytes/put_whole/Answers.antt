@@ -9,8 +9,8 @@ use Rattle.uca_key.proofs.PlacingLemmas.{IsPutting-start, IsPutting-more, IsPutt
 use Rattle.uca_key.proofs.WeighingLemmas.{first_weights-own}
 use Rattle.uca_key.proofs.weight_bytes.put_whole.Goals as goal
 
-pub returns-then-not-has_room : goal.returns-then-not-has_room
-returns-then-not-has_room c =
+pub returns-then-not-has_room_for_end : goal.returns-then-not-has_room_for_end
+returns-then-not-has_room_for_end c =
     let k = c.args.code.now in let own : List ℕ = level_weights 1 (all_own c.args.v c.args.elements.now) in
     let whole = primary_level k (start k) own in
     let begun = IsPutting-start _ _ _ (primary_level k (state_of c.first_reach.result) (own ++ [])) c.ranges.at.fits (ap (λ p. primary_level k p (own ++ [])) c.first_reach.ensures.state ∙ ap (primary_level k (start k)) (append-nil own)) in
@@ -21,8 +21,8 @@ pub returns : goal.returns
 returns c =
     let k = c.args.code.now in let placed = c.put_weights-placed.ensures in
     let weights : List ℕ = level_weights 1 (weighted c.args.v c.args.elements.now) in
-    let fits = c.has_room.ensures c.if-not-has_room.false in
-    let within : c.put_weights-placed.result.at < length c.put_weights-placed.new.key = omega (arith, fits, placed.within, c.saturating_add.ensures, c.requires.size) in
+    let fits = c.has_room_for_end.ensures c.if-not-has_room_for_end.false in
+    let within : c.put_weights-placed.result.at < length c.put_weights-placed.new.key = omega (arith, fits, placed.within, c.requires.size) in
     let whole =
     ap (λ p. primary_level k p (weights ++ [])) c.first_reach.ensures.state ∙ ap (primary_level k (start k)) (append-nil weights ∙ first_weights-own c.args.v c.args.elements.now) in
     let same =

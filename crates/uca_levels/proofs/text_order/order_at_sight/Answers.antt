@@ -6,8 +6,8 @@ use Rattle.uca_levels.proofs.ReadsLemmas.{from_ne}
 use Rattle.uca_levels.proofs.LevelsFromCut.{undecided-first, decided-here}
 use Rattle.uca_levels.proofs.text_order.order_at_sight.Goals as goal
 
-pub returns-then-is_ne : goal.returns-then-is_ne
-returns-then-is_ne c =
+pub returns-then-is_ne-clause-order : goal.returns-then-is_ne-clause-order
+returns-then-is_ne-clause-order c =
     let o : Ordering = c.in_ok-order.order in
     let some : 1 ≤ levels c.args.s.strength = (levels-within c.args.s.strength).0 in
-    sym (decided-here c.args.t.now c.args.s (chars c.args.a.now) (chars c.args.b.now) 1 o (undecided-first c.args.t.now c.args.s (chars c.args.a.now) (chars c.args.b.now)) some c.in_ok-order.ensures (from_ne o (sym c.is_ne.ensures ∙ c.if-is_ne.true))).0
+    sym (decided-here c.args.t.now c.args.s (chars c.args.a.now) (chars c.args.b.now) 1 o (undecided-first c.args.t.now c.args.s (chars c.args.a.now) (chars c.args.b.now)) some c.in_ok-order.ensures.order (from_ne o (sym c.is_ne.ensures ∙ c.if-is_ne.true))).0
