@@ -1,4 +1,4 @@
-ghost use Rattle.std.specs.Prelude.{◌≡◌, IsTrue, chars, length, take, ◌+◌, ◌<◌, ◌≤◌};
+ghost use Rattle.std.specs.Prelude.{◌≡◌, IsTrue, chars, length, take, ◌+◌, ◌*◌, ◌≤◌, ◌++◌};
 ghost use Rattle.std.specs.Str.{IsCharBoundary};
 ghost use Rattle.std.specs.Simd.Lanes.{chunk};
 ghost use Rattle.uca_model.specs.SafeCut.{is_cut};
@@ -9,11 +9,8 @@ use uca_match::completeness::split_last;
 use uca_match::joins_nothing;
 use uca_table::Table;
 
-/// How many bytes are looked at together where a text is shorter than a wide block.
+/// How many bytes a block has.
 const NARROW: usize = 8;
-
-/// How many bytes are looked at together in longer texts.
-const WIDE: usize = 16;
 
 // Whether a text may be cut before these characters.
 fn may_follow(t: &Table, left: &str) -> bool
@@ -25,19 +22,34 @@ fn may_follow(t: &Table, left: &str) -> bool
     }
 }
 
-// How many bytes of the block at a place two texts have in common from its start.
+// Two blocks of a text, one after the other.
 #[inline(always)]
-fn common_in_block<const N: usize>(a: &[u8], b: &[u8], at: usize) -> usize
-    requires in_a { at + N ≤ length a.now }
-    requires in_b { at + N ≤ length b.now }
-    requires few { N ≤ 64 }
-    ensures within { result ≤ N }
-    ensures same { take result (chunk at N a.now) ≡ take result (chunk at N b.now) }
+fn two_blocks(bytes: &[u8], first: usize, second: usize) -> u8x16
+    requires in_first { first + NARROW ≤ length bytes.now }
+    requires in_second { second + NARROW ≤ length bytes.now }
+    ensures { result ≡ chunk first NARROW bytes.now ++ chunk second NARROW bytes.now }
 {
-    let block = Simd::<u8, N>::from_slice(&a[at..]);
-    let differ = block.simd_ne(Simd::from_slice(&b[at..])).to_bitmask();
+    let front = u8x8::from_slice(&bytes[first..]);
+    let back = u8x8::from_slice(&bytes[second..]);
+    front.shuffle(back, [0, 1, 2, 3, 4, 5, 6, 7, 8, 9, 10, 11, 12, 13, 14, 15])
+}
+
+// How many bytes of two blocks two texts have in common from the start of the first.
+#[inline(always)]
+fn common_in_blocks(a: &[u8], b: &[u8], first: usize, second: usize) -> usize
+    requires first_in_a { first + NARROW ≤ length a.now }
+    requires first_in_b { first + NARROW ≤ length b.now }
+    requires second_in_a { second + NARROW ≤ length a.now }
+    requires second_in_b { second + NARROW ≤ length b.now }
+    ensures within { result ≤ 2 * NARROW }
+    ensures same { take result (chunk first NARROW a.now ++ chunk second NARROW a.now)
+        ≡ take result (chunk first NARROW b.now ++ chunk second NARROW b.now) }
+{
+    let differ = two_blocks(a, first, second)
+        .simd_ne(two_blocks(b, first, second))
+        .to_bitmask();
     if differ == 0 {
-        N
+        2 * NARROW
     } else {
         differ.trailing_zeros() as usize
     }
@@ -54,40 +66,39 @@ fn few_in_common(a: &[u8], b: &[u8]) -> usize
     at
 }
 
-// How many bytes two texts have in common from their start, by blocks. The last may begin in the one before it. There is no branch between
-// the first two: in which of them sorted texts differ cannot be foreseen.
-#[inline(always)]
-fn common_by_blocks<const N: usize>(a: &[u8], b: &[u8]) -> usize
-    requires in_a { N ≤ length a.now }
-    requires in_b { N ≤ length b.now }
-    requires some { 0 < N }
-    requires few { N ≤ 64 }
+// How many bytes two texts have in common from their start, by two blocks at a time. The last may begin in the one before it. Two narrow
+// blocks serve short texts and long ones: which of two sizes of block the next texts would take cannot be foreseen. Nor can in which of
+// the two they differ, so no branch tells that.
+fn common_by_blocks(a: &[u8], b: &[u8]) -> usize
+    requires in_a { NARROW ≤ length a.now }
+    requires in_b { NARROW ≤ length b.now }
     ensures { take result a.now ≡ take result b.now }
 {
-    let last = a.len().min(b.len()) - N;
-    let mut at = last.min(N);
-    let first = common_in_block::<N>(a, b, 0);
-    let second = common_in_block::<N>(a, b, at);
-    let mut common = if first < N { first } else { at + second };
-    'each: while common == at + N && at < last {
-        at = last.min(at + N);
-        common = at + common_in_block::<N>(a, b, at);
+    let last = a.len().min(b.len()) - NARROW;
+    let mut at = 0;
+    'each: loop {
+        let next = last.min(at + NARROW);
+        let common = common_in_blocks(a, b, at, next);
+        let end = if common < NARROW {
+            at + common
+        } else {
+            next + common - NARROW
+        };
+        if common < 2 * NARROW || next == last {
+            return end;
+        }
+        at = last.min(next + NARROW);
     }
-    common
 }
 
 // How many bytes two texts have in common from their start.
 fn common_len(a: &[u8], b: &[u8]) -> usize
     ensures { take result a.now ≡ take result b.now }
 {
-    let shorter = a.len().min(b.len());
-    if shorter < NARROW {
+    if a.len().min(b.len()) < NARROW {
         return few_in_common(a, b);
     }
-    if shorter < WIDE {
-        return common_by_blocks::<NARROW>(a, b);
-    }
-    common_by_blocks::<WIDE>(a, b)
+    common_by_blocks(a, b)
 }
 
 // Whether no character of two texts lies on both sides of a place.
