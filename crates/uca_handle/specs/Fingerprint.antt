@@ -8,9 +8,9 @@ use Rattle.uca_weights.specs.declared.settings.Settings.{Settings}
 use Rattle.uca_weights.specs.declared.settings.Variable.{Variable}
 use Rattle.uca_weights.specs.declared.settings.Variable.TheVariants.{NonIgnorable, Blanked, Shifted}
 
--- the form of keys: it changes if the same weights ever make another sort key or packed key. Packed keys had another one before
+-- the form of keys: it changes if the same weights ever make another sort key or packed key. Packed keys had others before
 abbrev pub key_form : ℕ
-key_form = 2
+key_form = 3
 
 abbrev pub variable_number : Variable → ℕ
 variable_number NonIgnorable = 0

@@ -11,8 +11,9 @@ use uca_table::Table;
 use uca_weights::{Settings, Variable, Writing};
 use unicode_normalization::UNICODE_VERSION;
 
-/// The form of keys. It changes if the same weights ever make another sort key or packed key. Number 1 was that of longer packed keys.
-const KEY_FORM: u8 = 2;
+/// The form of keys. It changes if the same weights ever make another sort key or packed key. Numbers 1 and 2 were those of longer packed
+/// keys.
+const KEY_FORM: u8 = 3;
 
 fn variable_number(weighting: Variable) -> u8
     ensures { result ≡ variable_number weighting }

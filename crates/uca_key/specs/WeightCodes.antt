@@ -63,7 +63,7 @@ pub record AreParts (p : Parts) : Type 0 where
   pub commons : length p.commons.now ≡ 65536
   pub named : length p.named.now ≡ 65536
   pub any : length p.any.now ≡ 65536
-  pub few : length p.singles.now ≤ 10
+  pub few : length p.singles.now ≤ 11
   pub numbered : length p.anchors.now < 256
 
 -- a code is made of them

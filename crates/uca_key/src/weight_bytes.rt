@@ -56,7 +56,7 @@ fn put_after_lead(w: u16, key: &mut [u8], at: usize) -> usize
     ensures stays { StaysAfter at result key.old key.new }
     ensures size { length key.new ≡ length key.old }
 {
-    if w < 0x7000 {
+    if w < 0x6E00 {
         return put_low(w, key, at);
     }
     if w / 256 == 0xFB {
@@ -235,7 +235,7 @@ fn put_letter<'c>(
     ensures size { length key.new ≡ length key.old }
 {
     let Reach { window, due } = before.reach;
-    if w == 0 || w >= 0x7000 || due > 0 || is_in_window(code, window, w) {
+    if w == 0 || w >= 0x6E00 || due > 0 || is_in_window(code, window, w) {
         return None;
     }
     let next = code.next_window(w)?;

@@ -92,13 +92,13 @@ const SMALL_KEYS: [KeyRow; 15] = [
         "\u{4E00}a\u{4E01}",
         Strength::Primary,
         Variable::NonIgnorable,
-        &[119, 206, 0, 21, 0, 119, 206, 1, 0],
+        &[117, 206, 0, 21, 0, 117, 206, 1, 0],
     ),
     (
         "\u{17000}",
         Strength::Primary,
         Variable::NonIgnorable,
-        &[118, 0, 128, 0, 0],
+        &[116, 0, 128, 0, 0],
     ),
     (
         "\u{3400}",
@@ -151,13 +151,13 @@ const SCRIPT_KEYS: [KeyRow; 14] = [
         "\u{3B1} \u{436}",
         Strength::Primary,
         Variable::NonIgnorable,
-        &[48, 4, 235, 160, 1, 0],
+        &[48, 4, 233, 160, 1, 0],
     ),
     (
         "a\u{436}\u{436} \u{436}a",
         Strength::Primary,
         Variable::NonIgnorable,
-        &[38, 235, 160, 1, 117, 4, 117, 34, 162, 0],
+        &[38, 233, 160, 1, 115, 4, 115, 34, 162, 0],
     ),
     (
         "\u{1F600}a\u{1F600}",
@@ -181,25 +181,25 @@ const SCRIPT_KEYS: [KeyRow; 14] = [
         "\u{436}\u{221}\u{436}",
         Strength::Primary,
         Variable::NonIgnorable,
-        &[235, 160, 1, 34, 164, 235, 160, 1, 0],
+        &[233, 160, 1, 34, 164, 233, 160, 1, 0],
     ),
     (
         "\u{436}\u{4E00}\u{436}",
         Strength::Primary,
         Variable::NonIgnorable,
-        &[235, 160, 1, 209, 64, 206, 0, 117, 0],
+        &[233, 160, 1, 207, 64, 206, 0, 115, 0],
     ),
     (
         "\u{4E00}\u{4E8C}",
         Strength::Primary,
         Variable::NonIgnorable,
-        &[237, 206, 0, 237, 206, 140, 0],
+        &[235, 206, 0, 235, 206, 140, 0],
     ),
     (
         "\u{3B1}\u{436}",
         Strength::Primary,
         Variable::NonIgnorable,
-        &[48, 235, 160, 1, 0],
+        &[48, 233, 160, 1, 0],
     ),
     (
         "\u{E01}a",
@@ -254,9 +254,9 @@ fn prefixes_have_no_end(rt: HostRuntime) -> Result<(), Fail> {
 
 /// Weights at the ends of the ranges that the code of primary weights has, and of those of the later levels.
 #[rattlefmt::skip]
-const EDGES: [u16; 32] = [
-    0, 1, 2, 3, 0x1F, 0x20, 0x21, 0x22, 0x42, 0x43, 0x44, 0xFD, 0xFE, 0xFF, 0x100, 0x1000, 0x1001, 0x1002, 0x10FF, 0x1100, 0x6FFF,
-    0x7000, 0x7FFF, 0x8000, 0x8001, 0xFAFF, 0xFB00, 0xFB40, 0xFBFF, 0xFC00, 0xFFFE, 0xFFFF,
+const EDGES: [u16; 34] = [
+    0, 1, 2, 3, 0x1F, 0x20, 0x21, 0x22, 0x42, 0x43, 0x44, 0xFD, 0xFE, 0xFF, 0x100, 0x1000, 0x1001, 0x1002, 0x10FF, 0x1100, 0x6DFF,
+    0x6E00, 0x7000, 0x7FFF, 0x8000, 0x8001, 0xFAFF, 0xFB00, 0xFB40, 0xFB41, 0xFBFF, 0xFC00, 0xFFFE, 0xFFFF,
 ];
 
 /// Characters of each kind that the code knows, and others.
@@ -280,7 +280,7 @@ fn next(state: u32) -> u32 {
 
 /// A weight at an edge, chosen by a number.
 fn edge(state: u32) -> u16 {
-    EDGES[(state >> 20) as usize % 32]
+    EDGES[(state >> 20) as usize % 34]
 }
 
 /// A table whose elements have weights at the edges, chosen by a number.
