@@ -31,7 +31,7 @@ sub both { ($_[0] >> 8, $_[0] & 255) }
 
 sub lead {
     my $w = shift;
-    my $high = $w < 0x6E00 ? $w >> 8 : $w < 0xFB00 ? 0x6E : $w < 0xFC00 ? 0x6F : 0x70;
+    my $high = $w < 0x6C00 ? $w >> 8 : $w < 0xFB00 ? 0x6C : $w < 0xFC00 ? 0x6D : 0x6E;
     return 1 + $high + (grep { $_ == $w } @single) + 2 * (grep { $_ < $w } @single);
 }
 
@@ -51,7 +51,7 @@ sub first_level {
         }
         push @bytes, lead($w) + ($slots < 0 ? 0 : 120);
         next if $is_single{$w};
-        push @bytes, $w < 0x6E00 || $after ? $w & 255 : both($w);
+        push @bytes, $w < 0x6C00 || $after ? $w & 255 : both($w);
         my ($anchor) = sort { $b <=> $a } grep { $_ && $_ <= $w } @weights;
         $base = $anchor if $anchor;
     }

@@ -10,7 +10,7 @@ use Rattle.uca_weights.specs.declared.settings.Variable.TheVariants.{NonIgnorabl
 
 -- the form of keys: it changes if the same weights ever make another sort key or packed key. Packed keys had others before
 abbrev pub key_form : ℕ
-key_form = 3
+key_form = 4
 
 abbrev pub variable_number : Variable → ℕ
 variable_number NonIgnorable = 0

@@ -11,9 +11,9 @@ use uca_table::Table;
 use uca_weights::{Settings, Variable, Writing};
 use unicode_normalization::UNICODE_VERSION;
 
-/// The form of keys. It changes if the same weights ever make another sort key or packed key. Numbers 1 and 2 were those of longer packed
-/// keys.
-const KEY_FORM: u8 = 3;
+/// The form of keys. It changes if the same weights ever make another sort key or packed key. Numbers 1 to 3 were those of longer
+/// packed keys.
+const KEY_FORM: u8 = 4;
 
 fn variable_number(weighting: Variable) -> u8
     ensures { result ≡ variable_number weighting }

@@ -1,7 +1,9 @@
 -- Masks of the elements that have another weight than the common one at a level.
-use Rattle.std.proofs.Common.{◌≡◌, ℕ, suc, zero, ◌+◌, ◌*◌, ◌-◌, ◌/◌, ◌%◌, ◌^◌, ◌<◌, ◌≤◌, ◌==◌, Bool, true, false, cond, not, ◌&&◌, ◌||◌, if◌then◌else◌, List, [], ◌∷◌, ◌++◌, drop, take, get_or, length, map, min, refl, sym, ap, ap₂, ◌∙◌, arith, eqb→eq, T, subst}
+use Rattle.std.proofs.Common.{◌≡◌, ◌⊎◌, inl, inr, count_ones, slice_index, ℕ, suc, zero, ◌+◌, ◌*◌, ◌-◌, ◌/◌, ◌%◌, ◌^◌, ◌<◌, ◌≤◌, ◌==◌, Bool, true, false, cond, not, ◌&&◌, ◌||◌, if◌then◌else◌, List, [], ◌∷◌, ◌++◌, drop, take, get_or, length, map, min, refl, sym, ap, ap₂, ◌∙◌, arith, eqb→eq, T, subst}
 use Rattle.std.proofs.lemmas.List.{drop-drop, drop_more, get_or-drop, get_or-map, get_or-take, length-drop, length-map, length-take, map-append}
-use Rattle.std.proofs.lemmas.Nat.{pow-add}
+use Rattle.std.proofs.lemmas.Nat.{mod-pow-add, mod_below, ones-le, ones_cat, pow-add, pow_pos}
+use Rattle.std.proofs.lemmas.Bool.{and_parts}
+use Rattle.std.proofs.lemmas.Bool.Decides.{nat_tests}
 use Rattle.std.proofs.lemmas.Nat.Bits.{bit_at-zero, bit_at-trailing_zeros}
 use Rattle.std.proofs.lemmas.Simd.{bit_mask_l, chunk-drop, length-chunk, mask_l-lt}
 use Rattle.std.proofs.Math.Nat.{div-div-eq-div-mul, mul_assoc}
@@ -12,10 +14,11 @@ use mir.Val.{bool_byte}
 use Rattle.uca_weights.specs.declared.element.Element.{Element}
 use Rattle.uca_weights.specs.declared.settings.Variable.{Variable}
 use Rattle.uca_model.specs.LevelWeights.{level_weights}
-use Rattle.uca_key.specs.Runs.{AreOthers, is_other}
+use Rattle.uca_key.specs.Runs.{AreMarked, is_blank, is_other}
+use Rattle.uca_key.specs.declared.runs.Marked.{Marked}
 use Rattle.uca_key.specs.PackedKey.{common_weight, runs_after}
-use Rattle.uca_key.specs.Weighing.{all_own}
-use Rattle.uca_key.proofs.RunsLemmas.{run-more}
+use Rattle.uca_key.specs.Weighing.{all_own, own_weights}
+use Rattle.uca_key.proofs.RunsLemmas.{blank-step, run-step}
 
 -- an element that stands for none
 pub blank : Element
@@ -34,52 +37,122 @@ bit_at-shifted : (m n i : ℕ) → bit_at (m / 2 ^ n / 2) i ≡ bit_at m (n + 1 
 bit_at-shifted m n i =
     ap (λ (x : ℕ). x % 2) (div-div-eq-div-mul (m / 2 ^ n) 2 (2 ^ i) ∙ div-div-eq-div-mul m (2 ^ n) (2 * 2 ^ i) ∙ ap (λ (x : ℕ). m / x) (ap (λ (x : ℕ). 2 ^ n * x) (sym (pow-add 2 1 i)) ∙ sym (pow-add 2 n (1 + i)) ∙ ap (λ (x : ℕ). 2 ^ x) (omega arith)))
 
+bit-cases : (m n : ℕ) → (bit_at m n ≡ 0) ⊎ (bit_at m n ≡ 1)
+bit-cases m n = two (bit_at m n) (mod_below (m / 2 ^ n) 2 (omega arith)) where
+  two : (b : ℕ) → b < 2 → (b ≡ 0) ⊎ (b ≡ 1)
+  two zero h = inl refl
+  two (suc zero) h = inr refl
+  two (suc (suc b)) h = absurd (omega arith)
+
 -- the bits below the lowest 1 of a mask
 pub low-zeros : (m n i : ℕ) → m < 2 ^ 64 → n ≤ trailing_zeros w64 m → i < n → bit_at m i ≡ 0
 low-zeros zero n i small within below = bit_at-zero i
 low-zeros (suc m) n i small within below = (bit_at-trailing_zeros w64 (suc m) (omega arith) small).2 i (omega arith)
 
 -- after elements that are taken, and one more
-pub others-after : (v : Variable) (level m n : ℕ) (es : List Element) → n < length es → AreOthers v level m es → AreOthers v level (m / 2 ^ n / 2) (drop (n + 1) es)
-others-after v level m n es within others = record {
-  common = λ i d inside none. ap (is_other v level) (get_or-drop (n + 1) es i d) ∙ others.common (n + 1 + i) d (omega (arith, length-drop (n + 1) es)) (sym (bit_at-shifted m n i) ∙ none);
+pub marked-after : (v : Variable) (level n : ℕ) (m k : Marked) (es : List Element) → n < length es → k.others ≡ m.others / 2 ^ n / 2 → k.blanks ≡ m.blanks / 2 ^ n / 2 → AreMarked v level m es → AreMarked v level k (drop (n + 1) es)
+marked-after v level n m k es within others blanks marked = record {
+  common = λ i d inside no_other no_blank.
+      ap (is_other v level) (get_or-drop (n + 1) es i d)
+      ∙ marked.common (n + 1 + i) d (omega (arith, length-drop (n + 1) es)) (sym (bit_at-shifted m.others n i) ∙ ap (λ (x : ℕ). bit_at x i) (sym others) ∙ no_other) (sym (bit_at-shifted m.blanks n i) ∙ ap (λ (x : ℕ). bit_at x i) (sym blanks) ∙ no_blank);
+  blank = λ i d inside is.
+      ap (λ e. slice_index (own_weights v e) (level - 1)) (get_or-drop (n + 1) es i d)
+      ∙ marked.blank (n + 1 + i) d (omega (arith, length-drop (n + 1) es)) (sym (bit_at-shifted m.blanks n i) ∙ ap (λ (x : ℕ). bit_at x i) (sym blanks) ∙ is);
+}
+
+-- of elements that are among others at the same places
+marked-among : (v : Variable) (level : ℕ) (m : Marked) (es fs : List Element) → ((i : ℕ) (d : Element) → i < length fs → (get_or fs i d ≡ get_or es i d) × (i < length es)) → AreMarked v level m es → AreMarked v level m fs
+marked-among v level m es fs among marked = record {
+  common = λ i d inside no_other no_blank. ap (is_other v level) (among i d inside).0 ∙ marked.common i d (among i d inside).1 no_other no_blank;
+  blank = λ i d inside is. ap (λ e. slice_index (own_weights v e) (level - 1)) (among i d inside).0 ∙ marked.blank i d (among i d inside).1 is;
 }
 
 -- of fewer elements
-pub others-front : (v : Variable) (level m k n : ℕ) (es : List Element) → k ≤ n → AreOthers v level m (take n es) → AreOthers v level m (take k es)
-others-front v level m k n es within others = record {
-  common = λ i d inside none. ap (is_other v level) (get_or-take k es i d (omega (arith, length-take k es)) ∙ sym (get_or-take n es i d (omega (arith, length-take k es)))) ∙ others.common i d (omega (arith, length-take k es, length-take n es)) none;
-}
+pub marked-front : (v : Variable) (level : ℕ) (m : Marked) (k n : ℕ) (es : List Element) → k ≤ n → AreMarked v level m (take n es) → AreMarked v level m (take k es)
+marked-front v level m k n es within =
+    marked-among v level m (take n es) (take k es) (λ i d inside. (get_or-take k es i d (omega (arith, length-take k es)) ∙ sym (get_or-take n es i d (omega (arith, length-take k es))), omega (arith, length-take k es, length-take n es)))
 
-pub others-fewer : (v : Variable) (level m n : ℕ) (es : List Element) → AreOthers v level m es → AreOthers v level m (take n es)
-others-fewer v level m n es others = record {
-  common = λ i d inside none. ap (is_other v level) (get_or-take n es i d (omega (arith, length-take n es))) ∙ others.common i d (omega (arith, length-take n es)) none;
-}
+pub marked-fewer : (v : Variable) (level : ℕ) (m : Marked) (n : ℕ) (es : List Element) → AreMarked v level m es → AreMarked v level m (take n es)
+marked-fewer v level m n es = marked-among v level m es (take n es) (λ i d inside. (get_or-take n es i d (omega (arith, length-take n es)), omega (arith, length-take n es)))
 
 -- what a front of a front has at a place
 front-of-front : (m n : ℕ) (es : List Element) (i : ℕ) (d : Element) → i < m → i < n → get_or (take m (take n es)) i d ≡ get_or es i d
 front-of-front m n es i d first second = get_or-take m (take n es) i d first ∙ get_or-take n es i d second
 
 -- of the elements that a text has in a room, as many of the first as a mask has bits for
-pub others-held : (v : Variable) (level m first whole held : ℕ) (room : List Element) → first ≡ min held 64 → first ≤ whole → AreOthers v level m (take 64 (take whole room)) → AreOthers v level m (take 64 (take held room))
-others-held v level m first whole held room few within others =
+pub marked-held : (v : Variable) (level : ℕ) (m : Marked) (first whole held : ℕ) (room : List Element) → first ≡ min held 64 → first ≤ whole → AreMarked v level m (take 64 (take whole room)) → AreMarked v level m (take 64 (take held room))
+marked-held v level m first whole held room few within =
     let front : (n : ℕ) → length (take 64 (take n room)) ≡ min 64 (min n (length room)) = λ n. length-take 64 (take n room) ∙ ap (min 64) (length-take n room) in
-    record {
-      common = λ i d inside none.
-          let below : i < min 64 (min held (length room)) = omega (arith, inside, front held) in
-          ap (is_other v level) (front-of-front 64 held room i d (omega (arith, below)) (omega (arith, below)) ∙ sym (front-of-front 64 whole room i d (omega (arith, below)) (omega (arith, below, few, within))))
-          ∙ others.common i d (omega (arith, below, few, within, front whole)) none;
-    }
+    marked-among v level m (take 64 (take whole room)) (take 64 (take held room)) (λ i d inside.
+    let below : i < min 64 (min held (length room)) = omega (arith, inside, front held) in
+    (front-of-front 64 held room i d (omega (arith, below)) (omega (arith, below)) ∙ sym (front-of-front 64 whole room i d (omega (arith, below)) (omega (arith, below, few, within))), omega (arith, below, few, within, front whole)))
 
 no-bit : (b : Bool) → cond {A = ℕ} b 1 0 ≡ 0 → b ≡ false
 no-bit true e = absurd (omega arith)
 no-bit false e = refl
 
--- the mask that has a bit for each element
-pub others-marked : (v : Variable) (level : ℕ) (es : List Element) (m : ℕ) → m ≡ mask_l (map (is_other v level) es) → AreOthers v level m es
-others-marked v level es m is = record {
-  common = λ i d inside none. sym (get_or-map (is_other v level) es i d false inside) ∙ no-bit _ (sym (bit_mask_l (map (is_other v level) es) i) ∙ sym (ap (λ (x : ℕ). bit_at x i) is) ∙ none);
+-- the bit of an element
+bit-of : (p : Element → Bool) (es : List Element) (i : ℕ) (d : Element) → i < length es → bit_at (mask_l (map p es)) i ≡ cond {A = ℕ} (p (get_or es i d)) 1 0
+bit-of p es i d inside = bit_mask_l (map p es) i ∙ ap (λ b. cond {A = ℕ} b 1 0) (get_or-map p es i d false inside)
+
+-- the mask that has a bit for each element, where none is blank
+pub others-marked : (v : Variable) (level : ℕ) (es : List Element) (m : Marked) → m.others ≡ mask_l (map (is_other v level) es) → m.blanks ≡ 0 → AreMarked v level m es
+others-marked v level es m is none = record {
+  common = λ i d inside no_other no_blank. no-bit _ (sym (bit-of (is_other v level) es i d inside) ∙ sym (ap (λ (x : ℕ). bit_at x i) is) ∙ no_other);
+  blank = λ i d inside some. absurd (let no : bit_at m.blanks i ≡ 0 = ap (λ (x : ℕ). bit_at x i) none ∙ bit_at-zero i in omega (arith, no, some));
 }
+
+yes-bit : (b : Bool) → cond {A = ℕ} b 1 0 ≡ 1 → b ≡ true
+yes-bit true e = refl
+yes-bit false e = absurd (omega arith)
+
+parted : (a b : Bool) → (b ≡ true → a ≡ true) → cond {A = ℕ} a 1 0 ≡ cond b 1 0 + cond (a && not b) 1 0
+parted true true h = refl
+parted true false h = refl
+parted false true h = absurd (let e : false ≡ true = h refl in cc)
+parted false false h = refl
+
+-- a mask of elements of which some are in another one, and the mask of the others
+mask-parts : (p q : Element → Bool) → ((e : Element) → q e ≡ true → p e ≡ true) → (es : List Element) → mask_l (map p es) ≡ mask_l (map q es) + mask_l (map (λ e. p e && not (q e)) es)
+mask-parts p q within [] = refl
+mask-parts p q within (e ∷ es) = let later = mask-parts p q within es in let here = parted (p e) (q e) (within e) in omega (arith, later, here)
+
+only-other : (a b : Bool) → (a && not b) ≡ false → b ≡ false → a ≡ false
+only-other true true h none = absurd (cc)
+only-other true false h none = h
+only-other false b h none = refl
+
+-- the masks of those that are other ones, and of those among them that are blank
+pub parts-marked : (v : Variable) (level : ℕ) (es : List Element) (m : Marked) (others : ℕ) → ((e : Element) → is_blank e ≡ true → (is_other v level e ≡ true) × (slice_index (own_weights v e) (level - 1) ≡ 0))
+    → others ≡ mask_l (map (is_other v level) es) → m.blanks ≡ mask_l (map is_blank es) → m.others ≡ others - m.blanks → AreMarked v level m es
+parts-marked v level es m others blanks whole none left =
+    let both : Element → Bool = λ e. is_other v level e && not (is_blank e) in
+    let parts = mask-parts (is_other v level) is_blank (λ e is. (blanks e is).0) es in
+    let rest : m.others ≡ mask_l (map both es) = omega (arith, parts, whole, none, left) in
+    record {
+      common = λ i d inside no_other no_blank.
+          only-other _ _ (no-bit _ (sym (bit-of both es i d inside) ∙ sym (ap (λ (x : ℕ). bit_at x i) rest) ∙ no_other)) (no-bit _ (sym (bit-of is_blank es i d inside) ∙ sym (ap (λ (x : ℕ). bit_at x i) none) ∙ no_blank));
+      blank = λ i d inside some. (blanks _ (yes-bit _ (sym (bit-of is_blank es i d inside) ∙ sym (ap (λ (x : ℕ). bit_at x i) none) ∙ some))).1;
+    }
+
+-- blanks are not among the others
+pub blanks-fewer : (v : Variable) (level : ℕ) (es : List Element) (others none : ℕ) → ((e : Element) → is_blank e ≡ true → (is_other v level e ≡ true) × (slice_index (own_weights v e) (level - 1) ≡ 0)) → others ≡ mask_l (map (is_other v level) es) → none ≡ mask_l (map is_blank es) → none ≤ others
+blanks-fewer v level es others none blanks whole is = let parts = mask-parts (is_other v level) is_blank (λ e is. (blanks e is).0) es in omega (arith, parts, whole, is)
+
+-- a blank element at the levels 2 and 3
+pub blank-second : (v : Variable) (e : Element) → is_blank e ≡ true → (is_other v 2 e ≡ true) × (slice_index (own_weights v e) 1 ≡ 0)
+blank-second v e is =
+    let none : e.l2 ≡ 0 = eqb→eq e.l2 0 (subst T (sym (and_parts (e.l2 == 0) (e.l3 == 0) is).0) tt) in
+    (ap (λ (w : ℕ). not (w == 32)) none, none)
+
+pub blank-third : (v : Variable) (e : Element) → is_blank e ≡ true → (is_other v 3 e ≡ true) × (slice_index (own_weights v e) 2 ≡ 0)
+blank-third v e is =
+    let none : e.l3 ≡ 0 = eqb→eq e.l3 0 (subst T (sym (and_parts (e.l2 == 0) (e.l3 == 0) is).1) tt) in
+    (ap (λ (w : ℕ). not (w == 2)) none, none)
+
+-- both weights in one number
+pub blank-weights : (a b : ℕ) → (a + 65536 * b == 0) ≡ ((a == 0) && (b == 0))
+blank-weights a b = grind (arith, nat_tests)
 
 is-equal : (b : Bool) → not b ≡ false → b ≡ true
 is-equal true e = refl
@@ -88,16 +161,43 @@ is-equal false e = sym e
 is-common : (a b : ℕ) → not (a == b) ≡ false → a ≡ b
 is-common a b same = eqb→eq a b (subst T (sym (is-equal _ same)) tt)
 
--- common weights that are counted together
-pub run-counted : (v : Variable) (level run m n : ℕ) (es : List Element) (d : Element) (ws : List ℕ) → AreOthers v level m es → run + n < 62 → n ≤ length es → ((i : ℕ) → i < n → bit_at m i ≡ 0)
-    → runs_after (common_weight level) (run + n) (level_weights level (all_own v (drop n es)) ++ ws) ≡ runs_after (common_weight level) run (level_weights level (all_own v es) ++ ws)
-run-counted v level run m zero es d ws others few within zeros = ap (λ k. runs_after (common_weight level) k (level_weights level (all_own v es) ++ ws)) (omega arith)
-run-counted v level run m (suc n) es d ws others few within zeros =
+-- the blank ones among one more of the first elements
+ones-more : (m n : ℕ) → count_ones (m % 2 ^ (n + 1)) ≡ bit_at m n + count_ones (m % 2 ^ n)
+unfolding lib.Count.ones
+ones-more m n =
+    let low : m % 2 ^ n < 2 ^ n = mod_below m (2 ^ n) (pow_pos n) in
+    let split : m % 2 ^ (n + 1) ≡ bit_at m n * 2 ^ n + m % 2 ^ n = ap (λ (k : ℕ). m % 2 ^ k) (omega arith) ∙ mod-pow-add m 1 n in
+    ap count_ones split ∙ ones_cat n (bit_at m n) (m % 2 ^ n) low ∙ ap (λ (k : ℕ). k + count_ones (m % 2 ^ n)) (one-bit (bit_at m n) (mod_below (m / 2 ^ n) 2 (omega arith)))
+  where
+    one-bit : (b : ℕ) → b < 2 → count_ones b ≡ b
+    one-bit zero h = refl
+    one-bit (suc zero) h = refl
+    one-bit (suc (suc b)) h = absurd (omega arith)
+
+pub ones-few : (m n : ℕ) → count_ones (m % 2 ^ n) ≤ n
+ones-few m n = ones-le n (m % 2 ^ n) (mod_below m (2 ^ n) (pow_pos n))
+
+-- common weights that are counted together, without elements that have none
+pub run-counted : (v : Variable) (level run : ℕ) (m : Marked) (n : ℕ) (es : List Element) (d : Element) (ws : List ℕ) → AreMarked v level m es → run + n < 62 → n ≤ length es → ((i : ℕ) → i < n → bit_at m.others i ≡ 0)
+    → runs_after (common_weight level) (run + (n - count_ones (m.blanks % 2 ^ n))) (level_weights level (all_own v (drop n es)) ++ ws) ≡ runs_after (common_weight level) run (level_weights level (all_own v es) ++ ws)
+run-counted v level run m zero es d ws marked few within zeros = ap (λ k. runs_after (common_weight level) k (level_weights level (all_own v es) ++ ws)) (omega arith)
+run-counted v level run m (suc n) es d ws marked few within zeros =
     let more : n + 1 ≡ suc n = omega arith in
-    let runs : ℕ → List ℕ = λ k. runs_after (common_weight level) (run + k) (level_weights level (all_own v (drop k es)) ++ ws) in
-    subst (λ k. runs k ≡ runs_after (common_weight level) run (level_weights level (all_own v es) ++ ws)) more
-    (run-more v level run n es d ws (omega arith) (omega arith) (is-common _ _ (others.common n d (omega arith) (zeros n (omega arith)))) refl
-    ∙ run-counted v level run m n es d ws others (omega arith) (omega arith) (λ i below. zeros i (omega arith)))
+    let weights : ℕ → List ℕ = λ k. level_weights level (all_own v (drop k es)) ++ ws in
+    let count : ℕ → ℕ = λ k. run + (k - count_ones (m.blanks % 2 ^ k)) in
+    let before : runs_after (common_weight level) (count n) (weights n) ≡ runs_after (common_weight level) run (level_weights level (all_own v es) ++ ws) = run-counted v level run m n es d ws marked (omega (arith, few)) (omega (arith, within)) (λ i below. zeros i (omega (arith, below))) in
+    let ones = ones-more m.blanks n in let fewer = ones-few m.blanks n in
+    subst (λ k. runs_after (common_weight level) (count k) (weights k) ≡ runs_after (common_weight level) run (level_weights level (all_own v es) ++ ws)) more
+    (elim (bit-cases m.blanks n) [
+      | inl none ↦
+          ap (λ (k : ℕ). runs_after (common_weight level) k (weights (n + 1))) (omega (arith, ones, fewer, none))
+          ∙ run-step v level (count n) n es d ws (omega (arith, few, fewer)) (omega (arith, within)) (is-common _ _ (marked.common n d (omega (arith, within)) (zeros n (omega arith)) none)) refl
+          ∙ before
+      | inr blank ↦
+          ap (λ (k : ℕ). runs_after (common_weight level) k (weights (n + 1))) (omega (arith, ones, fewer, blank))
+          ∙ ap (runs_after (common_weight level) (count n)) (blank-step v level n es d ws (omega (arith, within)) (marked.blank n d (omega (arith, within)) blank))
+          ∙ before
+    ])
 
 -- ---- masks that are put together
 pub mask-append : (xs ys : List Bool) → mask_l (xs ++ ys) ≡ mask_l xs + 2 ^ length xs * mask_l ys
@@ -161,16 +261,16 @@ pub map-same : (f g : ℕ → ℕ) → ((x : ℕ) → f x ≡ g x) → (xs : Lis
 map-same f g same [] = refl
 map-same f g same (x ∷ xs) = ap₂ (λ a b. a ∷ b) (same x) (map-same f g same xs)
 
--- whether the weights of elements at a level are other ones than the common one, as of the elements
-pub others-of-weights : (weight : Element → ℕ) (p : Element → Bool) (common : ℕ) → ((e : Element) → differ (weight e) common ≡ p e) → (es : List Element) → map (λ w. differ w common) (map weight es) ≡ map p es
-others-of-weights weight p common same [] = refl
-others-of-weights weight p common same (e ∷ es) = ap₂ (λ a b. a ∷ b) (same e) (others-of-weights weight p common same es)
+-- what a test says of weights of elements, as of the elements
+pub tests-of-weights : (weight : Element → ℕ) (f : ℕ → Bool) (p : Element → Bool) → ((e : Element) → f (weight e) ≡ p e) → (es : List Element) → map f (map weight es) ≡ map p es
+tests-of-weights weight f p same [] = refl
+tests-of-weights weight f p same (e ∷ es) = ap₂ (λ a b. a ∷ b) (same e) (tests-of-weights weight f p same es)
 
 -- the mask from a block on, by the weights of its elements at a level
-pub mask-lanes : (p : Element → Bool) (weight : Element → ℕ) (common : ℕ) → ((e : Element) → differ (weight e) common ≡ p e) → (n : ℕ) (es : List Element) (m b : ℕ) (lanes : List ℕ)
-    → 16 ≤ n → n ≤ length es → m ≡ mask_l (map p (drop n es)) → lanes ≡ map weight (chunk (n - 16) 16 es) → b ≡ mask_l (map (λ w. differ w common) lanes) → 65536 * m + b ≡ mask_l (map p (drop (n - 16) es))
-mask-lanes p weight common same n es m b lanes some within later read block =
+pub mask-lanes : (p : Element → Bool) (weight : Element → ℕ) (f : ℕ → Bool) → ((e : Element) → f (weight e) ≡ p e) → (n : ℕ) (es : List Element) (m b : ℕ) (lanes : List ℕ)
+    → 16 ≤ n → n ≤ length es → m ≡ mask_l (map p (drop n es)) → lanes ≡ map weight (chunk (n - 16) 16 es) → b ≡ mask_l (map f lanes) → 65536 * m + b ≡ mask_l (map p (drop (n - 16) es))
+mask-lanes p weight f same n es m b lanes some within later read block =
     let i : ℕ = n - 16 in
     let next : n ≡ i + 16 = omega (arith, some) in
-    let others = ap (λ l. mask_l (map (λ w. differ w common) l)) read ∙ ap mask_l (others-of-weights weight p common same (chunk i 16 es)) in
+    let others = ap (λ l. mask_l (map f l)) read ∙ ap mask_l (tests-of-weights weight f p same (chunk i 16 es)) in
     mask-block p i es m b (omega (arith, within, next)) (later ∙ ap (λ k. mask_l (map p (drop k es))) next) (block ∙ others)

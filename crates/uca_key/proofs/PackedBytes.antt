@@ -28,11 +28,11 @@ sums-most : (w : ℕ) (l : List ℕ) → sum_by (past w) l ≤ 2 * length l
 sums-most w [] = omega arith
 sums-most w (s ∷ l) = let parts = sum_by-cons (past w) s l in let here = past-most w s in let later = sums-most w l in omega arith
 
-page-most : (w : ℕ) → page_of w ≤ 112
+page-most : (w : ℕ) → page_of w ≤ 110
 page-most w = grind (arith, nat_tests)
 
--- with eleven weights that have a byte of their own, leads are few enough for the window
-pub lead-most : (k : PrimaryCode) (w : ℕ) → length k.singles ≤ 11 → lead k w ≤ 135
+-- with twelve weights that have a byte of their own, leads are few enough for the window
+pub lead-most : (k : PrimaryCode) (w : ℕ) → length k.singles ≤ 12 → lead k w ≤ 135
 lead-most k w few = let page = page-most w in let sums = sums-most w k.singles in omega arith
 
 -- ---- weights
@@ -55,7 +55,7 @@ slot-bytes k w = of_test (is_common k w)
     of_test true = tt
     of_test false = (omega arith, tt)
 
-letter-bytes : (k : PrimaryCode) (base w : ℕ) → length k.singles ≤ 11 → AreBytes (letter_bytes k base w)
+letter-bytes : (k : PrimaryCode) (base w : ℕ) → length k.singles ≤ 12 → AreBytes (letter_bytes k base w)
 letter-bytes k base w few =
     let most = lead-most k w few in let base_most = lead-most k base few in
     elim (place_of k base w) [
@@ -71,14 +71,14 @@ second-bytes w = of_test (nat_lt w 32768)
     of_test true = (omega arith, byte-pair w)
     of_test false = byte-pair w
 
-primary-bytes : (k : PrimaryCode) (p : CodeState) (w : ℕ) → length k.singles ≤ 11 → AreBytes (primary_bytes k p w)
+primary-bytes : (k : PrimaryCode) (p : CodeState) (w : ℕ) → length k.singles ≤ 12 → AreBytes (primary_bytes k p w)
 primary-bytes k p w few = by_state p.second
   where
     by_state : (second : Bool) → AreBytes (cond second (second_bytes w) (letter_bytes k p.base w))
     by_state true = second-bytes w
     by_state false = letter-bytes k p.base w few
 
-level-bytes : (k : PrimaryCode) (p : CodeState) (ws : List ℕ) → length k.singles ≤ 11 → AreBytes (primary_level k p ws)
+level-bytes : (k : PrimaryCode) (p : CodeState) (ws : List ℕ) → length k.singles ≤ 12 → AreBytes (primary_level k p ws)
 level-bytes k p [] few = (omega arith, tt)
 level-bytes k p (w ∷ ws) few = bytes-append (primary_bytes k p w) (primary_level k (state_after k p w) ws) (primary-bytes k p w few) (level-bytes k (state_after k p w) ws few)
 
@@ -120,7 +120,7 @@ concat-bytes : (ls : List (List ℕ)) → AllByRecursion AreBytes ls → AreByte
 concat-bytes [] h = tt
 concat-bytes (l ∷ ls) h = bytes-append l (concat ls) h.0 (concat-bytes ls h.1)
 
-few-singles : (t : ElementTable) → length ((code_of t).singles) ≤ 11
+few-singles : (t : ElementTable) → length ((code_of t).singles) ≤ 12
 unfolding code_of
 few-singles t = omega arith
 

@@ -35,12 +35,16 @@ weights-one v level i w es d ws within is =
     ∙ ap (λ (x : ℕ). filter (λ (y : ℕ). not (y == 0)) (x ∷ []) ++ (weights left ++ ws)) (sym is)
 
 -- a common weight more, in a run that is not full
-pub run-more : (v : Variable) (level run n : ℕ) (es : List Element) (d : Element) (ws : List ℕ) {w : ℕ} → run + n + 1 < 62 → n < length es → w ≡ common_weight level → w ≡ slice_index (own_weights v (get_or es n d)) (level - 1)
-    → runs_after (common_weight level) (run + (n + 1)) (level_weights level (all_own v (drop (n + 1) es)) ++ ws) ≡ runs_after (common_weight level) (run + n) (level_weights level (all_own v (drop n es)) ++ ws)
-run-more v level run n es d ws {w} few within common is =
+pub run-step : (v : Variable) (level run n : ℕ) (es : List Element) (d : Element) (ws : List ℕ) {w : ℕ} → run + 1 < 62 → n < length es → w ≡ common_weight level → w ≡ slice_index (own_weights v (get_or es n d)) (level - 1)
+    → runs_after (common_weight level) (run + 1) (level_weights level (all_own v (drop (n + 1) es)) ++ ws) ≡ runs_after (common_weight level) run (level_weights level (all_own v (drop n es)) ++ ws)
+run-step v level run n es d ws {w} few within common is =
     let c : ℕ = common_weight level in
     let left : List ℕ = level_weights level (all_own v (drop (n + 1) es)) ++ ws in
-    let all : run + (n + 1) ≡ run + n + 1 = omega arith in
     let own : filter (λ (x : ℕ). not (x == 0)) (w ∷ []) ≡ c ∷ [] = ap (λ (x : ℕ). filter (λ (y : ℕ). not (y == 0)) (x ∷ [])) common ∙ common-stays level in
-    ap (λ m. runs_after c m left) all ∙ one-common c (run + n) left few
-    ∙ ap (runs_after c (run + n)) (sym (weights-one v level n w es d ws within is ∙ ap (λ l. l ++ left) own))
+    one-common c run left few
+    ∙ ap (runs_after c run) (sym (weights-one v level n w es d ws within is ∙ ap (λ l. l ++ left) own))
+
+-- an element without a weight is passed
+pub blank-step : (v : Variable) (level n : ℕ) (es : List Element) (d : Element) (ws : List ℕ) → n < length es → slice_index (own_weights v (get_or es n d)) (level - 1) ≡ 0
+    → level_weights level (all_own v (drop (n + 1) es)) ++ ws ≡ level_weights level (all_own v (drop n es)) ++ ws
+blank-step v level n es d ws within none = sym (weights-one v level n 0 es d ws within (sym none))

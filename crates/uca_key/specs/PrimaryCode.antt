@@ -65,13 +65,13 @@ window = 119
 abbrev pub is_in_window : PrimaryCode → ℕ → ℕ → Bool
 is_in_window k base w = nat_le (slot k base) (slot k w) && nat_lt (slot k w) (slot k base + window)
 
--- weights whose high byte has a lead: those below 6E00, where published tables have theirs, and FB00 to FBFF, which begin most implicit pairs
+-- weights whose high byte has a lead: those below 6C00, where published tables have theirs, and FB00 to FBFF, which begin most implicit pairs
 abbrev pub has_page : ℕ → Bool
-has_page w = nat_lt w 0x6E00 || w / 256 == 0xFB
+has_page w = nat_lt w 0x6C00 || w / 256 == 0xFB
 
 -- the number of the lead of a weight, if no weight had one of its own
 abbrev pub page_of : ℕ → ℕ
-page_of w = if nat_lt w 0x6E00 then w / 256 else if nat_lt w 0xFB00 then 0x6E else if nat_lt w 0xFC00 then 0x6F else 0x70
+page_of w = if nat_lt w 0x6C00 then w / 256 else if nat_lt w 0xFB00 then 0x6C else if nat_lt w 0xFC00 then 0x6D else 0x6E
 
 -- a weight with a lead of its own raises those of the weights after it by two
 abbrev pub past : ℕ → ℕ → ℕ

@@ -63,7 +63,7 @@ pub record AreParts (p : Parts) : Type 0 where
   pub commons : length p.commons.now ≡ 65536
   pub named : length p.named.now ≡ 65536
   pub any : length p.any.now ≡ 65536
-  pub few : length p.singles.now ≤ 11
+  pub few : length p.singles.now ≤ 12
   pub numbered : length p.anchors.now < 256
 
 -- a code is made of them
@@ -94,9 +94,25 @@ pub record IsShort (k : PrimaryCode) (base w byte : ℕ) : Type 0 where
   pub stays : base_after k base w ≡ base
   pub single : (w / 256 == 0xFB) ≡ false
 
+-- a byte is all that the first weight of an implicit pair takes where the window begins at another, and the window stays
+pub record IsFirst (k : PrimaryCode) (base w byte : ℕ) : Type 0 where
+  pub alone : letter_bytes k base w ≡ byte ∷ []
+  pub stays : base_after k base w ≡ base
+  pub pair : (w / 256 == 0xFB) ≡ true
+
+-- a list has the byte of each such weight, from FB00 on; where it has zero it says nothing
+abbrev pub AreFirsts : PrimaryCode → ℕ → List ℕ → Type 0
+AreFirsts k base bytes = (w d : ℕ) → 0xFB00 ≤ w → w < 0xFC00 → 0 < get_or bytes (w - 0xFB00) d → IsFirst k base w (get_or bytes (w - 0xFB00) d)
+
 -- a list has the byte of each weight that takes only one; where it has zero it says nothing, nor does it of the weight zero
 abbrev pub AreShort : PrimaryCode → ℕ → List ℕ → Type 0
 AreShort k base bytes = (w d : ℕ) → 0 < w → w < length bytes → 0 < get_or bytes w d → IsShort k base w (get_or bytes w d)
+
+-- where a window lies by a code
+pub record IsPlaced (k : PrimaryCode) (window : Window) : Type 0 where
+  pub slot : window.slot ≡ slot k window.base
+  pub lead : window.lead ≡ lead k window.base
+  pub most : window.lead ≤ 135
 
 -- what a code has of a window
 pub record IsWindow (k : PrimaryCode) (window : Window) : Type 0 where
@@ -104,6 +120,7 @@ pub record IsWindow (k : PrimaryCode) (window : Window) : Type 0 where
   pub lead : window.lead ≡ lead k window.base
   pub most : window.lead ≤ 135
   pub short : AreShort k window.base window.bytes.items
+  pub firsts : AreFirsts k window.base window.first_bytes
 
 -- a window of each weight at which one begins
 pub record AreWindows (k : PrimaryCode) (windows : List Window) : Type 0 where

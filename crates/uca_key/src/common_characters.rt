@@ -52,9 +52,10 @@ pub const COMMON_RANGES: [(u32, u32); 46] = [
     (0x3105, 0x312F),
 ];
 
-/// Characters between words of all scripts, and two ideographs: each of the main block has the first primary weight of one of them.
-pub const SINGLE_CHARACTERS: [char; 11] = [
-    ' ', '\'', '(', ')', ',', '-', '.', '/', ':', '\u{4E00}', '\u{8000}',
+/// Characters between words of all scripts, the long mark of kana, which published tables put before all letters, and two ideographs: each of
+/// the main block has the first primary weight of one of them.
+pub const SINGLE_CHARACTERS: [char; 12] = [
+    ' ', '\'', '(', ')', ',', '-', '.', '/', ':', '\u{30FC}', '\u{4E00}', '\u{8000}',
 ];
 
 /// The first letter of each script, in the order of published tables, and the digit zero for Latin.

@@ -1,46 +1,74 @@
 // Packed sort keys that are put into a buffer, level after level.
-ghost use Rattle.std.specs.Prelude.{◌≡◌, ◌<◌, ◌≤◌, ◌^◌, chars, length, take};
+ghost use Rattle.std.specs.Prelude.{◌≡◌, ◌-◌, ◌<◌, ◌≤◌, ◌^◌, chars, length, take};
 ghost use Rattle.unicode_normalization.specs.Forms.{nfd};
 ghost use Rattle.uca_weights.specs.VariableWeighting.{weighted};
 ghost use Rattle.uca_key.specs.Pieces.{HoldsWeights, elements_of, weights_of};
 ghost use Rattle.uca_key.specs.Placing.{PutsAt};
-ghost use Rattle.uca_key.specs.PackedKey.{packed_key_by, packed_later};
-ghost use Rattle.uca_key.specs.Runs.{AreOthers};
+ghost use Rattle.uca_key.specs.PackedKey.{later_levels, packed_key_by, packed_later};
+ghost use Rattle.uca_key.specs.Runs.{AreMarked};
 ghost use Rattle.uca_key.specs.Weighing.{all_own};
 
 use crate::packed_code::PackedCode;
 use crate::pieces::TextReading;
 use crate::placing::put_text;
-use crate::runs::LaterOthers;
+use crate::runs::LaterMarks;
 use crate::{runs, weight_bytes};
 use uca_weights::{Element, Settings};
 
 // Puts a later level, from 2 to 5, of a text whose elements are held. The masks say which of the first have another weight than the
-// common one.
+// common one, or none.
 #[inline(always)]
 fn put_later(
     reading: &TextReading,
     level: u8,
-    others: LaterOthers,
+    marks: LaterMarks,
     elements: &[Element],
     at: usize,
     out: &mut [u8],
 ) -> usize
     requires first { 2 ≤ level }
     requires last { level ≤ 5 }
-    requires second { AreOthers reading.now.weighting 2 others.second (take 64 elements.now) }
-    requires third { AreOthers reading.now.weighting 3 others.third (take 64 elements.now) }
+    requires second { AreMarked reading.now.weighting 2 marks.second (take 64 elements.now) }
+    requires third { AreMarked reading.now.weighting 3 marks.third (take 64 elements.now) }
     requires elements { all_own reading.now.weighting elements.now ≡ weighted reading.now.weighting (elements_of reading.now) }
     requires size { length out.old < 2 ^ 64 }
     ensures { PutsAt at (packed_later (weights_of reading.now) (nfd (chars reading.now.text.now)) level) out.old out.new result }
 {
     let v = reading.weighting;
     match level {
-        2 => runs::put_whole(v, 2, others.second, elements, at, out),
-        3 => runs::put_whole(v, 3, others.third, elements, at, out),
-        4 => runs::put_whole(v, 4, runs::others_of(v, 4, elements), elements, at, out),
+        2 => runs::put_whole(v, 2, marks.second, elements, at, out),
+        3 => runs::put_whole(v, 3, marks.third, elements, at, out),
+        4 => runs::put_whole(v, 4, runs::marked_by_one(v, 4, elements), elements, at, out),
         _ => put_text(reading.table, reading.weighting, reading.text, at, out),
     }
+}
+
+// Puts the later levels, up to this one, of a text whose elements are held, and of which some have no weight. It is not inlined, and its
+// levels share their code, so that other texts do not pay for its registers.
+#[inline(never)]
+fn put_blank_levels(
+    reading: &TextReading,
+    last: u8,
+    marks: LaterMarks,
+    elements: &[Element],
+    at: usize,
+    out: &mut [u8],
+) -> usize
+    requires from { 1 ≤ last }
+    requires to { last ≤ 5 }
+    requires second { AreMarked reading.now.weighting 2 marks.second (take 64 elements.now) }
+    requires third { AreMarked reading.now.weighting 3 marks.third (take 64 elements.now) }
+    requires elements { all_own reading.now.weighting elements.now ≡ weighted reading.now.weighting (elements_of reading.now) }
+    requires size { length out.old < 2 ^ 64 }
+    ensures { PutsAt at (later_levels (last - 1) 2 (weights_of reading.now) (nfd (chars reading.now.text.now))) out.old out.new result }
+{
+    let mut next = at;
+    let mut level = 1;
+    'levels: while level < last {
+        level += 1;
+        next = put_later(reading, level, marks, elements, next, out);
+    }
+    next
 }
 
 // Puts the packed sort key of a text whose elements are held. Each level has code of its own, which asks for no level.
@@ -65,20 +93,23 @@ fn put_held(
     if last == 1 {
         return next;
     }
-    let others = runs::first_others(room, held);
-    let next = put_later(reading, 2, others, elements, next, out);
+    let marks = runs::first_marks(room, held);
+    if marks.have_blanks() {
+        return put_blank_levels(reading, last, marks, elements, next, out);
+    }
+    let next = put_later(reading, 2, marks, elements, next, out);
     if last == 2 {
         return next;
     }
-    let next = put_later(reading, 3, others, elements, next, out);
+    let next = put_later(reading, 3, marks, elements, next, out);
     if last == 3 {
         return next;
     }
-    let next = put_later(reading, 4, others, elements, next, out);
+    let next = put_later(reading, 4, marks, elements, next, out);
     if last == 4 {
         return next;
     }
-    put_later(reading, 5, others, elements, next, out)
+    put_later(reading, 5, marks, elements, next, out)
 }
 
 /// Puts the packed sort key of a text that was read into room, by a code of primary weights, at a place of a buffer, level after level.

@@ -1,5 +1,5 @@
 // The later levels of a packed key, with runs of common weights, put into a buffer piece by piece.
-ghost use Rattle.std.specs.Prelude.{◌≡◌, IsTrue, ◌≢◌, ◌==◌, ◌+◌, ◌*◌, ◌-◌, ◌^◌, ◌<◌, ◌≤◌, ◌++◌, ◌∷◌, [], ℕ, List, not, chars, drop, filter, length, map, min, take, ◌/◌, ◌%◌};
+ghost use Rattle.std.specs.Prelude.{◌≡◌, IsTrue, count_ones, ◌≢◌, ◌==◌, ◌+◌, ◌*◌, ◌-◌, ◌^◌, ◌<◌, ◌≤◌, ◌++◌, ◌∷◌, [], ℕ, List, not, chars, drop, filter, length, map, min, take, ◌/◌, ◌%◌};
 ghost use Rattle.std.specs.Int.{bit_at};
 ghost use Rattle.std.specs.Simd.Lanes.{chunk, mask_l};
 ghost use Rattle.unicode_normalization.specs.Forms.{nfd};
@@ -7,7 +7,7 @@ ghost use Rattle.uca_weights.specs.declared.settings.Variable.{Variable};
 ghost use Rattle.uca_model.specs.LevelWeights.{level_weights};
 ghost use Rattle.uca_model.specs.SafeText.{IsSafe};
 ghost use Rattle.uca_key.specs.PackedKey.{common_weight, other_bytes, runs_after, packed_later, packed_level};
-ghost use Rattle.uca_key.specs.Runs.{AreOthers, bytes_left, is_other};
+ghost use Rattle.uca_key.specs.Runs.{AreMarked, bytes_left, is_blank, is_other};
 ghost use Rattle.uca_key.specs.Pieces.{weights_of};
 ghost use Rattle.uca_key.specs.Placing.{IsPutting, PutsAt, StaysAfter};
 ghost use Rattle.uca_key.specs.Weighing.{all_own};
@@ -143,8 +143,41 @@ fn pack_weight(key: &mut [u8], before: Counted, common: u16, weight: u16) -> Cou
     put_after_run(key, before, common, weight)
 }
 
-// How many of the first of some elements have the common weight at a level by their mask, as long as the run that they are a part of
-// is not full.
+/// Which of the first elements of a text have no weight at a level, as the second of an implicit pair, and which of the others have another
+/// one than the common one: each as a bit.
+#[derive(Clone, Copy)]
+pub(crate) struct Marked {
+    pub(crate) others: u64,
+    pub(crate) blanks: u64,
+}
+
+// What masks say of the elements after so many of the first and one more.
+#[inline(always)]
+fn marked_after(marked: Marked, n: usize) -> Marked
+    requires { n < 64 }
+    ensures others { result.others ≡ marked.others / 2 ^ n / 2 }
+    ensures blanks { result.blanks ≡ marked.blanks / 2 ^ n / 2 }
+{
+    Marked {
+        others: marked.others >> n >> 1,
+        blanks: marked.blanks >> n >> 1,
+    }
+}
+
+// How many of the first elements have a weight, by the mask of those that have none.
+#[inline(always)]
+fn count_weights(blanks: u64, n: usize) -> usize
+    requires { n < 62 }
+    ensures { result ≡ n - count_ones (blanks % 2 ^ n) }
+{
+    if blanks == 0 {
+        return n;
+    }
+    n - (blanks % (1 << n)).count_ones() as usize
+}
+
+// How many of the first of some elements have the common weight at a level by their mask, or none, as long as the run that they are a part
+// of is not full.
 #[inline(always)]
 fn count_run(others: u64, left: usize, run: usize) -> usize
     requires few { run < 62 }
@@ -157,8 +190,56 @@ fn count_run(others: u64, left: usize, run: usize) -> usize
         .min(FULL_RUN - 1 - run)
 }
 
-// Packs the weights of elements at a level, by the mask of those that have another weight than the common one: counts the common ones
-// up to the next other one, and puts that.
+// What is packed of some elements, and how many they are.
+#[derive(Clone, Copy)]
+struct Row {
+    packed: Counted,
+    elements: usize,
+}
+
+// Packs the weights of the first elements at level 3 as long as each takes one byte of its own: no common weight comes before it, and it
+// is little above that. So are those of kana. At other levels few elements in a row are like that.
+#[inline(always)]
+fn pack_row(key: &mut [u8], before: Counted, v: Variable, elements: &[Element], level: u8) -> Row
+    requires few { before.run < 62 }
+    requires first { 2 ≤ level }
+    requires last { level ≤ 4 }
+    requires room { before.at + 4 * length elements.now ≤ length key.old }
+    ensures bytes { (ws : List ℕ) → take result.packed.at key.new ++ runs_after (common_weight level) result.packed.run (level_weights level (all_own v (drop result.elements elements.now)) ++ ws) ≡ take before.at key.old ++ runs_after (common_weight level) before.run (level_weights level (all_own v elements.now) ++ ws) }
+    ensures few { result.packed.run < 62 }
+    ensures some { result.elements ≤ length elements.now }
+    ensures within { result.packed.at ≤ before.at + 4 * result.elements }
+    ensures stays { StaysAfter before.at result.packed.at key.old key.new }
+    ensures size { length key.new ≡ length key.old }
+{
+    if level != 3 {
+        return Row {
+            packed: before,
+            elements: 0,
+        };
+    }
+    let common = common_weight(level);
+    let mut packed = before;
+    let mut n = 0;
+    'each: while n < elements.len() {
+        let weight = own_weight(v, &elements[n], level);
+        if packed.run > 0 || weight <= common || weight - common >= 35 {
+            return Row {
+                packed,
+                elements: n,
+            };
+        }
+        packed = pack_weight(key, packed, common, weight);
+        n += 1;
+    }
+    Row {
+        packed,
+        elements: n,
+    }
+}
+
+// Packs the weights of elements at a level, by the masks of those that have another weight than the common one, or none: counts the common
+// ones up to the next other one, and puts that, with those after it that take one byte each.
 #[inline(always)]
 fn pack_masked(
     key: &mut [u8],
@@ -166,12 +247,13 @@ fn pack_masked(
     v: Variable,
     elements: &[Element],
     level: u8,
-    others: u64,
+    marked: Marked,
 ) -> Counted
     requires few { before.run < 62 }
     requires first { 2 ≤ level }
     requires last { level ≤ 4 }
-    requires others { AreOthers v level others elements.now }
+    requires marked { AreMarked v level marked elements.now }
+    requires size { length elements.now ≤ 64 }
     requires room { before.at + 4 * length elements.now ≤ length key.old }
     ensures bytes { (ws : List ℕ) → take result.at key.new ++ runs_after (common_weight level) result.run ws ≡ take before.at key.old ++ runs_after (common_weight level) before.run (level_weights level (all_own v elements.now) ++ ws) }
     ensures few { result.run < 62 }
@@ -181,18 +263,20 @@ fn pack_masked(
 {
     let common = common_weight(level);
     let mut packed = before;
-    let mut mask = others;
+    let mut mask = marked;
     let mut left = elements;
     'runs: while !left.is_empty() {
-        let n = count_run(mask, left.len(), packed.run);
-        packed.run += n;
+        let n = count_run(mask.others, left.len(), packed.run);
+        packed.run += count_weights(mask.blanks, n);
         let (_, after) = left.split_at(n);
         let Some((first, rest)) = after.split_first() else {
             return packed;
         };
         packed = pack_weight(key, packed, common, own_weight(v, first, level));
-        mask = mask >> n >> 1;
-        left = rest;
+        let row = pack_row(key, packed, v, rest, level);
+        packed = row.packed;
+        mask = marked_after(mask, n + row.elements);
+        left = rest.split_at(row.elements).1;
     }
     packed
 }
@@ -224,9 +308,9 @@ fn is_other(v: Variable, e: &Element, level: u8) -> bool
     }
 }
 
-/// Which of the first elements, as many as a mask has bits for, have another weight than the common one at a level from 2 to 4: each
-/// as a bit. They are looked at one by one, with no branch at what is found, since that cannot be foreseen.
-pub(crate) fn others_of(v: Variable, level: u8, elements: &[Element]) -> u64
+// Which of the first elements, as many as a mask has bits for, have another weight than the common one at a level from 2 to 4: each
+// as a bit. They are looked at one by one, with no branch at what is found, since that cannot be foreseen.
+fn others_of(v: Variable, level: u8, elements: &[Element]) -> u64
     requires first { 2 ≤ level }
     requires last { level ≤ 4 }
     ensures { result ≡ mask_l (map (is_other v level) (take 64 elements.now)) }
@@ -240,7 +324,19 @@ pub(crate) fn others_of(v: Variable, level: u8, elements: &[Element]) -> u64
     others
 }
 
-// Packs the weights of elements at a level, as many at a time as a mask has bits for. The mask of the first is known.
+/// The masks of the first elements, one by one. An element without a weight is one of the others here.
+pub(crate) fn marked_by_one(v: Variable, level: u8, elements: &[Element]) -> Marked
+    requires first { 2 ≤ level }
+    requires last { level ≤ 4 }
+    ensures { AreMarked v level result (take 64 elements.now) }
+{
+    Marked {
+        others: others_of(v, level, elements),
+        blanks: 0,
+    }
+}
+
+// Packs the weights of elements at a level, as many at a time as a mask has bits for. The masks of the first are known.
 #[inline(always)]
 fn pack_whole(
     key: &mut [u8],
@@ -248,12 +344,12 @@ fn pack_whole(
     v: Variable,
     elements: &[Element],
     level: u8,
-    others: u64,
+    marked: Marked,
 ) -> Counted
     requires few { before.run < 62 }
     requires first { 2 ≤ level }
     requires last { level ≤ 4 }
-    requires others { AreOthers v level others (take 64 elements.now) }
+    requires marked { AreMarked v level marked (take 64 elements.now) }
     requires room { before.at + 4 * length elements.now ≤ length key.old }
     ensures bytes { (ws : List ℕ) → take result.at key.new ++ runs_after (common_weight level) result.run ws ≡ take before.at key.old ++ runs_after (common_weight level) before.run (level_weights level (all_own v elements.now) ++ ws) }
     ensures few { result.run < 62 }
@@ -262,7 +358,7 @@ fn pack_whole(
     ensures size { length key.new ≡ length key.old }
 {
     let mut packed = before;
-    let mut mask = others;
+    let mut mask = marked;
     let mut left = elements;
     'pieces: loop {
         let (piece, rest) = left.split_at(left.len().min(MASKED));
@@ -270,7 +366,7 @@ fn pack_whole(
         if rest.is_empty() {
             return packed;
         }
-        mask = others_of(v, level, rest);
+        mask = marked_by_one(v, level, rest);
         left = rest;
     }
 }
@@ -288,9 +384,9 @@ fn pack(key: &mut [u8], before: Counted, v: Variable, elements: &[Element], leve
     ensures size { length key.new ≡ length key.old }
 {
     match level {
-        2 => pack_whole(key, before, v, elements, 2, others_of(v, 2, elements)),
-        3 => pack_whole(key, before, v, elements, 3, others_of(v, 3, elements)),
-        _ => pack_whole(key, before, v, elements, 4, others_of(v, 4, elements)),
+        2 => pack_whole(key, before, v, elements, 2, marked_by_one(v, 2, elements)),
+        3 => pack_whole(key, before, v, elements, 3, marked_by_one(v, 3, elements)),
+        _ => pack_whole(key, before, v, elements, 4, marked_by_one(v, 4, elements)),
     }
 }
 
@@ -299,6 +395,7 @@ fn pack(key: &mut [u8], before: Counted, v: Variable, elements: &[Element], leve
 fn later_weights(e: &Element) -> u32
     ensures second { result % 65536 ≡ e.now.l2 }
     ensures third { result / 65536 ≡ e.now.l3 }
+    ensures both { result ≡ e.now.l2 + 65536 * e.now.l3 }
 {
     e.l2 as u32 + 65536 * e.l3 as u32
 }
@@ -309,6 +406,7 @@ fn later_weights_at(elements: &[Element], at: usize) -> u32x16
     requires { at + 16 ≤ length elements.now }
     ensures second { map (λ w. w % 65536) result ≡ map (λ e. e.l2) (chunk at 16 elements.now) }
     ensures third { map (λ w. w / 65536) result ≡ map (λ e. e.l3) (chunk at 16 elements.now) }
+    ensures both { result ≡ map (λ e. e.l2 + 65536 * e.l3) (chunk at 16 elements.now) }
 {
     u32x16::from_array([
         later_weights(&elements[at]),
@@ -350,14 +448,37 @@ fn third_others(weights: u32x16) -> u64
         .to_bitmask()
 }
 
-/// Which of the first elements of a text have another weight than the common one at the levels 2 and 3: each as a bit of two masks.
-#[derive(Clone, Copy)]
-pub(crate) struct LaterOthers {
-    pub(crate) second: u64,
-    pub(crate) third: u64,
+// Which of sixteen elements have no weight at the levels 2 and 3.
+#[inline(always)]
+fn blanks(weights: u32x16) -> u64
+    ensures { result ≡ mask_l (map (λ w. w == 0) weights) }
+{
+    weights.simd_eq(u32x16::splat(0)).to_bitmask()
 }
 
-// The masks of whole blocks of sixteen elements, block by block from the last, which has the highest bits.
+/// What masks say of the first elements of a text at the levels 2 and 3.
+#[derive(Clone, Copy)]
+pub(crate) struct LaterMarks {
+    pub(crate) second: Marked,
+    pub(crate) third: Marked,
+}
+
+impl LaterMarks {
+    /// Whether they say of an element that it has no weight.
+    #[inline(always)]
+    pub(crate) fn have_blanks(&self) -> bool {
+        self.second.blanks != 0 || self.third.blanks != 0
+    }
+}
+
+/// Which of the first elements of a text have another weight than the common one at the levels 2 and 3, or none: each as a bit.
+#[derive(Clone, Copy)]
+struct LaterOthers {
+    second: u64,
+    third: u64,
+}
+
+// The same of whole blocks of sixteen elements, block by block from the last, which has the highest bits.
 #[inline(always)]
 fn later_others(elements: &[Element]) -> LaterOthers
     requires whole { length elements.now % 16 ≡ 0 }
@@ -377,22 +498,65 @@ fn later_others(elements: &[Element]) -> LaterOthers
     LaterOthers { second, third }
 }
 
-/// Which of the first elements of a text that was read into room have another weight than the common one at the levels 2 and 3. The
-/// last block may end in elements of the room that are none of the text, whose bits say nothing: so no remainder of a block needs a loop
-/// of its own.
-pub(crate) fn first_others(room: &[Element], held: usize) -> LaterOthers
+// Which of whole blocks of sixteen elements have no weight at the levels 2 and 3. It is not inlined, since few texts have such elements.
+#[inline(never)]
+fn later_blanks(elements: &[Element]) -> u64
+    requires whole { length elements.now % 16 ≡ 0 }
+    requires few { length elements.now ≤ 64 }
+    ensures { result ≡ mask_l (map is_blank elements.now) }
+{
+    let mut none = 0;
+    let mut n = elements.len();
+    'each: while n > 0 {
+        n -= LANES;
+        none = 65536 * none + blanks(later_weights_at(elements, n));
+    }
+    none
+}
+
+// What masks say of whole blocks of sixteen elements. One without a weight has another one than the common one at both levels; the elements
+// after the first ones that are held are not asked for it.
+#[inline(always)]
+fn later_marks(elements: &[Element], held: usize) -> LaterMarks
+    requires whole { length elements.now % 16 ≡ 0 }
+    requires few { length elements.now ≤ 64 }
+    ensures second { (v : Variable) → AreMarked v 2 result.second elements.now }
+    ensures third { (v : Variable) → AreMarked v 3 result.third elements.now }
+{
+    let LaterOthers { second, third } = later_others(elements);
+    let both = (second & third).trailing_zeros() as usize;
+    let blanks = if both >= held {
+        0
+    } else {
+        later_blanks(elements)
+    };
+    LaterMarks {
+        second: Marked {
+            others: second - blanks,
+            blanks,
+        },
+        third: Marked {
+            others: third - blanks,
+            blanks,
+        },
+    }
+}
+
+/// What masks say of the first elements of a text that was read into room, at the levels 2 and 3. The last block may end in elements of the
+/// room that are none of the text, whose bits say nothing: so no remainder of a block needs a loop of its own.
+pub(crate) fn first_marks(room: &[Element], held: usize) -> LaterMarks
     requires { held ≤ length room.now }
-    ensures second { (v : Variable) → AreOthers v 2 result.second (take 64 (take held room.now)) }
-    ensures third { (v : Variable) → AreOthers v 3 result.third (take 64 (take held room.now)) }
+    ensures second { (v : Variable) → AreMarked v 2 result.second (take 64 (take held room.now)) }
+    ensures third { (v : Variable) → AreMarked v 3 result.third (take 64 (take held room.now)) }
 {
     let first = held.min(MASKED);
     let whole = first + (LANES - 1) - (first + (LANES - 1)) % LANES;
     if whole <= room.len() {
-        return later_others(&room[..whole]);
+        return later_marks(&room[..whole], first);
     }
-    LaterOthers {
-        second: others_of(Variable::NonIgnorable, 2, &room[..first]),
-        third: others_of(Variable::NonIgnorable, 3, &room[..first]),
+    LaterMarks {
+        second: marked_by_one(Variable::NonIgnorable, 2, &room[..first]),
+        third: marked_by_one(Variable::NonIgnorable, 3, &room[..first]),
     }
 }
 
@@ -439,8 +603,8 @@ fn put_end(state: Counted, out: &mut [u8]) -> usize
     put_bytes(&[2 * state.run as u8], state.at, out)
 }
 
-// Whether a mask of some elements says that all have the common weight of a level, so that the level is one run. So are most levels of
-// short texts.
+// Whether a mask of some elements says that all have the common weight of a level or none, so that the level is one run. So are most
+// levels of short texts.
 #[inline(always)]
 fn is_one_run(others: u64, elements: usize) -> bool
     ensures few { IsTrue result → elements < 62 }
@@ -449,20 +613,20 @@ fn is_one_run(others: u64, elements: usize) -> bool
     elements < FULL_RUN && others.trailing_zeros() as usize >= elements
 }
 
-/// Puts a level, from 2 to 4, of some elements at a place of a buffer, by the mask of the first elements that have another weight than
-/// the common one. What fits is put at once, and else a piece at a time.
+/// Puts a level, from 2 to 4, of some elements at a place of a buffer, by the masks of the first elements that have another weight than
+/// the common one, or none. What fits is put at once, and else a piece at a time.
 #[inline(always)]
 pub(crate) fn put_whole(
     v: Variable,
     level: u8,
-    others: u64,
+    marked: Marked,
     elements: &[Element],
     at: usize,
     out: &mut [u8],
 ) -> usize
     requires first { 2 ≤ level }
     requires last { level ≤ 4 }
-    requires others { AreOthers v level others (take 64 elements.now) }
+    requires marked { AreMarked v level marked (take 64 elements.now) }
     requires size { length out.old < 2 ^ 64 }
     ensures { PutsAt at (packed_level (all_own v elements.now) level) out.old out.new result }
 {
@@ -470,11 +634,11 @@ pub(crate) fn put_whole(
     if !has_room_for_end(elements.len(), OTHER, at, out.len()) {
         return put_end(put_elements(v, level, before, elements, out), out);
     }
-    if is_one_run(others, elements.len()) {
-        out[at] = 2 * elements.len() as u8;
+    if is_one_run(marked.others, elements.len()) {
+        out[at] = 2 * count_weights(marked.blanks, elements.len()) as u8;
         return at + 1;
     }
-    let packed = pack_whole(out, before, v, elements, level, others);
+    let packed = pack_whole(out, before, v, elements, level, marked);
     out[packed.at] = 2 * packed.run as u8;
     packed.at + 1
 }

@@ -7,7 +7,7 @@ ghost use Rattle.uca_key.specs.Reach.{first_left, state_of};
 ghost use Rattle.uca_key.specs.Pieces.{weights_of};
 ghost use Rattle.uca_key.specs.Placing.{IsPutting, PutsAt, StaysAfter, StaysBeyond};
 ghost use Rattle.uca_key.specs.PrimaryCode.{PrimaryCode, after_slot, base_after, has_page, is_common, is_in_window, is_single, lead, letter_bytes, primary_bytes, primary_level, second_bytes, slot, start, state_after};
-ghost use Rattle.uca_key.specs.WeightCodes.{AreShort, IsShort, IsWindow};
+ghost use Rattle.uca_key.specs.WeightCodes.{AreShort, IsFirst, IsShort, IsWindow};
 ghost use Rattle.uca_key.specs.Weighing.{all_own};
 
 use crate::packed_code::PackedCode;
@@ -56,7 +56,7 @@ fn put_after_lead(w: u16, key: &mut [u8], at: usize) -> usize
     ensures stays { StaysAfter at result key.old key.new }
     ensures size { length key.new ≡ length key.old }
 {
-    if w < 0x6E00 {
+    if w < 0x6C00 {
         return put_low(w, key, at);
     }
     if w / 256 == 0xFB {
@@ -235,7 +235,7 @@ fn put_letter<'c>(
     ensures size { length key.new ≡ length key.old }
 {
     let Reach { window, due } = before.reach;
-    if w == 0 || w >= 0x6E00 || due > 0 || is_in_window(code, window, w) {
+    if w == 0 || w >= 0x6C00 || due > 0 || is_in_window(code, window, w) {
         return None;
     }
     let next = code.next_window(w)?;
@@ -278,32 +278,28 @@ fn put_short(code: &PackedCode, reach: Reach, w: u16, byte: u8, key: &mut [u8], 
     at + (w != 0) as usize
 }
 
-// Puts an implicit pair, whose first weight has a byte of its own, outside the window.
+// Puts an implicit pair whose first weight takes this byte alone.
 #[inline(always)]
 fn put_implicit(
     code: &PackedCode,
     reach: Reach,
     w: u16,
+    byte: u8,
     second: u16,
     key: &mut [u8],
     at: usize,
 ) -> usize
-    requires window { IsWindow code.now reach.window.now }
     requires first { reach.due ≡ 0 }
-    requires single { is_single code.now w ≡ true }
-    requires outside { is_in_window code.now reach.window.now.base w ≡ false }
-    requires pair { (w / 256 == 251) ≡ true }
-    requires some { 0 < w }
-    requires other { 0 < second }
-    requires room { at + 4 ≤ length key.old }
+    requires byte { IsFirst code.now reach.window.now.base w byte }
+    requires next { 0x8000 ≤ second }
+    requires room { at + 3 ≤ length key.old }
     ensures bytes { (ws : List ℕ) → take result key.new ++ primary_level code.now (state_of reach.entry) ws ≡ take at key.old ++ primary_level code.now (state_of reach.entry) (filter (λ x. not (x == 0)) (w ∷ []) ++ (filter (λ x. not (x == 0)) (second ∷ []) ++ ws)) }
-    ensures within { result ≤ at + 4 }
+    ensures within { result ≤ at + 3 }
     ensures stays { StaysAfter at result key.old key.new }
     ensures size { length key.new ≡ length key.old }
 {
-    let own = code.of(w);
-    key[at] = reach.window.lead_byte(own.slot, own.lead);
-    put_second(second, key, at + 1)
+    key[at] = byte;
+    put_pair(second, key, at + 1)
 }
 
 // How far weights are put: the place after their bytes, and the elements that are left.
@@ -337,19 +333,16 @@ fn put_shorts<'e>(
     if reach.due > 0 {
         return Progress { at, left: elements };
     }
-    let mut n = 0;
-    'each: while n < elements.len() {
-        let w = primary_weight(v, &elements[n]);
+    let mut left = elements;
+    'each: while let Some((first, rest)) = left.split_first() {
+        let w = primary_weight(v, first);
         let Some(byte) = short_byte(bytes, w) else {
-            return Progress {
-                at,
-                left: elements.split_at(n).1,
-            };
+            return Progress { at, left };
         };
         at = put_short(code, reach, w, byte, key, at);
-        n += 1;
+        left = rest;
     }
-    Progress { at, left: &[] }
+    Progress { at, left }
 }
 
 // Puts the first weights of some elements if they are an implicit pair whose first weight has a byte of its own outside the window, as
@@ -375,21 +368,53 @@ fn put_pair_of<'e>(
     let [first, next, ..] = elements else {
         return None;
     };
+    if reach.due > 0 {
+        return None;
+    }
     let w = primary_weight(v, first);
-    if w / 256 != 0xFB || reach.due > 0 {
-        return None;
-    }
-    if !code.of(w).single || is_in_window(code, reach.window, w) {
-        return None;
-    }
+    let byte = reach.window.first_byte(w)?;
     let second = primary_weight(v, next);
-    if second == 0 {
+    if second < 0x8000 {
         return None;
     }
     Some(Progress {
-        at: put_implicit(code, reach, w, second, key, before.at),
+        at: put_implicit(code, reach, w, byte, second, key, before.at),
         left: elements.split_at(2).1,
     })
+}
+
+// Puts the weights of elements as long as they leave the window as it is: letters of one byte, and such pairs.
+#[inline(always)]
+fn put_kept<'e>(
+    code: &PackedCode,
+    v: Variable,
+    before: Placed,
+    elements: &'e [Element],
+    key: &mut [u8],
+) -> Progress<'e>
+    requires window { IsWindow code.now before.reach.window.now }
+    requires room { before.at + 3 * length elements.now ≤ length key.old }
+    ensures bytes { (ws : List ℕ) → take result.at key.new ++ primary_level code.now (state_of before.entry.reach) (level_weights 1 (weighted v result.left.now) ++ ws) ≡ take before.entry.at key.old ++ primary_level code.now (state_of before.entry.reach) (level_weights 1 (weighted v elements.now) ++ ws) }
+    ensures within { result.at + 3 * length result.left.now ≤ before.entry.at + 3 * length elements.now }
+    ensures some { length result.left.now ≤ length elements.now }
+    ensures stays { StaysBeyond before.entry.at result.at key.old key.new }
+    ensures size { length key.new ≡ length key.old }
+{
+    let reach = before.reach;
+    let mut at = before.at;
+    let mut left = elements;
+    'runs: loop {
+        let short = put_shorts(code, v, Placed { at, reach }, left, key);
+        let letters = Placed {
+            at: short.at,
+            reach,
+        };
+        let Some(pair) = put_pair_of(code, v, letters, short.left, key) else {
+            return short;
+        };
+        at = pair.at;
+        left = pair.left;
+    }
 }
 
 // What is put of weights and what they leave, and the elements that are left.
@@ -399,7 +424,7 @@ struct Step<'c, 'e> {
     left: &'e [Element],
 }
 
-// Puts the first weight of some elements, or both weights of an implicit pair.
+// Puts the first weight of some elements, or those of a run of ideographs.
 #[inline(always)]
 fn put_first<'c, 'e>(
     code: &'c PackedCode,
@@ -424,21 +449,42 @@ fn put_first<'c, 'e>(
     if let Some(placed) = put_letter(code, before, w, key) {
         return Some(Step { placed, left: rest });
     }
-    if let Some(pair) = put_pair_of(code, v, before, elements, key) {
-        let reach = before.reach;
-        return Some(Step {
-            placed: Placed { at: pair.at, reach },
-            left: pair.left,
-        });
-    }
     Some(Step {
         placed: put_some(code, before, w, key),
         left: rest,
     })
 }
 
-// Puts the weights of elements: one by itself, since the first letter of a text moves the window, then together those that take one byte,
-// and so on.
+// Puts the first weight of some elements if it is a letter that moves the window, as the first one of most texts in other scripts than
+// Latin is. It puts none of any others.
+#[inline(always)]
+fn put_start<'c, 'e>(
+    code: &'c PackedCode,
+    v: Variable,
+    before: Placed<'c>,
+    elements: &'e [Element],
+    key: &mut [u8],
+) -> Step<'c, 'e>
+    requires window { IsWindow code.now before.reach.window.now }
+    requires room { before.at + 3 * length elements.now ≤ length key.old }
+    ensures bytes { (ws : List ℕ) → take result.placed.at key.new ++ primary_level code.now (state_of result.placed.reach) (level_weights 1 (weighted v result.left.now) ++ ws) ≡ take before.entry.at key.old ++ primary_level code.now (state_of before.entry.reach) (level_weights 1 (weighted v elements.now) ++ ws) }
+    ensures window { IsWindow code.now result.placed.reach.window.now }
+    ensures within { result.placed.at + 3 * length result.left.now ≤ before.entry.at + 3 * length elements.now }
+    ensures stays { StaysAfter before.entry.at result.placed.at key.old key.new }
+    ensures size { length key.new ≡ length key.old }
+{
+    if let Some((first, rest)) = elements.split_first() {
+        if let Some(placed) = put_letter(code, before, primary_weight(v, first), key) {
+            return Step { placed, left: rest };
+        }
+    }
+    Step {
+        placed: before,
+        left: elements,
+    }
+}
+
+// Puts the weights of elements: together those that leave the window as it is, then one by itself, and so on.
 #[inline(always)]
 fn put_each<'c>(
     code: &'c PackedCode,
@@ -455,18 +501,17 @@ fn put_each<'c>(
     ensures stays { StaysBeyond before.entry.at result.at key.old key.new }
     ensures size { length key.new ≡ length key.old }
 {
-    let mut placed = before;
-    let mut left = elements;
+    let mut step = put_start(code, v, before, elements, key);
     'each: loop {
-        let Some(step) = put_first(code, v, placed, left, key) else {
-            return placed;
-        };
-        let short = put_shorts(code, v, step.placed, step.left, key);
-        placed = Placed {
-            at: short.at,
+        let kept = put_kept(code, v, step.placed, step.left, key);
+        let placed = Placed {
+            at: kept.at,
             reach: step.placed.reach,
         };
-        left = short.left;
+        let Some(next) = put_first(code, v, placed, kept.left, key) else {
+            return placed;
+        };
+        step = next;
     }
 }
 

@@ -181,13 +181,13 @@ fn has_weight(weights: &[u16], w: u16) -> bool
 fn page_of(w: u16) -> u8
     ensures { result ≡ page_of w }
 {
-    if w < 0x6E00 {
+    if w < 0x6C00 {
         return (w / 256) as u8;
     }
     if w < 0xFB00 {
-        return 0x6E;
+        return 0x6C;
     }
-    if w < 0xFC00 { 0x6F } else { 0x70 }
+    if w < 0xFC00 { 0x6D } else { 0x6E }
 }
 
 // By how much a weight with a lead of its own raises the lead of a weight.
@@ -205,7 +205,7 @@ fn past(w: u16, single: u16) -> u8
 // The lead of a weight, with these weights that have leads of their own.
 #[inline(always)]
 fn lead_over(singles: &[u16], w: u16) -> u8
-    requires { length singles.now ≤ 11 }
+    requires { length singles.now ≤ 12 }
     ensures value { result ≡ 1 + page_of w + sum_by (past w) singles.now }
     ensures most { result ≤ 135 }
 {

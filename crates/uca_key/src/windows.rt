@@ -1,7 +1,7 @@
 // The windows of a code of primary weights, with the bytes of weights that take one byte there.
-ghost use Rattle.std.specs.Prelude.{◌≡◌, ◌<◌, ◌≤◌, ◌+◌, ◌-◌, ◌&&◌, ℕ, nat_le, nat_lt, IfOk, length, if◌then◌else◌};
+ghost use Rattle.std.specs.Prelude.{◌≡◌, ◌<◌, ◌≤◌, ◌+◌, ◌-◌, ◌&&◌, ℕ, nat_le, nat_lt, IfOk, IfSome, length, if◌then◌else◌};
 ghost use Rattle.uca_key.specs.PrimaryCode.{PrimaryCode};
-ghost use Rattle.uca_key.specs.WeightCodes.{AreShort, AreWindows, IsShort, IsWindow};
+ghost use Rattle.uca_key.specs.WeightCodes.{AreFirsts, AreShort, AreWindows, IsFirst, IsPlaced, IsShort, IsWindow};
 
 use crate::weight_codes::WeightCodes;
 use std::alloc::{AllocError, Global};
@@ -12,6 +12,9 @@ const SLOTS: u8 = 119;
 // How many weights a window has bytes for. Published tables have all letters below.
 const SPAN: usize = 0x5000;
 
+// How many weights begin implicit pairs: those from FB00 to FBFF.
+const FIRSTS: usize = 256;
+
 /// A window: the weight at which it begins, with its slot and its lead.
 #[derive(Drop)]
 pub(crate) struct Window {
@@ -20,6 +23,8 @@ pub(crate) struct Window {
     lead: u8,
     // Of each weight below a limit the byte that is all it takes, if it also leaves the window where it is, or zero.
     bytes: Vec<u8>,
+    // Of each weight from FB00 on that begins an implicit pair the byte that it has of its own outside the window, or zero.
+    first_bytes: [u8; FIRSTS],
 }
 
 impl Window {
@@ -29,6 +34,18 @@ impl Window {
         ensures { (k : PrimaryCode) → IsWindow k self.now → AreShort k self.now.base result.now }
     {
         &self.bytes
+    }
+
+    /// The byte of a weight that begins an implicit pair, if it has one of its own outside the window.
+    #[inline(always)]
+    pub(crate) fn first_byte(&self, w: u16) -> Option<u8>
+        ensures { (k : PrimaryCode) → IsWindow k self.now → IfSome result (IsFirst k self.now.base w) }
+    {
+        if w < 0xFB00 || w > 0xFBFF {
+            return None;
+        }
+        let byte = self.first_bytes[(w - 0xFB00) as usize];
+        if byte == 0 { None } else { Some(byte) }
     }
 
     /// Whether a window has a slot.
@@ -67,7 +84,7 @@ impl Window {
 
 // The byte that is all a weight takes in a window, if it also leaves the window as it is, or zero.
 fn own_byte(codes: &WeightCodes, window: &Window, w: u16) -> u8
-    requires { IsWindow codes.now window.now }
+    requires { IsPlaced codes.now window.now }
     ensures { 0 < result → IsShort codes.now window.now.base w result }
 {
     if w / 256 == 0xFB {
@@ -89,7 +106,7 @@ fn own_byte(codes: &WeightCodes, window: &Window, w: u16) -> u8
 
 // Puts the bytes of those of some weights that take only one in a window, and that the list has a place for.
 fn put_own_bytes(codes: &WeightCodes, window: &Window, weights: &[u16], bytes: &mut [u8])
-    requires window { IsWindow codes.now window.now }
+    requires window { IsPlaced codes.now window.now }
     requires short { AreShort codes.now window.now.base bytes.old }
     ensures short { AreShort codes.now window.now.base bytes.new }
     ensures size { length bytes.new ≡ length bytes.old }
@@ -102,6 +119,30 @@ fn put_own_bytes(codes: &WeightCodes, window: &Window, weights: &[u16], bytes: &
     }
 }
 
+// The byte of a weight that begins an implicit pair, if it has one of its own outside the window, or zero.
+fn own_first_byte(codes: &WeightCodes, window: &Window, w: u16) -> u8
+    requires { IsPlaced codes.now window.now }
+    ensures { 0 < result → IsFirst codes.now window.now.base w result }
+{
+    let code = codes.of(w);
+    if w / 256 != 0xFB || !code.single || window.has_slot(code.slot) {
+        return 0;
+    }
+    window.lead_byte(code.slot, code.lead)
+}
+
+// The bytes of the weights that begin implicit pairs.
+fn first_bytes_of(codes: &WeightCodes, window: &Window) -> [u8; FIRSTS]
+    requires { IsPlaced codes.now window.now }
+    ensures { AreFirsts codes.now window.now.base result }
+{
+    let mut bytes = [0; FIRSTS];
+    for w in 0xFB00..0xFC00u16 {
+        bytes[(w - 0xFB00) as usize] = own_first_byte(codes, window, w);
+    }
+    bytes
+}
+
 // A list of so many zeros, which say nothing.
 fn unknown(alloc: Global, n: usize) -> Result<Vec<u8>, AllocError>
     ensures short { IfOk result (λ v. (k : PrimaryCode) (base : ℕ) → AreShort k base v.items) }
@@ -112,7 +153,7 @@ fn unknown(alloc: Global, n: usize) -> Result<Vec<u8>, AllocError>
 
 // Puts the bytes of all weights of which the code says something. A zero weight, which is left out, has a byte too.
 fn put_all(codes: &WeightCodes, window: &Window, bytes: &mut [u8])
-    requires window { IsWindow codes.now window.now }
+    requires window { IsPlaced codes.now window.now }
     requires some { 0 < length bytes.old }
     requires short { AreShort codes.now window.now.base bytes.old }
     ensures short { AreShort codes.now window.now.base bytes.new }
@@ -134,10 +175,13 @@ fn window_at(alloc: Global, codes: &WeightCodes, base: u16) -> Result<Window, Al
         slot: code.slot,
         lead: code.lead,
         bytes: Vec::new(alloc),
+        first_bytes: [0; FIRSTS],
     };
     let mut bytes = unknown(alloc, SPAN)?;
     put_all(codes, &window, bytes.as_mut_slice());
+    let first_bytes = first_bytes_of(codes, &window);
     window.bytes = bytes;
+    window.first_bytes = first_bytes;
     Ok(window)
 }
 

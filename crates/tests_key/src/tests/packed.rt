@@ -92,19 +92,19 @@ const SMALL_KEYS: [KeyRow; 15] = [
         "\u{4E00}a\u{4E01}",
         Strength::Primary,
         Variable::NonIgnorable,
-        &[117, 206, 0, 21, 0, 117, 206, 1, 0],
+        &[115, 206, 0, 21, 0, 115, 206, 1, 0],
     ),
     (
         "\u{17000}",
         Strength::Primary,
         Variable::NonIgnorable,
-        &[116, 0, 128, 0, 0],
+        &[114, 0, 128, 0, 0],
     ),
     (
         "\u{3400}",
         Strength::Primary,
         Variable::NonIgnorable,
-        &[120, 128, 180, 0, 0],
+        &[118, 128, 180, 0, 0],
     ),
 ];
 
@@ -151,13 +151,13 @@ const SCRIPT_KEYS: [KeyRow; 14] = [
         "\u{3B1} \u{436}",
         Strength::Primary,
         Variable::NonIgnorable,
-        &[48, 4, 233, 160, 1, 0],
+        &[48, 4, 231, 160, 1, 0],
     ),
     (
         "a\u{436}\u{436} \u{436}a",
         Strength::Primary,
         Variable::NonIgnorable,
-        &[38, 233, 160, 1, 115, 4, 115, 34, 162, 0],
+        &[38, 231, 160, 1, 113, 4, 113, 34, 162, 0],
     ),
     (
         "\u{1F600}a\u{1F600}",
@@ -169,7 +169,7 @@ const SCRIPT_KEYS: [KeyRow; 14] = [
         "\u{DF}a",
         Strength::Primary,
         Variable::NonIgnorable,
-        &[246, 128, 223, 38, 0],
+        &[245, 128, 223, 38, 0],
     ),
     (
         "a\u{221}b",
@@ -181,25 +181,25 @@ const SCRIPT_KEYS: [KeyRow; 14] = [
         "\u{436}\u{221}\u{436}",
         Strength::Primary,
         Variable::NonIgnorable,
-        &[233, 160, 1, 34, 164, 233, 160, 1, 0],
+        &[231, 160, 1, 34, 164, 231, 160, 1, 0],
     ),
     (
         "\u{436}\u{4E00}\u{436}",
         Strength::Primary,
         Variable::NonIgnorable,
-        &[233, 160, 1, 207, 64, 206, 0, 115, 0],
+        &[231, 160, 1, 205, 64, 206, 0, 113, 0],
     ),
     (
         "\u{4E00}\u{4E8C}",
         Strength::Primary,
         Variable::NonIgnorable,
-        &[235, 206, 0, 235, 206, 140, 0],
+        &[233, 206, 0, 233, 206, 140, 0],
     ),
     (
         "\u{3B1}\u{436}",
         Strength::Primary,
         Variable::NonIgnorable,
-        &[48, 233, 160, 1, 0],
+        &[48, 231, 160, 1, 0],
     ),
     (
         "\u{E01}a",
@@ -211,13 +211,13 @@ const SCRIPT_KEYS: [KeyRow; 14] = [
         "\u{1E00}",
         Strength::Primary,
         Variable::NonIgnorable,
-        &[246, 128, 65, 246, 131, 37, 0],
+        &[245, 128, 65, 245, 131, 37, 0],
     ),
     (
         "a\u{1E00}",
         Strength::Primary,
         Variable::NonIgnorable,
-        &[38, 246, 128, 65, 246, 131, 37, 0],
+        &[38, 245, 128, 65, 245, 131, 37, 0],
     ),
 ];
 
@@ -255,8 +255,8 @@ fn prefixes_have_no_end(rt: HostRuntime) -> Result<(), Fail> {
 /// Weights at the ends of the ranges that the code of primary weights has, and of those of the later levels.
 #[rattlefmt::skip]
 const EDGES: [u16; 34] = [
-    0, 1, 2, 3, 0x1F, 0x20, 0x21, 0x22, 0x42, 0x43, 0x44, 0xFD, 0xFE, 0xFF, 0x100, 0x1000, 0x1001, 0x1002, 0x10FF, 0x1100, 0x6DFF,
-    0x6E00, 0x7000, 0x7FFF, 0x8000, 0x8001, 0xFAFF, 0xFB00, 0xFB40, 0xFB41, 0xFBFF, 0xFC00, 0xFFFE, 0xFFFF,
+    0, 1, 2, 3, 0x1F, 0x20, 0x21, 0x22, 0x42, 0x43, 0x44, 0xFD, 0xFE, 0xFF, 0x100, 0x1000, 0x1001, 0x1002, 0x10FF, 0x1100, 0x6BFF,
+    0x6C00, 0x7000, 0x7FFF, 0x8000, 0x8001, 0xFAFF, 0xFB00, 0xFB40, 0xFB41, 0xFBFF, 0xFC00, 0xFFFE, 0xFFFF,
 ];
 
 /// Characters of each kind that the code knows, and others.

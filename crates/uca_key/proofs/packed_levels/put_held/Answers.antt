@@ -1,4 +1,4 @@
-use Rattle.std.proofs.Common.{◌≡◌, ℕ, List, suc, ◌+◌, ◌-◌, ◌<◌, ◌^◌, ◌++◌, chars, length, refl, sym, subst, ap, ◌∙◌, arith}
+use Rattle.std.proofs.Common.{◌≡◌, ℕ, List, suc, ◌+◌, ◌-◌, ◌<◌, ◌^◌, ◌++◌, chars, length, refl, sym, subst, take, ap, ◌∙◌, arith}
 use Rattle.unicode_normalization.specs.Forms.{nfd}
 use Rattle.uca_weights.specs.declared.settings.Settings.{Settings}
 use Rattle.uca_weights.specs.declared.settings.Variable.{Variable}
@@ -11,7 +11,8 @@ use Rattle.uca_model.proofs.LevelLemmas.{levels-within}
 use Rattle.uca_key.specs.Placing.{IsPutting, PutsAt}
 use Rattle.uca_key.specs.PrimaryCode.{PrimaryCode, primary_level, start}
 use Rattle.uca_key.specs.PackedKey.{later_levels, packed_key_by, packed_later}
-use Rattle.uca_key.proofs.PlacingLemmas.{IsPutting-ends, IsPutting-start, IsPutting-more}
+use Rattle.uca_key.specs.Weighing.{all_own}
+use Rattle.uca_key.proofs.PlacingLemmas.{PutsAt-more, IsPutting-ends, IsPutting-start, IsPutting-more}
 use Rattle.uca_key.proofs.PackedPieces.{packed-levels}
 use Rattle.uca_key.proofs.packed_levels.put_held.Goals as goal
 
@@ -43,6 +44,33 @@ module _ (k : PrimaryCode) (t : ElementTable) (s : Settings) (text : List ℕ) (
   ends level next now last done =
       let none : levels s.strength - level ≡ 0 = omega (arith, last) in
       IsPutting-ends _ _ _ _ _ _ done (ap (λ n. later_levels n (level + 1) (weights t s.weighting text) (nfd text)) none)
+
+-- the first level and the later ones
+whole : (k : PrimaryCode) (t : ElementTable) (s : Settings) (text : List ℕ) (v : Variable) (last : ℕ) (own : List (List ℕ)) → s.weighting ≡ v → last ≡ levels s.strength → own ≡ weights t v text
+    → primary_level k (start k) (level_weights 1 own) ++ later_levels (last - 1) 2 (weights t v text) (nfd text) ≡ packed_key_by k t s text
+whole k t s text v last own option is held =
+    let key : List (List ℕ) → Variable → ℕ → List ℕ = λ ws u n. primary_level k (start k) (level_weights 1 ws) ++ later_levels (n - 1) 2 (weights t u text) (nfd text) in
+    ap (λ ws. key ws v last) held ∙ ap (λ u. key (weights t u text) u last) (sym option) ∙ ap (λ n. key (weights t s.weighting text) s.weighting n) is ∙ sym (packed-levels k t s text)
+
+pub returns-then-have_blanks : goal.returns-then-have_blanks
+returns-then-have_blanks c =
+    let text : List ℕ = chars c.args.reading.now.text.now in let t = c.args.reading.now.table.now in let k = c.args.code.now in let s = c.args.s in let v = c.args.reading.now.weighting in
+    let own : List (List ℕ) = all_own v (take c.args.held c.args.room.now) in
+    subst (λ (l : List ℕ). PutsAt c.args.at l c.args.out.now c.put_blank_levels.new.out c.put_blank_levels.result)
+    (whole k t s text v c.levels-last.result own c.requires.option c.levels-last.ensures c.requires.elements)
+    (PutsAt-more _ _ _ _ _ _ _ _ c.requires.size c.put_whole-next.ensures c.put_blank_levels.ensures)
+
+pub put_blank_levels-requires-clause-from : goal.put_blank_levels-requires-clause-from
+put_blank_levels-requires-clause-from c = let bounds = levels-within c.args.s.strength in omega (arith, bounds.0, c.levels-last.ensures)
+
+pub put_blank_levels-requires-clause-to : goal.put_blank_levels-requires-clause-to
+put_blank_levels-requires-clause-to c = let bounds = levels-within c.args.s.strength in omega (arith, bounds.1, c.levels-last.ensures)
+
+pub put_blank_levels-requires-clause-second : goal.put_blank_levels-requires-clause-second
+put_blank_levels-requires-clause-second c = c.first_marks-marks.ensures.second c.args.reading.now.weighting
+
+pub put_blank_levels-requires-clause-third : goal.put_blank_levels-requires-clause-third
+put_blank_levels-requires-clause-third c = c.first_marks-marks.ensures.third c.args.reading.now.weighting
 
 pub returns-then-last-eq1 : goal.returns-then-last-eq1
 returns-then-last-eq1 c =
@@ -96,25 +124,25 @@ returns c =
     ends k t s text v option c.args.at c.args.out.now small 5 _ _ top (step 4 _ _ _ _ (omega (arith, top)) four c.put_later.ensures)
 
 pub put_later-next-requires-clause-second : goal.put_later-next-requires-clause-second
-put_later-next-requires-clause-second c = c.first_others-others.ensures.second c.args.reading.now.weighting
+put_later-next-requires-clause-second c = c.first_marks-marks.ensures.second c.args.reading.now.weighting
 
 pub put_later-next-requires-clause-third : goal.put_later-next-requires-clause-third
-put_later-next-requires-clause-third c = c.first_others-others.ensures.third c.args.reading.now.weighting
+put_later-next-requires-clause-third c = c.first_marks-marks.ensures.third c.args.reading.now.weighting
 
 pub put_later-next-requires-2-clause-second : goal.put_later-next-requires-2-clause-second
-put_later-next-requires-2-clause-second c = c.first_others-others.ensures.second c.args.reading.now.weighting
+put_later-next-requires-2-clause-second c = c.first_marks-marks.ensures.second c.args.reading.now.weighting
 
 pub put_later-next-requires-2-clause-third : goal.put_later-next-requires-2-clause-third
-put_later-next-requires-2-clause-third c = c.first_others-others.ensures.third c.args.reading.now.weighting
+put_later-next-requires-2-clause-third c = c.first_marks-marks.ensures.third c.args.reading.now.weighting
 
 pub put_later-next-requires-3-clause-second : goal.put_later-next-requires-3-clause-second
-put_later-next-requires-3-clause-second c = c.first_others-others.ensures.second c.args.reading.now.weighting
+put_later-next-requires-3-clause-second c = c.first_marks-marks.ensures.second c.args.reading.now.weighting
 
 pub put_later-next-requires-3-clause-third : goal.put_later-next-requires-3-clause-third
-put_later-next-requires-3-clause-third c = c.first_others-others.ensures.third c.args.reading.now.weighting
+put_later-next-requires-3-clause-third c = c.first_marks-marks.ensures.third c.args.reading.now.weighting
 
 pub put_later-requires-clause-second : goal.put_later-requires-clause-second
-put_later-requires-clause-second c = c.first_others-others.ensures.second c.args.reading.now.weighting
+put_later-requires-clause-second c = c.first_marks-marks.ensures.second c.args.reading.now.weighting
 
 pub put_later-requires-clause-third : goal.put_later-requires-clause-third
-put_later-requires-clause-third c = c.first_others-others.ensures.third c.args.reading.now.weighting
+put_later-requires-clause-third c = c.first_marks-marks.ensures.third c.args.reading.now.weighting

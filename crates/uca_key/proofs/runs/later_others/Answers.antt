@@ -1,4 +1,4 @@
-use Rattle.std.proofs.Common.{◌≡◌, ◌-◌, ◌^◌, ◌%◌, ◌≤◌, ◌<◌, ℕ, List, drop, length, refl, arith}
+use Rattle.std.proofs.Common.{◌≡◌, ◌==◌, not, ◌-◌, ◌^◌, ◌%◌, ◌≤◌, ◌<◌, ℕ, List, drop, length, refl, arith}
 use Rattle.std.proofs.lemmas.List.{length-drop}
 use Rattle.uca_weights.specs.declared.element.Element.{Element}
 use Rattle.uca_weights.specs.declared.settings.Variable.TheVariants.{NonIgnorable}
@@ -27,8 +27,8 @@ each-preserved c =
     record {
       within = omega (arith, i.within);
       whole = omega (arith, i.whole, some);
-      second = λ v. mask-lanes (is_other v 2) (λ e. e.l2) 32 (λ e. refl) c.each.n es c.each.second c.second_others.result _ some i.within (i.second v) c.later_weights_at-weights.ensures.second c.second_others.ensures;
-      third = λ v. mask-lanes (is_other v 3) (λ e. e.l3) 2 (λ e. refl) c.each.n es c.each.third c.third_others.result _ some i.within (i.third v) c.later_weights_at-weights.ensures.third c.third_others.ensures;
+      second = λ v. mask-lanes (is_other v 2) (λ e. e.l2) (λ (w : ℕ). not (w == 32)) (λ e. refl) c.each.n es c.each.second c.second_others.result _ some i.within (i.second v) c.later_weights_at-weights.ensures.second c.second_others.ensures;
+      third = λ v. mask-lanes (is_other v 3) (λ e. e.l3) (λ (w : ℕ). not (w == 2)) (λ e. refl) c.each.n es c.each.third c.third_others.result _ some i.within (i.third v) c.later_weights_at-weights.ensures.third c.third_others.ensures;
     }
 
 pub overflow_mul-second : goal.overflow_mul-second
@@ -44,7 +44,7 @@ overflow_add-second c =
     record {
       fits =
           mask-small (is_other NonIgnorable 2) (drop (c.each.n - 16) es) _ 64 (omega (arith, length-drop (c.each.n - 16) es, c.requires.few))
-          (mask-lanes (is_other NonIgnorable 2) (λ e. e.l2) 32 (λ e. refl) c.each.n es c.each.second c.second_others.result _ some i.within (i.second NonIgnorable) c.later_weights_at-weights.ensures.second c.second_others.ensures);
+          (mask-lanes (is_other NonIgnorable 2) (λ e. e.l2) (λ (w : ℕ). not (w == 32)) (λ e. refl) c.each.n es c.each.second c.second_others.result _ some i.within (i.second NonIgnorable) c.later_weights_at-weights.ensures.second c.second_others.ensures);
     }
 
 pub overflow_mul-third : goal.overflow_mul-third
@@ -60,5 +60,5 @@ overflow_add-third c =
     record {
       fits =
           mask-small (is_other NonIgnorable 3) (drop (c.each.n - 16) es) _ 64 (omega (arith, length-drop (c.each.n - 16) es, c.requires.few))
-          (mask-lanes (is_other NonIgnorable 3) (λ e. e.l3) 2 (λ e. refl) c.each.n es c.each.third c.third_others.result _ some i.within (i.third NonIgnorable) c.later_weights_at-weights.ensures.third c.third_others.ensures);
+          (mask-lanes (is_other NonIgnorable 3) (λ e. e.l3) (λ (w : ℕ). not (w == 2)) (λ e. refl) c.each.n es c.each.third c.third_others.result _ some i.within (i.third NonIgnorable) c.later_weights_at-weights.ensures.third c.third_others.ensures);
     }

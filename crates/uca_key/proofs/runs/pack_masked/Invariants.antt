@@ -2,7 +2,7 @@ use Rattle.std.proofs.Common.{◌≡◌, ◌+◌, ◌*◌, ◌<◌, ◌≤◌, �
 use Rattle.uca_model.specs.LevelWeights.{level_weights}
 use Rattle.uca_key.specs.PackedKey.{common_weight, runs_after}
 use Rattle.uca_key.specs.Placing.{StaysAfter}
-use Rattle.uca_key.specs.Runs.{AreOthers}
+use Rattle.uca_key.specs.Runs.{AreMarked}
 use Rattle.uca_key.specs.Weighing.{all_own}
 use Rattle.uca_key.proofs.runs.pack_masked.Given as goal
 
@@ -10,7 +10,8 @@ use Rattle.uca_key.proofs.runs.pack_masked.Given as goal
 abbrev pub invariant-runs : goal.invariant-runs
 invariant-runs l = record {
   few : l.packed.run < 62;
-  others : AreOthers l.v l.level l.mask l.left;
+  marked : AreMarked l.v l.level l.mask l.left;
+  small : length l.left ≤ 64;
   within : l.packed.at + 4 * length l.left ≤ l.fn.before.at + 4 * length l.elements;
   stays : StaysAfter l.fn.before.at l.packed.at l.fn.key l.key;
   size : length l.key ≡ length l.fn.key;

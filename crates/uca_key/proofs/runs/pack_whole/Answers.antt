@@ -3,18 +3,18 @@ use Rattle.uca_weights.specs.declared.element.Element.{Element}
 use Rattle.uca_weights.specs.declared.settings.Variable.{Variable}
 use Rattle.uca_model.specs.LevelWeights.{level_weights}
 use Rattle.uca_key.specs.PackedKey.{common_weight, runs_after}
-use Rattle.uca_key.specs.Runs.{AreOthers}
+use Rattle.uca_key.specs.Runs.{AreMarked}
 use Rattle.uca_key.specs.Weighing.{all_own}
-use Rattle.uca_key.proofs.MaskLemmas.{others-front, others-marked}
+use Rattle.uca_key.proofs.MaskLemmas.{marked-front}
 use Rattle.uca_key.proofs.PlacingLemmas.{stays-more}
 use Rattle.uca_key.proofs.WeighingLemmas.{own_weights-both}
 use Rattle.uca_key.proofs.runs.pack_whole.Goals as goal
 
-pub pack_masked-packed-requires-clause-others : goal.pack_masked-packed-requires-clause-others
-pack_masked-packed-requires-clause-others c =
+pub pack_masked-packed-requires-clause-marked : goal.pack_masked-packed-requires-clause-marked
+pack_masked-packed-requires-clause-marked c =
     let v : Variable = c.args.v in let level : ℕ = c.args.level in let left : List Element = c.pieces.left.now in
     let few : c.min.result ≤ 64 = omega (arith, c.min.ensures) in
-    subst (AreOthers v level c.pieces.mask) (sym c.split_at.ensures.front) (others-front v level c.pieces.mask c.min.result 64 left few c.pieces.invariant.others)
+    subst (AreMarked v level c.pieces.mask) (sym c.split_at.ensures.front) (marked-front v level c.pieces.mask c.min.result 64 left few c.pieces.invariant.marked)
 
 pub returns-then-is_empty-clause-stays : goal.returns-then-is_empty-clause-stays
 returns-then-is_empty-clause-stays c = stays-more _ _ _ _ _ _ c.pieces.invariant.stays c.pack_masked-packed.ensures.stays
@@ -31,7 +31,7 @@ pieces-preserved c =
     let both : (ws : List ℕ) → weights left ++ ws ≡ weights piece ++ (weights rest ++ ws) = λ ws. ap (λ es. weights es ++ ws) parts ∙ ap (λ l. l ++ ws) (own_weights-both v level piece rest) ∙ append_assoc (weights piece) (weights rest) ws in
     record {
       few = packed.few;
-      others = others-marked v level (take 64 rest) c.others_of-mask.result c.others_of-mask.ensures;
+      marked = c.marked_by_one-mask.ensures;
       within = omega (arith, packed.within, i.within, ap length parts);
       stays = stays-more _ _ _ _ _ _ i.stays packed.stays;
       size = packed.size ∙ i.size;

@@ -3,7 +3,7 @@ use Rattle.std.proofs.lemmas.List.{length-drop, length-set, take_all, take_more_
 use Rattle.uca_weights.specs.declared.element.Element.{Element}
 use Rattle.uca_model.specs.LevelWeights.{level_weights}
 use Rattle.uca_key.specs.PackedKey.{common_weight, runs_after, packed_level}
-use Rattle.uca_key.specs.Runs.{AreOthers, bytes_left}
+use Rattle.uca_key.specs.Runs.{AreMarked, bytes_left}
 use Rattle.uca_key.specs.Weighing.{all_own}
 use Rattle.uca_key.proofs.MaskLemmas.{blank, none-left, run-counted}
 use Rattle.uca_key.proofs.PlacingLemmas.{IsPutting-start, IsPutting-more, IsPutting-ends, IsPutting-fitted, stays-more, stays-set}
@@ -26,13 +26,14 @@ returns-then-is_one_run c =
     let runs : ℕ → List Element → List ℕ = λ run left. runs_after (common_weight level) run (level_weights level (all_own v left) ++ []) in
     let few : n < 62 = c.is_one_run.ensures.few c.if-is_one_run.true in
     let fits = c.has_room_for_end.ensures c.if-not-has_room_for_end.false in
-    let others : AreOthers v level c.args.others es = subst (AreOthers v level c.args.others) (take_all 64 es (omega (arith, few))) c.requires.others in
+    let marked : AreMarked v level c.args.marked es = subst (AreMarked v level c.args.marked) (take_all 64 es (omega (arith, few))) c.requires.marked in
     let none : drop n es ≡ [] = none-left (drop n es) (omega (arith, length-drop n es)) in
-    let counted = run-counted v level 0 c.args.others n es blank [] others (omega (arith, few)) (omega arith) (c.is_one_run.ensures.zeros c.if-is_one_run.true) in
-    let whole : (2 * n) ∷ [] ≡ packed_level (all_own v es) level = sym (ap (runs n) none) ∙ ap (λ k. runs k (drop n es)) (omega arith) ∙ counted ∙ ap (λ (ws : List ℕ). runs_after (common_weight level) 0 ws) (append-nil (level_weights level (all_own v es))) in
+    let counted = run-counted v level 0 c.args.marked n es blank [] marked (omega (arith, few)) (omega arith) (c.is_one_run.ensures.zeros c.if-is_one_run.true) in
+    let k : ℕ = c.count_weights.result in
+    let whole : (2 * k) ∷ [] ≡ packed_level (all_own v es) level = sym (ap (runs k) none) ∙ ap (λ (r : ℕ). runs r (drop n es)) (omega (arith, c.count_weights.ensures)) ∙ counted ∙ ap (λ (ws : List ℕ). runs_after (common_weight level) 0 ws) (append-nil (level_weights level (all_own v es))) in
     let within : c.args.at < length c.args.out.now = omega (arith, fits, c.requires.size) in
-    let same = append-nil _ ∙ take_more_set c.args.out.now c.args.at (2 * n) within ∙ ap (λ bytes. take c.args.at c.args.out.now ++ bytes) whole in
-    IsPutting-ends _ _ _ _ _ _ (IsPutting-fitted _ _ _ _ _ [] (length-set _ _ _) c.requires.size (omega (arith, within)) (stays-set c.args.at (2 * n) c.args.out.now) same) refl
+    let same = append-nil _ ∙ take_more_set c.args.out.now c.args.at (2 * k) within ∙ ap (λ bytes. take c.args.at c.args.out.now ++ bytes) whole in
+    IsPutting-ends _ _ _ _ _ _ (IsPutting-fitted _ _ _ _ _ [] (length-set _ _ _) c.requires.size (omega (arith, within)) (stays-set c.args.at (2 * k) c.args.out.now) same) refl
 
 pub returns : goal.returns
 returns c =

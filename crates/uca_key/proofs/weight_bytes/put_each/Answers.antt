@@ -3,17 +3,22 @@ use Rattle.uca_key.specs.Placing.{StaysBeyond}
 use Rattle.uca_key.proofs.PlacingLemmas.{beyond-more, stays-beyond}
 use Rattle.uca_key.proofs.weight_bytes.put_each.Goals as goal
 
+pub each-init : goal.each-init
+each-init c =
+    let start = c.put_start-step.ensures in
+    record { window = start.window; within = start.within; stays = stays-beyond _ _ _ _ start.stays; size = start.size; same = start.bytes }
+
 pub each-preserved : goal.each-preserved
 each-preserved c =
-    let i = c.each.invariant in let short = c.put_shorts-short.ensures in let step = c.in-Some.ensures in
+    let i = c.each.invariant in let kept = c.put_kept-kept.ensures in let next = c.in-Some.ensures in
     record {
-      window = step.window;
-      within = omega (arith, step.within, short.within, short.some, i.within);
-      stays = beyond-more _ _ _ _ _ _ (beyond-more _ _ _ _ _ _ i.stays (stays-beyond _ _ _ _ step.stays)) short.stays;
-      size = short.size ∙ step.size ∙ i.size;
-      same = λ ws. short.bytes ws ∙ step.bytes ws ∙ i.same ws;
+      window = next.window;
+      within = omega (arith, next.within, kept.within, kept.some, i.within);
+      stays = beyond-more _ _ _ _ _ _ (beyond-more _ _ _ _ _ _ i.stays kept.stays) (stays-beyond _ _ _ _ next.stays);
+      size = next.size ∙ kept.size ∙ i.size;
+      same = λ ws. next.bytes ws ∙ kept.bytes ws ∙ i.same ws;
     }
 
 pub returns-in_default-clause-stays : goal.returns-in_default-clause-stays
 returns-in_default-clause-stays c =
-    subst (λ (key : List ℕ). StaysBeyond c.args.before.at c.each.placed.at c.args.key.now key) (sym c.in_default.ensures.none) c.each.invariant.stays
+    subst (λ (key : List ℕ). StaysBeyond c.args.before.at c.put_kept-kept.result.at c.args.key.now key) (sym c.in_default.ensures.none) (beyond-more _ _ _ _ _ _ c.each.invariant.stays c.put_kept-kept.ensures.stays)

@@ -10,12 +10,12 @@ use Rattle.uca_key.proofs.weight_bytes.put_each.Given as goal
 -- what is put, what is left and what follows are put as all is
 abbrev pub invariant-each : goal.invariant-each
 invariant-each l = record {
-  window : IsWindow l.code l.placed.reach.window.now;
-  within : l.placed.at + 3 * length l.left ≤ l.fn.before.at + 3 * length l.elements;
-  stays : StaysBeyond l.fn.before.at l.placed.at l.fn.key l.key;
+  window : IsWindow l.code l.step.placed.reach.window.now;
+  within : l.step.placed.at + 3 * length l.step.left.now ≤ l.fn.before.at + 3 * length l.elements;
+  stays : StaysBeyond l.fn.before.at l.step.placed.at l.fn.key l.key;
   size : length l.key ≡ length l.fn.key;
-  same : (ws : List ℕ) → take l.placed.at l.key ++ primary_level l.code (state_of l.placed.reach) (level_weights 1 (weighted l.v l.left) ++ ws) ≡ take l.fn.before.at l.fn.key ++ primary_level l.code (state_of l.fn.before.reach) (level_weights 1 (weighted l.v l.elements) ++ ws);
+  same : (ws : List ℕ) → take l.step.placed.at l.key ++ primary_level l.code (state_of l.step.placed.reach) (level_weights 1 (weighted l.v l.step.left.now) ++ ws) ≡ take l.fn.before.at l.fn.key ++ primary_level l.code (state_of l.fn.before.reach) (level_weights 1 (weighted l.v l.elements) ++ ws);
 }
 
 abbrev pub decreases-each : goal.decreases-each
-decreases-each l = length l.left
+decreases-each l = length l.step.left.now

@@ -22,7 +22,7 @@ returns-clause-bytes c ws =
     let parts : c.args.elements.now ≡ first ∷ rest = search rules in
     let put : List ℕ → List ℕ = λ l. take c.args.before.at c.args.key.now ++ primary_level c.args.code.now (state_of c.args.before.reach) l in
     let left : List ℕ = filter (λ (x : ℕ). not (x == 0)) (c.primary_weight-w.result ∷ []) ++ (level_weights 1 (weighted v rest) ++ ws) in
-    let same : c.put_pair_of.new.key ≡ c.args.key.now = c.in_default-put_pair_of.ensures.none ∙ c.in_default.ensures.none in
+    let same : c.put_letter.new.key ≡ c.args.key.now = c.in_default.ensures.none in
     c.put_some.ensures.bytes (level_weights 1 (weighted v rest) ++ ws)
     ∙ ap (λ (l : List ℕ). take c.args.before.at l ++ primary_level c.args.code.now (state_of c.args.before.reach) left) same
     ∙ ap put (sym (primary-one v 0 c.primary_weight-w.result (first ∷ rest) first ws (omega arith) c.primary_weight-w.ensures))

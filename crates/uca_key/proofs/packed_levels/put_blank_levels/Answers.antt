@@ -1,0 +1,35 @@
+use Rattle.std.proofs.Common.{◌≡◌, ℕ, List, suc, ◌+◌, ◌-◌, ◌++◌, chars, refl, ap, arith}
+use Rattle.unicode_normalization.specs.Forms.{nfd}
+use Rattle.uca_key.specs.Pieces.{weights_of}
+use Rattle.uca_key.specs.PackedKey.{later_levels, packed_later}
+use Rattle.uca_key.proofs.PlacingLemmas.{IsPutting-ends, IsPutting-more, IsPutting-size, IsPutting-start}
+use Rattle.uca_key.proofs.packed_levels.put_blank_levels.Goals as goal
+
+pub levels-init : goal.levels-init
+levels-init c =
+    record {
+      first = omega arith;
+      last = c.requires.from;
+      size = refl;
+      putting = IsPutting-start c.args.at c.args.out.now (later_levels (c.args.last - 1) 2 (weights_of c.args.reading.now) (nfd (chars c.args.reading.now.text.now))) _ c.ranges.at.fits refl;
+    }
+
+pub levels-preserved : goal.levels-preserved
+levels-preserved c =
+    let ws : List (List ℕ) = weights_of c.args.reading.now in let text : List ℕ = nfd (chars c.args.reading.now.text.now) in
+    let at : ℕ = c.levels.level in let last : ℕ = c.args.last in let i = c.levels.invariant in
+    let some : last - at ≡ suc (last - (at + 1)) = omega (arith, i.last, c.levels-test.true) in
+    let split : later_levels (last - at) (at + 1) ws text ≡ packed_later ws text (at + 1) ++ later_levels (last - (at + 1)) (at + 1 + 1) ws text = ap (λ n. later_levels n (at + 1) ws text) some in
+    let putting = IsPutting-more _ _ _ _ _ _ i.putting _ _ (packed_later ws text (at + 1)) _ c.requires.size split c.put_later-next.ensures in
+    record {
+      first = omega arith;
+      last = omega (arith, i.last, c.levels-test.true);
+      size = IsPutting-size _ _ _ _ _ _ putting;
+      putting = putting;
+    }
+
+pub returns : goal.returns
+returns c =
+    let ws : List (List ℕ) = weights_of c.args.reading.now in let text : List ℕ = nfd (chars c.args.reading.now.text.now) in
+    let none : c.args.last - c.levels.level ≡ 0 = omega (arith, c.levels-test.false) in
+    IsPutting-ends _ _ _ _ _ _ c.levels.invariant.putting (ap (λ n. later_levels n (c.levels.level + 1) ws text) none)
