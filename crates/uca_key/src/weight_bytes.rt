@@ -424,7 +424,7 @@ struct Step<'c, 'e> {
     left: &'e [Element],
 }
 
-// Puts the first weight of some elements, or those of a run of ideographs.
+// Puts the first weight of some elements.
 #[inline(always)]
 fn put_first<'c, 'e>(
     code: &'c PackedCode,
