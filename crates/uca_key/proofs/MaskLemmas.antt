@@ -28,10 +28,6 @@ pub none-left : (es : List Element) → length es ≡ 0 → es ≡ []
 none-left [] none = refl
 none-left (e ∷ es) none = absurd (omega arith)
 
--- what is left after one more
-pub drop-next : (n : ℕ) (es : List Element) (e : Element) (rest : List Element) → drop n es ≡ e ∷ rest → drop (n + 1) es ≡ rest
-drop-next n es e rest is = sym (drop-drop 1 n es) ∙ ap (drop 1) is
-
 -- the bits of a number that was shifted
 bit_at-shifted : (m n i : ℕ) → bit_at (m / 2 ^ n / 2) i ≡ bit_at m (n + 1 + i)
 bit_at-shifted m n i =
@@ -123,36 +119,42 @@ only-other true false h none = h
 only-other false b h none = refl
 
 -- the masks of those that are other ones, and of those among them that are blank
-pub parts-marked : (v : Variable) (level : ℕ) (es : List Element) (m : Marked) (others : ℕ) → ((e : Element) → is_blank e ≡ true → (is_other v level e ≡ true) × (slice_index (own_weights v e) (level - 1) ≡ 0))
-    → others ≡ mask_l (map (is_other v level) es) → m.blanks ≡ mask_l (map is_blank es) → m.others ≡ others - m.blanks → AreMarked v level m es
-parts-marked v level es m others blanks whole none left =
-    let both : Element → Bool = λ e. is_other v level e && not (is_blank e) in
-    let parts = mask-parts (is_other v level) is_blank (λ e is. (blanks e is).0) es in
+pub parts-marked : (v : Variable) (level : ℕ) (blank : Element → Bool) (es : List Element) (m : Marked) (others : ℕ) → ((e : Element) → blank e ≡ true → (is_other v level e ≡ true) × (slice_index (own_weights v e) (level - 1) ≡ 0))
+    → others ≡ mask_l (map (is_other v level) es) → m.blanks ≡ mask_l (map blank es) → m.others ≡ others - m.blanks → AreMarked v level m es
+parts-marked v level blank es m others blanks whole none left =
+    let both : Element → Bool = λ e. is_other v level e && not (blank e) in
+    let parts = mask-parts (is_other v level) blank (λ e is. (blanks e is).0) es in
     let rest : m.others ≡ mask_l (map both es) = omega (arith, parts, whole, none, left) in
     record {
       common = λ i d inside no_other no_blank.
-          only-other _ _ (no-bit _ (sym (bit-of both es i d inside) ∙ sym (ap (λ (x : ℕ). bit_at x i) rest) ∙ no_other)) (no-bit _ (sym (bit-of is_blank es i d inside) ∙ sym (ap (λ (x : ℕ). bit_at x i) none) ∙ no_blank));
-      blank = λ i d inside some. (blanks _ (yes-bit _ (sym (bit-of is_blank es i d inside) ∙ sym (ap (λ (x : ℕ). bit_at x i) none) ∙ some))).1;
+          only-other _ _ (no-bit _ (sym (bit-of both es i d inside) ∙ sym (ap (λ (x : ℕ). bit_at x i) rest) ∙ no_other)) (no-bit _ (sym (bit-of blank es i d inside) ∙ sym (ap (λ (x : ℕ). bit_at x i) none) ∙ no_blank));
+      blank = λ i d inside some. (blanks _ (yes-bit _ (sym (bit-of blank es i d inside) ∙ sym (ap (λ (x : ℕ). bit_at x i) none) ∙ some))).1;
     }
 
 -- blanks are not among the others
-pub blanks-fewer : (v : Variable) (level : ℕ) (es : List Element) (others none : ℕ) → ((e : Element) → is_blank e ≡ true → (is_other v level e ≡ true) × (slice_index (own_weights v e) (level - 1) ≡ 0)) → others ≡ mask_l (map (is_other v level) es) → none ≡ mask_l (map is_blank es) → none ≤ others
-blanks-fewer v level es others none blanks whole is = let parts = mask-parts (is_other v level) is_blank (λ e is. (blanks e is).0) es in omega (arith, parts, whole, is)
+pub blanks-fewer : (v : Variable) (level : ℕ) (blank : Element → Bool) (es : List Element) (others none : ℕ) → ((e : Element) → blank e ≡ true → (is_other v level e ≡ true) × (slice_index (own_weights v e) (level - 1) ≡ 0)) → others ≡ mask_l (map (is_other v level) es) → none ≡ mask_l (map blank es) → none ≤ others
+blanks-fewer v level blank es others none blanks whole is = let parts = mask-parts (is_other v level) blank (λ e is. (blanks e is).0) es in omega (arith, parts, whole, is)
 
--- a blank element at the levels 2 and 3
-pub blank-second : (v : Variable) (e : Element) → is_blank e ≡ true → (is_other v 2 e ≡ true) × (slice_index (own_weights v e) 1 ≡ 0)
-blank-second v e is =
-    let none : e.l2 ≡ 0 = eqb→eq e.l2 0 (subst T (sym (and_parts (e.l2 == 0) (e.l3 == 0) is).0) tt) in
-    (ap (λ (w : ℕ). not (w == 32)) none, none)
+-- an element without a weight at the levels 2 and 3
+both-zero : (asked : Bool) (e : Element) → is_blank asked e ≡ true → (e.l2 ≡ 0) × (e.l3 ≡ 0)
+both-zero asked e is =
+    let zeros = and_parts (e.l2 == 0) (e.l3 == 0) (and_parts asked ((e.l2 == 0) && (e.l3 == 0)) is).1 in
+    (eqb→eq e.l2 0 (subst T (sym zeros.0) tt), eqb→eq e.l3 0 (subst T (sym zeros.1) tt))
 
-pub blank-third : (v : Variable) (e : Element) → is_blank e ≡ true → (is_other v 3 e ≡ true) × (slice_index (own_weights v e) 2 ≡ 0)
-blank-third v e is =
-    let none : e.l3 ≡ 0 = eqb→eq e.l3 0 (subst T (sym (and_parts (e.l2 == 0) (e.l3 == 0) is).1) tt) in
-    (ap (λ (w : ℕ). not (w == 2)) none, none)
+pub blank-second : (v : Variable) (asked : Bool) (e : Element) → is_blank asked e ≡ true → (is_other v 2 e ≡ true) × (slice_index (own_weights v e) 1 ≡ 0)
+blank-second v asked e is = let none = (both-zero asked e is).0 in (ap (λ (w : ℕ). not (w == 32)) none, none)
+
+pub blank-third : (v : Variable) (asked : Bool) (e : Element) → is_blank asked e ≡ true → (is_other v 3 e ≡ true) × (slice_index (own_weights v e) 2 ≡ 0)
+blank-third v asked e is = let none = (both-zero asked e is).1 in (ap (λ (w : ℕ). not (w == 2)) none, none)
 
 -- both weights in one number
 pub blank-weights : (a b : ℕ) → (a + 65536 * b == 0) ≡ ((a == 0) && (b == 0))
 blank-weights a b = grind (arith, nat_tests)
+
+-- the mask of weights of which nothing is asked
+pub nothing-asked : (weights : List ℕ) → 0 ≡ mask_l (map (λ (w : ℕ). false && (w == 0)) weights)
+nothing-asked [] = refl
+nothing-asked (w ∷ ws) = omega (arith, nothing-asked ws)
 
 is-equal : (b : Bool) → not b ≡ false → b ≡ true
 is-equal true e = refl
@@ -223,6 +225,10 @@ mask-block p i es m b within later block =
 -- an element before those whose mask is known
 pub mask-one : (p : Element → Bool) (i : ℕ) (es : List Element) (d : Element) (m : ℕ) → i < length es → m ≡ mask_l (map p (drop (i + 1) es)) → 2 * m + cond (p (get_or es i d)) 1 0 ≡ mask_l (map p (drop i es))
 mask-one p i es d m within later = omega (arith, later) ∙ ap (λ l. mask_l (map p l)) (sym (drop_more es i d within))
+
+-- a block of sixteen is left
+pub block : (n : ℕ) → 0 < n → n % 16 ≡ 0 → 16 ≤ n
+block n some whole = omega (arith, some, whole)
 
 -- so a mask of fewer elements than bits has room for one more
 pub mask-small : (p : Element → Bool) (es : List Element) (m k : ℕ) → length es ≤ k → m ≡ mask_l (map p es) → m < 2 ^ k

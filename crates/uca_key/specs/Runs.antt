@@ -17,9 +17,9 @@ bytes_left level s ws = runs_after (common_weight level) s.run (level_weights le
 abbrev pub is_other : Variable → ℕ → Element → Bool
 is_other v level e = not (slice_index (own_weights v e) (level - 1) == common_weight level)
 
--- whether an element has no weight at the levels 2 and 3
-abbrev pub is_blank : Element → Bool
-is_blank e = (e.l2 == 0) && (e.l3 == 0)
+-- whether an element has no weight at the levels 2 and 3, if that is asked
+abbrev pub is_blank : Bool → Element → Bool
+is_blank asked e = asked && ((e.l2 == 0) && (e.l3 == 0))
 
 -- masks of elements by their places: those whose bit is 1 in the second have no weight at a level, and of the others only those whose bit is 1 in the first may have another weight
 -- than the common one

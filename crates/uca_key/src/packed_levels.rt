@@ -49,19 +49,20 @@ fn put_later(
 fn put_blank_levels(
     reading: &TextReading,
     last: u8,
-    marks: LaterMarks,
-    elements: &[Element],
+    room: &[Element],
+    held: usize,
     at: usize,
     out: &mut [u8],
 ) -> usize
     requires from { 1 ≤ last }
     requires to { last ≤ 5 }
-    requires second { AreMarked reading.now.weighting 2 marks.second (take 64 elements.now) }
-    requires third { AreMarked reading.now.weighting 3 marks.third (take 64 elements.now) }
-    requires elements { all_own reading.now.weighting elements.now ≡ weighted reading.now.weighting (elements_of reading.now) }
+    requires within { held ≤ length room.now }
+    requires elements { all_own reading.now.weighting (take held room.now) ≡ weighted reading.now.weighting (elements_of reading.now) }
     requires size { length out.old < 2 ^ 64 }
     ensures { PutsAt at (later_levels (last - 1) 2 (weights_of reading.now) (nfd (chars reading.now.text.now))) out.old out.new result }
 {
+    let marks = runs::first_marks(room, held, true);
+    let elements = &room[..held];
     let mut next = at;
     let mut level = 1;
     'levels: while level < last {
@@ -89,15 +90,15 @@ fn put_held(
 {
     let last = s.levels();
     let elements = &room[..held];
-    let next = weight_bytes::put_whole(code, reading.weighting, elements, at, out);
+    let first = weight_bytes::put_whole(code, reading.weighting, elements, at, out);
     if last == 1 {
-        return next;
+        return first.at;
     }
-    let marks = runs::first_marks(room, held);
-    if marks.have_blanks() {
-        return put_blank_levels(reading, last, marks, elements, next, out);
+    if first.pairs {
+        return put_blank_levels(reading, last, room, held, first.at, out);
     }
-    let next = put_later(reading, 2, marks, elements, next, out);
+    let marks = runs::first_marks(room, held, false);
+    let next = put_later(reading, 2, marks, elements, first.at, out);
     if last == 2 {
         return next;
     }

@@ -1,5 +1,5 @@
 // The later levels of a packed key, with runs of common weights, put into a buffer piece by piece.
-ghost use Rattle.std.specs.Prelude.{◌≡◌, IsTrue, count_ones, ◌≢◌, ◌==◌, ◌+◌, ◌*◌, ◌-◌, ◌^◌, ◌<◌, ◌≤◌, ◌++◌, ◌∷◌, [], ℕ, List, not, chars, drop, filter, length, map, min, take, ◌/◌, ◌%◌};
+ghost use Rattle.std.specs.Prelude.{◌≡◌, ◌&&◌, IsTrue, count_ones, ◌≢◌, ◌==◌, ◌+◌, ◌*◌, ◌-◌, ◌^◌, ◌<◌, ◌≤◌, ◌++◌, ◌∷◌, [], ℕ, List, not, chars, drop, filter, length, map, min, take, ◌/◌, ◌%◌};
 ghost use Rattle.std.specs.Int.{bit_at};
 ghost use Rattle.std.specs.Simd.Lanes.{chunk, mask_l};
 ghost use Rattle.unicode_normalization.specs.Forms.{nfd};
@@ -9,7 +9,7 @@ ghost use Rattle.uca_model.specs.SafeText.{IsSafe};
 ghost use Rattle.uca_key.specs.PackedKey.{common_weight, other_bytes, runs_after, packed_later, packed_level};
 ghost use Rattle.uca_key.specs.Runs.{AreMarked, bytes_left, is_blank, is_other};
 ghost use Rattle.uca_key.specs.Pieces.{weights_of};
-ghost use Rattle.uca_key.specs.Placing.{IsPutting, PutsAt, StaysAfter};
+ghost use Rattle.uca_key.specs.Placing.{IsPutting, PutsAt, StaysAfter, StaysBeyond};
 ghost use Rattle.uca_key.specs.Weighing.{all_own};
 
 use crate::pieces::{PIECE, TextReading};
@@ -42,7 +42,8 @@ struct Counted {
 // The weight that most characters have at a level from 2 to 4.
 #[inline(always)]
 pub(crate) fn common_weight(level: u8) -> u16
-    ensures { result ≡ common_weight level }
+    ensures value { result ≡ common_weight level }
+    ensures limit { result < 0xFFFF → result ≤ 0x20 }
 {
     match level {
         2 => 0x20,
@@ -87,24 +88,51 @@ fn run_end(run: usize, common: u16, weight: u16) -> u8
     }
 }
 
-// Puts a weight that ends a run of common ones, after or in the byte that says how long the run was.
+// The byte that says how long a run was, and after none or one common weight also by how much the next one is above it.
+#[inline(always)]
+fn near_byte(run: usize, above: u16) -> u8
+    requires few { run < 62 }
+    requires some { 0 < above }
+    requires near { above < 35 }
+    ensures short { run < 2 → result ≡ 220 - 35 * run + above }
+    ensures long { 2 ≤ run → result ≡ 187 - run }
+{
+    let after_long = 187 - run as u8;
+    let after_short = (220 + above as u8).wrapping_sub((run as u8).wrapping_mul(35));
+    if run < 2 { after_short } else { after_long }
+}
+
+// Puts a weight that is little above the common one, after a run of common ones. A byte of its own it has only after a run of two or more:
+// it is put in any case, and the next byte is put over it if it has none. No branch depends on how long runs are, which cannot be foreseen.
+#[inline(always)]
+fn put_near(key: &mut [u8], before: Counted, common: u16, weight: u16) -> usize
+    requires few { before.run < 62 }
+    requires above { common < weight }
+    requires near { weight - common < 35 }
+    requires small { weight < 0xFE }
+    requires room { before.at + 2 ≤ length key.old }
+    ensures bytes { (ws : List ℕ) → take result key.new ++ runs_after common 0 ws ≡ take before.at key.old ++ runs_after common before.run (weight ∷ ws) }
+    ensures within { result ≤ before.at + 2 }
+    ensures stays { StaysBeyond before.at result key.old key.new }
+    ensures size { length key.new ≡ length key.old }
+{
+    key[before.at] = near_byte(before.run, weight - common);
+    key[before.at + 1] = weight as u8;
+    before.at + 1 + (before.run >= 2) as usize
+}
+
+// Puts a weight that ends a run of common ones, after the byte that says how long the run was.
 fn put_after_run(key: &mut [u8], before: Counted, common: u16, weight: u16) -> Counted
     requires few { before.run < 62 }
     requires other { weight ≢ common }
+    requires far { common < weight → 35 ≤ weight - common }
     requires room { before.at + 4 ≤ length key.old }
     ensures bytes { (ws : List ℕ) → take result.at key.new ++ runs_after common result.run ws ≡ take before.at key.old ++ runs_after common before.run (weight ∷ ws) }
     ensures few { result.run < 62 }
     ensures within { result.at ≤ before.at + 4 }
-    ensures stays { StaysAfter before.at result.at key.old key.new }
+    ensures stays { StaysBeyond before.at result.at key.old key.new }
     ensures size { length key.new ≡ length key.old }
 {
-    if weight > common && before.run < 2 && weight - common < 35 {
-        key[before.at] = 220 - 35 * before.run as u8 + (weight - common) as u8;
-        return Counted {
-            at: before.at + 1,
-            run: 0,
-        };
-    }
     key[before.at] = run_end(before.run, common, weight);
     Counted {
         at: put_other(key, before.at + 1, weight),
@@ -117,13 +145,20 @@ fn put_after_run(key: &mut [u8], before: Counted, common: u16, weight: u16) -> C
 fn pack_weight(key: &mut [u8], before: Counted, common: u16, weight: u16) -> Counted
     requires few { before.run < 62 }
     requires some { 0 < common }
+    requires limit { common < 0xFFFF → common ≤ 0x20 }
     requires room { before.at + 4 ≤ length key.old }
     ensures bytes { (ws : List ℕ) → take result.at key.new ++ runs_after common result.run ws ≡ take before.at key.old ++ runs_after common before.run (filter (λ w. not (w == 0)) (weight ∷ []) ++ ws) }
     ensures few { result.run < 62 }
     ensures within { result.at ≤ before.at + 4 }
-    ensures stays { StaysAfter before.at result.at key.old key.new }
+    ensures stays { StaysBeyond before.at result.at key.old key.new }
     ensures size { length key.new ≡ length key.old }
 {
+    if weight > common && weight - common < 35 {
+        return Counted {
+            at: put_near(key, before, common, weight),
+            run: 0,
+        };
+    }
     if weight == common {
         if before.run + 1 < FULL_RUN {
             return Counted {
@@ -179,15 +214,12 @@ fn count_weights(blanks: u64, n: usize) -> usize
 // How many of the first of some elements have the common weight at a level by their mask, or none, as long as the run that they are a part
 // of is not full.
 #[inline(always)]
-fn count_run(others: u64, left: usize, run: usize) -> usize
+fn count_run(others: u64, run: usize) -> usize
     requires few { run < 62 }
-    ensures some { result ≤ left }
     ensures few { run + result < 62 }
     ensures zeros { (i : ℕ) → i < result → bit_at others i ≡ 0 }
 {
-    (others.trailing_zeros() as usize)
-        .min(left)
-        .min(FULL_RUN - 1 - run)
+    (others.trailing_zeros() as usize).min(FULL_RUN - 1 - run)
 }
 
 // What is packed of some elements, and how many they are.
@@ -209,7 +241,7 @@ fn pack_row(key: &mut [u8], before: Counted, v: Variable, elements: &[Element], 
     ensures few { result.packed.run < 62 }
     ensures some { result.elements ≤ length elements.now }
     ensures within { result.packed.at ≤ before.at + 4 * result.elements }
-    ensures stays { StaysAfter before.at result.packed.at key.old key.new }
+    ensures stays { StaysBeyond before.at result.packed.at key.old key.new }
     ensures size { length key.new ≡ length key.old }
 {
     if level != 3 {
@@ -258,27 +290,27 @@ fn pack_masked(
     ensures bytes { (ws : List ℕ) → take result.at key.new ++ runs_after (common_weight level) result.run ws ≡ take before.at key.old ++ runs_after (common_weight level) before.run (level_weights level (all_own v elements.now) ++ ws) }
     ensures few { result.run < 62 }
     ensures within { result.at ≤ before.at + 4 * length elements.now }
-    ensures stays { StaysAfter before.at result.at key.old key.new }
+    ensures stays { StaysBeyond before.at result.at key.old key.new }
     ensures size { length key.new ≡ length key.old }
 {
     let common = common_weight(level);
     let mut packed = before;
     let mut mask = marked;
     let mut left = elements;
-    'runs: while !left.is_empty() {
-        let n = count_run(mask.others, left.len(), packed.run);
-        packed.run += count_weights(mask.blanks, n);
-        let (_, after) = left.split_at(n);
-        let Some((first, rest)) = after.split_first() else {
+    'runs: loop {
+        let n = count_run(mask.others, packed.run);
+        if n >= left.len() {
+            packed.run += count_weights(mask.blanks, left.len());
             return packed;
-        };
-        packed = pack_weight(key, packed, common, own_weight(v, first, level));
+        }
+        packed.run += count_weights(mask.blanks, n);
+        packed = pack_weight(key, packed, common, own_weight(v, &left[n], level));
+        let rest = left.split_at(n + 1).1;
         let row = pack_row(key, packed, v, rest, level);
         packed = row.packed;
         mask = marked_after(mask, n + row.elements);
         left = rest.split_at(row.elements).1;
     }
-    packed
 }
 
 // Whether an element has another weight than the common one at level 4. Its parts are asked without a branch between them.
@@ -354,7 +386,7 @@ fn pack_whole(
     ensures bytes { (ws : List ℕ) → take result.at key.new ++ runs_after (common_weight level) result.run ws ≡ take before.at key.old ++ runs_after (common_weight level) before.run (level_weights level (all_own v elements.now) ++ ws) }
     ensures few { result.run < 62 }
     ensures within { result.at ≤ before.at + 4 * length elements.now }
-    ensures stays { StaysAfter before.at result.at key.old key.new }
+    ensures stays { StaysBeyond before.at result.at key.old key.new }
     ensures size { length key.new ≡ length key.old }
 {
     let mut packed = before;
@@ -380,7 +412,7 @@ fn pack(key: &mut [u8], before: Counted, v: Variable, elements: &[Element], leve
     ensures bytes { (ws : List ℕ) → take result.at key.new ++ runs_after (common_weight level) result.run ws ≡ take before.at key.old ++ runs_after (common_weight level) before.run (level_weights level (all_own v elements.now) ++ ws) }
     ensures few { result.run < 62 }
     ensures within { result.at ≤ before.at + 4 * length elements.now }
-    ensures stays { StaysAfter before.at result.at key.old key.new }
+    ensures stays { StaysBeyond before.at result.at key.old key.new }
     ensures size { length key.new ≡ length key.old }
 {
     match level {
@@ -448,11 +480,14 @@ fn third_others(weights: u32x16) -> u64
         .to_bitmask()
 }
 
-// Which of sixteen elements have no weight at the levels 2 and 3.
+// Which of sixteen elements have no weight at the levels 2 and 3, if that is asked.
 #[inline(always)]
-fn blanks(weights: u32x16) -> u64
-    ensures { result ≡ mask_l (map (λ w. w == 0) weights) }
+fn blanks(weights: u32x16, asked: bool) -> u64
+    ensures { result ≡ mask_l (map (λ w. asked && (w == 0)) weights) }
 {
+    if !asked {
+        return 0;
+    }
     weights.simd_eq(u32x16::splat(0)).to_bitmask()
 }
 
@@ -463,88 +498,72 @@ pub(crate) struct LaterMarks {
     pub(crate) third: Marked,
 }
 
-impl LaterMarks {
-    /// Whether they say of an element that it has no weight.
-    #[inline(always)]
-    pub(crate) fn have_blanks(&self) -> bool {
-        self.second.blanks != 0 || self.third.blanks != 0
-    }
-}
-
-/// Which of the first elements of a text have another weight than the common one at the levels 2 and 3, or none: each as a bit.
+/// Which of the first elements of a text have another weight than the common one at the levels 2 and 3, and which have none at either, if
+/// that is asked: each as a bit.
 #[derive(Clone, Copy)]
-struct LaterOthers {
+struct LaterMasks {
     second: u64,
     third: u64,
+    none: u64,
 }
 
 // The same of whole blocks of sixteen elements, block by block from the last, which has the highest bits.
 #[inline(always)]
-fn later_others(elements: &[Element]) -> LaterOthers
+fn later_masks(elements: &[Element], asked: bool) -> LaterMasks
     requires whole { length elements.now % 16 ≡ 0 }
     requires few { length elements.now ≤ 64 }
     ensures second { (v : Variable) → result.second ≡ mask_l (map (is_other v 2) elements.now) }
     ensures third { (v : Variable) → result.third ≡ mask_l (map (is_other v 3) elements.now) }
+    ensures none { result.none ≡ mask_l (map (is_blank asked) elements.now) }
 {
     let mut second = 0;
     let mut third = 0;
+    let mut none = 0;
     let mut n = elements.len();
     'each: while n > 0 {
         n -= LANES;
         let weights = later_weights_at(elements, n);
         second = 65536 * second + second_others(weights);
         third = 65536 * third + third_others(weights);
+        none = 65536 * none + blanks(weights, asked);
     }
-    LaterOthers { second, third }
+    LaterMasks {
+        second,
+        third,
+        none,
+    }
 }
 
-// Which of whole blocks of sixteen elements have no weight at the levels 2 and 3. It is not inlined, since few texts have such elements.
-#[inline(never)]
-fn later_blanks(elements: &[Element]) -> u64
-    requires whole { length elements.now % 16 ≡ 0 }
-    requires few { length elements.now ≤ 64 }
-    ensures { result ≡ mask_l (map is_blank elements.now) }
-{
-    let mut none = 0;
-    let mut n = elements.len();
-    'each: while n > 0 {
-        n -= LANES;
-        none = 65536 * none + blanks(later_weights_at(elements, n));
-    }
-    none
-}
-
-// What masks say of whole blocks of sixteen elements. One without a weight has another one than the common one at both levels; the elements
-// after the first ones that are held are not asked for it.
+// What masks say of whole blocks of sixteen elements. One without a weight has another one than the common one at both levels.
 #[inline(always)]
-fn later_marks(elements: &[Element], held: usize) -> LaterMarks
+fn later_marks(elements: &[Element], asked: bool) -> LaterMarks
     requires whole { length elements.now % 16 ≡ 0 }
     requires few { length elements.now ≤ 64 }
     ensures second { (v : Variable) → AreMarked v 2 result.second elements.now }
     ensures third { (v : Variable) → AreMarked v 3 result.third elements.now }
 {
-    let LaterOthers { second, third } = later_others(elements);
-    let both = (second & third).trailing_zeros() as usize;
-    let blanks = if both >= held {
-        0
-    } else {
-        later_blanks(elements)
-    };
+    let LaterMasks {
+        second,
+        third,
+        none,
+    } = later_masks(elements, asked);
     LaterMarks {
         second: Marked {
-            others: second - blanks,
-            blanks,
+            others: second - none,
+            blanks: none,
         },
         third: Marked {
-            others: third - blanks,
-            blanks,
+            others: third - none,
+            blanks: none,
         },
     }
 }
 
-/// What masks say of the first elements of a text that was read into room, at the levels 2 and 3. The last block may end in elements of the
-/// room that are none of the text, whose bits say nothing: so no remainder of a block needs a loop of its own.
-pub(crate) fn first_marks(room: &[Element], held: usize) -> LaterMarks
+/// What masks say of the first elements of a text that was read into room, at the levels 2 and 3. Those without a weight are told from the
+/// others if that is asked. The last block may end in elements of the room that are none of the text, whose bits say nothing: so no
+/// remainder of a block needs a loop of its own.
+#[inline(always)]
+pub(crate) fn first_marks(room: &[Element], held: usize, asked: bool) -> LaterMarks
     requires { held ≤ length room.now }
     ensures second { (v : Variable) → AreMarked v 2 result.second (take 64 (take held room.now)) }
     ensures third { (v : Variable) → AreMarked v 3 result.third (take 64 (take held room.now)) }
@@ -552,7 +571,7 @@ pub(crate) fn first_marks(room: &[Element], held: usize) -> LaterMarks
     let first = held.min(MASKED);
     let whole = first + (LANES - 1) - (first + (LANES - 1)) % LANES;
     if whole <= room.len() {
-        return later_marks(&room[..whole], first);
+        return later_marks(&room[..whole], asked);
     }
     LaterMarks {
         second: marked_by_one(Variable::NonIgnorable, 2, &room[..first]),

@@ -383,6 +383,13 @@ fn put_pair_of<'e>(
     })
 }
 
+// The same, and whether a pair was among them.
+#[derive(Clone, Copy)]
+struct Kept<'e> {
+    progress: Progress<'e>,
+    pairs: bool,
+}
+
 // Puts the weights of elements as long as they leave the window as it is: letters of one byte, and such pairs.
 #[inline(always)]
 fn put_kept<'e>(
@@ -391,18 +398,19 @@ fn put_kept<'e>(
     before: Placed,
     elements: &'e [Element],
     key: &mut [u8],
-) -> Progress<'e>
+) -> Kept<'e>
     requires window { IsWindow code.now before.reach.window.now }
     requires room { before.at + 3 * length elements.now ≤ length key.old }
-    ensures bytes { (ws : List ℕ) → take result.at key.new ++ primary_level code.now (state_of before.entry.reach) (level_weights 1 (weighted v result.left.now) ++ ws) ≡ take before.entry.at key.old ++ primary_level code.now (state_of before.entry.reach) (level_weights 1 (weighted v elements.now) ++ ws) }
-    ensures within { result.at + 3 * length result.left.now ≤ before.entry.at + 3 * length elements.now }
-    ensures some { length result.left.now ≤ length elements.now }
-    ensures stays { StaysBeyond before.entry.at result.at key.old key.new }
+    ensures bytes { (ws : List ℕ) → take result.progress.at key.new ++ primary_level code.now (state_of before.entry.reach) (level_weights 1 (weighted v result.progress.left.now) ++ ws) ≡ take before.entry.at key.old ++ primary_level code.now (state_of before.entry.reach) (level_weights 1 (weighted v elements.now) ++ ws) }
+    ensures within { result.progress.at + 3 * length result.progress.left.now ≤ before.entry.at + 3 * length elements.now }
+    ensures some { length result.progress.left.now ≤ length elements.now }
+    ensures stays { StaysBeyond before.entry.at result.progress.at key.old key.new }
     ensures size { length key.new ≡ length key.old }
 {
     let reach = before.reach;
     let mut at = before.at;
     let mut left = elements;
+    let mut pairs = false;
     'runs: loop {
         let short = put_shorts(code, v, Placed { at, reach }, left, key);
         let letters = Placed {
@@ -410,10 +418,14 @@ fn put_kept<'e>(
             reach,
         };
         let Some(pair) = put_pair_of(code, v, letters, short.left, key) else {
-            return short;
+            return Kept {
+                progress: short,
+                pairs,
+            };
         };
         at = pair.at;
         left = pair.left;
+        pairs = true;
     }
 }
 
@@ -484,6 +496,13 @@ fn put_start<'c, 'e>(
     }
 }
 
+// What is put of all weights of some elements, and whether a pair of a window was among them, as in texts with ideographs.
+#[derive(Clone, Copy)]
+struct All<'c> {
+    placed: Placed<'c>,
+    pairs: bool,
+}
+
 // Puts the weights of elements: together those that leave the window as it is, then one by itself, and so on.
 #[inline(always)]
 fn put_each<'c>(
@@ -492,24 +511,26 @@ fn put_each<'c>(
     before: Placed<'c>,
     elements: &[Element],
     key: &mut [u8],
-) -> Placed<'c>
+) -> All<'c>
     requires window { IsWindow code.now before.reach.window.now }
     requires room { before.at + 3 * length elements.now ≤ length key.old }
-    ensures bytes { (ws : List ℕ) → take result.at key.new ++ primary_level code.now (state_of result.reach) ws ≡ take before.entry.at key.old ++ primary_level code.now (state_of before.entry.reach) (level_weights 1 (weighted v elements.now) ++ ws) }
-    ensures window { IsWindow code.now result.reach.window.now }
-    ensures within { result.at ≤ before.entry.at + 3 * length elements.now }
-    ensures stays { StaysBeyond before.entry.at result.at key.old key.new }
+    ensures bytes { (ws : List ℕ) → take result.placed.at key.new ++ primary_level code.now (state_of result.placed.reach) ws ≡ take before.entry.at key.old ++ primary_level code.now (state_of before.entry.reach) (level_weights 1 (weighted v elements.now) ++ ws) }
+    ensures window { IsWindow code.now result.placed.reach.window.now }
+    ensures within { result.placed.at ≤ before.entry.at + 3 * length elements.now }
+    ensures stays { StaysBeyond before.entry.at result.placed.at key.old key.new }
     ensures size { length key.new ≡ length key.old }
 {
     let mut step = put_start(code, v, before, elements, key);
+    let mut pairs = false;
     'each: loop {
         let kept = put_kept(code, v, step.placed, step.left, key);
         let placed = Placed {
-            at: kept.at,
+            at: kept.progress.at,
             reach: step.placed.reach,
         };
-        let Some(next) = put_first(code, v, placed, kept.left, key) else {
-            return placed;
+        pairs = pairs | kept.pairs;
+        let Some(next) = put_first(code, v, placed, kept.progress.left, key) else {
+            return All { placed, pairs };
         };
         step = next;
     }
@@ -523,13 +544,13 @@ fn put_weights<'c>(
     before: Placed<'c>,
     elements: &[Element],
     key: &mut [u8],
-) -> Placed<'c>
+) -> All<'c>
     requires window { IsWindow code.now before.reach.window.now }
     requires room { before.at + 3 * length elements.now ≤ length key.old }
-    ensures bytes { (ws : List ℕ) → take result.at key.new ++ primary_level code.now (state_of result.reach) ws ≡ take before.entry.at key.old ++ primary_level code.now (state_of before.entry.reach) (level_weights 1 (weighted v elements.now) ++ ws) }
-    ensures window { IsWindow code.now result.reach.window.now }
-    ensures within { result.at ≤ before.entry.at + 3 * length elements.now }
-    ensures stays { StaysBeyond before.entry.at result.at key.old key.new }
+    ensures bytes { (ws : List ℕ) → take result.placed.at key.new ++ primary_level code.now (state_of result.placed.reach) ws ≡ take before.entry.at key.old ++ primary_level code.now (state_of before.entry.reach) (level_weights 1 (weighted v elements.now) ++ ws) }
+    ensures window { IsWindow code.now result.placed.reach.window.now }
+    ensures within { result.placed.at ≤ before.entry.at + 3 * length elements.now }
+    ensures stays { StaysBeyond before.entry.at result.placed.at key.old key.new }
     ensures size { length key.new ≡ length key.old }
 {
     match v {
@@ -573,12 +594,19 @@ fn put_elements<'c>(
             at: 0,
             reach: state.reach,
         };
-        let placed = put_weights(code, v, front, piece, &mut bytes);
-        state.at = put_bytes(&bytes[..placed.at], state.at, out);
-        state.reach = placed.reach;
+        let all = put_weights(code, v, front, piece, &mut bytes);
+        state.at = put_bytes(&bytes[..all.placed.at], state.at, out);
+        state.reach = all.placed.reach;
         left = rest;
     }
     state
+}
+
+/// Where the first level of a key ends, and whether it is known that a pair is among its weights.
+#[derive(Clone, Copy)]
+pub(crate) struct FirstLevel {
+    pub(crate) at: usize,
+    pub(crate) pairs: bool,
 }
 
 /// Puts the first level of some elements at a place of a buffer. It ends itself. What fits is put at once, and else a piece at a time. It
@@ -590,9 +618,9 @@ pub(crate) fn put_whole(
     elements: &[Element],
     at: usize,
     out: &mut [u8],
-) -> usize
+) -> FirstLevel
     requires size { length out.old < 2 ^ 64 }
-    ensures { PutsAt at (primary_level code.now (start code.now) (level_weights 1 (all_own v elements.now))) out.old out.new result }
+    ensures { PutsAt at (primary_level code.now (start code.now) (level_weights 1 (all_own v elements.now))) out.old out.new result.at }
 {
     let first = Placed {
         at,
@@ -600,11 +628,17 @@ pub(crate) fn put_whole(
     };
     if !has_room_for_end(elements.len(), LETTER, at, out.len()) {
         let placed = put_elements(code, v, first, elements, out);
-        return put_bytes(&[0], placed.at, out);
+        return FirstLevel {
+            at: put_bytes(&[0], placed.at, out),
+            pairs: false,
+        };
     }
-    let placed = put_weights(code, v, first, elements, out);
-    out[placed.at] = 0;
-    placed.at + 1
+    let all = put_weights(code, v, first, elements, out);
+    out[all.placed.at] = 0;
+    FirstLevel {
+        at: all.placed.at + 1,
+        pairs: all.pairs,
+    }
 }
 
 /// Puts the first level of a text that the room does not hold, as it is read once more. It ends itself.

@@ -33,3 +33,9 @@ returns c =
     let ws : List (List ℕ) = weights_of c.args.reading.now in let text : List ℕ = nfd (chars c.args.reading.now.text.now) in
     let none : c.args.last - c.levels.level ≡ 0 = omega (arith, c.levels-test.false) in
     IsPutting-ends _ _ _ _ _ _ c.levels.invariant.putting (ap (λ n. later_levels n (c.levels.level + 1) ws text) none)
+
+pub put_later-next-requires-clause-second : goal.put_later-next-requires-clause-second
+put_later-next-requires-clause-second c = c.first_marks-marks.ensures.second c.args.reading.now.weighting
+
+pub put_later-next-requires-clause-third : goal.put_later-next-requires-clause-third
+put_later-next-requires-clause-third c = c.first_marks-marks.ensures.third c.args.reading.now.weighting

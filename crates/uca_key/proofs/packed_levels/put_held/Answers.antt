@@ -52,13 +52,13 @@ whole k t s text v last own option is held =
     let key : List (List ℕ) → Variable → ℕ → List ℕ = λ ws u n. primary_level k (start k) (level_weights 1 ws) ++ later_levels (n - 1) 2 (weights t u text) (nfd text) in
     ap (λ ws. key ws v last) held ∙ ap (λ u. key (weights t u text) u last) (sym option) ∙ ap (λ n. key (weights t s.weighting text) s.weighting n) is ∙ sym (packed-levels k t s text)
 
-pub returns-then-have_blanks : goal.returns-then-have_blanks
-returns-then-have_blanks c =
+pub returns-then-first : goal.returns-then-first
+returns-then-first c =
     let text : List ℕ = chars c.args.reading.now.text.now in let t = c.args.reading.now.table.now in let k = c.args.code.now in let s = c.args.s in let v = c.args.reading.now.weighting in
     let own : List (List ℕ) = all_own v (take c.args.held c.args.room.now) in
     subst (λ (l : List ℕ). PutsAt c.args.at l c.args.out.now c.put_blank_levels.new.out c.put_blank_levels.result)
     (whole k t s text v c.levels-last.result own c.requires.option c.levels-last.ensures c.requires.elements)
-    (PutsAt-more _ _ _ _ _ _ _ _ c.requires.size c.put_whole-next.ensures c.put_blank_levels.ensures)
+    (PutsAt-more _ _ _ _ _ _ _ _ c.requires.size c.put_whole-first.ensures c.put_blank_levels.ensures)
 
 pub put_blank_levels-requires-clause-from : goal.put_blank_levels-requires-clause-from
 put_blank_levels-requires-clause-from c = let bounds = levels-within c.args.s.strength in omega (arith, bounds.0, c.levels-last.ensures)
@@ -66,18 +66,12 @@ put_blank_levels-requires-clause-from c = let bounds = levels-within c.args.s.st
 pub put_blank_levels-requires-clause-to : goal.put_blank_levels-requires-clause-to
 put_blank_levels-requires-clause-to c = let bounds = levels-within c.args.s.strength in omega (arith, bounds.1, c.levels-last.ensures)
 
-pub put_blank_levels-requires-clause-second : goal.put_blank_levels-requires-clause-second
-put_blank_levels-requires-clause-second c = c.first_marks-marks.ensures.second c.args.reading.now.weighting
-
-pub put_blank_levels-requires-clause-third : goal.put_blank_levels-requires-clause-third
-put_blank_levels-requires-clause-third c = c.first_marks-marks.ensures.third c.args.reading.now.weighting
-
 pub returns-then-last-eq1 : goal.returns-then-last-eq1
 returns-then-last-eq1 c =
     let text : List ℕ = chars c.args.reading.now.text.now in let t = c.args.reading.now.table.now in let k = c.args.code.now in let s = c.args.s in let v = c.args.reading.now.weighting in
     let small = c.requires.size in let option = c.requires.option in let last = c.levels-last.ensures in
     ends k t s text v option c.args.at c.args.out.now small 1 _ _ (sym last ∙ c.if-last-eq1.true)
-    (first k t s text v option c.args.at c.args.out.now small _ _ _ c.ranges.at.fits c.requires.elements c.put_whole-next.ensures)
+    (first k t s text v option c.args.at c.args.out.now small _ _ _ c.ranges.at.fits c.requires.elements c.put_whole-first.ensures)
 
 pub returns-then-last-eq2 : goal.returns-then-last-eq2
 returns-then-last-eq2 c =
@@ -85,7 +79,7 @@ returns-then-last-eq2 c =
     let small = c.requires.size in let option = c.requires.option in let last = c.levels-last.ensures in
     let step = more k t s text v option c.args.at c.args.out.now small in
     let from = (levels-within s.strength).0 in
-    let one = first k t s text v option c.args.at c.args.out.now small _ _ _ c.ranges.at.fits c.requires.elements c.put_whole-next.ensures in
+    let one = first k t s text v option c.args.at c.args.out.now small _ _ _ c.ranges.at.fits c.requires.elements c.put_whole-first.ensures in
     ends k t s text v option c.args.at c.args.out.now small 2 _ _ (sym last ∙ c.if-last-eq2.true)
     (step 1 _ _ _ _ (omega (arith, last, c.if-last-eq2.true)) one c.put_later-next.ensures)
 
@@ -94,7 +88,7 @@ returns-then-last-eq3 c =
     let text : List ℕ = chars c.args.reading.now.text.now in let t = c.args.reading.now.table.now in let k = c.args.code.now in let s = c.args.s in let v = c.args.reading.now.weighting in
     let small = c.requires.size in let option = c.requires.option in let last = c.levels-last.ensures in
     let step = more k t s text v option c.args.at c.args.out.now small in
-    let one = first k t s text v option c.args.at c.args.out.now small _ _ _ c.ranges.at.fits c.requires.elements c.put_whole-next.ensures in
+    let one = first k t s text v option c.args.at c.args.out.now small _ _ _ c.ranges.at.fits c.requires.elements c.put_whole-first.ensures in
     let top : levels s.strength ≡ 3 = sym last ∙ c.if-last-eq3.true in
     let two = step 1 _ _ _ _ (omega (arith, top)) one c.put_later-next.ensures in
     ends k t s text v option c.args.at c.args.out.now small 3 _ _ top (step 2 _ _ _ _ (omega (arith, top)) two c.put_later-next-2.ensures)
@@ -104,7 +98,7 @@ returns-then-last-eq4 c =
     let text : List ℕ = chars c.args.reading.now.text.now in let t = c.args.reading.now.table.now in let k = c.args.code.now in let s = c.args.s in let v = c.args.reading.now.weighting in
     let small = c.requires.size in let option = c.requires.option in let last = c.levels-last.ensures in
     let step = more k t s text v option c.args.at c.args.out.now small in
-    let one = first k t s text v option c.args.at c.args.out.now small _ _ _ c.ranges.at.fits c.requires.elements c.put_whole-next.ensures in
+    let one = first k t s text v option c.args.at c.args.out.now small _ _ _ c.ranges.at.fits c.requires.elements c.put_whole-first.ensures in
     let top : levels s.strength ≡ 4 = sym last ∙ c.if-last-eq4.true in
     let two = step 1 _ _ _ _ (omega (arith, top)) one c.put_later-next.ensures in
     let three = step 2 _ _ _ _ (omega (arith, top)) two c.put_later-next-2.ensures in
@@ -115,7 +109,7 @@ returns c =
     let text : List ℕ = chars c.args.reading.now.text.now in let t = c.args.reading.now.table.now in let k = c.args.code.now in let s = c.args.s in let v = c.args.reading.now.weighting in
     let small = c.requires.size in let option = c.requires.option in let last = c.levels-last.ensures in
     let step = more k t s text v option c.args.at c.args.out.now small in
-    let one = first k t s text v option c.args.at c.args.out.now small _ _ _ c.ranges.at.fits c.requires.elements c.put_whole-next.ensures in
+    let one = first k t s text v option c.args.at c.args.out.now small _ _ _ c.ranges.at.fits c.requires.elements c.put_whole-first.ensures in
     let bounds = levels-within s.strength in
     let top : levels s.strength ≡ 5 = omega (arith, bounds.0, bounds.1, last, c.if-last-eq1.false, c.if-last-eq2.false, c.if-last-eq3.false, c.if-last-eq4.false) in
     let two = step 1 _ _ _ _ (omega (arith, top)) one c.put_later-next.ensures in

@@ -1,7 +1,7 @@
 use Rattle.std.proofs.Common.{◌≡◌, ◌+◌, ◌*◌, ◌<◌, ◌≤◌, ◌++◌, ℕ, List, length, take}
 use Rattle.uca_model.specs.LevelWeights.{level_weights}
 use Rattle.uca_key.specs.PackedKey.{common_weight, runs_after}
-use Rattle.uca_key.specs.Placing.{StaysAfter}
+use Rattle.uca_key.specs.Placing.{StaysBeyond}
 use Rattle.uca_key.specs.Runs.{AreMarked}
 use Rattle.uca_key.specs.Weighing.{all_own}
 use Rattle.uca_key.proofs.runs.pack_masked.Given as goal
@@ -13,7 +13,7 @@ invariant-runs l = record {
   marked : AreMarked l.v l.level l.mask l.left;
   small : length l.left ≤ 64;
   within : l.packed.at + 4 * length l.left ≤ l.fn.before.at + 4 * length l.elements;
-  stays : StaysAfter l.fn.before.at l.packed.at l.fn.key l.key;
+  stays : StaysBeyond l.fn.before.at l.packed.at l.fn.key l.key;
   size : length l.key ≡ length l.fn.key;
   same : (ws : List ℕ) → take l.packed.at l.key ++ runs_after (common_weight l.level) l.packed.run (level_weights l.level (all_own l.v l.left) ++ ws) ≡ take l.fn.before.at l.fn.key ++ runs_after (common_weight l.level) l.fn.before.run (level_weights l.level (all_own l.v l.elements) ++ ws);
 }

@@ -1,7 +1,7 @@
 use Rattle.std.proofs.Common.{◌≡◌, ◌+◌, ◌*◌, ◌-◌, ◌<◌, ◌≤◌, ◌++◌, ℕ, List, drop, length, take}
 use Rattle.uca_model.specs.LevelWeights.{level_weights}
 use Rattle.uca_key.specs.PackedKey.{common_weight, runs_after}
-use Rattle.uca_key.specs.Placing.{StaysAfter}
+use Rattle.uca_key.specs.Placing.{StaysBeyond}
 use Rattle.uca_key.specs.Weighing.{all_own}
 use Rattle.uca_key.proofs.runs.pack_row.Given as goal
 
@@ -11,7 +11,7 @@ invariant-each l = record {
   few : l.packed.run < 62;
   some : l.n ≤ length l.elements;
   within : l.packed.at ≤ l.fn.before.at + 4 * l.n;
-  stays : StaysAfter l.fn.before.at l.packed.at l.fn.key l.key;
+  stays : StaysBeyond l.fn.before.at l.packed.at l.fn.key l.key;
   size : length l.key ≡ length l.fn.key;
   same : (ws : List ℕ) → take l.packed.at l.key ++ runs_after (common_weight l.level) l.packed.run (level_weights l.level (all_own l.v (drop l.n l.elements)) ++ ws) ≡ take l.fn.before.at l.fn.key ++ runs_after (common_weight l.level) l.fn.before.run (level_weights l.level (all_own l.v l.elements) ++ ws);
 }

@@ -6,7 +6,7 @@ use Rattle.uca_key.specs.PackedKey.{common_weight, runs_after}
 use Rattle.uca_key.specs.Runs.{AreMarked}
 use Rattle.uca_key.specs.Weighing.{all_own}
 use Rattle.uca_key.proofs.MaskLemmas.{marked-front}
-use Rattle.uca_key.proofs.PlacingLemmas.{stays-more}
+use Rattle.uca_key.proofs.PlacingLemmas.{beyond-more}
 use Rattle.uca_key.proofs.WeighingLemmas.{own_weights-both}
 use Rattle.uca_key.proofs.runs.pack_whole.Goals as goal
 
@@ -17,7 +17,7 @@ pack_masked-packed-requires-clause-marked c =
     subst (AreMarked v level c.pieces.mask) (sym c.split_at.ensures.front) (marked-front v level c.pieces.mask c.min.result 64 left few c.pieces.invariant.marked)
 
 pub returns-then-is_empty-clause-stays : goal.returns-then-is_empty-clause-stays
-returns-then-is_empty-clause-stays c = stays-more _ _ _ _ _ _ c.pieces.invariant.stays c.pack_masked-packed.ensures.stays
+returns-then-is_empty-clause-stays c = beyond-more _ _ _ _ _ _ c.pieces.invariant.stays c.pack_masked-packed.ensures.stays
 
 pub pieces-preserved : goal.pieces-preserved
 pieces-preserved c =
@@ -33,7 +33,7 @@ pieces-preserved c =
       few = packed.few;
       marked = c.marked_by_one-mask.ensures;
       within = omega (arith, packed.within, i.within, ap length parts);
-      stays = stays-more _ _ _ _ _ _ i.stays packed.stays;
+      stays = beyond-more _ _ _ _ _ _ i.stays packed.stays;
       size = packed.size ∙ i.size;
       same = λ ws. packed.bytes (weights rest ++ ws) ∙ sym (ap put (both ws)) ∙ i.same ws;
     }

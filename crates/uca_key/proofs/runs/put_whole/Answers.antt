@@ -6,7 +6,7 @@ use Rattle.uca_key.specs.PackedKey.{common_weight, runs_after, packed_level}
 use Rattle.uca_key.specs.Runs.{AreMarked, bytes_left}
 use Rattle.uca_key.specs.Weighing.{all_own}
 use Rattle.uca_key.proofs.MaskLemmas.{blank, none-left, run-counted}
-use Rattle.uca_key.proofs.PlacingLemmas.{IsPutting-start, IsPutting-more, IsPutting-ends, IsPutting-fitted, stays-more, stays-set}
+use Rattle.uca_key.proofs.PlacingLemmas.{IsPutting-start, IsPutting-more, IsPutting-ends, IsPutting-fitted, beyond-set, stays-set}
 use Rattle.uca_key.proofs.runs.put_whole.Goals as goal
 
 pub returns-then-not-has_room_for_end : goal.returns-then-not-has_room_for_end
@@ -47,5 +47,5 @@ returns c =
     let same =
     append-nil _ ∙ take_more_set c.pack_whole-packed.new.key c.pack_whole-packed.result.at (2 * c.pack_whole-packed.result.run) within
     ∙ packed.bytes [] ∙ ap (λ bytes. take c.args.at c.args.out.now ++ bytes) whole in
-    let stays = stays-more _ _ _ _ _ _ packed.stays (stays-set c.pack_whole-packed.result.at (2 * c.pack_whole-packed.result.run) c.pack_whole-packed.new.key) in
+    let stays = beyond-set _ _ (2 * c.pack_whole-packed.result.run) _ _ packed.stays in
     IsPutting-ends _ _ _ _ _ _ (IsPutting-fitted _ _ _ _ _ [] (length-set _ _ _ ∙ packed.size) c.requires.size (omega (arith, within)) stays same) refl

@@ -21,4 +21,4 @@ each-preserved c =
 
 pub returns-in_default-clause-stays : goal.returns-in_default-clause-stays
 returns-in_default-clause-stays c =
-    subst (λ (key : List ℕ). StaysBeyond c.args.before.at c.put_kept-kept.result.at c.args.key.now key) (sym c.in_default.ensures.none) (beyond-more _ _ _ _ _ _ c.each.invariant.stays c.put_kept-kept.ensures.stays)
+    subst (λ (key : List ℕ). StaysBeyond c.args.before.at c.put_kept-kept.result.progress.at c.args.key.now key) (sym c.in_default.ensures.none) (beyond-more _ _ _ _ _ _ c.each.invariant.stays c.put_kept-kept.ensures.stays)

@@ -16,9 +16,9 @@ pieces-preserved c =
     let piece : List Element = c.split_at.result.0.now in let rest : List Element = c.split_at.result.1.now in
     let parts : left ≡ piece ++ rest = sym (ap₂ (λ a b. a ++ b) c.split_at.ensures.front c.split_at.ensures.back ∙ take-append-drop c.min.result left) in
     record {
-      window = c.put_weights-placed.ensures.window;
+      window = c.put_weights-all.ensures.window;
       size = c.put_bytes.auto.out ∙ i.size;
-      bytes = c.put_weights-placed.ensures.size ∙ i.bytes;
+      bytes = c.put_weights-all.ensures.size ∙ i.bytes;
       putting = λ at front whole ws h.
           let now = i.putting at front whole ws h in
           let small : length front < 2 ^ 64 = omega (arith, IsPutting-size _ _ _ _ _ _ h, c.requires.size) in
@@ -26,5 +26,5 @@ pieces-preserved c =
           let own : List Element → List ℕ = λ es. level_weights 1 (all_own v es) in
           let both : own left ++ ws ≡ level_weights 1 (weighted v piece) ++ (own rest ++ ws) =
           ap (λ es. own es ++ ws) parts ∙ ap (λ l. l ++ ws) (own_weights-both v 1 piece rest) ∙ append_assoc (own piece) (own rest) ws ∙ ap (λ l. l ++ (own rest ++ ws)) (sym (first_weights-own v piece)) in
-          IsPutting-more _ _ _ _ _ _ now _ _ _ _ small (ap coded both ∙ sym (c.put_weights-placed.ensures.bytes (own rest ++ ws))) c.put_bytes.ensures;
+          IsPutting-more _ _ _ _ _ _ now _ _ _ _ small (ap coded both ∙ sym (c.put_weights-all.ensures.bytes (own rest ++ ws))) c.put_bytes.ensures;
     }

@@ -19,14 +19,14 @@ returns-then-not-has_room_for_end c =
 
 pub returns : goal.returns
 returns c =
-    let k = c.args.code.now in let placed = c.put_weights-placed.ensures in
+    let k = c.args.code.now in let placed = c.put_weights-all.ensures in
     let weights : List ℕ = level_weights 1 (weighted c.args.v c.args.elements.now) in
     let fits = c.has_room_for_end.ensures c.if-not-has_room_for_end.false in
-    let within : c.put_weights-placed.result.at < length c.put_weights-placed.new.key = omega (arith, fits, placed.within, c.requires.size) in
+    let within : c.put_weights-all.result.placed.at < length c.put_weights-all.new.key = omega (arith, fits, placed.within, c.requires.size) in
     let whole =
     ap (λ p. primary_level k p (weights ++ [])) c.first_reach.ensures.state ∙ ap (primary_level k (start k)) (append-nil weights ∙ first_weights-own c.args.v c.args.elements.now) in
     let same =
-    append-nil _ ∙ take_more_set c.put_weights-placed.new.key c.put_weights-placed.result.at 0 within
+    append-nil _ ∙ take_more_set c.put_weights-all.new.key c.put_weights-all.result.placed.at 0 within
     ∙ placed.bytes [] ∙ ap (λ bytes. take c.args.at c.args.out.now ++ bytes) whole in
     let stays = beyond-set _ _ 0 _ _ placed.stays in
     IsPutting-ends _ _ _ _ _ _ (IsPutting-fitted _ _ _ _ _ [] (length-set _ _ _ ∙ placed.size) c.requires.size (omega (arith, within)) stays same) refl

@@ -1,14 +1,10 @@
-use Rattle.std.proofs.Common.{◌≡◌, ◌==◌, not, ◌-◌, ◌^◌, ◌%◌, ◌≤◌, ◌<◌, ℕ, List, drop, length, refl, arith}
+use Rattle.std.proofs.Common.{◌≡◌, ◌==◌, ◌&&◌, Bool, ap, not, ◌+◌, ◌*◌, ◌-◌, ◌^◌, ◌%◌, ◌≤◌, ◌<◌, ℕ, List, drop, length, refl, arith}
 use Rattle.std.proofs.lemmas.List.{length-drop}
 use Rattle.uca_weights.specs.declared.element.Element.{Element}
 use Rattle.uca_weights.specs.declared.settings.Variable.TheVariants.{NonIgnorable}
-use Rattle.uca_key.specs.Runs.{is_other}
-use Rattle.uca_key.proofs.MaskLemmas.{mask-lanes, mask-none, mask-small}
-use Rattle.uca_key.proofs.runs.later_others.Goals as goal
-
--- a block of sixteen is left
-block : (n : ℕ) → 0 < n → n % 16 ≡ 0 → 16 ≤ n
-block n some whole = omega (arith, some, whole)
+use Rattle.uca_key.specs.Runs.{is_blank, is_other}
+use Rattle.uca_key.proofs.MaskLemmas.{blank-weights, block, mask-lanes, mask-none, mask-small}
+use Rattle.uca_key.proofs.runs.later_masks.Goals as goal
 
 pub each-init : goal.each-init
 each-init c =
@@ -18,17 +14,19 @@ each-init c =
       whole = c.requires.whole;
       second = λ v. mask-none (is_other v 2) (length es) es (omega arith);
       third = λ v. mask-none (is_other v 3) (length es) es (omega arith);
+      none = mask-none (is_blank c.args.asked) (length es) es (omega arith);
     }
 
 pub each-preserved : goal.each-preserved
 each-preserved c =
-    let es : List Element = c.args.elements.now in let i = c.each.invariant in
+    let asked : Bool = c.args.asked in let es : List Element = c.args.elements.now in let i = c.each.invariant in
     let some : 16 ≤ c.each.n = block c.each.n c.each-test.true i.whole in
     record {
       within = omega (arith, i.within);
       whole = omega (arith, i.whole, some);
       second = λ v. mask-lanes (is_other v 2) (λ e. e.l2) (λ (w : ℕ). not (w == 32)) (λ e. refl) c.each.n es c.each.second c.second_others.result _ some i.within (i.second v) c.later_weights_at-weights.ensures.second c.second_others.ensures;
       third = λ v. mask-lanes (is_other v 3) (λ e. e.l3) (λ (w : ℕ). not (w == 2)) (λ e. refl) c.each.n es c.each.third c.third_others.result _ some i.within (i.third v) c.later_weights_at-weights.ensures.third c.third_others.ensures;
+      none = mask-lanes (is_blank asked) (λ e. e.l2 + 65536 * e.l3) (λ (w : ℕ). asked && (w == 0)) (λ e. ap (λ b. asked && b) (blank-weights e.l2 e.l3)) c.each.n es c.each.none c.blanks.result _ some i.within i.none c.later_weights_at-weights.ensures.both c.blanks.ensures;
     }
 
 pub overflow_mul-second : goal.overflow_mul-second
@@ -61,4 +59,20 @@ overflow_add-third c =
       fits =
           mask-small (is_other NonIgnorable 3) (drop (c.each.n - 16) es) _ 64 (omega (arith, length-drop (c.each.n - 16) es, c.requires.few))
           (mask-lanes (is_other NonIgnorable 3) (λ e. e.l3) (λ (w : ℕ). not (w == 2)) (λ e. refl) c.each.n es c.each.third c.third_others.result _ some i.within (i.third NonIgnorable) c.later_weights_at-weights.ensures.third c.third_others.ensures);
+    }
+
+pub overflow_mul-none : goal.overflow_mul-none
+overflow_mul-none c =
+    let es : List Element = c.args.elements.now in let i = c.each.invariant in
+    let small : c.each.none < 2 ^ 48 = mask-small (is_blank c.args.asked) (drop c.each.n es) c.each.none 48 (omega (arith, length-drop c.each.n es, c.requires.few, block c.each.n c.each-test.true i.whole)) i.none in
+    record { fits = omega (arith, small) }
+
+pub overflow_add-none : goal.overflow_add-none
+overflow_add-none c =
+    let asked : Bool = c.args.asked in let es : List Element = c.args.elements.now in let i = c.each.invariant in
+    let some : 16 ≤ c.each.n = block c.each.n c.each-test.true i.whole in
+    record {
+      fits =
+          mask-small (is_blank asked) (drop (c.each.n - 16) es) _ 64 (omega (arith, length-drop (c.each.n - 16) es, c.requires.few))
+          (mask-lanes (is_blank asked) (λ e. e.l2 + 65536 * e.l3) (λ (w : ℕ). asked && (w == 0)) (λ e. ap (λ b. asked && b) (blank-weights e.l2 e.l3)) c.each.n es c.each.none c.blanks.result _ some i.within i.none c.later_weights_at-weights.ensures.both c.blanks.ensures);
     }

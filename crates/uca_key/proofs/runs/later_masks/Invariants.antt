@@ -1,8 +1,8 @@
 use Rattle.std.proofs.Common.{◌≡◌, ◌%◌, ◌≤◌, drop, length, map}
 use Rattle.std.specs.Simd.Lanes.{mask_l}
 use Rattle.uca_weights.specs.declared.settings.Variable.{Variable}
-use Rattle.uca_key.specs.Runs.{is_other}
-use Rattle.uca_key.proofs.runs.later_others.Given as goal
+use Rattle.uca_key.specs.Runs.{is_blank, is_other}
+use Rattle.uca_key.proofs.runs.later_masks.Given as goal
 
 -- the masks of the blocks that were looked at, from the last
 abbrev pub invariant-each : goal.invariant-each
@@ -11,6 +11,7 @@ invariant-each l = record {
   whole : l.n % 16 ≡ 0;
   second : (v : Variable) → l.second ≡ mask_l (map (is_other v 2) (drop l.n l.elements));
   third : (v : Variable) → l.third ≡ mask_l (map (is_other v 3) (drop l.n l.elements));
+  none : l.none ≡ mask_l (map (is_blank l.asked) (drop l.n l.elements));
 }
 
 abbrev pub decreases-each : goal.decreases-each
