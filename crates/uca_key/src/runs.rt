@@ -466,7 +466,8 @@ fn second_others(weights: u32x16) -> u64
     ensures { result ≡ mask_l (map (λ w. not (w == 32)) (map (λ w. w % 65536) weights)) }
 {
     (weights & u32x16::splat(0xFFFF))
-        .simd_ne(u32x16::splat(0x20))
+        .cast::<u16>()
+        .simd_ne(u16x16::splat(0x20))
         .to_bitmask()
 }
 
@@ -476,7 +477,8 @@ fn third_others(weights: u32x16) -> u64
     ensures { result ≡ mask_l (map (λ w. not (w == 2)) (map (λ w. w / 65536) weights)) }
 {
     (weights >> u32x16::splat(16))
-        .simd_ne(u32x16::splat(2))
+        .cast::<u16>()
+        .simd_ne(u16x16::splat(2))
         .to_bitmask()
 }
 

@@ -302,197 +302,208 @@ fn put_implicit(
     put_pair(second, key, at + 1)
 }
 
-// How far weights are put: the place after their bytes, and the elements that are left.
+// How far the weights of some elements are put: the place after their bytes, and how many elements they are of.
 #[derive(Clone, Copy)]
-struct Progress<'e> {
+struct Progress {
     at: usize,
-    left: &'e [Element],
+    elements: usize,
 }
 
-// Puts the weights of elements as long as each takes one byte in the window, or none, and leaves the window as it is. Most of a text is
-// put here, so it asks little.
+// Puts the weights of elements from one on, as long as each takes one byte in the window, or none, and leaves the window as it is. Most of a
+// text is put here, so it asks little.
 #[inline(always)]
-fn put_shorts<'e>(
+fn put_shorts(
     code: &PackedCode,
     v: Variable,
     before: Placed,
-    elements: &'e [Element],
+    elements: &[Element],
+    from: usize,
     key: &mut [u8],
-) -> Progress<'e>
+) -> Progress
     requires window { IsWindow code.now before.reach.window.now }
-    requires room { before.at + length elements.now ≤ length key.old }
-    ensures bytes { (ws : List ℕ) → take result.at key.new ++ primary_level code.now (state_of before.entry.reach) (level_weights 1 (weighted v result.left.now) ++ ws) ≡ take before.entry.at key.old ++ primary_level code.now (state_of before.entry.reach) (level_weights 1 (weighted v elements.now) ++ ws) }
-    ensures within { result.at + length result.left.now ≤ before.entry.at + length elements.now }
-    ensures some { length result.left.now ≤ length elements.now }
+    requires some { from ≤ length elements.now }
+    requires room { before.at + length elements.now ≤ length key.old + from }
+    ensures bytes { (ws : List ℕ) → take result.at key.new ++ primary_level code.now (state_of before.entry.reach) (level_weights 1 (weighted v (drop result.elements elements.now)) ++ ws) ≡ take before.entry.at key.old ++ primary_level code.now (state_of before.entry.reach) (level_weights 1 (weighted v (drop from elements.now)) ++ ws) }
+    ensures within { result.at + from ≤ before.entry.at + result.elements }
+    ensures more { from ≤ result.elements }
+    ensures some { result.elements ≤ length elements.now }
     ensures stays { StaysBeyond before.entry.at result.at key.old key.new }
     ensures size { length key.new ≡ length key.old }
 {
     let reach = before.reach;
     let bytes = reach.window.bytes();
     let mut at = before.at;
+    let mut n = from;
     if reach.due > 0 {
-        return Progress { at, left: elements };
+        return Progress { at, elements: n };
     }
-    let mut left = elements;
-    'each: while let Some((first, rest)) = left.split_first() {
-        let w = primary_weight(v, first);
+    'each: while n < elements.len() {
+        let w = primary_weight(v, &elements[n]);
         let Some(byte) = short_byte(bytes, w) else {
-            return Progress { at, left };
+            return Progress { at, elements: n };
         };
         at = put_short(code, reach, w, byte, key, at);
-        left = rest;
+        n += 1;
     }
-    Progress { at, left }
+    Progress { at, elements: n }
 }
 
-// Puts the first weights of some elements if they are an implicit pair whose first weight has a byte of its own outside the window, as
+// Puts the weights of two elements from one on if they are an implicit pair whose first weight has a byte of its own outside the window, as
 // those of ideographs have. It puts none of any others.
 #[inline(always)]
-fn put_pair_of<'e>(
+fn put_pair_of(
     code: &PackedCode,
     v: Variable,
     before: Placed,
-    elements: &'e [Element],
+    elements: &[Element],
+    from: usize,
     key: &mut [u8],
-) -> Option<Progress<'e>>
+) -> Option<Progress>
     requires window { IsWindow code.now before.reach.window.now }
-    requires room { before.at + 3 * length elements.now ≤ length key.old }
-    ensures bytes { IfSome result (λ p. (ws : List ℕ) → take p.at key.new ++ primary_level code.now (state_of before.entry.reach) (level_weights 1 (weighted v p.left.now) ++ ws) ≡ take before.entry.at key.old ++ primary_level code.now (state_of before.entry.reach) (level_weights 1 (weighted v elements.now) ++ ws)) }
-    ensures within { IfSome result (λ p. p.at + 3 * length p.left.now ≤ before.entry.at + 3 * length elements.now) }
-    ensures fewer { IfSome result (λ p. length p.left.now < length elements.now) }
+    requires some { from ≤ length elements.now }
+    requires room { before.at + 3 * length elements.now ≤ length key.old + 3 * from }
+    ensures bytes { IfSome result (λ p. (ws : List ℕ) → take p.at key.new ++ primary_level code.now (state_of before.entry.reach) (level_weights 1 (weighted v (drop p.elements elements.now)) ++ ws) ≡ take before.entry.at key.old ++ primary_level code.now (state_of before.entry.reach) (level_weights 1 (weighted v (drop from elements.now)) ++ ws)) }
+    ensures within { IfSome result (λ p. p.at + 3 * from ≤ before.entry.at + 3 * p.elements) }
+    ensures more { IfSome result (λ p. from < p.elements) }
+    ensures some { IfSome result (λ p. p.elements ≤ length elements.now) }
     ensures stays { IfSome result (λ p. StaysAfter before.entry.at p.at key.old key.new) }
     ensures none { IfNone result (key.new ≡ key.old) }
     ensures size { length key.new ≡ length key.old }
 {
     let reach = before.reach;
-    let [first, next, ..] = elements else {
-        return None;
-    };
-    if reach.due > 0 {
+    if elements.len() - from < 2 || reach.due > 0 {
         return None;
     }
-    let w = primary_weight(v, first);
+    let w = primary_weight(v, &elements[from]);
     let byte = reach.window.first_byte(w)?;
-    let second = primary_weight(v, next);
+    let second = primary_weight(v, &elements[from + 1]);
     if second < 0x8000 {
         return None;
     }
     Some(Progress {
         at: put_implicit(code, reach, w, byte, second, key, before.at),
-        left: elements.split_at(2).1,
+        elements: from + 2,
     })
 }
 
-// The same, and whether a pair was among them.
+// How far weights are put that leave the window as it is, and whether a pair is among them.
 #[derive(Clone, Copy)]
-struct Kept<'e> {
-    progress: Progress<'e>,
+struct Kept {
+    progress: Progress,
     pairs: bool,
 }
 
-// Puts the weights of elements as long as they leave the window as it is: letters of one byte, and such pairs.
+// Puts the weights of elements from one on, as long as they leave the window as it is: letters of one byte, and such pairs.
 #[inline(always)]
-fn put_kept<'e>(
+fn put_kept(
     code: &PackedCode,
     v: Variable,
     before: Placed,
-    elements: &'e [Element],
+    elements: &[Element],
+    from: usize,
     key: &mut [u8],
-) -> Kept<'e>
+) -> Kept
     requires window { IsWindow code.now before.reach.window.now }
-    requires room { before.at + 3 * length elements.now ≤ length key.old }
-    ensures bytes { (ws : List ℕ) → take result.progress.at key.new ++ primary_level code.now (state_of before.entry.reach) (level_weights 1 (weighted v result.progress.left.now) ++ ws) ≡ take before.entry.at key.old ++ primary_level code.now (state_of before.entry.reach) (level_weights 1 (weighted v elements.now) ++ ws) }
-    ensures within { result.progress.at + 3 * length result.progress.left.now ≤ before.entry.at + 3 * length elements.now }
-    ensures some { length result.progress.left.now ≤ length elements.now }
+    requires some { from ≤ length elements.now }
+    requires room { before.at + 3 * length elements.now ≤ length key.old + 3 * from }
+    ensures bytes { (ws : List ℕ) → take result.progress.at key.new ++ primary_level code.now (state_of before.entry.reach) (level_weights 1 (weighted v (drop result.progress.elements elements.now)) ++ ws) ≡ take before.entry.at key.old ++ primary_level code.now (state_of before.entry.reach) (level_weights 1 (weighted v (drop from elements.now)) ++ ws) }
+    ensures within { result.progress.at + 3 * from ≤ before.entry.at + 3 * result.progress.elements }
+    ensures more { from ≤ result.progress.elements }
+    ensures some { result.progress.elements ≤ length elements.now }
     ensures stays { StaysBeyond before.entry.at result.progress.at key.old key.new }
     ensures size { length key.new ≡ length key.old }
 {
     let reach = before.reach;
     let mut at = before.at;
-    let mut left = elements;
+    let mut n = from;
     let mut pairs = false;
     'runs: loop {
-        let short = put_shorts(code, v, Placed { at, reach }, left, key);
+        let short = put_shorts(code, v, Placed { at, reach }, elements, n, key);
         let letters = Placed {
             at: short.at,
             reach,
         };
-        let Some(pair) = put_pair_of(code, v, letters, short.left, key) else {
+        let Some(pair) = put_pair_of(code, v, letters, elements, short.elements, key) else {
             return Kept {
                 progress: short,
                 pairs,
             };
         };
         at = pair.at;
-        left = pair.left;
+        n = pair.elements;
         pairs = true;
     }
 }
 
-// What is put of weights and what they leave, and the elements that are left.
-#[derive(Clone, Copy)]
-struct Step<'c, 'e> {
-    placed: Placed<'c>,
-    left: &'e [Element],
-}
-
-// Puts the first weight of some elements.
+// Puts the weight of an element, if there is one at this place.
 #[inline(always)]
-fn put_first<'c, 'e>(
+fn put_one<'c>(
     code: &'c PackedCode,
     v: Variable,
     before: Placed<'c>,
-    elements: &'e [Element],
+    elements: &[Element],
+    n: usize,
     key: &mut [u8],
-) -> Option<Step<'c, 'e>>
+) -> Option<Placed<'c>>
     requires window { IsWindow code.now before.reach.window.now }
-    requires room { before.at + 3 * length elements.now ≤ length key.old }
-    ensures some { IsSome result ↔ 0 < length elements.now }
-    ensures bytes { IfSome result (λ s. (ws : List ℕ) → take s.placed.at key.new ++ primary_level code.now (state_of s.placed.reach) (level_weights 1 (weighted v s.left.now) ++ ws) ≡ take before.entry.at key.old ++ primary_level code.now (state_of before.entry.reach) (level_weights 1 (weighted v elements.now) ++ ws)) }
-    ensures window { IfSome result (λ s. IsWindow code.now s.placed.reach.window.now) }
-    ensures within { IfSome result (λ s. s.placed.at + 3 * length s.left.now ≤ before.entry.at + 3 * length elements.now) }
-    ensures fewer { IfSome result (λ s. length s.left.now < length elements.now) }
-    ensures stays { IfSome result (λ s. StaysAfter before.entry.at s.placed.at key.old key.new) }
+    requires some { n ≤ length elements.now }
+    requires room { before.at + 3 * length elements.now ≤ length key.old + 3 * n }
+    ensures inside { IfSome result (λ _. n < length elements.now) }
+    ensures end { IfNone result (length elements.now ≤ n) }
+    ensures bytes { IfSome result (λ p. (ws : List ℕ) → take p.at key.new ++ primary_level code.now (state_of p.reach) (level_weights 1 (weighted v (drop (n + 1) elements.now)) ++ ws) ≡ take before.entry.at key.old ++ primary_level code.now (state_of before.entry.reach) (level_weights 1 (weighted v (drop n elements.now)) ++ ws)) }
+    ensures window { IfSome result (λ p. IsWindow code.now p.reach.window.now) }
+    ensures within { IfSome result (λ p. p.at ≤ before.entry.at + 3) }
+    ensures stays { IfSome result (λ p. StaysAfter before.entry.at p.at key.old key.new) }
     ensures none { IfNone result (key.new ≡ key.old) }
     ensures size { length key.new ≡ length key.old }
 {
-    let (first, rest) = elements.split_first()?;
-    let w = primary_weight(v, first);
-    if let Some(placed) = put_letter(code, before, w, key) {
-        return Some(Step { placed, left: rest });
+    if n >= elements.len() {
+        return None;
     }
-    Some(Step {
-        placed: put_some(code, before, w, key),
-        left: rest,
-    })
+    let w = primary_weight(v, &elements[n]);
+    if let Some(placed) = put_letter(code, before, w, key) {
+        return Some(placed);
+    }
+    Some(put_some(code, before, w, key))
+}
+
+// What is put of weights and what they leave, and how many elements they are of.
+#[derive(Clone, Copy)]
+struct Step<'c> {
+    placed: Placed<'c>,
+    elements: usize,
 }
 
 // Puts the first weight of some elements if it is a letter that moves the window, as the first one of most texts in other scripts than
 // Latin is. It puts none of any others.
 #[inline(always)]
-fn put_start<'c, 'e>(
+fn put_start<'c>(
     code: &'c PackedCode,
     v: Variable,
     before: Placed<'c>,
-    elements: &'e [Element],
+    elements: &[Element],
     key: &mut [u8],
-) -> Step<'c, 'e>
+) -> Step<'c>
     requires window { IsWindow code.now before.reach.window.now }
     requires room { before.at + 3 * length elements.now ≤ length key.old }
-    ensures bytes { (ws : List ℕ) → take result.placed.at key.new ++ primary_level code.now (state_of result.placed.reach) (level_weights 1 (weighted v result.left.now) ++ ws) ≡ take before.entry.at key.old ++ primary_level code.now (state_of before.entry.reach) (level_weights 1 (weighted v elements.now) ++ ws) }
+    ensures bytes { (ws : List ℕ) → take result.placed.at key.new ++ primary_level code.now (state_of result.placed.reach) (level_weights 1 (weighted v (drop result.elements elements.now)) ++ ws) ≡ take before.entry.at key.old ++ primary_level code.now (state_of before.entry.reach) (level_weights 1 (weighted v elements.now) ++ ws) }
     ensures window { IsWindow code.now result.placed.reach.window.now }
-    ensures within { result.placed.at + 3 * length result.left.now ≤ before.entry.at + 3 * length elements.now }
+    ensures within { result.placed.at ≤ before.entry.at + 3 * result.elements }
+    ensures some { result.elements ≤ length elements.now }
     ensures stays { StaysAfter before.entry.at result.placed.at key.old key.new }
     ensures size { length key.new ≡ length key.old }
 {
-    if let Some((first, rest)) = elements.split_first() {
-        if let Some(placed) = put_letter(code, before, primary_weight(v, first), key) {
-            return Step { placed, left: rest };
+    if elements.len() > 0 {
+        if let Some(placed) = put_letter(code, before, primary_weight(v, &elements[0]), key) {
+            return Step {
+                placed,
+                elements: 1,
+            };
         }
     }
     Step {
         placed: before,
-        left: elements,
+        elements: 0,
     }
 }
 
@@ -523,16 +534,20 @@ fn put_each<'c>(
     let mut step = put_start(code, v, before, elements, key);
     let mut pairs = false;
     'each: loop {
-        let kept = put_kept(code, v, step.placed, step.left, key);
+        let kept = put_kept(code, v, step.placed, elements, step.elements, key);
+        let n = kept.progress.elements;
         let placed = Placed {
             at: kept.progress.at,
             reach: step.placed.reach,
         };
         pairs = pairs | kept.pairs;
-        let Some(next) = put_first(code, v, placed, kept.progress.left, key) else {
+        let Some(next) = put_one(code, v, placed, elements, n, key) else {
             return All { placed, pairs };
         };
-        step = next;
+        step = Step {
+            placed: next,
+            elements: n + 1,
+        };
     }
 }
 
@@ -602,6 +617,27 @@ fn put_elements<'c>(
     state
 }
 
+// Puts the first level of some elements at a place of a buffer, a piece at a time. It is not inlined, so that what fits at once needs no
+// memory beside its registers.
+#[inline(never)]
+fn put_in_pieces(
+    code: &PackedCode,
+    v: Variable,
+    elements: &[Element],
+    at: usize,
+    out: &mut [u8],
+) -> usize
+    requires size { length out.old < 2 ^ 64 }
+    ensures { PutsAt at (primary_level code.now (start code.now) (level_weights 1 (all_own v elements.now))) out.old out.new result }
+{
+    let first = Placed {
+        at,
+        reach: first_reach(code),
+    };
+    let placed = put_elements(code, v, first, elements, out);
+    put_bytes(&[0], placed.at, out)
+}
+
 /// Where the first level of a key ends, and whether it is known that a pair is among its weights.
 #[derive(Clone, Copy)]
 pub(crate) struct FirstLevel {
@@ -622,17 +658,16 @@ pub(crate) fn put_whole(
     requires size { length out.old < 2 ^ 64 }
     ensures { PutsAt at (primary_level code.now (start code.now) (level_weights 1 (all_own v elements.now))) out.old out.new result.at }
 {
+    if !has_room_for_end(elements.len(), LETTER, at, out.len()) {
+        return FirstLevel {
+            at: put_in_pieces(code, v, elements, at, out),
+            pairs: false,
+        };
+    }
     let first = Placed {
         at,
         reach: first_reach(code),
     };
-    if !has_room_for_end(elements.len(), LETTER, at, out.len()) {
-        let placed = put_elements(code, v, first, elements, out);
-        return FirstLevel {
-            at: put_bytes(&[0], placed.at, out),
-            pairs: false,
-        };
-    }
     let all = put_weights(code, v, first, elements, out);
     out[all.placed.at] = 0;
     FirstLevel {

@@ -6,14 +6,15 @@ use Rattle.uca_key.proofs.weight_bytes.put_each.Goals as goal
 pub each-init : goal.each-init
 each-init c =
     let start = c.put_start-step.ensures in
-    record { window = start.window; within = start.within; stays = stays-beyond _ _ _ _ start.stays; size = start.size; same = start.bytes }
+    record { window = start.window; within = start.within; some = start.some; stays = stays-beyond _ _ _ _ start.stays; size = start.size; same = start.bytes }
 
 pub each-preserved : goal.each-preserved
 each-preserved c =
     let i = c.each.invariant in let kept = c.put_kept-kept.ensures in let next = c.in-Some.ensures in
     record {
       window = next.window;
-      within = omega (arith, next.within, kept.within, kept.some, i.within);
+      within = omega (arith, next.within, kept.within, i.within);
+      some = omega (arith, next.inside);
       stays = beyond-more _ _ _ _ _ _ (beyond-more _ _ _ _ _ _ i.stays kept.stays) (stays-beyond _ _ _ _ next.stays);
       size = next.size ∙ kept.size ∙ i.size;
       same = λ ws. next.bytes ws ∙ kept.bytes ws ∙ i.same ws;

@@ -1,4 +1,4 @@
-use Rattle.std.proofs.Common.{◌≡◌, ◌+◌, ◌*◌, ◌≤◌, ◌++◌, ℕ, List, length, take}
+use Rattle.std.proofs.Common.{◌≡◌, ◌+◌, ◌-◌, drop, ◌*◌, ◌≤◌, ◌++◌, ℕ, List, length, take}
 use Rattle.uca_weights.specs.VariableWeighting.{weighted}
 use Rattle.uca_model.specs.LevelWeights.{level_weights}
 use Rattle.uca_key.specs.PrimaryCode.{primary_level}
@@ -11,11 +11,12 @@ use Rattle.uca_key.proofs.weight_bytes.put_each.Given as goal
 abbrev pub invariant-each : goal.invariant-each
 invariant-each l = record {
   window : IsWindow l.code l.step.placed.reach.window.now;
-  within : l.step.placed.at + 3 * length l.step.left.now ≤ l.fn.before.at + 3 * length l.elements;
+  within : l.step.placed.at ≤ l.fn.before.at + 3 * l.step.elements;
+  some : l.step.elements ≤ length l.elements;
   stays : StaysBeyond l.fn.before.at l.step.placed.at l.fn.key l.key;
   size : length l.key ≡ length l.fn.key;
-  same : (ws : List ℕ) → take l.step.placed.at l.key ++ primary_level l.code (state_of l.step.placed.reach) (level_weights 1 (weighted l.v l.step.left.now) ++ ws) ≡ take l.fn.before.at l.fn.key ++ primary_level l.code (state_of l.fn.before.reach) (level_weights 1 (weighted l.v l.elements) ++ ws);
+  same : (ws : List ℕ) → take l.step.placed.at l.key ++ primary_level l.code (state_of l.step.placed.reach) (level_weights 1 (weighted l.v (drop l.step.elements l.elements)) ++ ws) ≡ take l.fn.before.at l.fn.key ++ primary_level l.code (state_of l.fn.before.reach) (level_weights 1 (weighted l.v l.elements) ++ ws);
 }
 
 abbrev pub decreases-each : goal.decreases-each
-decreases-each l = length l.step.left.now
+decreases-each l = length l.elements - l.step.elements

@@ -7,8 +7,9 @@ pub runs-preserved : goal.runs-preserved
 runs-preserved c =
     let i = c.runs.invariant in let short = c.put_shorts-short.ensures in let pair = c.in-Some.ensures in
     record {
-      within = omega (arith, pair.within, short.within, short.some, i.within);
-      some = omega (arith, pair.fewer, short.some, i.some);
+      within = omega (arith, pair.within, short.within, short.more, i.within);
+      more = omega (arith, pair.more, short.more, i.more);
+      some = pair.some;
       stays = beyond-more _ _ _ _ _ _ (beyond-more _ _ _ _ _ _ i.stays short.stays) (stays-beyond _ _ _ _ pair.stays);
       size = pair.size ∙ short.size ∙ i.size;
       same = λ ws. pair.bytes ws ∙ short.bytes ws ∙ i.same ws;

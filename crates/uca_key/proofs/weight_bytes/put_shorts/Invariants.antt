@@ -1,4 +1,4 @@
-use Rattle.std.proofs.Common.{◌≡◌, ◌+◌, ◌≤◌, ◌++◌, ℕ, List, length, take}
+use Rattle.std.proofs.Common.{◌≡◌, ◌+◌, ◌-◌, drop, ◌≤◌, ◌++◌, ℕ, List, length, take}
 use Rattle.uca_weights.specs.VariableWeighting.{weighted}
 use Rattle.uca_model.specs.LevelWeights.{level_weights}
 use Rattle.uca_key.specs.PrimaryCode.{primary_level}
@@ -9,12 +9,13 @@ use Rattle.uca_key.proofs.weight_bytes.put_shorts.Given as goal
 -- what is put, what is left and what follows are put as all is
 abbrev pub invariant-each : goal.invariant-each
 invariant-each l = record {
-  some : length l.left ≤ length l.elements;
-  within : l.at + length l.left ≤ l.fn.before.at + length l.elements;
+  more : l.fn.from ≤ l.n;
+  some : l.n ≤ length l.elements;
+  within : l.at + l.fn.from ≤ l.fn.before.at + l.n;
   stays : StaysBeyond l.fn.before.at l.at l.fn.key l.key;
   size : length l.key ≡ length l.fn.key;
-  same : (ws : List ℕ) → take l.at l.key ++ primary_level l.code (state_of l.fn.before.reach) (level_weights 1 (weighted l.v l.left) ++ ws) ≡ take l.fn.before.at l.fn.key ++ primary_level l.code (state_of l.fn.before.reach) (level_weights 1 (weighted l.v l.elements) ++ ws);
+  same : (ws : List ℕ) → take l.at l.key ++ primary_level l.code (state_of l.fn.before.reach) (level_weights 1 (weighted l.v (drop l.n l.elements)) ++ ws) ≡ take l.fn.before.at l.fn.key ++ primary_level l.code (state_of l.fn.before.reach) (level_weights 1 (weighted l.v (drop l.fn.from l.elements)) ++ ws);
 }
 
 abbrev pub decreases-each : goal.decreases-each
-decreases-each l = length l.left
+decreases-each l = length l.elements - l.n

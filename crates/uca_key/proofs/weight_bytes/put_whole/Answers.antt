@@ -9,14 +9,6 @@ use Rattle.uca_key.proofs.PlacingLemmas.{IsPutting-start, IsPutting-more, IsPutt
 use Rattle.uca_key.proofs.WeighingLemmas.{first_weights-own}
 use Rattle.uca_key.proofs.weight_bytes.put_whole.Goals as goal
 
-pub returns-then-not-has_room_for_end : goal.returns-then-not-has_room_for_end
-returns-then-not-has_room_for_end c =
-    let k = c.args.code.now in let own : List ℕ = level_weights 1 (all_own c.args.v c.args.elements.now) in
-    let whole = primary_level k (start k) own in
-    let begun = IsPutting-start _ _ _ (primary_level k (state_of c.first_reach.result) (own ++ [])) c.ranges.at.fits (ap (λ p. primary_level k p (own ++ [])) c.first_reach.ensures.state ∙ ap (primary_level k (start k)) (append-nil own)) in
-    let put = c.put_elements-placed.ensures.bytes c.args.at c.args.out.now whole [] begun in
-    IsPutting-ends _ _ _ _ _ _ (IsPutting-more _ _ _ _ _ _ put _ _ (0 ∷ []) [] c.requires.size refl c.put_bytes.ensures) refl
-
 pub returns : goal.returns
 returns c =
     let k = c.args.code.now in let placed = c.put_weights-all.ensures in
