@@ -10,9 +10,7 @@ use Rattle.std.proofs.Math.Nat.{div-div-eq-div-mul, mul_assoc}
 use Rattle.std.proofs.Math.Pow.{pow_mono}
 use Rattle.std.specs.Int.{bit_at, trailing_zeros, w64}
 use Rattle.std.specs.Simd.Lanes.{chunk, mask_l}
-use lib.Lanes.{Each1}
-use mir.Syntax.{Width}
-use mir.Val.{Fits, bool_byte}
+use mir.Val.{bool_byte}
 use Rattle.uca_weights.specs.declared.element.Element.{Element}
 use Rattle.uca_weights.specs.declared.settings.Variable.{Variable}
 use Rattle.uca_model.specs.LevelWeights.{level_weights}
@@ -268,11 +266,6 @@ differ a b = not (a == b)
 pub map-same : (f g : ℕ → ℕ) → ((x : ℕ) → f x ≡ g x) → (xs : List ℕ) → map f xs ≡ map g xs
 map-same f g same [] = refl
 map-same f g same (x ∷ xs) = ap₂ (λ a b. a ∷ b) (same x) (map-same f g same xs)
-
--- numbers of some width, each of which has become another one
-pub each-fits : (w v : Width) (f : ℕ → ℕ) → ((x : ℕ) → Fits w x → Fits v (f x)) → (xs : List ℕ) → Each1 (Fits w) xs → Each1 (Fits v) (map f xs)
-each-fits w v f fits [] each = tt
-each-fits w v f fits (x ∷ xs) each = (fits x each.0, each-fits w v f fits xs each.1)
 
 -- what a test says of weights of elements, as of the elements
 pub tests-of-weights : (weight : Element → ℕ) (f : ℕ → Bool) (p : Element → Bool) → ((e : Element) → f (weight e) ≡ p e) → (es : List Element) → map f (map weight es) ≡ map p es

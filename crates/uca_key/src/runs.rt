@@ -466,8 +466,7 @@ fn second_others(weights: u32x16) -> u64
     ensures { result ≡ mask_l (map (λ w. not (w == 32)) (map (λ w. w % 65536) weights)) }
 {
     (weights & u32x16::splat(0xFFFF))
-        .cast::<u16>()
-        .simd_ne(u16x16::splat(0x20))
+        .simd_ne(u32x16::splat(0x20))
         .to_bitmask()
 }
 
@@ -477,8 +476,7 @@ fn third_others(weights: u32x16) -> u64
     ensures { result ≡ mask_l (map (λ w. not (w == 2)) (map (λ w. w / 65536) weights)) }
 {
     (weights >> u32x16::splat(16))
-        .cast::<u16>()
-        .simd_ne(u16x16::splat(2))
+        .simd_ne(u32x16::splat(2))
         .to_bitmask()
 }
 

@@ -20,6 +20,9 @@ use uca_weights::{Element, Variable};
 // The most bytes that one weight takes.
 const LETTER: usize = 3;
 
+// How much room is asked for each weight: more than it takes, so that no division tells how many fit.
+const LETTER_ROOM: usize = 4;
+
 // Puts the low byte of a weight.
 #[inline(always)]
 fn put_low(w: u16, key: &mut [u8], at: usize) -> usize
@@ -658,7 +661,7 @@ pub(crate) fn put_whole(
     requires size { length out.old < 2 ^ 64 }
     ensures { PutsAt at (primary_level code.now (start code.now) (level_weights 1 (all_own v elements.now))) out.old out.new result.at }
 {
-    if !has_room_for_end(elements.len(), LETTER, at, out.len()) {
+    if !has_room_for_end(elements.len(), LETTER_ROOM, at, out.len()) {
         return FirstLevel {
             at: put_in_pieces(code, v, elements, at, out),
             pairs: false,
