@@ -2,7 +2,8 @@
 use Rattle.std.proofs.Common.{◌≡◌, ℕ, zero, suc, ◌+◌, ◌-◌, ◌≤◌, Bool, ◌&&◌, ◌==◌, List, [], ◌∷◌, ◌++◌, All, length, take, drop, chars, IsUtf8, refl, sym, ap, ap₂, subst, ◌∙◌, arith, inl, inr, append-nil}
 use Rattle.std.proofs.lemmas.Bool.{cases_Bool, cond-true, cond-false}
 use Rattle.std.proofs.lemmas.List.Sums.{AllPass-from_list_all}
-use Rattle.std.proofs.lemmas.Str.{scalars-chars}
+use Rattle.std.proofs.lemmas.List.{length-take}
+use Rattle.std.proofs.lemmas.Str.{IsCharBoundary-from_take, IsUtf8-take, scalars-chars}
 use Rattle.std.proofs.lemmas.List.Elements.{All-drop}
 use Rattle.std.proofs.Math.Seq.{drop-append_seam}
 use Rattle.std.specs.Char.{IsScalar}
@@ -158,6 +159,12 @@ take-fewer zero n l h = refl
 take-fewer (suc k) zero l h = absurd (omega arith)
 take-fewer (suc k) (suc n) [] h = refl
 take-fewer (suc k) (suc n) (x ∷ l) h = ap (λ r. x ∷ r) (take-fewer k n l (omega arith))
+
+-- a character of the second text begins or ends where one of the first does, since the bytes before it are the same
+pub same-boundary : (a b : List ℕ) (at : ℕ) → IsUtf8 a → IsUtf8 b → IsCharBoundary a at → take at a ≡ take at b → IsCharBoundary b at
+same-boundary a b at utf8_a utf8_b in_a same =
+    let short : at ≤ length b = omega (arith, in_a.0, ap length same, length-take at a, length-take at b) in
+    IsCharBoundary-from_take b at utf8_b short (subst IsUtf8 same (IsUtf8-take a at utf8_a in_a))
 
 -- the bytes are the same up to each earlier place
 pub same-before : (a b : List ℕ) (at : ℕ) → take at a ≡ take at b → take (at - 1) a ≡ take (at - 1) b

@@ -68,7 +68,8 @@ fn few_in_common(a: &[u8], b: &[u8]) -> usize
 
 // How many bytes two texts have in common from their start, by two blocks at a time. The last may begin in the one before it. Two narrow
 // blocks serve short texts and long ones: which of two sizes of block the next texts would take cannot be foreseen. Nor can in which of
-// the two they differ, so no branch tells that.
+// the two they differ, so no branch tells that. Whether they differ is asked first: mostly they do, while how long they are cannot be
+// foreseen either.
 fn common_by_blocks(a: &[u8], b: &[u8]) -> usize
     requires in_a { NARROW ≤ length a.now }
     requires in_b { NARROW ≤ length b.now }
@@ -79,13 +80,15 @@ fn common_by_blocks(a: &[u8], b: &[u8]) -> usize
     'each: loop {
         let next = last.min(at + NARROW);
         let common = common_in_blocks(a, b, at, next);
-        let end = if common < NARROW {
-            at + common
-        } else {
-            next + common - NARROW
-        };
-        if common < 2 * NARROW || next == last {
-            return end;
+        if common < 2 * NARROW {
+            return if common < NARROW {
+                at + common
+            } else {
+                next + common - NARROW
+            };
+        }
+        if next == last {
+            return last + NARROW;
         }
         at = last.min(next + NARROW);
     }
@@ -101,11 +104,13 @@ fn common_len(a: &[u8], b: &[u8]) -> usize
     common_by_blocks(a, b)
 }
 
-// Whether no character of two texts lies on both sides of a place.
+// Whether no character of two texts lies on both sides of a place up to which they are the same. Then one does in both, or in neither.
+#[inline(always)]
 fn are_whole(a: &str, b: &str, at: usize) -> bool
+    requires { take at a.now ≡ take at b.now }
     ensures { IsTrue result → IsCharBoundary a.now at × IsCharBoundary b.now at }
 {
-    a.is_char_boundary(at) && b.is_char_boundary(at)
+    a.is_char_boundary(at)
 }
 
 /// Whether two texts begin with different bytes. Then they have none in common, which is so of most that are compared.
