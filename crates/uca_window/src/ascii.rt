@@ -1,5 +1,5 @@
 //! Whether bytes are all ASCII.
-ghost use Rattle.std.specs.Prelude.{◌≡◌, ◌+◌, ◌*◌, ◌≤◌, nat_le, min, length, map};
+ghost use Rattle.std.specs.Prelude.{◌≡◌, ◌+◌, ◌*◌, ◌≤◌, ◌<◌, nat_le, min, length, map};
 ghost use Rattle.std.specs.Bool.{MatchBool};
 ghost use Rattle.std.specs.Simd.Lanes.{mask_l};
 ghost use Rattle.std.specs.Str.{IsAscii, IsNotAscii};
@@ -63,19 +63,28 @@ fn front_is_ascii<const N: usize>(bytes: &[u8]) -> bool
     first & second & third & fourth
 }
 
+/// Whether the bytes of a text that is shorter than a wide block are all ASCII.
+#[inline(always)]
+fn short_is_ascii(bytes: &[u8]) -> bool
+    requires { length bytes.now < 16 }
+    ensures { MatchBool result (IsAscii bytes.now) (IsNotAscii bytes.now) }
+{
+    if bytes.len() >= NARROW {
+        return front_is_ascii::<NARROW>(bytes);
+    }
+    if bytes.len() >= SMALL {
+        return front_is_ascii::<SMALL>(bytes);
+    }
+    few_are_ascii(bytes)
+}
+
 /// Whether bytes are all ASCII. The last block may begin in the one before it.
 #[inline(always)]
 pub(crate) fn is_ascii(bytes: &[u8]) -> bool
     ensures { MatchBool result (IsAscii bytes.now) (IsNotAscii bytes.now) }
 {
-    if bytes.len() < SMALL {
-        return few_are_ascii(bytes);
-    }
-    if bytes.len() < NARROW {
-        return front_is_ascii::<SMALL>(bytes);
-    }
     if bytes.len() < WIDE {
-        return front_is_ascii::<NARROW>(bytes);
+        return short_is_ascii(bytes);
     }
     if !front_is_ascii::<WIDE>(bytes) {
         return false;
