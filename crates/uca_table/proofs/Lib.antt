@@ -20,3 +20,4 @@ pub mod AscendingLemmas
 pub mod KeyLemmas
 pub mod PrimaryLemmas
 pub mod MarkLemmas
+pub mod LeadLemmas

@@ -6,7 +6,7 @@ use Rattle.uca_model.specs.Table.{ElementTable}
 use Rattle.uca_model.specs.CollationElements.{elements}
 use Rattle.uca_model.specs.SafeCut.{is_cut}
 use Rattle.uca_model.specs.StandAlone.{joining, bearing}
-use Rattle.uca_table.specs.Lead.{IsLead, first_of}
+use Rattle.uca_table.specs.Lead.{HoldsLeads, IsLead, first_of}
 use Rattle.uca_table.specs.Marks.{HoldsMarks, place}
 use Rattle.uca_table.specs.declared.characters.Cell.{Cell}
 use Rattle.uca_table.specs.declared.cells.Cells.{Cells}
@@ -34,6 +34,10 @@ pub record AreCells (t : ElementTable) (es : List Element) (blocks : List ℕ) (
 -- cells of a table
 abbrev pub HoldsCells : ElementTable → Cells → Type 0
 HoldsCells t cells = HoldsMarks t cells.marks × AreCells t cells.elements.items cells.marks.blocks.items cells.cells.items
+
+-- cells of a table, and the weights of the first characters
+abbrev pub HoldsCharacters : ElementTable → Cells → Type 0
+HoldsCharacters t cells = HoldsCells t cells × HoldsLeads t cells.leads.items
 
 -- the second list begins with the first
 abbrev pub Grows : List Element → List Element → Type 0

@@ -6,8 +6,8 @@ ghost use Rattle.unicode_normalization.specs.Order.{is_starter};
 ghost use Rattle.uca_model.specs.CollationElements.{elements};
 ghost use Rattle.uca_model.specs.SafeCut.{begins_apart};
 ghost use Rattle.uca_model.specs.StandAlone.{leads, joining_of, bearing_of, ends_all_matches, ends_in_starter};
-ghost use Rattle.uca_table.specs.Cells.{IsCell, HoldsCells, Grows, unknown};
-ghost use Rattle.uca_table.specs.Lead.{IsLead, first_of};
+ghost use Rattle.uca_table.specs.Cells.{IsCell, HoldsCells, HoldsCharacters, Grows, unknown};
+ghost use Rattle.uca_table.specs.Lead.{HoldsLeads, IsLead, IsLeadWeight, first_of};
 ghost use Rattle.uca_table.specs.Characters.{table_of_characters};
 ghost use Rattle.uca_table.specs.Marks.{HoldsMarks, marks};
 
@@ -35,6 +35,9 @@ const FEW_BLOCKS: usize = 64;
 /// A table may have one more block of cells for this many nodes of its keys.
 const NODES_OF_A_BLOCK: usize = 8;
 
+/// Characters below this one, those of one or two bytes, have their leads' weights beside their cells.
+const LEADS: usize = 0x800;
+
 /// The cell of a character about which nothing is known.
 const UNKNOWN: Cell = Cell {
     element: [NO_ELEMENT],
@@ -61,6 +64,8 @@ pub struct Cells {
     // At the places of the marks.
     cells: Vec<Cell>,
     elements: Vec<Element>,
+    // The primary weights by which the first characters may be read alone, or 0. They lie close together, and one look tells them.
+    leads: Vec<u16>,
 }
 
 /// This many cells of characters about which nothing is known.
@@ -381,9 +386,22 @@ impl Cells {
         Ok(())
     }
 
+    // The primary weights by which the first characters may be read alone, as their cells say.
+    fn leads_of(&self, alloc: Global, t: &Table) -> Result<Vec<u16>, AllocError>
+        requires { HoldsCells t.now self.now }
+        ensures { IfOk result (λ leads. HoldsLeads t.now leads.items) }
+    {
+        let known = self.characters(t);
+        let mut leads = vec![in alloc; 0; LEADS]?;
+        for point in 0..LEADS {
+            leads[point] = known.lead_weight(point as u32);
+        }
+        Ok(leads)
+    }
+
     /// The cells of a table.
     pub(crate) fn new(alloc: Global, t: &Table) -> Result<Cells, AllocError>
-        ensures { IfOk result (λ cells. HoldsCells t.now cells) }
+        ensures { IfOk result (λ cells. HoldsCharacters t.now cells) }
     {
         let limit = if t.keys.len() < FEW {
             LIMIT_OF_FEW
@@ -396,8 +414,10 @@ impl Cells {
             marks,
             cells,
             elements: Vec::new(alloc),
+            leads: Vec::new(alloc),
         };
         made.fill_blocks(alloc, t)?;
+        made.leads = made.leads_of(alloc, t)?;
         Ok(made)
     }
 
@@ -408,6 +428,22 @@ impl Cells {
         ensures { table_of_characters result ≡ t.now }
     {
         Characters::new(t, &self.marks.blocks, &self.cells, &self.elements)
+    }
+
+    /// The primary weight by which a character may be read alone. `None`: that is not known.
+    #[inline(always)]
+    pub(crate) fn lead_weight(&self, t: &Table, c: char) -> Option<u16>
+        requires { HoldsLeads t.now self.now.leads.items }
+        ensures weight { IfSome result (IsLeadWeight t.now c) }
+        ensures some { IfSome result (λ w. 0 < w) }
+    {
+        if c as usize >= LEADS {
+            return None;
+        }
+        match self.leads[c as usize] {
+            0 => None,
+            weight => Some(weight),
+        }
     }
 
     /// What the keys of a table say about a code point.

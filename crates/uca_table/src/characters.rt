@@ -52,7 +52,7 @@ pub struct Characters<'t> {
 
 impl<'t> Characters<'t> {
     ghost use Rattle.uca_table.specs.Characters.{IsCharacter, table_of_characters};
-    ghost use Rattle.uca_table.specs.Lead.{IsLead};
+    ghost use Rattle.uca_table.specs.Lead.{IsLead, IsLeadWeight};
 
     /// What these cells say. They are at the places of the marks.
     #[inline(always)]
@@ -208,6 +208,19 @@ impl<'t> Characters<'t> {
             return None;
         }
         Some(lead)
+    }
+
+    /// The primary weight by which the character of a code point may be read alone, or 0: that is not known.
+    pub(crate) fn lead_weight(&self, point: u32) -> u16
+        ensures { 0 < result → IsLeadWeight (table_of_characters self.now) point result }
+    {
+        match char::from_u32(point) {
+            Some(c) => match self.lead(c) {
+                Some(lead) => lead.l1,
+                None => 0,
+            },
+            None => 0,
+        }
     }
 
     /// The elements of a character, where they stand alone before every text.

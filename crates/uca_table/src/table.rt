@@ -34,7 +34,7 @@ impl Model for Table {
     ghost use Rattle.uca_model.specs.Table.{ElementTable, with_ideographs};
     ghost use Rattle.uca_model.specs.UnifiedIdeographs.{AreIdeographs};
     ghost use Rattle.uca_table.specs.Stored.{AreStored, table_of, longest_of};
-    ghost use Rattle.uca_table.specs.Cells.{HoldsCells};
+    ghost use Rattle.uca_table.specs.Cells.{HoldsCharacters};
     ghost use Rattle.uca_table.specs.Coded.{coded_table};
     ghost use Rattle.uca_keys.specs.Paths.{entries_of};
 
@@ -44,7 +44,7 @@ impl Model for Table {
 
     ghost view = { λ t. with_ideographs (table_of (entries_of t.keys) t.ranges) t.ideographs.items };
 
-    ghost invariant = { λ t. AreStored (entries_of t.keys) t.ranges × (t.longest_key ≡ longest_of (entries_of t.keys)) × AreIdeographs t.ideographs.items × ForSome t.cells (HoldsCells (with_ideographs (table_of (entries_of t.keys) t.ranges) t.ideographs.items)) };
+    ghost invariant = { λ t. AreStored (entries_of t.keys) t.ranges × (t.longest_key ≡ longest_of (entries_of t.keys)) × AreIdeographs t.ideographs.items × ForSome t.cells (HoldsCharacters (with_ideographs (table_of (entries_of t.keys) t.ranges) t.ideographs.items)) };
 }
 
 impl Table {
@@ -52,7 +52,7 @@ impl Table {
     ghost use Rattle.uca_model.specs.Table.{ElementTable, IsElement, IsTable, elements_at, key_cmp, longest, with_ideographs};
     ghost use Rattle.uca_model.specs.UnifiedIdeographs.{AreIdeographs};
     ghost use Rattle.uca_table.specs.Characters.{IsCharacter, table_of_characters};
-    ghost use Rattle.uca_table.specs.Lead.{IsLead};
+    ghost use Rattle.uca_table.specs.Lead.{IsLead, IsLeadWeight};
     ghost use Rattle.uca_table.specs.Marks.{marks};
     ghost use Rattle.uca_table.specs.Builder.{ideographs_fault, reported_range_fault, with_more_ideographs};
     ghost use Rattle.uca_model.specs.ImplicitWeights.{implicit};
@@ -303,6 +303,20 @@ impl Table {
         ensures alone { IfSome result (λ _. (after : List ℕ) → elements self.now (nfd (c ∷ [])) ++ elements self.now (nfd after) ≡ elements self.now (nfd (c ∷ after))) }
     {
         self.characters()?.lead(c)
+    }
+
+    /// The primary weight of the first collation element of a character below U+0800, where it has one and no other has. Neither the
+    /// text before the character nor that after it changes its elements (UTS #10, section 7.2). It does not allocate. `None`: that is
+    /// not known.
+    #[inline(always)]
+    pub fn lead_weight(&self, c: char) -> Option<u16>
+        ensures weight { IfSome result (IsLeadWeight self.now c) }
+        ensures some { IfSome result (λ w. 0 < w) }
+    {
+        match &self.cells {
+            Some(cells) => cells.lead_weight(self, c),
+            None => None,
+        }
     }
 
     /// The collation elements of a character, where no text after it changes them (UTS #10, section 7.2). It does not
