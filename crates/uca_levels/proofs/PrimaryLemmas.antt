@@ -1,8 +1,6 @@
 -- Two texts after what both have in common, where both may be cut for their elements.
-use Rattle.std.proofs.Common.{◌≡◌, ℕ, List, [], ◌∷◌, ◌++◌, chars, drop, take, IsUtf8, sym, subst, ap, ap₂, ◌∙◌, inl, inr, append_assoc}
-use Rattle.std.specs.Str.{IsCharBoundary}
+use Rattle.std.proofs.Common.{◌≡◌, ℕ, List, [], ◌∷◌, ◌++◌, drop, sym, subst, ap, ◌∙◌, inl, inr, append_assoc}
 use Rattle.unicode_normalization.specs.Forms.{nfd}
-use Rattle.uca_weights.specs.declared.element.Element.{Element}
 use Rattle.uca_weights.specs.declared.settings.Variable.{Variable}
 use Rattle.uca_weights.specs.VariableWeighting.{weighted}
 use Rattle.uca_model.specs.Table.{ElementTable}
@@ -10,18 +8,15 @@ use Rattle.uca_model.specs.CollationElements.{elements}
 use Rattle.uca_model.specs.LevelWeights.{level_weights, level_list}
 use Rattle.uca_model.specs.DecidingLevel.{OrdersLevel}
 use Rattle.uca_model.specs.SafeText.{IsSafe}
-use Rattle.uca_model.proofs.PrefixLemmas.{first_level-is, first_level-append}
 use Rattle.uca_model.proofs.LevelLemmas.{OrdersLevel-front}
-use Rattle.uca_match.proofs.TextLemmas.{IsSafe-rest, parts-at}
+use Rattle.uca_match.proofs.TextLemmas.{IsSafe-rest}
 use Rattle.uca_levels.specs.Reads.{InStep}
 use Rattle.uca_levels.specs.WithoutFront.{AreApart, IsApart}
-
-primaries-append : (v : Variable) (es fs : List Element) → level_weights 1 (weighted v (es ++ fs)) ≡ level_weights 1 (weighted v es) ++ level_weights 1 (weighted v fs)
-primaries-append v es fs = first_level-is v (es ++ fs) ∙ first_level-append v es fs ∙ sym (ap₂ (λ a b. a ++ b) (first_level-is v es) (first_level-is v fs))
+use Rattle.uca_levels.proofs.PrimarySteps.{primaries-both}
 
 -- what has its elements by itself adds its weights to those of what comes before it
 lists-apart : (t : ElementTable) (v : Variable) (front left : List ℕ) → IsApart t front left → level_list t v (front ++ left) 1 ≡ level_list t v front 1 ++ level_list t v left 1
-lists-apart t v front left apart = ap (λ l. level_weights 1 (weighted v l)) apart ∙ primaries-append v (elements t (nfd front)) (elements t (nfd left))
+lists-apart t v front left apart = ap (λ l. level_weights 1 (weighted v l)) apart ∙ primaries-both v (elements t (nfd front)) (elements t (nfd left))
 
 -- what was passed over has the same weights in both at the first level, and does not decide it
 pub orders-apart : (t : ElementTable) (v : Variable) (a b x y : List ℕ) (o : _) → AreApart t a b x y → OrdersLevel 1 (level_list t v x 1) (level_list t v y 1) o → OrdersLevel 1 (level_list t v a 1) (level_list t v b 1) o
@@ -57,15 +52,3 @@ in-step-apart t v a b x y xs ys h lists =
 pub safe-after : (cs : List ℕ) → IsSafe cs → IsSafe (drop 1 cs)
 safe-after [] safe = safe
 safe-after (c ∷ cs) safe = IsSafe-rest (c ∷ []) cs safe
-
--- what is left of a text from a place on, without its first character
-pub safe-left : (a x p : List ℕ) (at : ℕ) → IsUtf8 a → IsCharBoundary a at → x ≡ drop at a → chars p ≡ drop 1 (chars x) → IsSafe (chars a) → IsSafe (chars p)
-safe-left a x p at utf8 inside of_a rest safe = subst IsSafe (sym rest) (safe-after (chars x) (IsSafe-rest (chars (take at a)) (chars x) (subst IsSafe (parts-at a x at utf8 inside of_a) safe)))
-
--- what is left of a text from a place on, without its first character, has the weights of what comes after the character there
-pub list-left : (t : ElementTable) (v : Variable) (a x p : List ℕ) (at : ℕ) → x ≡ drop at a → chars p ≡ drop 1 (chars x) → level_list t v (chars p) 1 ≡ level_list t v (drop 1 (chars (drop at a))) 1
-list-left t v a x p at of_a rest = ap (λ cs. level_list t v cs 1) (rest ∙ ap (λ l. drop 1 (chars l)) of_a)
-
--- the same lists are left
-pub in-step-same : (xs ys x y left right : List ℕ) → x ≡ left → y ≡ right → InStep xs ys x y → InStep xs ys left right
-in-step-same xs ys x y left right e f lists = record { front = lists.front; first = lists.first ∙ ap (λ l. lists.front ++ l) e; second = lists.second ∙ ap (λ l. lists.front ++ l) f }

@@ -3,8 +3,6 @@ use Rattle.std.proofs.Common.{◌≡◌, ℕ, Bool, true, false, cond, not, ◌=
 use Rattle.std.proofs.lemmas.Grind.{common_steps}
 use Rattle.std.specs.List.{list_all}
 use Rattle.std.proofs.lemmas.Bool.{and_parts, cond-true, cond-false}
-use Rattle.std.proofs.lemmas.List.{map-append}
-use Rattle.std.proofs.lemmas.List.Elements.{filter-append}
 use Rattle.unicode_normalization.specs.Forms.{nfd}
 use Rattle.uca_weights.specs.declared.element.Element.{Element}
 use Rattle.uca_weights.specs.declared.settings.Variable.{Variable}
@@ -14,6 +12,7 @@ use Rattle.uca_weights.specs.VariableWeighting.{is_after_variable, weighted, wei
 use Rattle.uca_model.specs.CollationElements.{elements}
 use Rattle.uca_model.specs.LevelWeights.{level_list, level_weights}
 use Rattle.uca_model.specs.Table.{ElementTable}
+use Rattle.uca_model.proofs.PrefixLemmas.{first_level-is, first_level-append}
 use Rattle.uca_table.specs.Lead.{IsLead}
 use Rattle.uca_levels.specs.Primaries.{primary_of}
 use Rattle.uca_levels.specs.Streams.{weight_before}
@@ -37,11 +36,7 @@ primaries-are v es = ap (filter (λ w. not (w == 0))) (primaries-after v [] es)
 
 -- those of two lists, one after the other
 pub primaries-both : (v : Variable) (xs ys : List Element) → level_weights 1 (weighted v (xs ++ ys)) ≡ level_weights 1 (weighted v xs) ++ level_weights 1 (weighted v ys)
-primaries-both v xs ys =
-    primaries-are v (xs ++ ys)
-    ∙ ap (filter (λ w. not (w == 0))) (map-append (primary_of v) xs ys)
-    ∙ filter-append (λ w. not (w == 0)) (map (primary_of v) xs) (map (primary_of v) ys)
-    ∙ sym (ap₂ (λ a b. a ++ b) (primaries-are v xs) (primaries-are v ys))
+primaries-both v xs ys = first_level-is v (xs ++ ys) ∙ first_level-append v xs ys ∙ sym (ap₂ (λ a b. a ++ b) (first_level-is v xs) (first_level-is v ys))
 
 -- a character has these elements before the rest of a text, of which one may have a primary weight
 module _ (t : ElementTable) (v : Variable) (c w : ℕ) (rest : List ℕ) (es : List Element) (whole : es ++ elements t (nfd rest) ≡ elements t (nfd (c ∷ rest))) (own : level_weights 1 (weighted v es) ≡ weight_before w []) where

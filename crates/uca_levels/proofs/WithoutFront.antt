@@ -154,21 +154,8 @@ left-at Follows a b x y at utf8_a utf8_b inside_a inside_b same of_a of_b may_a 
 pub left-whole : (Follows : List ℕ → List ℕ → Type 0) (a b : List ℕ) → AreLeft Follows a b a b
 left-whole Follows a b = record { front = []; first = refl; second = refl; follow = inl refl }
 
-take-fewer : (k n : ℕ) (l : List ℕ) → k ≤ n → take k (take n l) ≡ take k l
-take-fewer zero n l h = refl
-take-fewer (suc k) zero l h = absurd (omega arith)
-take-fewer (suc k) (suc n) [] h = refl
-take-fewer (suc k) (suc n) (x ∷ l) h = ap (λ r. x ∷ r) (take-fewer k n l (omega arith))
-
 -- a character of the second text begins or ends where one of the first does, since the bytes before it are the same
 pub same-boundary : (a b : List ℕ) (at : ℕ) → IsUtf8 a → IsUtf8 b → IsCharBoundary a at → take at a ≡ take at b → IsCharBoundary b at
 same-boundary a b at utf8_a utf8_b in_a same =
     let short : at ≤ length b = omega (arith, in_a.0, ap length same, length-take at a, length-take at b) in
     IsCharBoundary-from_take b at utf8_b short (subst IsUtf8 same (IsUtf8-take a at utf8_a in_a))
-
--- the bytes are the same up to each earlier place
-pub same-before : (a b : List ℕ) (at : ℕ) → take at a ≡ take at b → take (at - 1) a ≡ take (at - 1) b
-same-before a b at same = sym (shorter a) ∙ ap (take (at - 1)) same ∙ shorter b
-  where
-    shorter : (l : List ℕ) → take (at - 1) (take at l) ≡ take (at - 1) l
-    shorter l = take-fewer (at - 1) at l (omega arith)

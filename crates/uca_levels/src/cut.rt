@@ -113,15 +113,6 @@ fn are_whole(a: &str, b: &str, at: usize) -> bool
     a.is_char_boundary(at)
 }
 
-/// Whether two texts begin with different bytes. Then they have none in common, which is so of most that are compared.
-#[inline(always)]
-pub(crate) fn begin_apart(a: &str, b: &str) -> bool {
-    match (a.as_bytes().first(), b.as_bytes().first()) {
-        (Some(x), Some(y)) => *x != *y,
-        _ => false,
-    }
-}
-
 /// How many bytes of characters two texts have in common from their start.
 #[inline(always)]
 pub(crate) fn common_front(a: &str, b: &str) -> usize
@@ -137,6 +128,29 @@ pub(crate) fn common_front(a: &str, b: &str) -> usize
         at -= 1;
     }
     0
+}
+
+// Whether two texts begin with different bytes. Then they have none in common.
+#[inline(always)]
+fn begin_apart(a: &str, b: &str) -> bool {
+    match (a.as_bytes().first(), b.as_bytes().first()) {
+        (Some(x), Some(y)) => *x != *y,
+        _ => false,
+    }
+}
+
+/// The same, with a look of its own at the first bytes: most texts that are compared begin with different ones.
+#[inline(always)]
+pub(crate) fn front_of(a: &str, b: &str) -> usize
+    ensures in_a { IsCharBoundary a.now result }
+    ensures in_b { IsCharBoundary b.now result }
+    ensures same { take result a.now ≡ take result b.now }
+{
+    if begin_apart(a, b) {
+        0
+    } else {
+        common_front(a, b)
+    }
 }
 
 /// What is left of two texts from the last place on at which both may be cut, of those in the bytes that they have in

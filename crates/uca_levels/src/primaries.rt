@@ -1,5 +1,5 @@
 //! Primary weights of characters that stand alone and have at most one: by these most comparisons are decided.
-ghost use Rattle.std.specs.Prelude.{◌≡◌, ℕ, List, [], ◌∷◌, ◌<◌, ◌≤◌, chars, drop, length, take, IfErr, IfOk, IfSome, OnSome, MatchResult};
+ghost use Rattle.std.specs.Prelude.{◌≡◌, ℕ, List, [], ◌∷◌, ◌<◌, ◌≤◌, chars, drop, length, take, IfErr, IfSome, OnSome, MatchResult};
 ghost use Rattle.std.specs.Str.{IsCharBoundary};
 ghost use Rattle.uca_weights.specs.VariableWeighting.{weighted};
 ghost use Rattle.uca_model.specs.DecidingLevel.{OrdersLevel};
@@ -9,10 +9,9 @@ ghost use Rattle.uca_model.specs.StandAlone.{joining};
 ghost use Rattle.uca_match.specs.JoinsNothing.{JoinsNothing};
 ghost use Rattle.uca_match.specs.Yields.{YieldsFirst};
 ghost use Rattle.uca_levels.specs.Decides.{IsOfLevel};
-ghost use Rattle.uca_levels.specs.Primaries.{AreAlike, primary_of};
+ghost use Rattle.uca_levels.specs.Primaries.{primary_of};
 ghost use Rattle.uca_levels.specs.Reads.{InStep};
 ghost use Rattle.uca_levels.specs.Streams.{weight_before};
-ghost use Rattle.uca_levels.specs.declared.primaries.Sight.TheVariants.{Alike};
 
 use crate::cut::common_front;
 use crate::decided::{decided, widened};
@@ -25,15 +24,6 @@ use uca_weights::{Element, Variable};
 pub(crate) struct Rest<'t> {
     pub(crate) a: &'t str,
     pub(crate) b: &'t str,
-}
-
-/// What is known of the first characters after bytes in common where they do not decide an order.
-#[derive(Clone, Copy)]
-pub(crate) enum Sight {
-    /// They have the same primary weight, each by itself.
-    Alike,
-    /// Nothing is known of them.
-    Unknown,
 }
 
 /// The weight of an element at the first level, whatever comes before it (UTS #10, section 4, Variable Weighting).
@@ -93,6 +83,11 @@ fn lead_primary(t: &Table, v: Variable, c: char) -> Option<u16>
     ensures some { IfSome result (λ w. 0 < w) }
     ensures own { IfSome result (λ w. (rest : List ℕ) → level_list t.now v (c ∷ rest) 1 ≡ w ∷ level_list t.now v rest 1) }
 {
+    if let Variable::NonIgnorable = v {
+        if let Some(weight) = t.lead_weight(c) {
+            return Some(weight);
+        }
+    }
     let weight = primary_weight(v, t.lead(c)?);
     if weight == 0 { None } else { Some(weight) }
 }
@@ -144,49 +139,10 @@ fn own_primary<'t>(t: &Table, v: Variable, text: &'t str) -> Option<(Option<u16>
     Some((Some(weight), rest))
 }
 
-// What is left of a text after its first character.
+/// The order of two texts at the first level by turns: the bytes that they have in common are passed over, of which `common` are known at
+/// first, the characters after them are compared, and so on, as far as each of these characters has a primary weight by itself. Most texts
+/// differ in the first of them. `None`: that does not tell it.
 #[inline(always)]
-fn after_first(text: &str) -> &str
-    ensures { chars result.now ≡ drop 1 (chars text.now) }
-{
-    let mut characters = text.chars();
-    match characters.next() {
-        Some(_) => characters.as_str(),
-        None => text,
-    }
-}
-
-/// The order of two texts at the first level by the first characters after bytes that they have in common, where each has a primary
-/// weight by itself. Most texts differ in these.
-#[inline(always)]
-pub(crate) fn order_at_once(
-    t: &Table,
-    v: Variable,
-    a: &str,
-    b: &str,
-    common: usize,
-) -> Result<Ordering, Sight>
-    requires in_a { IsCharBoundary a.now common }
-    requires in_b { IsCharBoundary b.now common }
-    requires common { take common a.now ≡ take common b.now }
-    ensures order { IfOk result (OrdersLevel 1 (level_list t.now v (chars a.now) 1) (level_list t.now v (chars b.now) 1)) }
-    ensures alike { IfErr result (λ sight. sight ≡ Alike → AreAlike t.now v a.now b.now common) }
-{
-    let Some((x, _)) = own_primary(t, v, a.split_at(common).1) else {
-        return Err(Sight::Unknown);
-    };
-    let Some((y, _)) = own_primary(t, v, b.split_at(common).1) else {
-        return Err(Sight::Unknown);
-    };
-    match decided(widened(x), widened(y)) {
-        Some(order) => Ok(order),
-        None => Err(Sight::Alike),
-    }
-}
-
-/// The order of two texts at the first level by turns, where the first characters after the bytes that they have in common are alike: the
-/// bytes in common after these are passed over, the characters after them are compared, and so on, as far as each of these characters has
-/// a primary weight by itself. `None`: that does not tell it.
 pub(crate) fn order_by_turns(
     t: &Table,
     v: Variable,
@@ -198,15 +154,12 @@ pub(crate) fn order_by_turns(
     requires safe_b { IsSafe (chars b.now) }
     requires in_a { IsCharBoundary a.now common }
     requires in_b { IsCharBoundary b.now common }
-    requires alike { AreAlike t.now v a.now b.now common }
+    requires common { take common a.now ≡ take common b.now }
     ensures { IfSome result (OrdersLevel 1 (level_list t.now v (chars a.now) 1) (level_list t.now v (chars b.now) 1)) }
 {
-    let mut left = Rest {
-        a: after_first(a.split_at(common).1),
-        b: after_first(b.split_at(common).1),
-    };
+    let mut left = Rest { a, b };
+    let mut same = common;
     'turns: loop {
-        let same = common_front(left.a, left.b);
         let (x, after_a) = own_primary(t, v, left.a.split_at(same).1)?;
         let (y, after_b) = own_primary(t, v, left.b.split_at(same).1)?;
         if let Some(order) = decided(widened(x), widened(y)) {
@@ -216,6 +169,7 @@ pub(crate) fn order_by_turns(
             a: after_a,
             b: after_b,
         };
+        same = common_front(left.a, left.b);
     }
 }
 

@@ -7,15 +7,13 @@ ghost use Rattle.uca_model.specs.SortKey.{key_order, sort_key};
 ghost use Rattle.uca_window.specs.Passage.{text_of};
 ghost use Rattle.uca_levels.specs.CellWeights.{cell_weights_left};
 ghost use Rattle.uca_levels.specs.Decides.{IsOfLevel};
-ghost use Rattle.uca_levels.specs.Primaries.{AreAlike};
 ghost use Rattle.uca_levels.specs.Streams.{given_before};
-ghost use Rattle.uca_levels.specs.declared.primaries.Sight.TheVariants.{Alike};
 
 use crate::cell_weights::CellWeights;
 use crate::comparison::compare_sources;
-use crate::cut::{apart_after, begin_apart, common_front, without_front};
+use crate::cut::{apart_after, front_of, without_front};
 use crate::joined_weights::JoinedWeights;
-use crate::primaries::{Sight, order_at_once, order_by_turns, order_of_primaries};
+use crate::primaries::{order_by_turns, order_of_primaries};
 use crate::stream::order_of;
 use std::cmp::Ordering;
 use uca_table::Table;
@@ -151,31 +149,8 @@ fn order_by_sources(t: &Table, s: Settings, a: &str, b: &str, common: usize) -> 
     compare_sources(t, s, &mut left, &mut right)
 }
 
-// The order of two texts that differ at the first level in the first characters after the bytes that they have in common, as most do.
-// Else what is known of these characters.
-#[inline(always)]
-fn order_at_sight(
-    t: &Table,
-    s: Settings,
-    a: &str,
-    b: &str,
-    common: usize,
-) -> Result<Ordering, Sight>
-    requires in_a { IsCharBoundary a.now common }
-    requires in_b { IsCharBoundary b.now common }
-    requires common { take common a.now ≡ take common b.now }
-    ensures order { IfOk result (λ order. order ≡ key_order (sort_key t.now s (chars a.now)) (sort_key t.now s (chars b.now))) }
-    ensures alike { IfErr result (λ sight. sight ≡ Alike → AreAlike t.now s.weighting a.now b.now common) }
-{
-    let order = order_at_once(t, s.weighting, a, b, common)?;
-    if order.is_ne() {
-        Ok(order)
-    } else {
-        Err(Sight::Unknown)
-    }
-}
-
-// The order of two texts. It is not inlined, so that a comparison that ends at the first characters does not pay for its stack frame.
+// The order of two texts that begin with bytes in common, if that at the first level is not known or they do not differ there. It is not
+// inlined, so that a comparison that ends at the first level does not pay for its stack frame.
 #[inline(never)]
 fn order_after(
     t: &Table,
@@ -197,71 +172,33 @@ fn order_after(
     }
 }
 
-// The order of two texts whose first characters after the bytes that they have in common have the same primary weight. By turns most of
-// these differ soon. It is not inlined, for the same reason.
-#[inline(never)]
-fn order_of_alike(t: &Table, s: Settings, a: &str, b: &str, common: usize) -> Ordering
+// The order of two texts. Most comparisons end at the first level.
+#[inline(always)]
+fn order_of_texts(t: &Table, s: Settings, a: &str, b: &str) -> Ordering
     requires safe_a { IsSafe (chars a.now) }
     requires safe_b { IsSafe (chars b.now) }
-    requires in_a { IsCharBoundary a.now common }
-    requires in_b { IsCharBoundary b.now common }
-    requires common { take common a.now ≡ take common b.now }
-    requires alike { AreAlike t.now s.weighting a.now b.now common }
     ensures { result ≡ key_order (sort_key t.now s (chars a.now)) (sort_key t.now s (chars b.now)) }
 {
+    let common = front_of(a, b);
     let known = order_by_turns(t, s.weighting, a, b, common);
     if let Some(order) = known {
         if order.is_ne() {
             return order;
         }
+        if common == a.len() && common == b.len() {
+            return Ordering::Equal;
+        }
     }
     order_after(t, s, a, b, common, known)
-}
-
-// The order of two texts after bytes that they have in common.
-#[inline(always)]
-fn order_from(t: &Table, s: Settings, a: &str, b: &str, common: usize) -> Ordering
-    requires safe_a { IsSafe (chars a.now) }
-    requires safe_b { IsSafe (chars b.now) }
-    requires in_a { IsCharBoundary a.now common }
-    requires in_b { IsCharBoundary b.now common }
-    requires common { take common a.now ≡ take common b.now }
-    ensures { result ≡ key_order (sort_key t.now s (chars a.now)) (sort_key t.now s (chars b.now)) }
-{
-    match order_at_sight(t, s, a, b, common) {
-        Ok(order) => order,
-        Err(Sight::Alike) => order_of_alike(t, s, a, b, common),
-        Err(Sight::Unknown) => order_after(t, s, a, b, common, None),
-    }
-}
-
-// The order of two texts, of which the bytes that they have in common are passed over.
-#[inline(always)]
-fn order_after_front(t: &Table, s: Settings, a: &str, b: &str) -> Ordering
-    requires safe_a { IsSafe (chars a.now) }
-    requires safe_b { IsSafe (chars b.now) }
-    ensures { result ≡ key_order (sort_key t.now s (chars a.now)) (sort_key t.now s (chars b.now)) }
-{
-    let common = common_front(a, b);
-    if common == a.len() && common == b.len() {
-        return Ordering::Equal;
-    }
-    order_from(t, s, a, b, common)
 }
 
 /// The order of the sort keys of two texts (UTS #10, section 7.4, step S4), without their keys. It does not allocate.
 ///
 /// The bytes that both texts begin with are passed over. Only where the fifth level decides, or where many characters join each other,
-/// [`compare_sources`] compares what is left of the texts from the last place on at which both may be cut. Texts that begin with different
-/// bytes, as most do, have a look of their own.
+/// [`compare_sources`] compares what is left of the texts from the last place on at which both may be cut.
 #[inline(always)]
 pub fn compare(t: &Table, s: Settings, a: &Passage, b: &Passage) -> Ordering
     ensures { result ≡ key_order (sort_key t.now s (text_of a.now)) (sort_key t.now s (text_of b.now)) }
 {
-    let (a, b) = (a.as_str(), b.as_str());
-    if begin_apart(a, b) {
-        order_from(t, s, a, b, 0)
-    } else {
-        order_after_front(t, s, a, b)
-    }
+    order_of_texts(t, s, a.as_str(), b.as_str())
 }

@@ -4,7 +4,11 @@ use Rattle.uca_weights.specs.Settings.{levels}
 use Rattle.uca_model.proofs.LevelLemmas.{levels-within}
 use Rattle.uca_levels.proofs.ReadsLemmas.{from_ne}
 use Rattle.uca_levels.proofs.LevelsFromCut.{undecided-first, decided-here}
-use Rattle.uca_levels.proofs.text_order.order_of_alike.Goals as goal
+use Rattle.uca_levels.proofs.WithoutFront.{equal-texts}
+use Rattle.uca_levels.proofs.text_order.order_of_texts.Goals as goal
+
+pub returns-then-common-b : goal.returns-then-common-b
+returns-then-common-b c = sym (equal-texts c.args.t.now c.args.s c.args.a.now c.args.b.now c.front_of-common.result c.if-common-a.true c.if-common-b.true c.front_of-common.ensures.same)
 
 pub returns-then-is_ne : goal.returns-then-is_ne
 returns-then-is_ne c =
