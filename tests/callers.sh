@@ -28,6 +28,10 @@ is "the libraries that the shared one needs" "libc.so.6" "$(readelf -d "$usr/lib
 version=$(header_version)
 is "the name of the shared library" "libuca.so.${version%%.*}" "$(readelf -d "$usr/lib/libuca.so.1" | sed -n 's/.*SONAME.*\[\(.*\)\]/\1/p')"
 is "no relocation of text, no executable stack" "0" "$(readelf -dlW "$usr/lib/libuca.so.1" | grep -cE 'TEXTREL|GNU_STACK.*RWE')"
+is "functions that do not begin at a multiple of 32" "0 0" \
+    "$(nm -D --defined-only "$usr/lib/libuca.so.1" | grep -vcE '[02468ace]0 T ') $(readelf -SW "$usr/lib/libuca.a" | awk '/ AX / && $NF != 32' | wc -l)"
+brings() { objdump -d --disassemble="$1" "$usr/lib/libuca.so.1" | grep -c prefetch; }
+is "bytes of the second text that are brought" "2 1" "$(brings uca_compare) $(brings uca_compare_texts)"
 if command -v pkg-config >/dev/null; then
     is "what pkg-config has" "$version -I$usr/include -L$usr/lib -luca" \
         "$(PKG_CONFIG_PATH=$usr/lib/pkgconfig pkg-config --modversion uca) $(PKG_CONFIG_PATH=$usr/lib/pkgconfig pkg-config --cflags --libs uca | sed 's/ *$//')"
