@@ -390,6 +390,30 @@ fn characters_beyond_the_first_plane_have_cells(rt: HostRuntime) {
     assert!(rt; lead_weight(&table, '\u{1F601}').is_none());
 }
 
+/// Characters, and the primary weight by which each may be read alone.
+const LEADS: [(char, Option<u16>); 6] = [
+    ('z', Some(0x1006)),
+    // A variable one.
+    (' ', Some(0x201)),
+    // It begins a key of two code points.
+    ('c', None),
+    // A mark.
+    ('\u{301}', None),
+    // It has no key.
+    ('\u{7FF}', None),
+    // It is not among the first characters.
+    ('\u{4E00}', None),
+];
+
+#[test]
+fn first_characters_have_their_weights_side_by_side(rt: HostRuntime) {
+    let mut table = small_table(&rt, rt.alloc());
+    assert!(rt; prepare(&mut table, rt.alloc()));
+    for (c, weight) in &LEADS {
+        assert!(rt; table.lead_weight(*c) == *weight, "{c:?}");
+    }
+}
+
 /// How much the text before a character bears, the character, and how much it bears itself, if it may follow.
 const FOLLOWERS: [(u8, char, Option<u8>); 7] = [
     (0, 'z', Some(3)),
