@@ -1,6 +1,6 @@
 // Nanoseconds per call of the C library and of ICU over the lines of a file: library TABLE LINES STRENGTH VARIABLE
 // Each figure is from the fastest of several rounds. In each round all of them are measured in turn, so that other work of the machine
-// falls on ICU and on the library alike.
+// falls on ICU and on the library alike. Comparisons are measured over all lines, so that texts come from memory, and by blocks.
 #include "uca.h"
 #include <stdio.h>
 #include <stdlib.h>
@@ -10,6 +10,8 @@
 #include <unicode/ustring.h>
 
 #define ROUNDS 11
+#define BLOCK 500
+#define BLOCK_ROUNDS 25
 
 struct line { char *text; size_t size; uca_text checked; };
 
@@ -100,10 +102,11 @@ static struct line line_of(const char *text, size_t size) {
     return line;
 }
 
-static double pairs(int (*order)(const struct line *, const struct line *)) {
-    double from = now();
-    for (size_t i = 1; i < count; i++) sum += order(&lines[i - 1], &lines[i]);
-    return (now() - from) / (count - 1);
+/* The time of comparing the lines from a place on and before another one with those before them. */
+static double pairs(int (*order)(const struct line *, const struct line *), size_t from, size_t to) {
+    double began = now();
+    for (size_t i = from; i < to; i++) sum += order(&lines[i - 1], &lines[i]);
+    return now() - began;
 }
 
 static double keys(size_t (*key_of)(const struct line *)) {
@@ -117,16 +120,39 @@ static void keep(double *best, double took) {
     if (*best == 0 || took < *best) *best = took;
 }
 
-/* Compares neighbours, and says what they are. */
+/* Compares neighbours, all of them by one kind of call after the other, and says what they are. */
 static void report_pairs(const char *what) {
     double bytes = 0, checked = 0, other = 0;
     for (int round = 0; round < ROUNDS; round++) {
-        keep(&other, pairs(icu_order));
-        keep(&bytes, pairs(uca_order));
-        keep(&checked, pairs(text_order));
+        keep(&other, pairs(icu_order, 1, count) / (count - 1));
+        keep(&bytes, pairs(uca_order, 1, count) / (count - 1));
+        keep(&checked, pairs(text_order, 1, count) / (count - 1));
     }
     printf("%s: %.0f ns (ICU %.0f, %.2f times)\n", what, bytes, other, bytes / other);
     printf("%s that were checked once: %.0f ns (%.2f times ICU's)\n", what, checked, checked / other);
+}
+
+/*
+ * Compares neighbours by blocks of lines: over each block the kinds of calls are made in turn, each of them first in some rounds, and of
+ * each block the shortest time counts. So the lines are in the processor's caches, and other work of the machine changes little.
+ */
+static void report_blocks(const char *what) {
+    int (*orders[3])(const struct line *, const struct line *) = {icu_order, uca_order, text_order};
+    size_t blocks = (count + BLOCK - 1) / BLOCK;
+    double *best = room(calloc(3 * blocks, sizeof *best)), total[3] = {0};
+    for (int round = 0; round < BLOCK_ROUNDS; round++) {
+        for (size_t block = 0; block < blocks; block++) {
+            size_t from = block * BLOCK + 1, to = from + BLOCK < count ? from + BLOCK : count;
+            for (int turn = 0; turn < 3; turn++) {
+                int kind = (turn + round) % 3;
+                keep(&best[3 * block + kind], pairs(orders[kind], from, to));
+            }
+        }
+    }
+    for (size_t i = 0; i < 3 * blocks; i++) total[i % 3] += best[i] / (count - 1);
+    free(best);
+    printf("%s, by blocks: %.0f ns (ICU %.0f, %.3f times)\n", what, total[1], total[0], total[1] / total[0]);
+    printf("%s that were checked once, by blocks: %.0f ns (%.3f times ICU's)\n", what, total[2], total[2] / total[0]);
 }
 
 static void report_keys(void) {
@@ -194,9 +220,11 @@ int main(int words, char **word) {
     printf("open %.1f ms; two empty texts %.0f ns (ICU %.0f); a and a %.0f (%.0f), checked once %.0f\n", opened / 1e6, same("", uca_order), same("", icu_order), same("a", uca_order), same("a", icu_order), same("a", text_order));
     printf("a comparison that finds no table %.1f ns; two checks of an empty text %.1f\n", same("", closed_order), same("", two_checks));
     report_pairs("neighbours");
+    report_blocks("neighbours");
     report_keys();
     qsort(lines, count, sizeof *lines, by_order);
     report_pairs("sorted neighbours");
+    report_blocks("sorted neighbours");
     uca_close(&collator);
     ucol_close(icu);
     return sum == 12345;

@@ -1,8 +1,8 @@
 #!/usr/bin/env bash
 # Measures the C library beside ICU's C API, in one run, over lines of one to four words from Debian's word lists, which it downloads
-# without installing them: nanoseconds per call, for all scripts and for Latin. Then, if Debian's libsqlite3-dev is installed, measures
-# SQLite's index and order by uca_key (packed keys) and by uca_sort_key beside those by ICU's keys, over 1,000,000 lines of all scripts.
-# It needs Debian's libicu-dev. It is not a test.
+# without installing them: nanoseconds per call, for all scripts, Latin, Hangul, and Thai with Devanagari. Then, if Debian's libsqlite3-dev
+# is installed, measures SQLite's index and order by uca_key (packed keys) and by uca_sort_key beside those by ICU's keys, over 1,000,000
+# lines of all scripts. It needs Debian's libicu-dev. It is not a test.
 uca=none # the program is not measured here
 source "$(dirname "${BASH_SOURCE[0]}")/shared.bash"
 source tests/debian.bash
@@ -14,7 +14,9 @@ fetched || exit 1
 # corpus NAME BYTES LINES: the first lines of a corpus, as $work/NAME
 corpus() {
     case $1 in
-    latin) grep '^Latin' <<<"$lists" | grep -v 'hunspell-vi' ;;
+    latin) named Latin ;;
+    hangul) named Hangul ;;
+    indic) named Indic ;;
     *) echo "$lists" ;;
     esac | perl bench/corpus.pl "$work/lists" "$2" 2>/dev/null | head -n "$3" >"$work/$1"
     [ "$(wc -l <"$work/$1")" -eq "$3" ] || refuses "$1: not $3 lines"
@@ -22,9 +24,11 @@ corpus() {
 
 corpus mixed 5000000 100000
 corpus latin 4000000 100000
+corpus hangul 4000000 60000
+corpus indic 6000000 100000
 corpus rows 42000000 1000000
 echo "$(nproc) processors, load $(cut -d' ' -f1-3 /proc/loadavg)"
-for name in mixed latin; do
+for name in mixed latin hangul indic; do
     for setting in "3 0" "4 2"; do
         echo "$name, strength and option $setting"
         # shellcheck disable=SC2086
