@@ -1,21 +1,17 @@
 -- The table that the lines of a text give, and why a text is refused.
-use Rattle.std.proofs.Common.{◌≡◌, ℕ, refl, sym, subst, arith}
+use Rattle.std.proofs.Common.{◌≡◌, ℕ, refl, sym, subst}
 use Rattle.std.specs.Prelude.{MatchOption}
 use Rattle.uca_io.specs.LineFold.{with_text}
-use Rattle.uca_io.specs.LineReader.{FailsFirst, GivesSome, GivesText, IsFaulty, StopsBy}
+use Rattle.uca_io.specs.LineReader.{FailsFirst, GivesSome, IsFaulty, StopsBy}
 use Rattle.uca_io.specs.Reader.{ReaderState}
 use Rattle.uca_io.specs.declared.line_reader.LineCause.TheVariants as lines
-use Rattle.uca_io.proofs.MapLemmas.{FailsFirst-part, GivesText-part, IsFaulty-part}
-use Rattle.uca_model.specs.Table.{ElementTable}
-use Rattle.uca_model.specs.TableText.{Cause, TextState, bad_code_point, bad_directive, bad_element, bad_range, key_too_long, line_too_long, no_element, no_lines, no_semicolon, read, repeated, table_fold, table_of_text, table_part, too_large, too_many_elements}
+use Rattle.uca_io.proofs.MapLemmas.{FailsFirst-part, IsFaulty-part}
+use Rattle.uca_model.specs.TableText.{Cause, bad_code_point, bad_directive, bad_element, bad_range, key_too_long, line_too_long, no_element, no_lines, no_semicolon, read, repeated, table_fold, table_of_text, table_part, too_large, too_many_elements}
 use Rattle.uca_allkeys.specs.declared.faults.ReadCause.{ReadCause}
 use Rattle.uca_allkeys.specs.declared.faults.ReadCause.TheVariants.{LineTooLong, BadDirective, BadCodePoint, KeyTooLong, NoSemicolon, BadElement, NoElement, TooManyElements, Repeated, BadRange, TooLarge, Read, OutOfMemory}
 use Rattle.uca_allkeys.specs.declared.faults.ReadFault.{ReadFault}
 use Rattle.uca_allkeys.specs.Faults.{read_cause, IsOfText}
-use Rattle.uca_allkeys.specs.Reading.{GivesTable, IsRefused, RefusedBy}
-
-pub gives_table : (old new : ReaderState) (s : TextState) (t : ElementTable) → GivesText (with_text table_fold no_lines) old new s → t ≡ s.table → GivesTable old new t
-gives_table old new s t gives is = subst (GivesTable old new) (sym is) (GivesText-part table_part (with_text table_fold no_lines) table_of_text old new s (λ end bytes. refl) gives)
+use Rattle.uca_allkeys.specs.Reading.{IsRefused, RefusedBy}
 
 faulty : (old new : ReaderState) (line : ℕ) (cause : Cause) → IsFaulty (with_text table_fold no_lines) old new line cause → IsFaulty table_of_text old new line cause
 faulty old new line cause is = IsFaulty-part table_part (with_text table_fold no_lines) table_of_text old new line cause (λ end bytes. refl) is
@@ -55,7 +51,3 @@ not_read fault n old new is at stops =
 
 pub line_refused : (fault : ReadFault) (cause : ReadCause) (n : ℕ) (old new : ReaderState) → fault.cause ≡ cause → MatchOption (read_cause cause) (fault.line ≡ 0) (λ _. fault.line ≡ n) → StopsBy table_fold read_cause IsOfText no_lines old new n (lines.Refused cause) → IsRefused old new fault
 line_refused fault cause n old new is at stops = reported fault cause old new is (refused_by cause old new n fault.line at stops.0 stops.1.0 stops.1.1)
-
--- memory for the table was refused at the end of a text
-pub no_memory : (fault : ReadFault) (old new : ReaderState) (s : TextState) → fault.cause ≡ OutOfMemory → fault.line ≡ 0 → GivesText (with_text table_fold no_lines) old new s → IsRefused old new fault
-no_memory fault old new s is at gives = reported fault OutOfMemory old new is (record { some = record { bytes = gives.bytes; within = omega (arith, gives.within); gives = gives.gives.gives }; nowhere = at })

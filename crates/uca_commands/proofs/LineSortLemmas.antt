@@ -21,7 +21,7 @@ use Rattle.uca_commands.specs.LineSorting.{IsRun, SharesFront, ShowsFronts, Sort
 use Rattle.uca_commands.specs.declared.keyed_line.KeyedLine.{KeyedLine}
 use Rattle.uca_commands.specs.declared.keyed_line.KeyedLines.{KeyedLines}
 use Rattle.uca_commands.proofs.KeyFrontLemmas.{IsFront-less, IsFront-more}
-use Rattle.uca_commands.proofs.SortLemmas.{before, filter-alike, filter-map, filter-none, filter-refined, IsBelow, some_or_none, SortsByKey-after, SortsByKey-append, SortsByKey-short}
+use Rattle.uca_commands.proofs.SortLemmas.{before, filter-alike, filter-map, filter-none, filter-refined, IsBelow, some_or_none, SortsByKey-after, SortsByKey-append}
 
 -- ---- keys that tie
 
@@ -96,15 +96,6 @@ pub record RunsSorted (of : KeyedLines) (ys now : Lines) (from : ℕ) : Type 0 w
   pub rest : drop from now ≡ drop from ys
   pub apart : (i j : ℕ) (c d : KeyedLine) → i < from → from ≤ j → j < length ys → (get_or ys i c).front < (get_or ys j d).front
   pub done : SortsLines of (take from ys) (take from now)
-
-pub RunsSorted-none : (of : KeyedLines) (ys : Lines) → RunsSorted of ys ys 0
-RunsSorted-none of ys = record {
-  long = refl;
-  within = omega arith;
-  rest = refl;
-  apart = λ i j c d low above below. absurd (omega arith);
-  done = SortsByKey-short (λ p. p.0) [] (omega arith);
-}
 
 pub RunsSorted-all : (of : KeyedLines) (ys now : Lines) (from : ℕ) → RunsSorted of ys now from → length now ≤ from → SortsLines of ys now
 RunsSorted-all of ys now from runs all =

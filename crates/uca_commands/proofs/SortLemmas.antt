@@ -3,7 +3,7 @@ use Rattle.std.proofs.Common.{◌≡◌, ◌⊎◌, inl, inr, ℕ, ◌+◌, ◌-
 use Rattle.std.proofs.lemmas.Bool.{cases_Bool, eqb-false, leb-true, leb-false}
 use Rattle.std.proofs.lemmas.List.{get_or_append_left, get_or-append_right, length-append}
 use Rattle.std.proofs.lemmas.List.Elements.{All-cons, All-head, All-nil, All-tail, All-get_or, All-weaker, filter-append}
-use Rattle.std.proofs.lemmas.List.Sorted.{All-permutation, IsPermutation-append, IsPermutation-refl, IsPermutation-trans}
+use Rattle.std.proofs.lemmas.List.Sorted.{All-permutation, IsPermutation-append, IsPermutation-trans}
 use Rattle.std.specs.List.Sorted.{IsSortedBy, IsStableByKey, ties}
 use Rattle.uca_model.specs.SortKey.{key_order}
 use Rattle.uca_commands.specs.LineSorting.{SortsByKey}
@@ -43,13 +43,6 @@ module _ {X : Type 0} (lt : X → X → Bool) (us vs : List X) where
 module _ {X : Type 0} (key : X → List ℕ) where
   abbrev pub before : X → X → Bool
   before a b = is_lt (key_order (key a) (key b))
-
-  pub SortsByKey-short : (xs : List X) → length xs < 2 → SortsByKey key xs xs
-  SortsByKey-short xs few = record {
-    same = IsPermutation-refl xs;
-    sorted = λ k d low more. absurd (omega arith);
-    stable = λ x. refl;
-  }
 
   pub SortsByKey-append : (us vs cs ds : List X) → SortsByKey key us cs → SortsByKey key vs ds → All (IsBelow before us vs) us → SortsByKey key (us ++ vs) (cs ++ ds)
   SortsByKey-append us vs cs ds first second below =

@@ -25,7 +25,7 @@ use Rattle.uca_model.specs.TableText.{◌>>=◌, skip_blanks}
 use Rattle.uca_model.specs.TestFile.{TestCause, TestLine, bad_line, is_test, points_after, points_of, some_points, tests_of_line}
 use Rattle.uca_conform.specs.Comparing.{Compared, can_compare, with_line, with_skipped, with_tests, with_text}
 use Rattle.uca_conform.specs.TestReading.{HasPoints, SaysPoints}
-use Rattle.uca_conform.specs.TestWords.{said_words, HasBadWord, IsNextPoint}
+use Rattle.uca_conform.specs.TestWords.{said_words, IsNextPoint}
 use lib.Utf8.{scalar, scalars}
 
 -- Safe texts
@@ -60,10 +60,6 @@ chars_of_points points all = sym (chars_from_encodes points (encode_utf8_all poi
 chars_written : (points bytes : List ℕ) → bytes ≡ encode_utf8_all points → list_all scalar points ≡ true → chars bytes ≡ points
 chars_written points bytes is all = ap chars is ∙ chars_of_points points all
 
--- a text that can be compared has scalar values, and is safe
-pub compared-parts : (points : List ℕ) → can_compare points ≡ true → (list_all scalar points ≡ true) × IsSafe points
-compared-parts points is = let parts = and_parts (list_all scalar points) (is_safe points) is in (parts.0, safe_from points parts.1)
-
 -- ---- short texts
 
 run-short : (n : ℕ) (xs : List ℕ) → longest_run_after n xs ≤ n + length xs
@@ -96,17 +92,6 @@ chars-fewer bytes utf8 = subst (λ (b : List ℕ). length (chars bytes) ≤ leng
 pub bytes-safe : (bytes : List ℕ) → IsUtf8 bytes → length bytes ≤ 15 → IsSafe (chars bytes)
 bytes-safe bytes utf8 few = short-safe (chars bytes) (omega (arith, chars-fewer bytes utf8))
 
--- before the first word
-pub points-none : (line bytes : List ℕ) → bytes ≡ [] → HasPoints line line bytes false true
-points-none line bytes is = record {
-  points = [];
-  same = refl;
-  some = refl;
-  scalars = refl;
-  kept = λ _. is;
-  fits = omega (arith, ap (length {A = ℕ}) is);
-}
-
 -- with the code point of one more word
 pub points-push : (line rest others bytes new : List ℕ) (point : ℕ) (is_some is_text is_scalar : Bool) → HasPoints line rest bytes is_some is_text → IsNextPoint rest point others
     → is_scalar ≡ scalar point → (is_scalar ≡ true → new ≡ bytes ++ encode_utf8 point) → length new ≤ length bytes + 4 → HasPoints line others new true (is_text && is_scalar)
@@ -123,13 +108,6 @@ points-push line rest others bytes new point is_some is_text is_scalar has next 
     written-push : (cs : List ℕ) (c : ℕ) → encode_utf8_all (cs ++ c ∷ []) ≡ encode_utf8_all cs ++ encode_utf8 c
     written-push cs c = flat_map-append encode_utf8 cs (c ∷ []) ∙ ap (λ (l : List ℕ). encode_utf8_all cs ++ l) (append-nil (encode_utf8 c))
 
--- a word that is no code point
-pub points-fault : (line rest text : List ℕ) (is_some is_text : Bool) → HasPoints line rest text is_some is_text → HasBadWord rest
-    → ok_or (option_and_then some_points (points_after [] (said_words line))) bad_line ≡ (let r : Result (List ℕ) TestCause = Err bad_line in r)
-points-fault line rest text is_some is_text has bad =
-    ap (λ (o : Option (List ℕ)). ok_or (option_and_then some_points o) bad_line)
-    (has.same ∙ ap (points_after has.points) bad.split ∙ ap (option_and_then (λ c. points_after (has.points ++ c ∷ []) bad.others)) (sym bad.said))
-
 -- what the words of a test line say
 abbrev says : List ℕ → Result (List ℕ) TestCause
 says line = ok_or (option_and_then some_points (points_after [] (said_words line))) bad_line
@@ -138,18 +116,9 @@ says line = ok_or (option_and_then some_points (points_after [] (said_words line
 says_points : (bytes rest text : List ℕ) (is_some is_text : Bool) (has : HasPoints bytes rest text is_some is_text) → said_words rest ≡ [] → says bytes ≡ ok_or (some_points has.points) bad_line
 says_points bytes rest text is_some is_text has none = ap (λ (o : Option (List ℕ)). ok_or (option_and_then some_points o) bad_line) (has.same ∙ ap (points_after has.points) none)
 
-not-false : (b : Bool) → not b ≡ false → b ≡ true
-not-false true is = refl
-not-false false is = cc
-
 not-true : (b : Bool) → not b ≡ true → b ≡ false
 not-true true is = cc
 not-true false is = refl
-
-pub points-missing : (bytes rest text : List ℕ) (is_some is_text : Bool) → HasPoints bytes rest text is_some is_text → said_words rest ≡ [] → is_some ≡ false → says bytes ≡ Err bad_line
-points-missing bytes rest text is_some is_text has none empty =
-    says_points bytes rest text is_some is_text has none
-    ∙ ap (λ (o : Option (List ℕ)). ok_or o bad_line) (cond-true _ _ _ (not-false (length has.points == 0) (sym has.some ∙ empty)))
 
 known : (bytes rest text : List ℕ) (is_some is_text : Bool) (has : HasPoints bytes rest text is_some is_text) → said_words rest ≡ [] → is_some ≡ true → says bytes ≡ Ok has.points
 known bytes rest text is_some is_text has none some =

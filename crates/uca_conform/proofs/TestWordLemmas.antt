@@ -250,9 +250,6 @@ pub record DigitsSoFar (bytes : List ℕ) (value len : ℕ) (rest : List ℕ) : 
   pub digits : AreDigits word value len
   pub small : value < 16 ^ len
 
-pub digits-none : (bytes : List ℕ) → DigitsSoFar bytes 0 0 bytes
-digits-none bytes = record { word = []; parts = refl; digits = record { said = refl; size = refl; few = omega arith }; small = omega arith }
-
 power-next : (n : ℕ) → 16 ^ (n + 1) ≡ 16 ^ n * 16
 power-next n = let more : n + 1 ≡ suc n = omega arith in ap (λ k. 16 ^ k) more ∙ pow-suc 16 n
 

@@ -4,22 +4,20 @@ use Rattle.std.proofs.lemmas.Bool.{cond-true, cond-false}
 use Rattle.std.proofs.lemmas.List.Concat.{flat_map-append}
 use Rattle.std.specs.Char.{IsScalar}
 use Rattle.std.specs.List.{AllByRecursion}
-use Rattle.unicode_normalization.specs.Forms.{nfd}
 use Rattle.std.specs.Option.{option_map_or}
 use Rattle.uca_weights.specs.declared.settings.Settings.{Settings}
 use Rattle.uca_weights.specs.declared.settings.Variable.{Variable}
 use Rattle.uca_weights.specs.declared.settings.Strength.{Strength}
 use Rattle.uca_weights.specs.declared.settings.Strength.TheVariants.{Primary, Secondary, Tertiary, Quaternary, Identical}
 use Rattle.uca_weights.specs.Settings.{levels}
-use Rattle.uca_weights.specs.VariableWeighting.{weighted}
-use Rattle.uca_model.specs.CollationElements.{elements}
 use Rattle.uca_model.specs.Table.{ElementTable, IsTable}
-use Rattle.uca_model.specs.SortKey.{all_levels, code_point_bytes, joined, sort_key, weight_bytes}
+use Rattle.uca_model.specs.SortKey.{code_point_bytes, joined, sort_key, weight_bytes}
 use Rattle.uca_model.specs.Prefix.{end_of_prefix, is_complete, primary_key, IsBetween}
-use Rattle.uca_model.specs.LevelWeights.{level_list, level_weights}
+use Rattle.uca_model.specs.LevelWeights.{level_list}
 use Rattle.uca_model.specs.Laws.{AreBytes, BeginsWith}
 use Rattle.uca_model.proofs.GrowingLemmas.{keys-grow}
 use Rattle.uca_model.proofs.PrefixKeys.{keys-begin, begins-between, between-begins, keys-alike, primary_key-is}
+use Rattle.std.proofs.lemmas.Grind.{common_steps}
 
 end-last : (xs : List ℕ) (b : ℕ) → b ≡ 255 → end_of_prefix (xs ++ b ∷ []) ≡ end_of_prefix xs
 unfolding end_of_prefix
@@ -42,13 +40,11 @@ up-to bytes m some within = (let up : m ≡ m - 1 + 1 = omega arith in ap (λ k.
 
 -- at a byte FF, at another, and where none is left
 pub end_past : (bytes : List ℕ) (m : ℕ) → end_of_prefix (take m bytes) ≡ end_of_prefix bytes → 0 < m → m ≤ length bytes → Fits w8 (get_or bytes (m - 1) 0) → 255 ≤ get_or bytes (m - 1) 0 → end_of_prefix (take (m - 1) bytes) ≡ end_of_prefix bytes
-end_past bytes m same some within byte last =
-    sym (end-last (take (m - 1) bytes) (get_or bytes (m - 1) 0) (omega arith)) ∙ ap end_of_prefix (sym (up-to bytes m some within)) ∙ same
+end_past bytes m same some within byte last = grind (arith, common_steps, end-last, up-to)
 
 pub end_here : (bytes front end : List ℕ) (m : ℕ) → end_of_prefix (take m bytes) ≡ end_of_prefix bytes → 0 < m → m ≤ length bytes → get_or bytes (m - 1) 0 < 255
     → front ≡ take (m - 1) bytes → end ≡ front ++ (get_or bytes (m - 1) 0 + 1) ∷ [] → Some end ≡ end_of_prefix bytes
-end_here bytes front end m same some within below is pushed =
-    ap Some (pushed ∙ ap (λ l. l ++ (get_or bytes (m - 1) 0 + 1) ∷ []) is) ∙ sym (end-raised (take (m - 1) bytes) (get_or bytes (m - 1) 0) below) ∙ ap end_of_prefix (sym (up-to bytes m some within)) ∙ same
+end_here bytes front end m same some within below is pushed = grind (arith, common_steps, end-raised, up-to)
 
 pub end_nothing : (bytes : List ℕ) (m : ℕ) → end_of_prefix (take m bytes) ≡ end_of_prefix bytes → m ≤ 0 → None ≡ end_of_prefix bytes
 unfolding end_of_prefix
@@ -94,10 +90,7 @@ take-bytes (suc n) (l ∷ ls) h = (h.0, take-bytes n ls h.1)
 
 key-bytes : (t : ElementTable) (s : Settings) (x : List ℕ) → AreBytes (sort_key t s x)
 unfolding sort_key
-key-bytes t s x =
-    let ws : List (List ℕ) = weighted s.weighting (elements t (nfd x)) in
-    joined-bytes (take (levels s.strength) (all_levels ws (nfd x)))
-    (take-bytes (levels s.strength) (all_levels ws (nfd x)) (weights-bytes (level_weights 1 ws), (weights-bytes (level_weights 2 ws), (weights-bytes (level_weights 3 ws), (weights-bytes (level_weights 4 ws), (points-bytes (nfd x), tt))))))
+key-bytes t s x = grind (arith, common_steps, joined-bytes, take-bytes, weights-bytes, points-bytes)
 
 -- a text whose primary weights begin with those of another has a key that begins with the key of the other
 begins-key : (t : ElementTable) (s : Settings) (p x : List ℕ) → BeginsWith (level_list t s.weighting x 1) (level_list t s.weighting p 1) → BeginsWith (sort_key t s x) (primary_key t s.weighting p)

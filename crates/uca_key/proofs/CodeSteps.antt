@@ -1,9 +1,9 @@
 -- Steps of the loops that make a code of primary weights.
-use Rattle.std.proofs.Common.{◌≡◌, ℕ, zero, suc, ◌+◌, ◌-◌, ◌≤◌, ◌<◌, Bool, true, nat_le, nat_lt, List, [], ◌∷◌, ◌++◌, length, map, take, get_or, sym, ap, ap₂, ◌∙◌, arith, append_assoc, append-nil}
+use Rattle.std.proofs.Common.{◌≡◌, ℕ, zero, suc, ◌+◌, ◌-◌, ◌≤◌, ◌<◌, Bool, true, nat_le, nat_lt, List, [], ◌∷◌, ◌++◌, length, map, take, get_or, sym, ap, ◌∙◌, arith, append_assoc, append-nil}
 use Rattle.std.proofs.lemmas.Bool.{and_parts, leb-true, ltb-true}
 use Rattle.std.proofs.lemmas.List.{map-append}
 use Rattle.std.specs.List.{list_all, range_with_len}
-use Rattle.unicode_normalization.specs.Forms.{Nfd, nfd}
+use Rattle.unicode_normalization.specs.Forms.{nfd}
 use Rattle.unicode_normalization.proofs.FormsLemmas.{normalize-nil}
 use Rattle.uca_weights.specs.declared.element.Element.{Element}
 use Rattle.uca_model.specs.Table.{ElementTable}
@@ -12,29 +12,20 @@ use Rattle.uca_model.proofs.RewritingLemmas.{elements_nil}
 use Rattle.uca_key.specs.PrimaryCode.{PrimaryCode, code_of, first_primary, points_of_ranges, primary_of}
 use Rattle.uca_key.specs.declared.common_characters.TheConstants.{COMMON_RANGES, FIRST_LETTERS, SINGLE_CHARACTERS}
 use Rattle.uca_key.specs.WeightCodes.{is_range}
+use Rattle.std.proofs.lemmas.Grind.{common_steps}
 
 -- one number more
 range-more : (f : ℕ → ℕ) (a n : ℕ) → map f (range_with_len a (n + 1)) ≡ map f (range_with_len a n) ++ f (a + n) ∷ []
 range-more f a zero = let same : a + 0 ≡ a = omega arith in ap (λ x. f x ∷ []) (sym same)
-range-more f a (suc n) =
-    let more : suc n + 1 ≡ suc (n + 1) = omega arith in
-    let last : a + 1 + n ≡ a + suc n = omega arith in
-    ap (λ m. map f (range_with_len a m)) more ∙ ap (λ l. f a ∷ l) (range-more f (a + 1) n ∙ ap (λ x. map f (range_with_len (a + 1) n) ++ f x ∷ []) last)
+range-more f a (suc n) = grind (arith, common_steps, range-more f (a + 1) n)
 
 pub range-step : (f : ℕ → ℕ) (first point : ℕ) (before items after : List ℕ) → first ≤ point → items ≡ before ++ map f (range_with_len first (point - first)) → after ≡ items ++ f point ∷ []
     → after ≡ before ++ map f (range_with_len first (point + 1 - first))
-range-step f first point before items after from so_far pushed =
-    let count : point + 1 - first ≡ point - first + 1 = omega arith in
-    let place : first + (point - first) ≡ point = omega arith in
-    pushed ∙ ap (λ l. l ++ f point ∷ []) so_far ∙ append_assoc before (map f (range_with_len first (point - first))) (f point ∷ [])
-    ∙ ap (λ x. before ++ (map f (range_with_len first (point - first)) ++ f x ∷ [])) (sym place)
-    ∙ ap (λ l. before ++ l) (sym (ap (λ n. map f (range_with_len first n)) count ∙ range-more f first (point - first)))
+range-step f first point before items after from so_far pushed = grind (arith, common_steps, append_assoc, range-more)
 
 -- the first primary weight of a character that stands alone before nothing
 pub alone-primary : (t : ElementTable) (c : ℕ) (es : List Element) (rest : List ℕ) → rest ≡ [] → es ++ elements t (nfd rest) ≡ elements t (nfd (c ∷ rest)) → first_primary es ≡ primary_of t c
-alone-primary t c es rest end alone =
-    let none : elements t (nfd rest) ≡ [] = ap (λ r. elements t (nfd r)) end ∙ ap (elements t) (normalize-nil Nfd) ∙ elements_nil t in
-    ap first_primary (sym (append-nil es) ∙ ap (λ l. es ++ l) (sym none) ∙ alone ∙ ap (λ r. elements t (nfd (c ∷ r))) end)
+alone-primary t c es rest end alone = grind (arith, common_steps, normalize-nil, elements_nil, append-nil)
 
 -- the test holds at each place
 pub all-at : (p : ℕ × ℕ → Bool) (rs : List (ℕ × ℕ)) (i : ℕ) (d : ℕ × ℕ) → list_all p rs ≡ true → i < length rs → p (get_or rs i d) ≡ true
@@ -50,13 +41,7 @@ points r = range_with_len r.0 (r.1 + 1 - r.0)
 ranges-more : (f : ℕ → ℕ) (rs : List (ℕ × ℕ)) (i : ℕ) (d : ℕ × ℕ) → i < length rs → map f (points_of_ranges (take (i + 1) rs)) ≡ map f (points_of_ranges (take i rs)) ++ map f (points (get_or rs i d))
 ranges-more f [] i d within = absurd (omega arith)
 ranges-more f (r ∷ rs) zero d within = ap (map f) (append-nil (points r))
-ranges-more f (r ∷ rs) (suc i) d within =
-    let more : suc i + 1 ≡ suc (i + 1) = omega arith in
-    ap (λ n. map f (points_of_ranges (take n (r ∷ rs)))) more
-    ∙ map-append f (points r) (points_of_ranges (take (i + 1) rs))
-    ∙ ap (λ l. map f (points r) ++ l) (ranges-more f rs i d (omega arith))
-    ∙ sym (append_assoc (map f (points r)) (map f (points_of_ranges (take i rs))) (map f (points (get_or rs i d))))
-    ∙ ap (λ l. l ++ map f (points (get_or rs i d))) (sym (map-append f (points r) (points_of_ranges (take i rs))))
+ranges-more f (r ∷ rs) (suc i) d within = grind (arith, common_steps, map-append, append_assoc, ranges-more f rs i d (omega arith))
 
 pub ranges-step : (f : ℕ → ℕ) (rs : List (ℕ × ℕ)) (i : ℕ) (d : ℕ × ℕ) (items after : List ℕ) → i < length rs → items ≡ map f (points_of_ranges (take i rs)) → after ≡ items ++ map f (points (get_or rs i d))
     → after ≡ map f (points_of_ranges (take (i + 1) rs))
@@ -75,5 +60,4 @@ the_code commons singles anchors = record { commons = commons; singles = singles
 pub code-made : (t : ElementTable) (commons singles anchors : List ℕ) → commons ≡ map (primary_of t) (points_of_ranges COMMON_RANGES) → singles ≡ map (primary_of t) SINGLE_CHARACTERS → anchors ≡ map (primary_of t) FIRST_LETTERS
     → the_code commons singles anchors ≡ code_of t
 unfolding code_of
-code-made t commons singles anchors e f g =
-    ap₂ (λ c s. the_code c s anchors) e f ∙ ap (the_code (map (primary_of t) (points_of_ranges COMMON_RANGES)) (map (primary_of t) SINGLE_CHARACTERS)) g
+code-made t commons singles anchors e f g = grind (arith, common_steps)

@@ -1,5 +1,5 @@
 -- The byte order of sort keys is the order of their levels, and what decides the order of the bytes of packed keys.
-use Rattle.std.proofs.Common.{◌⊎◌, ◌≡◌, ℕ, suc, zero, ◌+◌, ◌-◌, ◌≤◌, ◌<◌, List, [], ◌∷◌, ◌++◌, refl, sym, ap, ap₂, subst, ◌∙◌, arith, inl, inr}
+use Rattle.std.proofs.Common.{◌⊎◌, ◌≡◌, ℕ, suc, zero, ◌+◌, ◌-◌, ◌≤◌, ◌<◌, List, [], ◌∷◌, ◌++◌, refl, ap, ap₂, subst, ◌∙◌, arith, inl, inr}
 use Rattle.std.proofs.lemmas.Bool.{cases_lt, cond-true, cond-false, lt-ltb, le-ltb}
 use Rattle.std.proofs.lemmas.Bool.Decides.{nat_tests}
 use Rattle.std.specs.declared.cmp.Ordering.{Ordering}
@@ -15,6 +15,7 @@ use Rattle.uca_model.specs.SortKey.{weight_bytes, key_order, sort_key}
 use Rattle.uca_model.proofs.LevelLemmas.{sort_key-levels, levels-within, weight_first, OrdersLevel-weights, OrdersLevel-points}
 use Rattle.uca_model.proofs.WeightLemmas.{HasWeights}
 use Rattle.uca_key.specs.PackedKey.{other_bytes}
+use Rattle.std.proofs.lemmas.Grind.{common_steps}
 
 -- ---- bytes and weights
 
@@ -37,23 +38,7 @@ other_three w h = cond-false _ _ _ (le-ltb w 254 h)
 
 -- two of them, and what follows them
 pub other_first : (x y : ℕ) (a b : List ℕ) → x < 65536 → y < 65536 → key_order (other_bytes x ++ a) (other_bytes y ++ b) ≡ ordering_then (nat_cmp x y) (key_order a b)
-other_first x y a b h g =
-    elim (cases_lt x 254) [
-      | inl x_low ↦ elim (cases_lt y 254) [
-        | inl y_low ↦ ap₂ (λ u v. key_order (u ++ a) (v ++ b)) (other_one x x_low) (other_one y y_low)
-        | inr y_high ↦
-            ap₂ (λ u v. key_order (u ++ a) (v ++ b)) (other_one x x_low) (other_three y y_high)
-            ∙ ap (λ o. ordering_then o (key_order a (weight_bytes y ++ b))) (is_less x 254 x_low)
-            ∙ sym (ap (λ o. ordering_then o (key_order a b)) (is_less x y (omega arith)))
-      ]
-      | inr x_high ↦ elim (cases_lt y 254) [
-        | inl y_low ↦
-            ap₂ (λ u v. key_order (u ++ a) (v ++ b)) (other_three x x_high) (other_one y y_low)
-            ∙ ap (λ o. ordering_then o (key_order (weight_bytes x ++ a) b)) (is_greater 254 y y_low)
-            ∙ sym (ap (λ o. ordering_then o (key_order a b)) (is_greater x y (omega arith)))
-        | inr y_high ↦ ap₂ (λ u v. key_order (u ++ a) (v ++ b)) (other_three x x_high) (other_three y y_high) ∙ weight_first x y a b h g
-      ]
-    ]
+other_first x y a b h g = grind (arith, common_steps, cases_lt, other_one, other_three, is_less, is_greater, weight_first)
 
 -- ---- the first of some bytes
 
@@ -74,14 +59,10 @@ kind_of w c = elim (cases_lt w c) [ inl below ↦ inl below | inr h ↦ elim (ca
 
 -- the first bytes differ
 pub heads_less : (a b r s : List ℕ) (la ha lb hb : ℕ) → Begins a la ha → Begins b lb hb → ha < lb → key_order (a ++ r) (b ++ s) ≡ Less
-heads_less a b r s la ha lb hb p q apart =
-    let first : p.head < q.head = omega arith in
-    ap₂ (λ u v. key_order (u ++ r) (v ++ s)) p.is q.is ∙ ap (λ o. ordering_then o (key_order (p.tail ++ r) (q.tail ++ s))) (is_less p.head q.head first)
+heads_less a b r s la ha lb hb p q apart = grind (arith, common_steps, is_less)
 
 pub heads_greater : (a b r s : List ℕ) (la ha lb hb : ℕ) → Begins a la ha → Begins b lb hb → hb < la → key_order (a ++ r) (b ++ s) ≡ Greater
-heads_greater a b r s la ha lb hb p q apart =
-    let first : q.head < p.head = omega arith in
-    ap₂ (λ u v. key_order (u ++ r) (v ++ s)) p.is q.is ∙ ap (λ o. ordering_then o (key_order (p.tail ++ r) (q.tail ++ s))) (is_greater p.head q.head first)
+heads_greater a b r s la ha lb hb p q apart = grind (arith, common_steps, is_greater)
 
 -- the first weights differ
 pub lists_less : (x y : ℕ) (xs ys : List ℕ) (o : Ordering) → x < y → ordering_then (key_order (x ∷ xs) (y ∷ ys)) o ≡ Less
@@ -104,9 +85,7 @@ ordered_from (suc n) level xs ys = ordering_then (list_order (xs level) (ys leve
 key_from-ordered : (n level : ℕ) (xs ys : ℕ → List ℕ) → level + n ≤ 5 → ((k : ℕ) → level ≤ k → k ≤ level + n → OrdersLevel k (xs k) (ys k) (list_order (xs k) (ys k)))
     → key_order (key_from n level xs) (key_from n level ys) ≡ ordered_from n level xs ys
 key_from-ordered zero level xs ys inside orders = (orders level (omega arith) (omega arith)).last
-key_from-ordered (suc n) level xs ys inside orders =
-    (orders level (omega arith) (omega arith)).next (omega arith) (key_from n (level + 1) xs) (key_from n (level + 1) ys)
-    ∙ ap (ordering_then (list_order (xs level) (ys level))) (key_from-ordered n (level + 1) xs ys (omega arith) (λ k low top. orders k (omega arith) (omega arith)))
+key_from-ordered (suc n) level xs ys inside orders = grind (arith, common_steps, key_from-ordered n (level + 1) xs ys (omega arith) (λ k low top. orders k (omega arith) (omega arith)))
 
 -- the order of sort keys
 pub sort_key-ordered : (t : ElementTable) (s : Settings) (a b : List ℕ) → HasWeights t s a → HasWeights t s b

@@ -7,6 +7,7 @@ use Rattle.uca_io.specs.Writer.{WritesFront}
 use Rattle.uca_io.specs.OutputBuffer.{accepted, Accepts, FailsPartway}
 use Rattle.uca_io.proofs.BufferLemmas.{Accepts-none, Accepts-more, accepted-Accepts, FailsPartway-later, FailsPartway-longer, FailsPartway-front}
 use Rattle.uca_model.specs.DecidingLevel.{key_from, bytes_at}
+use Rattle.std.proofs.lemmas.Grind.{common_steps}
 
 -- these bytes were written, and the others of a piece are left
 pub record IsSending (s0 : WriterState) (o0 : BufferState) (s1 : WriterState) (o1 : BufferState) (whole left : List ℕ) : Type 0 where
@@ -35,8 +36,7 @@ module _ (s0 s1 : WriterState) (o0 o1 : BufferState) (whole left : List ℕ) (h 
       (FailsPartway-longer s0 s2 o0 (h.sent ++ piece) later f (FailsPartway-later s0 s1 s2 o0 o1 h.sent piece f h.sends stops))
 
   pub IsSending-ends : left ≡ [] → Accepts s0 o0 s1 o1 whole
-  IsSending-ends none =
-      subst (λ (l : List ℕ). Accepts s0 o0 s1 o1 l) (sym (append-nil h.sent) ∙ ap (λ l. h.sent ++ l) (sym none) ∙ h.parts) h.sends
+  IsSending-ends none = grind (arith, common_steps, append-nil)
 
 -- what follows a level in a key
 abbrev pub tail_of : ℕ → ℕ → (ℕ → List ℕ) → List ℕ
@@ -63,15 +63,11 @@ module _ (s0 s1 : WriterState) (o0 o1 : BufferState) (whole : List ℕ) (top at 
 
 -- nothing follows the last level
 pub tail-none : (top at : ℕ) (lists : ℕ → List ℕ) → top ≤ at → tail_of (top - at) at lists ≡ []
-tail-none top at lists last =
-    let none : top - at ≡ 0 = omega (arith, last) in
-    ap (λ n. tail_of n at lists) none
+tail-none top at lists last = grind (arith, common_steps)
 
 -- a separator and the later levels follow another one
 pub tail-later : (top at : ℕ) (lists : ℕ → List ℕ) → at < top → tail_of (top - at) at lists ≡ (0 ∷ 0 ∷ []) ++ key_from (top - (at + 1)) (at + 1) lists
-tail-later top at lists more =
-    let some : top - at ≡ suc (top - (at + 1)) = omega (arith, more) in
-    ap (λ n. tail_of n at lists) some
+tail-later top at lists more = grind (arith, common_steps)
 
 pub none_from : {A : Type 0} (o : Option A) → ((x : A) → o ≡ Some x → ⊥) → o ≡ None
 none_from None other = refl

@@ -1,5 +1,5 @@
 -- A key has few bytes for each byte of its text.
-use Rattle.std.proofs.Common.{◌≡◌, ℕ, zero, suc, ◌+◌, ◌-◌, ◌*◌, ◌^◌, ◌≤◌, ◌<◌, Bool, true, false, cond, not, ◌==◌, List, [], ◌∷◌, ◌++◌, length, map, filter, flat_map, slice_index, unwrap_or, Option, Some, None, refl, ap, ◌∙◌, arith, inl, inr, length-append}
+use Rattle.std.proofs.Common.{◌≡◌, ℕ, zero, suc, ◌+◌, ◌-◌, ◌*◌, ◌^◌, ◌≤◌, ◌<◌, Bool, true, false, cond, List, [], ◌∷◌, ◌++◌, length, filter, flat_map, slice_index, unwrap_or, Option, Some, None, refl, ap, ◌∙◌, arith, length-append}
 use Rattle.std.proofs.lemmas.Bool.{cases_Bool, cond-true, cond-false}
 use Rattle.std.proofs.lemmas.List.{length-map}
 use Rattle.std.proofs.lemmas.Str.{encodes-chars}
@@ -13,9 +13,9 @@ use Rattle.uca_weights.specs.declared.range.Range.{Range}
 use Rattle.uca_weights.specs.declared.settings.Settings.{Settings}
 use Rattle.uca_weights.specs.declared.settings.Variable.{Variable}
 use Rattle.uca_weights.specs.Settings.{levels}
-use Rattle.uca_weights.specs.VariableWeighting.{weighted, weighted_after}
+use Rattle.uca_weights.specs.VariableWeighting.{weighted_after}
 use Rattle.uca_model.specs.Table.{ElementTable, IsTable, elements_at, is_key}
-use Rattle.uca_model.specs.ImplicitWeights.{implicit, implicit_over, is_assigned, in_range, range_of, in_two_parts, two_parts_base}
+use Rattle.uca_model.specs.ImplicitWeights.{implicit, implicit_over, in_range}
 use Rattle.uca_model.specs.CollationElements.{step, elements, elements_or_implicit}
 use Rattle.uca_model.specs.LevelWeights.{level_weights, level_list}
 use Rattle.uca_model.specs.DecidingLevel.{bytes_at, key_from}
@@ -23,6 +23,7 @@ use Rattle.uca_model.specs.SortKey.{sort_key, weight_bytes, code_point_bytes}
 use Rattle.uca_model.proofs.LevelLemmas.{sort_key-levels, levels-within}
 use Rattle.uca_model.proofs.RewritingLemmas.{elements_nil, elements_step, step_shorter}
 use Rattle.uca_model.proofs.TableLemmas.{IsEntry-elements_at}
+use Rattle.std.proofs.lemmas.Grind.{common_steps}
 
 either_few : (b : Bool) (x y : List Element) → length x ≤ 64 → length y ≤ 64 → length (cond b x y) ≤ 64
 either_few true x y h k = h
@@ -34,10 +35,7 @@ in_range_few ranges c (Some r) other h = omega arith
 
 implicit_few : (ranges : List Range) (added : List Ideographs) (c : ℕ) → length (implicit_over ranges added c) ≤ 64
 unfolding implicit_over
-implicit_few ranges added c =
-    let parts : List Element = in_two_parts (two_parts_base added c) c in
-    let two : length parts ≤ 64 = omega arith in
-    either_few (is_assigned c) (option_map_or (in_range ranges c) (range_of ranges c) parts) parts (in_range_few ranges c (range_of ranges c) parts two) two
+implicit_few ranges added c = grind (arith, common_steps, either_few, in_range_few)
 
 given_few : (t : ElementTable) (key : List ℕ) → IsTable t → length (elements_or_implicit t key) ≤ 64
 given_few t key table = of_answer (elements_at t key) refl
@@ -62,10 +60,7 @@ length-weighted_after v before (e ∷ es) = ap suc (length-weighted_after v (bef
 
 pub passed_few : (p : ℕ → Bool) (xs : List ℕ) → length (filter p xs) ≤ length xs
 passed_few p [] = omega arith
-passed_few p (x ∷ xs) = elim (cases_Bool (p x)) [
-  | inl holds ↦ omega (arith, ap length (cond-true (p x) (x ∷ filter p xs) (filter p xs) holds), passed_few p xs)
-  | inr fails ↦ omega (arith, ap length (cond-false (p x) (x ∷ filter p xs) (filter p xs) fails), passed_few p xs)
-]
+passed_few p (x ∷ xs) = grind (arith, common_steps, cases_Bool, cond-true, cond-false, passed_few p xs, passed_few p xs)
 
 pub bytes_few : (f : ℕ → List ℕ) → ((x : ℕ) → length (f x) ≤ 3) → (xs : List ℕ) → length (flat_map f xs) ≤ 3 * length xs
 bytes_few f h [] = omega arith
@@ -78,30 +73,18 @@ pub point_few : (c : ℕ) → length (code_point_bytes c) ≤ 3
 point_few c = omega arith
 
 pub weights_few : (level : ℕ) (ws : List (List ℕ)) → length (level_weights level ws) ≤ length ws
-weights_few level ws =
-    omega (arith, passed_few (λ w. not (w == 0)) (map (λ w. slice_index w (level - 1)) ws), length-map ws (λ w. slice_index w (level - 1)))
+weights_few level ws = grind (arith, common_steps, passed_few, slice_index, length-map)
 
 level_few : (t : ElementTable) (v : Variable) (text : List ℕ) (level : ℕ) → IsTable t → length (bytes_at level (level_list t v text level)) ≤ 192 * length (nfd text)
-level_few t v text level table =
-    let ws : List (List ℕ) = weighted v (elements t (nfd text)) in
-    elim (cases_Bool (level == 5)) [
-      | inl five ↦
-          let same : bytes_at level (level_list t v text level) ≡ flat_map code_point_bytes (nfd text) = cond-true _ _ _ five ∙ ap (flat_map code_point_bytes) (cond-true _ _ _ five) in
-          omega (arith, ap length same, bytes_few code_point_bytes point_few (nfd text))
-      | inr other ↦
-          let same : bytes_at level (level_list t v text level) ≡ flat_map weight_bytes (level_weights level ws) = cond-false _ _ _ other ∙ ap (flat_map weight_bytes) (cond-false _ _ _ other) in
-          omega (arith, ap length same, bytes_few weight_bytes weight_few (level_weights level ws), weights_few level ws, length-weighted_after v [] (elements t (nfd text)), elements_few (length (nfd text)) t (nfd text) (omega arith) table)
-    ]
+level_few t v text level table = grind (arith, common_steps, cases_Bool, cond-true, bytes_few, point_few, cond-false, weight_few, weights_few, length-weighted_after, elements_few)
 
 key_few : (n level : ℕ) (lists : ℕ → List ℕ) → ((k : ℕ) → length (bytes_at k (lists k)) ≤ 2 ^ 80) → length (key_from n level lists) ≤ (n + 1) * (2 ^ 80 + 2)
 key_few zero level lists few = omega (arith, few level)
-key_few (suc n) level lists few =
-    omega (arith, length-append (bytes_at level (lists level)) (0 ∷ 0 ∷ key_from n (level + 1) lists), few level, key_few n (level + 1) lists few)
+key_few (suc n) level lists few = grind (arith, common_steps, length-append, key_few n (level + 1) lists few)
 
 short_key_few : (n level : ℕ) (lists : ℕ → List ℕ) → ((k : ℕ) → length (bytes_at k (lists k)) ≤ 2 ^ 40) → length (key_from n level lists) ≤ (n + 1) * (2 ^ 40 + 2)
 short_key_few zero level lists few = omega (arith, few level)
-short_key_few (suc n) level lists few =
-    omega (arith, length-append (bytes_at level (lists level)) (0 ∷ 0 ∷ key_from n (level + 1) lists), few level, short_key_few n (level + 1) lists few)
+short_key_few (suc n) level lists few = grind (arith, common_steps, length-append, short_key_few n (level + 1) lists few)
 
 -- the bytes of a key can be counted
 pub length-sort_key : (t : ElementTable) (s : Settings) (bytes : List ℕ) → IsTable t → IsUtf8 bytes → length bytes < 2 ^ 64 → length (sort_key t s (chars bytes)) < 2 ^ 100

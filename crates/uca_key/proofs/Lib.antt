@@ -1,8 +1,6 @@
-pub mod KeyBytes
 pub mod KeySize
 pub mod BoundLemmas
 pub mod KeyPieces
-pub mod PieceLemmas
 pub mod PlacingLemmas
 pub mod WeighingLemmas
 pub mod KeyOrder

@@ -1,6 +1,6 @@
 -- Masks of the elements that have another weight than the common one at a level.
 use Rattle.std.proofs.Common.{◌≡◌, ◌⊎◌, inl, inr, count_ones, slice_index, ℕ, suc, zero, ◌+◌, ◌*◌, ◌-◌, ◌/◌, ◌%◌, ◌^◌, ◌<◌, ◌≤◌, ◌==◌, Bool, true, false, cond, not, ◌&&◌, ◌||◌, if◌then◌else◌, List, [], ◌∷◌, ◌++◌, drop, take, get_or, length, map, min, refl, sym, ap, ap₂, ◌∙◌, arith, eqb→eq, T, subst}
-use Rattle.std.proofs.lemmas.List.{drop-drop, drop_more, get_or-drop, get_or-map, get_or-take, length-drop, length-map, length-take, map-append}
+use Rattle.std.proofs.lemmas.List.{drop_more, get_or-drop, get_or-map, get_or-take, length-drop, length-map, length-take, map-append}
 use Rattle.std.proofs.lemmas.Nat.{mod-pow-add, mod_below, ones-le, ones_cat, pow-add, pow_pos}
 use Rattle.std.proofs.lemmas.Bool.{and_parts}
 use Rattle.std.proofs.lemmas.Bool.Decides.{nat_tests}
@@ -19,6 +19,7 @@ use Rattle.uca_key.specs.declared.runs.Marked.{Marked}
 use Rattle.uca_key.specs.PackedKey.{common_weight, runs_after}
 use Rattle.uca_key.specs.Weighing.{all_own, own_weights}
 use Rattle.uca_key.proofs.RunsLemmas.{blank-step, run-step}
+use Rattle.std.proofs.lemmas.Grind.{common_steps}
 
 -- an element that stands for none
 pub blank : Element
@@ -30,8 +31,7 @@ none-left (e ∷ es) none = absurd (omega arith)
 
 -- the bits of a number that was shifted
 bit_at-shifted : (m n i : ℕ) → bit_at (m / 2 ^ n / 2) i ≡ bit_at m (n + 1 + i)
-bit_at-shifted m n i =
-    ap (λ (x : ℕ). x % 2) (div-div-eq-div-mul (m / 2 ^ n) 2 (2 ^ i) ∙ div-div-eq-div-mul m (2 ^ n) (2 * 2 ^ i) ∙ ap (λ (x : ℕ). m / x) (ap (λ (x : ℕ). 2 ^ n * x) (sym (pow-add 2 1 i)) ∙ sym (pow-add 2 n (1 + i)) ∙ ap (λ (x : ℕ). 2 ^ x) (omega arith)))
+bit_at-shifted m n i = grind (arith, common_steps, div-div-eq-div-mul, pow-add)
 
 bit-cases : (m n : ℕ) → (bit_at m n ≡ 0) ⊎ (bit_at m n ≡ 1)
 bit-cases m n = two (bit_at m n) (mod_below (m / 2 ^ n) 2 (omega arith)) where
@@ -65,8 +65,7 @@ marked-among v level m es fs among marked = record {
 
 -- of fewer elements
 pub marked-front : (v : Variable) (level : ℕ) (m : Marked) (k n : ℕ) (es : List Element) → k ≤ n → AreMarked v level m (take n es) → AreMarked v level m (take k es)
-marked-front v level m k n es within =
-    marked-among v level m (take n es) (take k es) (λ i d inside. (get_or-take k es i d (omega (arith, length-take k es)) ∙ sym (get_or-take n es i d (omega (arith, length-take k es))), omega (arith, length-take k es, length-take n es)))
+marked-front v level m k n es within = grind (arith, common_steps, marked-among, get_or-take, length-take)
 
 pub marked-fewer : (v : Variable) (level : ℕ) (m : Marked) (n : ℕ) (es : List Element) → AreMarked v level m es → AreMarked v level m (take n es)
 marked-fewer v level m n es = marked-among v level m es (take n es) (λ i d inside. (get_or-take n es i d (omega (arith, length-take n es)), omega (arith, length-take n es)))
@@ -137,9 +136,7 @@ blanks-fewer v level blank es others none blanks whole is = let parts = mask-par
 
 -- an element without a weight at the levels 2 and 3
 both-zero : (asked : Bool) (e : Element) → is_blank asked e ≡ true → (e.l2 ≡ 0) × (e.l3 ≡ 0)
-both-zero asked e is =
-    let zeros = and_parts (e.l2 == 0) (e.l3 == 0) (and_parts asked ((e.l2 == 0) && (e.l3 == 0)) is).1 in
-    (eqb→eq e.l2 0 (subst T (sym zeros.0) tt), eqb→eq e.l3 0 (subst T (sym zeros.1) tt))
+both-zero asked e is = grind (arith, common_steps, and_parts)
 
 pub blank-second : (v : Variable) (asked : Bool) (e : Element) → is_blank asked e ≡ true → (is_other v 2 e ≡ true) × (slice_index (own_weights v e) 1 ≡ 0)
 blank-second v asked e is = let none = (both-zero asked e is).0 in (ap (λ (w : ℕ). not (w == 32)) none, none)
@@ -204,11 +201,7 @@ run-counted v level run m (suc n) es d ws marked few within zeros =
 -- ---- masks that are put together
 pub mask-append : (xs ys : List Bool) → mask_l (xs ++ ys) ≡ mask_l xs + 2 ^ length xs * mask_l ys
 mask-append [] ys = omega arith
-mask-append (x ∷ xs) ys =
-    let n : ℕ = length xs in let m : ℕ = mask_l ys in
-    let one : 2 ^ suc n ≡ 2 * 2 ^ n = ap (λ (k : ℕ). 2 ^ k) (omega arith) ∙ pow-add 2 1 n in
-    let twice : 2 ^ suc n * m ≡ 2 * (2 ^ n * m) = ap (λ (k : ℕ). k * m) one ∙ mul_assoc 2 (2 ^ n) m in
-    omega (arith, mask-append xs ys, twice)
+mask-append (x ∷ xs) ys = grind (arith, common_steps, pow-add, mul_assoc, mask-append xs ys)
 
 -- the mask of no elements
 pub mask-none : (p : Element → Bool) (n : ℕ) (es : List Element) → length es ≤ n → 0 ≡ mask_l (map p (drop n es))
@@ -275,8 +268,4 @@ tests-of-weights weight f p same (e ∷ es) = ap₂ (λ a b. a ∷ b) (same e) (
 -- the mask from a block on, by the weights of its elements at a level
 pub mask-lanes : (p : Element → Bool) (weight : Element → ℕ) (f : ℕ → Bool) → ((e : Element) → f (weight e) ≡ p e) → (n : ℕ) (es : List Element) (m b : ℕ) (lanes : List ℕ)
     → 16 ≤ n → n ≤ length es → m ≡ mask_l (map p (drop n es)) → lanes ≡ map weight (chunk (n - 16) 16 es) → b ≡ mask_l (map f lanes) → 65536 * m + b ≡ mask_l (map p (drop (n - 16) es))
-mask-lanes p weight f same n es m b lanes some within later read block =
-    let i : ℕ = n - 16 in
-    let next : n ≡ i + 16 = omega (arith, some) in
-    let others = ap (λ l. mask_l (map f l)) read ∙ ap mask_l (tests-of-weights weight f p same (chunk i 16 es)) in
-    mask-block p i es m b (omega (arith, within, next)) (later ∙ ap (λ k. mask_l (map p (drop k es))) next) (block ∙ others)
+mask-lanes p weight f same n es m b lanes some within later read block = grind (arith, common_steps, tests-of-weights, mask-block, block)

@@ -1,12 +1,12 @@
 -- What a code has of a weight after another, most of which is the same.
-use Rattle.std.proofs.Common.{◌≡◌, ℕ, ◌+◌, ◌%◌, ◌==◌, ◌||◌, ◌≤◌, ◌<◌, Bool, true, false, cond, max, nat_le, fold, List, [], ◌∷◌, ◌++◌, length, get_or, refl, sym, ap, ap₂, subst, ◌∙◌, arith, inl, inr}
+use Rattle.std.proofs.Common.{◌≡◌, ℕ, ◌+◌, ◌%◌, ◌==◌, ◌||◌, ◌≤◌, ◌<◌, Bool, true, false, cond, max, nat_le, fold, List, [], ◌∷◌, ◌++◌, length, get_or, refl, sym, ap, ap₂, subst, ◌∙◌, arith}
 use Rattle.std.proofs.lemmas.Bool.{cases_lt, eqb-false}
 use Rattle.std.proofs.lemmas.Bool.Decides.{nat_tests}
 use Rattle.std.proofs.lemmas.Grind.{common_steps}
 use Rattle.std.proofs.lemmas.List.Sums.{sum_by-cons}
 use Rattle.std.specs.List.{list_any, sum_by}
 use Rattle.uca_key.specs.PrimaryCode.{PrimaryCode, anchor_of, begins_slot, is_common, is_single, page_of, past, slot}
-use Rattle.uca_key.specs.WeightCodes.{AreCodes, IsCodeOf, IsMadeOf, IsNext, keeps_window}
+use Rattle.uca_key.specs.WeightCodes.{AreCodes, IsCodeOf, IsMadeOf, IsNext}
 use Rattle.uca_key.specs.declared.weight_codes.Parts.{Parts}
 use Rattle.uca_key.specs.declared.weight_codes.WeightCode.{WeightCode}
 use Rattle.uca_key.proofs.MaskLemmas.{bit-is}
@@ -15,15 +15,7 @@ use mir.Val.{bool_byte}
 
 -- a weight more
 pub codes-more : (k : PrimaryCode) (w : ℕ) (c : WeightCode) (items after : List WeightCode) → length items ≡ w → after ≡ items ++ c ∷ [] → AreCodes k w items → IsCodeOf k w c → AreCodes k (w + 1) after
-codes-more k w c items after size made each last x d within = elim (cases_lt x w) [
-  | inl before ↦
-      let same : get_or after x d ≡ get_or items x d = grind (arith, common_steps) in
-      subst (IsCodeOf k x) (sym same) (each x d before)
-  | inr at ↦
-      let here : x ≡ w = omega arith in
-      let same : get_or after x d ≡ c = grind (arith, common_steps) in
-      subst (IsCodeOf k x) (sym same) (subst (λ n. IsCodeOf k n c) (sym here) last)
-]
+codes-more k w c items after size made each last x d within = grind (arith, common_steps, cases_lt)
 
 -- none at first
 pub no-codes : (k : PrimaryCode) (items : List WeightCode) → AreCodes k 0 items
@@ -34,9 +26,7 @@ no-codes k items w d within = absurd (omega arith)
 -- by how much it is greater where one begins
 pub next-slot : (k : PrimaryCode) (p : Parts) (w number : ℕ) (b : Bool) → IsMadeOf k p → w + 1 < 65536 → b ≡ ((w + 1) % 256 == 0 || get_or p.commons.now w false || get_or p.commons.now (w + 1) false)
     → number ≡ slot k w → number + bool_byte b ≡ slot k (w + 1)
-next-slot k p w number b made within apart here =
-    let flags : b ≡ begins_slot k w = apart ∙ ap₂ (λ x y. (w + 1) % 256 == 0 || x || y) (made.commons w (omega arith)) (made.commons (w + 1) within) in
-    ap₂ (λ n c. n + bool_byte c) here flags ∙ ap (λ n. slot k w + n) (bit-is (begins_slot k w)) ∙ sym (slot-next k w)
+next-slot k p w number b made within apart here = grind (arith, common_steps, bit-is, slot-next)
 
 -- ---- a weight after another, neither of which is named
 
@@ -72,14 +62,7 @@ one-greatest w best (a ∷ ws) after =
 
 -- the window after a weight is that after another, if they are alike
 next-same : (k : PrimaryCode) (w x n : ℕ) → is_single k w ≡ is_single k x → anchor_of k w ≡ anchor_of k x → IsNext k x n → IsNext k w n
-next-same k w x n single same next =
-    let keeps : keeps_window k w ≡ keeps_window k x = ap₂ (λ a (b : ℕ). a || b == 0) single same in
-    record {
-      none = λ zero. keeps ∙ next.none zero;
-      some = λ any. keeps ∙ next.some any;
-      within = next.within;
-      at = λ any. next.at any ∙ sym same;
-    }
+next-same k w x n single same next = grind (arith, common_steps)
 
 -- ---- all of it
 
@@ -108,10 +91,7 @@ abbrev pub no_flag : List Bool → ℕ → Bool
 no_flag flags w = (w + 1) % 256 == 0 || get_or flags w false || get_or flags (w + 1) false
 
 pub no-flags : (flags : List Bool) (w : ℕ) → no_flag flags w ≡ false → (((w + 1) % 256 == 0) ≡ false) × ((get_or flags w false ≡ false) × (get_or flags (w + 1) false ≡ false))
-no-flags flags w none =
-    let ends = or-none ((w + 1) % 256 == 0 || get_or flags w false) (get_or flags (w + 1) false) none in
-    let inside = or-none ((w + 1) % 256 == 0) (get_or flags w false) ends.0 in
-    (inside.0, (inside.1, ends.1))
+no-flags flags w none = grind (arith, common_steps, or-none)
 
 -- where neither is named
 pub next-code : (k : PrimaryCode) (p : Parts) (w : ℕ) (c after : WeightCode) → IsMadeOf k p → w + 1 < 65536 → no_flag p.named.now w ≡ false → IsCodeOf k w c

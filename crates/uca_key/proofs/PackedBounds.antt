@@ -1,5 +1,5 @@
 -- What the ends of a prefix say of packed keys.
-use Rattle.std.proofs.Common.{◌≡◌, ◌↔◌, ℕ, true, List, ◌++◌, Option, All, sym, ap, subst, ◌∙◌}
+use Rattle.std.proofs.Common.{arith, ◌≡◌, ◌↔◌, ℕ, true, List, ◌++◌, Option, All, sym, ap, subst, ◌∙◌}
 use Rattle.std.specs.Char.{IsScalar}
 use Rattle.uca_weights.specs.declared.settings.Settings.{Settings}
 use Rattle.uca_weights.specs.declared.settings.Variable.{Variable}
@@ -11,6 +11,7 @@ use Rattle.uca_model.proofs.PrefixKeys.{begins-between, between-begins}
 use Rattle.uca_key.specs.PackedKey.{packed_key, packed_prefix}
 use Rattle.uca_key.proofs.PackedBytes.{packed-bytes}
 use Rattle.uca_key.proofs.PackedPrefixes.{packed-alike, packed-begin, packed-beginnings}
+use Rattle.std.proofs.lemmas.Grind.{common_steps}
 
 -- a key that begins with the prefix lies between the ends
 begins_within : (t : ElementTable) (s : Settings) (p x lower : List ℕ) (upper : Option (List ℕ)) → lower ≡ packed_prefix t s.weighting p → upper ≡ end_of_prefix lower
@@ -27,10 +28,7 @@ packed_longer t v p lower upper complete first last s x same =
 
 exactly_of : (t : ElementTable) (s : Settings) (p x lower : List ℕ) (upper : Option (List ℕ)) → IsTable t → All IsScalar p → All IsScalar x → lower ≡ packed_prefix t s.weighting p → upper ≡ end_of_prefix lower
     → IsBetween lower upper (packed_key t s x) ↔ BeginsWith (level_list t s.weighting x 1) (level_list t s.weighting p 1)
-exactly_of t s p x lower upper table of_p of_x first last = (
-  λ between. packed-alike t s p x table of_p of_x (subst (BeginsWith (packed_key t s x)) first (between-begins lower (packed_key t s x) (packed-bytes t s x) (subst (λ u. IsBetween lower u (packed_key t s x)) last between))),
-  λ begins. begins_within t s p x lower upper first last (packed-beginnings t s p x begins),
-)
+exactly_of t s p x lower upper table of_p of_x first last = grind (arith, common_steps, packed-alike, between-begins, packed-bytes, begins_within, packed-beginnings)
 
 -- the keys of just those texts lie there whose primary weights begin with those of the text
 pub packed_exactly : (t : ElementTable) (v : Variable) (p lower : List ℕ) (upper : Option (List ℕ)) → IsTable t → All IsScalar p → lower ≡ packed_prefix t v p → upper ≡ end_of_prefix lower

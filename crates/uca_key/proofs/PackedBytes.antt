@@ -1,23 +1,19 @@
 -- Packed keys are byte strings.
-use Rattle.std.proofs.Common.{ℕ, ◌+◌, ◌-◌, ◌*◌, ◌%◌, ◌≤◌, ◌<◌, Bool, true, false, cond, nat_lt, List, [], ◌∷◌, ◌++◌, length, take, sym, ap, subst, ◌∙◌, arith, inl, inr, eq-eqb, ne_eqb}
+use Rattle.std.proofs.Common.{ℕ, ◌+◌, ◌*◌, ◌%◌, ◌≤◌, ◌<◌, Bool, true, false, cond, nat_lt, List, [], ◌∷◌, ◌++◌, length, sym, ap, subst, ◌∙◌, arith, inl, inr, eq-eqb, ne_eqb}
 use Rattle.std.proofs.lemmas.Bool.{cases_lt, cond-true, cond-false, lt-ltb, le-ltb}
 use Rattle.std.proofs.lemmas.Bool.Decides.{nat_tests}
 use Rattle.std.proofs.lemmas.List.Sums.{sum_by-cons}
 use Rattle.std.specs.List.{AllByRecursion, concat, sum_by}
-use Rattle.unicode_normalization.specs.Forms.{nfd}
 use Rattle.uca_weights.specs.declared.settings.Settings.{Settings}
-use Rattle.uca_weights.specs.Settings.{levels}
-use Rattle.uca_weights.specs.VariableWeighting.{weighted}
 use Rattle.uca_model.specs.Table.{ElementTable}
-use Rattle.uca_model.specs.CollationElements.{elements}
 use Rattle.uca_model.specs.Laws.{AreBytes}
-use Rattle.uca_model.specs.LevelWeights.{level_weights}
 use Rattle.uca_model.specs.SortKey.{weight_bytes}
-use Rattle.uca_key.specs.PrimaryCode.{CodeState, PrimaryCode, after_lead, after_slot, code_of, has_page, is_common, is_single, lead, letter_bytes, page_of, past, primary_bytes, primary_level, second_bytes, start, state_after}
-use Rattle.uca_key.specs.PackedKey.{above_bytes, below_bytes, other_bytes, runs_after, packed_key, packed_key_by, packed_levels}
+use Rattle.uca_key.specs.PrimaryCode.{CodeState, PrimaryCode, after_lead, after_slot, code_of, has_page, is_common, is_single, lead, letter_bytes, page_of, past, primary_bytes, primary_level, second_bytes, state_after}
+use Rattle.uca_key.specs.PackedKey.{above_bytes, below_bytes, other_bytes, runs_after, packed_key, packed_key_by}
 use Rattle.uca_key.proofs.BoundLemmas.{bytes-append, points-bytes, take-bytes}
 use Rattle.uca_key.proofs.PackedLetters.{at_above, at_below, at_inside, place_of}
 use Rattle.uca_key.proofs.KeyOrder.{kind_of}
+use Rattle.std.proofs.lemmas.Grind.{common_steps}
 
 -- ---- leads
 
@@ -56,13 +52,7 @@ slot-bytes k w = of_test (is_common k w)
     of_test false = (omega arith, tt)
 
 letter-bytes : (k : PrimaryCode) (base w : ℕ) → length k.singles ≤ 12 → AreBytes (letter_bytes k base w)
-letter-bytes k base w few =
-    let most = lead-most k w few in let base_most = lead-most k base few in
-    elim (place_of k base w) [
-      | inl below ↦ subst AreBytes (sym (at_below k base w below)) (omega arith, lead-bytes k w)
-      | inr (inl inside) ↦ let from = inside.0 in let to = inside.1 in subst AreBytes (sym (at_inside k base w from to)) (omega arith, slot-bytes k w)
-      | inr (inr above) ↦ subst AreBytes (sym (at_above k base w above)) (omega arith, lead-bytes k w)
-    ]
+letter-bytes k base w few = grind (arith, common_steps, lead-most, place_of, at_below, lead-bytes, at_inside, slot-bytes, at_above)
 
 second-bytes : (w : ℕ) → AreBytes (second_bytes w)
 second-bytes w = of_test (nat_lt w 32768)
@@ -85,19 +75,10 @@ level-bytes k p (w ∷ ws) few = bytes-append (primary_bytes k p w) (primary_lev
 -- ---- runs
 
 other-bytes : (w : ℕ) → AreBytes (other_bytes w)
-other-bytes w = elim (cases_lt w 254) [
-  | inl low ↦ subst AreBytes (sym (cond-true _ _ _ (lt-ltb w 254 low))) (omega arith, tt)
-  | inr high ↦ subst AreBytes (sym (cond-false _ _ _ (le-ltb w 254 high))) (omega arith, byte-pair w)
-]
+other-bytes w = grind (arith, common_steps, cases_lt, cond-true, lt-ltb, cond-false, le-ltb, byte-pair)
 
 above-bytes : (c n w : ℕ) → AreBytes (above_bytes c n w)
-above-bytes c n w = elim (cases_lt n 2) [
-  | inl early ↦ elim (cases_lt (w - c) 35) [
-    | inl near ↦ subst AreBytes (sym (cond-true _ _ _ (lt-ltb n 2 early) ∙ cond-true _ _ _ (lt-ltb (w - c) 35 near))) (omega arith, tt)
-    | inr far ↦ subst AreBytes (sym (cond-true _ _ _ (lt-ltb n 2 early) ∙ cond-false _ _ _ (le-ltb (w - c) 35 far))) (omega arith, other-bytes w)
-  ]
-  | inr late ↦ subst AreBytes (sym (cond-false _ _ _ (le-ltb n 2 late))) (omega arith, other-bytes w)
-]
+above-bytes c n w = grind (arith, common_steps, cases_lt, cond-true, lt-ltb, cond-false, le-ltb, other-bytes)
 
 runs-bytes : (c n : ℕ) (ws : List ℕ) → n < 62 → AreBytes (runs_after c n ws)
 runs-bytes c n [] few = (omega arith, tt)
@@ -126,9 +107,4 @@ few-singles t = omega arith
 
 pub packed-bytes : (t : ElementTable) (s : Settings) (text : List ℕ) → AreBytes (packed_key t s text)
 unfolding packed_key packed_key_by
-packed-bytes t s text =
-    let ws : List (List ℕ) = weighted s.weighting (elements t (nfd text)) in
-    let k = code_of t in
-    let runs : (c level : ℕ) → AreBytes (runs_after c 0 (level_weights level ws)) = λ c level. runs-bytes c 0 (level_weights level ws) (omega arith) in
-    concat-bytes (take (levels s.strength) (packed_levels k ws (nfd text)))
-    (take-bytes (levels s.strength) (packed_levels k ws (nfd text)) (level-bytes k (start k) (level_weights 1 ws) (few-singles t), (runs 32 2, (runs 2 3, (runs 65535 4, (points-bytes (nfd text), tt))))))
+packed-bytes t s text = grind (arith, common_steps, runs-bytes, concat-bytes, take-bytes, level-bytes, few-singles, points-bytes)

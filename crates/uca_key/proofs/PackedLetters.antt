@@ -1,5 +1,5 @@
 -- The code of primary weights is monotone and prefix-free.
-use Rattle.std.proofs.Common.{◌⊎◌, ◌≡◌, ℕ, ◌+◌, ◌-◌, ◌/◌, ◌%◌, ◌≤◌, ◌<◌, Bool, true, false, cond, ◌==◌, ◌&&◌, ◌||◌, nat_lt, nat_le, List, [], ◌∷◌, ◌++◌, refl, sym, ap, ap₂, subst, ◌∙◌, arith, inl, inr, ne_eqb}
+use Rattle.std.proofs.Common.{◌⊎◌, ◌≡◌, ℕ, ◌+◌, ◌-◌, ◌/◌, ◌%◌, ◌≤◌, ◌<◌, Bool, true, false, cond, ◌==◌, ◌&&◌, ◌||◌, List, [], ◌∷◌, ◌++◌, refl, sym, ap, ap₂, subst, ◌∙◌, arith, inl, inr, ne_eqb}
 use Rattle.std.proofs.lemmas.Bool.{cases_Bool, cases_lt, cond-true, cond-false, lt-ltb, le-ltb, le-leb}
 use Rattle.std.proofs.lemmas.Bool.Decides.{nat_tests}
 use Rattle.std.proofs.lemmas.List.Sums.{sum_by-cons}
@@ -12,6 +12,7 @@ use Rattle.uca_key.specs.PrimaryCode.{CodeState, PrimaryCode, after_lead, after_
 use Rattle.uca_key.proofs.KeyOrder.{is_equal, is_greater, is_less, kind_of}
 use Rattle.uca_key.proofs.PackedLevels.{IsCode, IsSome}
 use Rattle.uca_key.proofs.PackedSlots.{one-slot, slot-grows, slot-lower}
+use Rattle.std.proofs.lemmas.Grind.{common_steps}
 
 -- ---- byte strings
 
@@ -25,11 +26,7 @@ firsts_same h g s t same = ap (λ o. ordering_then o (key_order s t)) (is_equal 
 
 -- the first bytes are in order, and where they are the same the others decide
 firsts_or : (h g : ℕ) (s t : List ℕ) → h ≤ g → (h ≡ g → key_order s t ≡ Less) → key_order (h ∷ s) (g ∷ t) ≡ Less
-firsts_or h g s t within others = elim (kind_of h g) [
-  | inl below ↦ firsts_less h g s t below
-  | inr (inl same) ↦ firsts_same h g s t same ∙ others same
-  | inr (inr above) ↦ absurd (omega arith)
-]
+firsts_or h g s t within others = grind (arith, common_steps, kind_of, firsts_less, firsts_same)
 
 flipped : (a b : List ℕ) → key_order a b ≡ Less → key_order b a ≡ Greater
 flipped [] [] h = absurd (cc)
@@ -59,10 +56,7 @@ past-apart x y s h e = (ne_eqb s x (λ f. absurd (let g : past x s ≡ past y s 
 
 sums-grow : (x y : ℕ) (l : List ℕ) → x ≤ y → sum_by (past x) l ≤ sum_by (past y) l
 sums-grow x y [] h = omega arith
-sums-grow x y (s ∷ l) h =
-    let one = sum_by-cons (past x) s l in let other = sum_by-cons (past y) s l in
-    let here = past-grows x y s h in let later = sums-grow x y l h in
-    omega arith
+sums-grow x y (s ∷ l) h = grind (arith, common_steps, sum_by-cons, past-grows, sums-grow x y l h)
 
 pub lead-grows : (k : PrimaryCode) (x y : ℕ) → x ≤ y → lead k x ≤ lead k y
 lead-grows k x y h = let pages = page-grows x y h in let sums = sums-grow x y k.singles h in omega arith
@@ -105,11 +99,7 @@ after_lead-less k x y a b h within e =
 
 -- two weights of one slot
 after_slot-less : (k : PrimaryCode) (x y : ℕ) (a b : List ℕ) → x < y → slot k x ≡ slot k y → key_order (after_slot k x ++ a) (after_slot k y ++ b) ≡ Less
-after_slot-less k x y a b h e =
-    let one = one-slot k x y h e in
-    let high : x / 256 ≡ y / 256 = one.page in
-    ap₂ (λ u v. key_order (u ++ a) (v ++ b)) (cond-false _ _ _ one.first) (cond-false _ _ _ one.second)
-    ∙ firsts_less (x % 256) (y % 256) a b (omega arith)
+after_slot-less k x y a b h e = grind (arith, common_steps, one-slot, cond-false, firsts_less)
 
 -- ---- letters
 
@@ -118,10 +108,7 @@ abbrev pub Places : PrimaryCode → ℕ → ℕ → Type 0
 Places k base w = (slot k w < slot k base) ⊎ (((slot k base ≤ slot k w) × (slot k w < slot k base + 119)) ⊎ (slot k base + 119 ≤ slot k w))
 
 pub place_of : (k : PrimaryCode) (base w : ℕ) → Places k base w
-place_of k base w = elim (cases_lt (slot k w) (slot k base)) [
-  | inl below ↦ inl below
-  | inr from ↦ elim (cases_lt (slot k w) (slot k base + 119)) [ inl inside ↦ inr (inl (from, inside)) | inr above ↦ inr (inr above) ]
-]
+place_of k base w = grind (arith, common_steps, cases_lt)
 
 and-no-first : (a b : Bool) → a ≡ false → (a && b) ≡ false
 and-no-first a b e = ap (λ c. c && b) e
@@ -134,17 +121,13 @@ and-both : (a b : Bool) → a ≡ true → b ≡ true → (a && b) ≡ true
 and-both a b e f = ap (λ c. c && b) e ∙ f
 
 pub at_below : (k : PrimaryCode) (base w : ℕ) → slot k w < slot k base → letter_bytes k base w ≡ lead k w ∷ after_lead k w
-at_below k base w h =
-    cond-false _ _ _ (and-no-first (nat_le (slot k base) (slot k w)) (nat_lt (slot k w) (slot k base + 119)) (grind (arith, nat_tests)))
-    ∙ ap (λ n. n ∷ after_lead k w) (cond-true _ _ _ (lt-ltb (slot k w) (slot k base) h))
+at_below k base w h = grind (arith, common_steps, cond-false, and-no-first, cond-true, lt-ltb)
 
 pub at_inside : (k : PrimaryCode) (base w : ℕ) → slot k base ≤ slot k w → slot k w < slot k base + 119 → letter_bytes k base w ≡ (lead k base + 1 + (slot k w - slot k base)) ∷ after_slot k w
 at_inside k base w from inside = cond-true _ _ _ (and-both _ _ (le-leb (slot k base) (slot k w) from) (lt-ltb (slot k w) (slot k base + 119) inside))
 
 pub at_above : (k : PrimaryCode) (base w : ℕ) → slot k base + 119 ≤ slot k w → letter_bytes k base w ≡ (lead k w + 119 + 1) ∷ after_lead k w
-at_above k base w h =
-    cond-false _ _ _ (and-no-second (nat_le (slot k base) (slot k w)) (nat_lt (slot k w) (slot k base + 119)) (le-ltb (slot k w) (slot k base + 119) h))
-    ∙ ap (λ n. n ∷ after_lead k w) (cond-false _ _ _ (le-ltb (slot k w) (slot k base) (omega arith)))
+at_above k base w h = grind (arith, common_steps, cond-false, and-no-second, le-ltb)
 
 letter-less : (k : PrimaryCode) (base x y : ℕ) (a b : List ℕ) → x < y → y < 65536 → key_order (letter_bytes k base x ++ a) (letter_bytes k base y ++ b) ≡ Less
 letter-less k base x y a b h within =
@@ -181,25 +164,10 @@ letter-less k base x y a b h within =
 -- ---- the second weight of an implicit pair
 
 second-less : (x y : ℕ) (a b : List ℕ) → x < y → y < 65536 → key_order (second_bytes x ++ a) (second_bytes y ++ b) ≡ Less
-second-less x y a b h within = elim (cases_lt x 32768) [
-  | inl x_low ↦ elim (cases_lt y 32768) [
-    | inl y_low ↦
-        ap₂ (λ u v. key_order (u ++ a) (v ++ b)) (cond-true _ _ _ (lt-ltb x 32768 x_low)) (cond-true _ _ _ (lt-ltb y 32768 y_low))
-        ∙ firsts_same 1 1 (weight_bytes x ++ a) (weight_bytes y ++ b) refl ∙ weight_first x y a b (omega arith) within ∙ ap (λ o. ordering_then o (key_order a b)) (is_less x y h)
-    | inr y_high ↦
-        ap₂ (λ u v. key_order (u ++ a) (v ++ b)) (cond-true _ _ _ (lt-ltb x 32768 x_low)) (cond-false _ _ _ (le-ltb y 32768 y_high))
-        ∙ firsts_less 1 (y / 256 % 256) (weight_bytes x ++ a) ((y % 256) ∷ b) (omega arith)
-  ]
-  | inr x_high ↦
-      ap₂ (λ u v. key_order (u ++ a) (v ++ b)) (cond-false _ _ _ (le-ltb x 32768 x_high)) (cond-false _ _ _ (le-ltb y 32768 (omega arith)))
-      ∙ weight_first x y a b (omega arith) within ∙ ap (λ o. ordering_then o (key_order a b)) (is_less x y h)
-]
+second-less x y a b h within = grind (arith, common_steps, cases_lt, cond-true, lt-ltb, firsts_same, weight_first, is_less, cond-false, le-ltb, firsts_less)
 
 second-some : (w : ℕ) → w < 65536 → IsSome (second_bytes w)
-second-some w within = elim (cases_lt w 32768) [
-  | inl low ↦ record { head = 1; tail = weight_bytes w; is = cond-true _ _ _ (lt-ltb w 32768 low); from = omega arith }
-  | inr high ↦ record { head = w / 256 % 256; tail = (w % 256) ∷ []; is = cond-false _ _ _ (le-ltb w 32768 high); from = omega arith }
-]
+second-some w within = grind (arith, common_steps, cases_lt, cond-true, lt-ltb, cond-false, le-ltb)
 
 -- ---- all of it
 

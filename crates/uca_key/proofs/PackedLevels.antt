@@ -1,5 +1,5 @@
 -- A level of packed keys under a code of primary weights that is monotone and prefix-free.
-use Rattle.std.proofs.Common.{◌≡◌, ℕ, ◌≤◌, ◌<◌, ◌^◌, List, [], ◌∷◌, ◌++◌, refl, sym, ap, ap₂, subst, ◌∙◌, inl, inr, append_assoc}
+use Rattle.std.proofs.Common.{arith, ◌≡◌, ℕ, ◌≤◌, ◌<◌, ◌^◌, List, [], ◌∷◌, ◌++◌, refl, sym, ap, ap₂, subst, ◌∙◌, inl, inr, append_assoc}
 use Rattle.std.specs.declared.cmp.Ordering.TheVariants.{Less, Greater}
 use Rattle.std.specs.Ordering.{nat_cmp, ordering_then}
 use Rattle.uca_model.specs.Laws.{AreWeights}
@@ -7,6 +7,7 @@ use Rattle.uca_model.specs.SortKey.{key_order}
 use Rattle.uca_model.proofs.OrderLemmas.{then_assoc}
 use Rattle.uca_key.proofs.KeyOrder.{is_equal, is_greater, is_less, kind_of}
 use Rattle.uca_key.specs.PrimaryCode.{CodeState, PrimaryCode, primary_bytes, primary_front, primary_level, state_after}
+use Rattle.std.proofs.lemmas.Grind.{common_steps}
 
 -- the bytes of a weight begin with a byte that is not 0
 pub record IsSome (bytes : List ℕ) : Type 0 where
@@ -31,12 +32,8 @@ end_greater a b bytes s = ap (λ l. key_order (l ++ b) (0 ∷ a)) s.is ∙ ap (�
 pub primary_order : (k : PrimaryCode) → IsCode k → (p : CodeState) (xs ys r s : List ℕ) → AreWeights xs → AreWeights ys
     → key_order (primary_level k p xs ++ r) (primary_level k p ys ++ s) ≡ ordering_then (key_order xs ys) (key_order r s)
 primary_order k is p [] [] r s h g = ap (λ o. ordering_then o (key_order r s)) (is_equal 0 0 refl)
-primary_order k is p [] (y ∷ ys) r s h g =
-    ap (key_order (0 ∷ r)) (append_assoc (primary_bytes k p y) (primary_level k (state_after k p y) ys) s)
-    ∙ end_less r (primary_level k (state_after k p y) ys ++ s) (primary_bytes k p y) (is.some p y g.0.1)
-primary_order k is p (x ∷ xs) [] r s h g =
-    ap (λ l. key_order l (0 ∷ s)) (append_assoc (primary_bytes k p x) (primary_level k (state_after k p x) xs) r)
-    ∙ end_greater s (primary_level k (state_after k p x) xs ++ r) (primary_bytes k p x) (is.some p x h.0.1)
+primary_order k is p [] (y ∷ ys) r s h g = grind (arith, common_steps, append_assoc, end_less)
+primary_order k is p (x ∷ xs) [] r s h g = grind (arith, common_steps, append_assoc, end_greater)
 primary_order k is p (x ∷ xs) (y ∷ ys) r s h g =
     let a : List ℕ = primary_level k (state_after k p x) xs ++ r in
     let b : List ℕ = primary_level k (state_after k p y) ys ++ s in
@@ -54,5 +51,4 @@ primary_order k is p (x ∷ xs) (y ∷ ys) r s h g =
 -- a level is the bytes of its weights, and the byte that ends it
 pub level-front : (k : PrimaryCode) (p : CodeState) (ws : List ℕ) → primary_level k p ws ≡ primary_front k p ws ++ 0 ∷ []
 level-front k p [] = refl
-level-front k p (w ∷ ws) =
-    ap (λ l. primary_bytes k p w ++ l) (level-front k (state_after k p w) ws) ∙ sym (append_assoc (primary_bytes k p w) (primary_front k (state_after k p w) ws) (0 ∷ []))
+level-front k p (w ∷ ws) = grind (arith, common_steps, append_assoc, level-front k (state_after k p w) ws)

@@ -16,7 +16,7 @@ use Rattle.uca_model.specs.CollationElements.{elements}
 use Rattle.uca_model.specs.DecidingLevel.{list_order}
 use Rattle.uca_model.specs.Laws.{BeginsWith}
 use Rattle.uca_model.specs.LevelWeights.{level_list}
-use Rattle.uca_model.specs.SortKey.{code_point_bytes, key_order, sort_key}
+use Rattle.uca_model.specs.SortKey.{code_point_bytes, key_order}
 use Rattle.uca_model.proofs.LevelLemmas.{OrdersLevel-points}
 use Rattle.uca_model.proofs.OrderLemmas.{then_equal}
 use Rattle.uca_model.proofs.WeightLemmas.{HasWeights, HasWeights-IsTable}
@@ -27,6 +27,7 @@ use Rattle.uca_key.proofs.KeyOrder.{ordered_from, same_order, sort_key-ordered}
 use Rattle.uca_key.proofs.PackedLetters.{is-code}
 use Rattle.uca_key.proofs.PackedLevels.{primary_order}
 use Rattle.uca_key.proofs.PackedRuns.{runs_order}
+use Rattle.std.proofs.lemmas.Grind.{common_steps}
 
 -- the order of a level
 abbrev decided : ElementTable → Variable → List ℕ → List ℕ → ℕ → Ordering
@@ -75,20 +76,14 @@ packed-follow t s a b table of_a of_b =
     packed_key-ordered t s a b p q ∙ sym (sort_key-ordered t s a b p q)
 
 pub packed-apart : PackedKeysTellTextsApart
-packed-apart t s a b table of_a of_b =
-    let same = packed-follow t s a b table of_a of_b in (
-      λ e. exact_bytes (sort_key t s a) (sort_key t s b) (sym same ∙ same_order (packed_key t s a) (packed_key t s b) e),
-      λ e. exact_bytes (packed_key t s a) (packed_key t s b) (same ∙ same_order (sort_key t s a) (sort_key t s b) e),
-    )
+packed-apart t s a b table of_a of_b = grind (arith, common_steps, packed-follow, exact_bytes, same_order)
 
 -- the first pieces, one after the other, begin with fewer of them
 begins-take : (m n : ℕ) (ls : List (List ℕ)) → m ≤ n → BeginsWith (concat (take n ls)) (concat (take m ls))
 begins-take zero n ls few = record { rest = concat (take n ls); parts = refl }
 begins-take (suc m) zero ls few = absurd (omega arith)
 begins-take (suc m) (suc n) [] few = record { rest = []; parts = refl }
-begins-take (suc m) (suc n) (x ∷ xs) few =
-    let below = begins-take m n xs (omega arith) in
-    record { rest = below.rest; parts = ap (λ l. x ++ l) below.parts ∙ sym (append_assoc x (concat (take m xs)) below.rest) }
+begins-take (suc m) (suc n) (x ∷ xs) few = grind (arith, common_steps, append_assoc, begins-take m n xs (omega arith))
 
 pub packed-grow : PackedKeysGrowByLevels
 unfolding packed_key packed_key_by

@@ -1,6 +1,5 @@
 -- The levels of a packed key one after the other.
-use Rattle.std.proofs.Common.{◌∷◌, ◌≡◌, ℕ, zero, suc, ◌+◌, ◌*◌, ◌-◌, ◌≤◌, List, [], ◌++◌, take, refl, sym, ap, ◌∙◌, arith, append_assoc, append-nil, ne_eqb}
-use Rattle.std.proofs.lemmas.Bool.{cond-false}
+use Rattle.std.proofs.Common.{arith, ◌∷◌, ◌≡◌, ℕ, ◌-◌, List, [], ◌++◌, take, refl, append-nil}
 use Rattle.std.specs.List.{concat}
 use Rattle.unicode_normalization.specs.Forms.{nfd}
 use Rattle.uca_weights.specs.declared.settings.Settings.{Settings}
@@ -13,8 +12,9 @@ use Rattle.uca_model.specs.Table.{ElementTable}
 use Rattle.uca_model.specs.CollationElements.{elements}
 use Rattle.uca_model.specs.LevelWeights.{level_weights}
 use Rattle.uca_key.specs.PrimaryCode.{PrimaryCode, code_of, primary_level, start}
-use Rattle.uca_key.specs.PackedKey.{later_levels, packed_key, packed_key_by, packed_later, packed_level, packed_levels, packed_prefix}
+use Rattle.uca_key.specs.PackedKey.{later_levels, packed_key, packed_key_by, packed_levels, packed_prefix}
 use Rattle.uca_key.proofs.PackedLevels.{level-front}
+use Rattle.std.proofs.lemmas.Grind.{common_steps}
 
 -- a packed key level by level
 pub packed-levels : (k : PrimaryCode) (t : ElementTable) (s : Settings) (text : List ℕ)
@@ -40,33 +40,4 @@ packed-coded t s text = refl
 -- the packed key at one level is the prefix of its text, and the byte that ends the level
 pub packed-front : (t : ElementTable) (v : Variable) (text : List ℕ) → packed_key t (record { strength = Primary; weighting = v }) text ≡ packed_prefix t v text ++ 0 ∷ []
 unfolding packed_prefix
-packed-front t v text =
-    let k : PrimaryCode = code_of t in let ws : List ℕ = level_weights 1 (weighted v (elements t (nfd text))) in
-    packed-coded t (record { strength = Primary; weighting = v }) text
-    ∙ packed-levels k t (record { strength = Primary; weighting = v }) text
-    ∙ append-nil (primary_level k (start k) ws) ∙ level-front k (start k) ws
-
--- four later levels are three and the fifth
-pub and-fifth : (ws : List (List ℕ)) (decomposed : List ℕ) → later_levels 4 2 ws decomposed ≡ later_levels 3 2 ws decomposed ++ packed_later ws decomposed 5
-and-fifth ws decomposed =
-    let of : ℕ → List ℕ = packed_later ws decomposed in
-    ap (λ l. of 2 ++ (of 3 ++ (of 4 ++ l))) (append-nil (of 5))
-    ∙ sym
-    (append_assoc (of 2) (of 3 ++ (of 4 ++ [])) (of 5)
-    ∙ ap (λ l. of 2 ++ l) (append_assoc (of 3) (of 4 ++ []) (of 5) ∙ ap (λ l. of 3 ++ l) (append_assoc (of 4) [] (of 5))))
-
--- a later level of weights is not the fifth
-pub of-weights : (ws : List (List ℕ)) (decomposed : List ℕ) (level : ℕ) → level ≤ 4 → packed_later ws decomposed level ≡ packed_level ws level
-of-weights ws decomposed level few = cond-false _ _ _ (ne_eqb level 5 (λ e. absurd (omega arith)))
-
--- the most bytes of so many later levels of weights
-abbrev pub levels_room : ℕ → ℕ → ℕ
-levels_room zero n = 0
-levels_room (suc k) n = 4 * n + 1 + levels_room k n
-
-pub levels_few : (k n : ℕ) → k ≤ 3 → levels_room k n ≤ 12 * n + 3
-levels_few zero n few = omega arith
-levels_few (suc zero) n few = omega arith
-levels_few (suc (suc zero)) n few = omega arith
-levels_few (suc (suc (suc zero))) n few = omega arith
-levels_few (suc (suc (suc (suc k)))) n few = absurd (omega arith)
+packed-front t v text = grind (arith, common_steps, packed-coded, packed-levels, append-nil, level-front)

@@ -24,13 +24,12 @@ use Rattle.uca_key.specs.PackedLaws.{PackedKeysBeginWithCompleteTexts, PackedKey
 use Rattle.uca_key.proofs.PackedLetters.{is-code}
 use Rattle.uca_key.proofs.KeyOrder.{is_equal, is_greater, is_less, kind_of, same_order}
 use Rattle.uca_key.proofs.PackedLevels.{IsCode, end_less}
+use Rattle.std.proofs.lemmas.Grind.{common_steps}
 
 -- a level of weights that begin with others begins with the bytes of the others
 front-begins : (k : PrimaryCode) (p : CodeState) (ws later : List ℕ) → BeginsWith (primary_level k p (ws ++ later)) (primary_front k p ws)
 front-begins k p [] later = record { rest = primary_level k p later; parts = refl }
-front-begins k p (w ∷ ws) later =
-    let rest = front-begins k (state_after k p w) ws later in
-    record { rest = rest.rest; parts = ap (λ l. primary_bytes k p w ++ l) rest.parts ∙ sym (append_assoc (primary_bytes k p w) (primary_front k (state_after k p w) ws) rest.rest) }
+front-begins k p (w ∷ ws) later = grind (arith, common_steps, append_assoc, front-begins k (state_after k p w) ws later)
 
 -- weights whose orders come to Equal are the same, and so is what decides after them
 equal-firsts : (x w : ℕ) (o : Ordering) → ordering_then (nat_cmp x w) o ≡ Equal → (x ≡ w) × (o ≡ Equal)
@@ -52,17 +51,13 @@ heads-same x w xs whole same rest = ap₂ (λ (y : ℕ) (l : List ℕ). y ∷ l)
 -- a level that begins with the bytes of weights is of weights that begin with them
 front-alike : (k : PrimaryCode) → IsCode k → (p : CodeState) (xs ws r rest : List ℕ) → AreWeights xs → AreWeights ws → primary_level k p xs ++ r ≡ primary_front k p ws ++ rest → BeginsWith xs ws
 front-alike k is p xs [] r rest h g e = record { rest = xs; parts = refl }
-front-alike k is p [] (w ∷ ws) r rest h g e =
-    let less = end_less r (primary_front k (state_after k p w) ws ++ rest) (primary_bytes k p w) (is.some p w g.0.1) in
-    let same = same_order (0 ∷ r) (primary_bytes k p w ++ (primary_front k (state_after k p w) ws ++ rest)) (e ∙ append_assoc (primary_bytes k p w) (primary_front k (state_after k p w) ws) rest) in
-    let f : Less ≡ Equal = sym less ∙ same in absurd (cc)
+front-alike k is p [] (w ∷ ws) r rest h g e = grind (arith, common_steps, end_less, same_order, append_assoc)
 front-alike k is p (x ∷ xs) (w ∷ ws) r rest h g e =
-    let a : List ℕ = primary_level k (state_after k p x) xs ++ r in
     let b : List ℕ = primary_front k (state_after k p w) ws ++ rest in
-    let whole : primary_bytes k p x ++ a ≡ primary_bytes k p w ++ b =
+    let whole : primary_bytes k p x ++ _ ≡ primary_bytes k p w ++ b =
     sym (append_assoc (primary_bytes k p x) (primary_level k (state_after k p x) xs) r) ∙ e ∙ append_assoc (primary_bytes k p w) (primary_front k (state_after k p w) ws) rest in
-    let both = equal-firsts x w (key_order a b) (sym (is.first p x w a b h.0.1 g.0.1) ∙ same_order (primary_bytes k p x ++ a) (primary_bytes k p w ++ b) whole) in
-    let later = front-alike k is (state_after k p x) xs ws r rest h.1 g.1 (exact_bytes a b both.1 ∙ ap (λ z. primary_front k (state_after k p z) ws ++ rest) (sym both.0)) in
+    let both = equal-firsts x w (key_order _ b) (sym (is.first p x w _ b h.0.1 g.0.1) ∙ same_order (primary_bytes k p x ++ _) (primary_bytes k p w ++ b) whole) in
+    let later = front-alike k is (state_after k p x) xs ws r rest h.1 g.1 (exact_bytes _ b both.1 ∙ ap (λ z. primary_front k (state_after k p z) ws ++ rest) (sym both.0)) in
     record { rest = later.rest; parts = heads-same x w xs (ws ++ later.rest) both.0 later.parts }
 
 -- what follows the front of a list

@@ -8,6 +8,7 @@ use Rattle.uca_model.specs.SortKey.{key_order}
 use Rattle.uca_model.proofs.OrderLemmas.{then_assoc}
 use Rattle.uca_key.specs.PackedKey.{above_bytes, below_bytes, other_bytes, runs_after}
 use Rattle.uca_key.proofs.KeyOrder.{Begins, heads_greater, heads_less, is_equal, is_greater, is_less, kind_of, lists_greater, lists_less, lists_same, other_first}
+use Rattle.std.proofs.lemmas.Grind.{common_steps}
 
 -- ---- first bytes
 
@@ -42,57 +43,15 @@ above_late : (c n w : ℕ) → 2 ≤ n → above_bytes c n w ≡ (187 - n) ∷ o
 above_late c n w late = cond-false _ _ _ (le-ltb n 2 late)
 
 above_begins : (c n w : ℕ) (rest : List ℕ) → n < 62 → c < w → Begins (above_bytes c n w ++ rest) (bottom n) (top n)
-above_begins c n w rest few above = elim (cases_lt n 2) [
-  | inl early ↦
-      let low : bottom n ≡ 221 - 35 * n = cond-true _ _ _ (lt-ltb n 2 early) in
-      let high : top n ≡ 255 - 35 * n = cond-true _ _ _ (lt-ltb n 2 early) in
-      elim (cases_lt (w - c) 35) [
-        | inl near ↦ record { head = 220 - 35 * n + (w - c); tail = rest; is = ap (λ l. l ++ rest) (above_near c n w early near); from = omega arith; to = omega arith }
-        | inr far ↦ record { head = 255 - 35 * n; tail = other_bytes w ++ rest; is = ap (λ l. l ++ rest) (above_far c n w early far); from = omega arith; to = omega arith }
-      ]
-  | inr late ↦
-      let low : bottom n ≡ 187 - n = cond-false _ _ _ (le-ltb n 2 late) in
-      let high : top n ≡ 187 - n = cond-false _ _ _ (le-ltb n 2 late) in
-      record { head = 187 - n; tail = other_bytes w ++ rest; is = ap (λ l. l ++ rest) (above_late c n w late); from = omega arith; to = omega arith }
-]
+above_begins c n w rest few above = grind (arith, common_steps, cases_lt, cond-true, lt-ltb, above_near, above_far, cond-false, le-ltb, above_late)
 
 -- numbers with the same number before them are in their order
 shifted : (d c x y : ℕ) → c < x → c < y → nat_cmp (d + (x - c)) (d + (y - c)) ≡ nat_cmp x y
-shifted d c x y h g = elim (kind_of x y) [
-  | inl below ↦ is_less (d + (x - c)) (d + (y - c)) (omega arith) ∙ sym (is_less x y below)
-  | inr (inl same) ↦ is_equal (d + (x - c)) (d + (y - c)) (omega arith) ∙ sym (is_equal x y same)
-  | inr (inr above) ↦ is_greater (d + (x - c)) (d + (y - c)) (omega arith) ∙ sym (is_greater x y above)
-]
+shifted d c x y h g = grind (arith, common_steps, kind_of, is_less, is_equal, is_greater)
 
 -- two of them after one run, and what follows them
 above_first : (c n x y : ℕ) (a b : List ℕ) → n < 62 → c < x → c < y → x < 65536 → y < 65536 → key_order (above_bytes c n x ++ a) (above_bytes c n y ++ b) ≡ ordering_then (nat_cmp x y) (key_order a b)
-above_first c n x y a b few x_above y_above x_fits y_fits = elim (cases_lt n 2) [
-  | inl early ↦ elim (cases_lt (x - c) 35) [
-    | inl x_near ↦ elim (cases_lt (y - c) 35) [
-      | inl y_near ↦
-          ap₂ (λ u v. key_order (u ++ a) (v ++ b)) (above_near c n x early x_near) (above_near c n y early y_near)
-          ∙ ap (λ o. ordering_then o (key_order a b)) (shifted (220 - 35 * n) c x y x_above y_above)
-      | inr y_far ↦
-          ap₂ (λ u v. key_order (u ++ a) (v ++ b)) (above_near c n x early x_near) (above_far c n y early y_far)
-          ∙ ap (λ o. ordering_then o (key_order a (other_bytes y ++ b))) (is_less (220 - 35 * n + (x - c)) (255 - 35 * n) (omega arith))
-          ∙ sym (ap (λ o. ordering_then o (key_order a b)) (is_less x y (omega arith)))
-    ]
-    | inr x_far ↦ elim (cases_lt (y - c) 35) [
-      | inl y_near ↦
-          ap₂ (λ u v. key_order (u ++ a) (v ++ b)) (above_far c n x early x_far) (above_near c n y early y_near)
-          ∙ ap (λ o. ordering_then o (key_order (other_bytes x ++ a) b)) (is_greater (255 - 35 * n) (220 - 35 * n + (y - c)) (omega arith))
-          ∙ sym (ap (λ o. ordering_then o (key_order a b)) (is_greater x y (omega arith)))
-      | inr y_far ↦
-          ap₂ (λ u v. key_order (u ++ a) (v ++ b)) (above_far c n x early x_far) (above_far c n y early y_far)
-          ∙ ap (λ o. ordering_then o (key_order (other_bytes x ++ a) (other_bytes y ++ b))) (is_equal (255 - 35 * n) (255 - 35 * n) refl)
-          ∙ other_first x y a b x_fits y_fits
-    ]
-  ]
-  | inr late ↦
-      ap₂ (λ u v. key_order (u ++ a) (v ++ b)) (above_late c n x late) (above_late c n y late)
-      ∙ ap (λ o. ordering_then o (key_order (other_bytes x ++ a) (other_bytes y ++ b))) (is_equal (187 - n) (187 - n) refl)
-      ∙ other_first x y a b x_fits y_fits
-]
+above_first c n x y a b few x_above y_above x_fits y_fits = grind (arith, common_steps, cases_lt, above_near, shifted, above_far, is_less, is_greater, is_equal, other_first, above_late)
 
 -- two below it
 below_first : (n x y : ℕ) (a b : List ℕ) → x < 65536 → y < 65536 → key_order (below_bytes n x ++ a) (below_bytes n y ++ b) ≡ ordering_then (nat_cmp x y) (key_order a b)
@@ -121,14 +80,10 @@ begins_below : (c n w : ℕ) (ws : List ℕ) → w < c → Begins (runs_after c 
 begins_below c n w ws below = record { head = 2 * n + 1; tail = other_bytes w ++ runs_after c 0 ws; is = at_below c n w ws below; from = omega arith; to = omega arith }
 
 begins_above : (c n w : ℕ) (ws : List ℕ) → n < 62 → c < w → Begins (runs_after c n (w ∷ ws)) (bottom n) (top n)
-begins_above c n w ws few above =
-    let of_weight = above_begins c n w (runs_after c 0 ws) few above in
-    record { head = of_weight.head; tail = of_weight.tail; is = at_above c n w ws above ∙ of_weight.is; from = of_weight.from; to = of_weight.to }
+begins_above c n w ws few above = grind (arith, common_steps, above_begins, at_above)
 
 begins : (c n : ℕ) (ws : List ℕ) → n < 62 → Begins (runs_after c n ws) (2 * n) (top n)
-begins c n [] few =
-    let low = bottom-run n few in let high = bottom-top n few in
-    record { head = 2 * n; tail = []; is = refl; from = omega arith; to = omega arith }
+begins c n [] few = grind (arith, common_steps, bottom-run, bottom-top)
 begins c n (w ∷ ws) few =
     let low = bottom-run n few in let high = bottom-top n few in
     elim (kind_of w c) [

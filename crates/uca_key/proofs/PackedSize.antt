@@ -1,5 +1,5 @@
 -- A packed key has few bytes for each byte of its text.
-use Rattle.std.proofs.Common.{ℕ, zero, suc, ◌+◌, ◌-◌, ◌*◌, ◌^◌, ◌≤◌, ◌<◌, Bool, true, false, cond, ◌==◌, nat_lt, List, [], ◌∷◌, length, ap, arith, length-append}
+use Rattle.std.proofs.Common.{ℕ, zero, suc, ◌+◌, ◌-◌, ◌*◌, ◌^◌, ◌≤◌, ◌<◌, Bool, true, false, cond, nat_lt, List, [], ◌∷◌, length, ap, arith, length-append}
 use Rattle.std.specs.Str.{IsUtf8, chars}
 use Rattle.unicode_normalization.specs.Forms.{nfd}
 use Rattle.uca_weights.specs.declared.settings.Settings.{Settings}
@@ -8,12 +8,13 @@ use Rattle.uca_weights.specs.VariableWeighting.{weighted}
 use Rattle.uca_model.specs.Table.{ElementTable, IsTable}
 use Rattle.uca_model.specs.CollationElements.{elements}
 use Rattle.uca_model.specs.LevelWeights.{level_weights}
-use Rattle.uca_model.specs.SortKey.{weight_bytes, code_point_bytes}
+use Rattle.uca_model.specs.SortKey.{weight_bytes}
 use Rattle.uca_model.proofs.LevelLemmas.{levels-within}
-use Rattle.uca_key.specs.PrimaryCode.{CodeState, PrimaryCode, after_lead, after_slot, has_page, is_common, is_in_window, is_single, letter_bytes, primary_bytes, primary_level, second_bytes, start, state_after}
-use Rattle.uca_key.specs.PackedKey.{above_bytes, below_bytes, common_weight, later_levels, packed_key_by, packed_later, runs_after}
+use Rattle.uca_key.specs.PrimaryCode.{CodeState, PrimaryCode, after_lead, after_slot, has_page, is_common, is_in_window, is_single, letter_bytes, primary_level, second_bytes, start, state_after}
+use Rattle.uca_key.specs.PackedKey.{above_bytes, below_bytes, later_levels, packed_key_by, packed_later, runs_after}
 use Rattle.uca_key.proofs.KeySize.{bytes_few, elements_few, length-weighted_after, point_few, short_text, weights_few}
 use Rattle.uca_key.proofs.PackedPieces.{packed-levels}
+use Rattle.std.proofs.lemmas.Grind.{common_steps}
 
 cond_few : (b : Bool) (xs ys : List ℕ) (n : ℕ) → length xs ≤ n → length ys ≤ n → length (cond b xs ys) ≤ n
 cond_few true xs ys n h k = h
@@ -34,9 +35,7 @@ second_few w = cond_few (nat_lt w 0x8000) (1 ∷ weight_bytes w) (weight_bytes w
 -- three bytes a weight, and one for the end
 primary_few : (k : PrimaryCode) (p : CodeState) (ws : List ℕ) → length (primary_level k p ws) ≤ 3 * length ws + 1
 primary_few k p [] = omega arith
-primary_few k p (w ∷ ws) =
-    let one : length (primary_bytes k p w) ≤ 3 = cond_few p.second (second_bytes w) (letter_bytes k p.base w) 3 (second_few w) (letter_few k p.base w) in
-    omega (arith, one, length-append (primary_bytes k p w) (primary_level k (state_after k p w) ws), primary_few k (state_after k p w) ws)
+primary_few k p (w ∷ ws) = grind (arith, common_steps, cond_few, second_few, letter_few, length-append, primary_few k (state_after k p w) ws)
 
 other_few : (small : Bool) (w : ℕ) → length (cond small (w ∷ []) (0xFE ∷ weight_bytes w)) ≤ 3
 other_few true w = omega arith
@@ -46,25 +45,15 @@ below_few : (run w : ℕ) → length (below_bytes run w) ≤ 4
 below_few run w = omega (arith, other_few (nat_lt w 0xFE) w)
 
 above_few : (common run w : ℕ) → length (above_bytes common run w) ≤ 4
-above_few common run w =
-    cond_few (nat_lt run 2) _ _ 4 (cond_few (nat_lt (w - common) 35) _ _ 4 (omega arith) (omega (arith, other_few (nat_lt w 0xFE) w))) (omega (arith, other_few (nat_lt w 0xFE) w))
+above_few common run w = grind (arith, common_steps, cond_few, other_few)
 
 -- four bytes a weight, and one for the end
 runs_few : (common run : ℕ) (ws : List ℕ) → length (runs_after common run ws) ≤ 4 * length ws + 1
 runs_few common run [] = omega arith
-runs_few common run (w ∷ ws) =
-    let own : List ℕ = cond (nat_lt w common) (below_bytes run w) (above_bytes common run w) in
-    let own_few : length own ≤ 4 = cond_few (nat_lt w common) (below_bytes run w) (above_bytes common run w) 4 (below_few run w) (above_few common run w) in
-    let first = runs_few common 0 ws in let more = runs_few common (run + 1) ws in
-    cond_few (w == common) _ _ (4 * suc (length ws) + 1)
-    (cond_few (run + 1 == 62) (124 ∷ runs_after common 0 ws) (runs_after common (run + 1) ws) (4 * suc (length ws) + 1) (omega (arith, first)) (omega (arith, more)))
-    (omega (arith, own_few, first, length-append own (runs_after common 0 ws)))
+runs_few common run (w ∷ ws) = grind (arith, common_steps, cond_few, below_few, above_few, length-append, runs_few common 0 ws, runs_few common (run + 1) ws)
 
 later_few : (ws : List (List ℕ)) (decomposed : List ℕ) (level n : ℕ) → length ws ≤ 64 * n → length decomposed ≤ n → length (packed_later ws decomposed level) ≤ 256 * n + 1
-later_few ws decomposed level n few short =
-    cond_few (level == 5) _ _ (256 * n + 1)
-    (omega (arith, bytes_few code_point_bytes point_few decomposed, short))
-    (omega (arith, runs_few (common_weight level) 0 (level_weights level ws), weights_few level ws, few))
+later_few ws decomposed level n few short = grind (arith, common_steps, cond_few, bytes_few, point_few, runs_few, weights_few)
 
 later_levels_few : (m level : ℕ) (ws : List (List ℕ)) (decomposed : List ℕ) (n : ℕ) → length ws ≤ 64 * n → length decomposed ≤ n → n ≤ 2 ^ 24 → length (later_levels m level ws decomposed) ≤ m * 2 ^ 33
 later_levels_few zero level ws decomposed n few short small = omega arith

@@ -1,7 +1,8 @@
 -- Slots are in the order of the weights, and two weights of one slot are neither common nor have two high bytes.
-use Rattle.std.proofs.Common.{◌≡◌, ℕ, zero, suc, ◌+◌, ◌/◌, ◌%◌, ◌≤◌, ◌<◌, Bool, true, false, cond, ◌==◌, ◌||◌, refl, sym, ap, subst, ◌∙◌, arith, inl, inr}
+use Rattle.std.proofs.Common.{◌≡◌, ℕ, zero, suc, ◌+◌, ◌/◌, ◌≤◌, ◌<◌, Bool, true, false, cond, ◌||◌, refl, sym, ap, subst, ◌∙◌, arith, inl, inr}
 use Rattle.std.proofs.lemmas.Bool.{cases_lt, eqb-false}
 use Rattle.uca_key.specs.PrimaryCode.{PrimaryCode, begins_slot, is_common, slot}
+use Rattle.std.proofs.lemmas.Grind.{common_steps}
 
 pub slot-zero : (k : PrimaryCode) → slot k 0 ≡ 0
 unfolding slot
@@ -11,17 +12,8 @@ pub slot-suc : (k : PrimaryCode) (w : ℕ) → slot k (suc w) ≡ slot k w + con
 unfolding slot
 slot-suc k w = refl
 
--- at most by one
-step-most : (b : Bool) → cond b 1 0 ≤ 1
-step-most true = omega arith
-step-most false = omega arith
-
 pub slot-next : (k : PrimaryCode) (w : ℕ) → slot k (w + 1) ≡ slot k w + cond (begins_slot k w) 1 0
 slot-next k w = (let one : w + 1 ≡ suc w = omega arith in ap (slot k) one) ∙ slot-suc k w
-
-pub slot-within : (k : PrimaryCode) (w : ℕ) → slot k w ≤ w
-slot-within k zero = let e = slot-zero k in omega arith
-slot-within k (suc w) = let e = slot-suc k w in let most = step-most (begins_slot k w) in let before = slot-within k w in omega arith
 
 pub slot-grows : (k : PrimaryCode) (x y : ℕ) → x ≤ y → slot k x ≤ slot k y
 slot-grows k x zero h = let same : 0 ≡ x = omega arith in subst (λ z. slot k z ≤ slot k 0) same (omega arith)
@@ -50,12 +42,7 @@ pub record InOneSlot (k : PrimaryCode) (x y : ℕ) : Type 0 where
 
 -- neighbours
 neighbours : (k : PrimaryCode) (y : ℕ) → begins_slot k y ≡ false → InOneSlot k y (suc y)
-neighbours k y h =
-    let parts = or-none ((y + 1) % 256 == 0 || is_common k y) (is_common k (y + 1)) h in
-    let firsts = or-none ((y + 1) % 256 == 0) (is_common k y) parts.0 in
-    let inside : (y + 1) % 256 ≡ 0 → ⊥ = eqb-false ((y + 1) % 256) 0 firsts.0 in
-    let one : y + 1 ≡ suc y = omega arith in
-    record { page = omega arith; first = firsts.1; second = subst (λ z. is_common k z ≡ false) one parts.1 }
+neighbours k y h = grind (arith, common_steps, or-none, eqb-false)
 
 pub one-slot : (k : PrimaryCode) (x y : ℕ) → x < y → slot k x ≡ slot k y → InOneSlot k x y
 one-slot k x zero h e = absurd (omega arith)

@@ -1,5 +1,5 @@
 -- Which tables give a text one packed key.
-use Rattle.std.proofs.Common.{◌≡◌, ℕ, Bool, true, false, ◌==◌, ◌||◌, List, [], ◌∷◌, ◌++◌, map, take, refl, ap, ap₂, ◌∙◌, eq-eqb}
+use Rattle.std.proofs.Common.{arith, ◌≡◌, ℕ, Bool, true, false, ◌==◌, ◌||◌, List, [], ◌∷◌, ◌++◌, map, take, refl, ap, ap₂, eq-eqb}
 use Rattle.std.proofs.lemmas.List.Folds.{list_any-append}
 use Rattle.std.specs.List.{concat, list_any}
 use Rattle.unicode_normalization.specs.Forms.{nfd}
@@ -13,6 +13,7 @@ use Rattle.uca_key.specs.PrimaryCode.{PrimaryCode, code_of, code_points, first_p
 use Rattle.uca_key.specs.PackedKey.{packed_key, packed_key_by, packed_levels}
 use Rattle.uca_key.specs.PackedLaws.{PackedKeysOutliveTables}
 use Rattle.uca_key.proofs.CodeSteps.{the_code}
+use Rattle.std.proofs.lemmas.Grind.{common_steps}
 
 -- the place of a number in a list, and in a longer one
 or-true : (a b : Bool) → b ≡ true → (a || b) ≡ true
@@ -29,13 +30,7 @@ map-same f g (x ∷ xs) h = ap₂ (λ y ys. y ∷ ys) (h x (or-first (x == x) (l
 
 -- the code of two tables, of any characters
 same-code : (f g : ℕ → ℕ) (a b c : List ℕ) → ((x : ℕ) → list_any (λ y. y == x) (a ++ b ++ c) ≡ true → f x ≡ g x) → the_code (map f a) (map f b) (map f c) ≡ the_code (map g a) (map g b) (map g c)
-same-code f g a b c h =
-    let in_first : (x : ℕ) → list_any (λ y. y == x) a ≡ true → f x ≡ g x = λ x there.
-    h x (list_any-append (λ y. y == x) (a ++ b) c ∙ or-first _ _ (list_any-append (λ y. y == x) a b ∙ or-first _ _ there)) in
-    let in_second : (x : ℕ) → list_any (λ y. y == x) b ≡ true → f x ≡ g x = λ x there.
-    h x (list_any-append (λ y. y == x) (a ++ b) c ∙ or-first _ _ (list_any-append (λ y. y == x) a b ∙ or-true _ _ there)) in
-    let in_third : (x : ℕ) → list_any (λ y. y == x) c ≡ true → f x ≡ g x = λ x there. h x (list_any-append (λ y. y == x) (a ++ b) c ∙ or-true _ _ there) in
-    ap₂ (λ u v. the_code u v (map f c)) (map-same f g a in_first) (map-same f g b in_second) ∙ ap (the_code (map g a) (map g b)) (map-same f g c in_third)
+same-code f g a b c h = grind (arith, common_steps, list_any-append, or-first, or-true, the_code, map-same)
 
 code-same : (t u : ElementTable) → ((c : ℕ) → list_any (λ x. x == c) code_points ≡ true → primary_of t c ≡ primary_of u c) → code_of t ≡ code_of u
 unfolding code_of

@@ -1,8 +1,9 @@
 -- Bytes that are put into a buffer one piece after the other.
-use Rattle.std.proofs.Common.{◌≡◌, ℕ, zero, suc, ◌+◌, ◌-◌, ◌^◌, ◌≤◌, ◌<◌, List, [], ◌∷◌, ◌++◌, length, min, take, drop, slice_set, get_or, refl, sym, ap, ap₂, subst, ◌∙◌, arith, inl, inr, append_assoc, append-nil, take-append-drop, length-append}
+use Rattle.std.proofs.Common.{◌≡◌, ℕ, zero, suc, ◌+◌, ◌-◌, ◌^◌, ◌≤◌, ◌<◌, List, [], ◌∷◌, ◌++◌, length, take, drop, slice_set, get_or, refl, sym, ap, ap₂, subst, ◌∙◌, arith, append_assoc, append-nil, take-append-drop, length-append}
 use Rattle.std.proofs.lemmas.Bool.{cases_lt}
 use Rattle.std.proofs.lemmas.List.{drop-set-lt, length-drop, length-take-le, take_all}
 use Rattle.uca_key.specs.Placing.{with_bytes_at, PutsAt, IsPutting, StaysAfter, StaysBeyond}
+use Rattle.std.proofs.lemmas.Grind.{common_steps}
 
 take-nil : (n : ℕ) → take {A = ℕ} n [] ≡ []
 take-nil zero = refl
@@ -31,10 +32,7 @@ length-with_bytes_at (suc n) bytes (x ∷ xs) = ap suc (length-with_bytes_at n b
 
 -- two pieces, one right after the other
 with_bytes_at-more : (n : ℕ) (a b buffer : List ℕ) → with_bytes_at (n + length a) b (with_bytes_at n a buffer) ≡ with_bytes_at n (a ++ b) buffer
-with_bytes_at-more n a b [] =
-    ap (with_bytes_at (n + length a) b) (with_bytes_at-past n a [] (omega arith))
-    ∙ with_bytes_at-past (n + length a) b [] (omega arith)
-    ∙ sym (with_bytes_at-past n (a ++ b) [] (omega arith))
+with_bytes_at-more n a b [] = grind (arith, common_steps, with_bytes_at-past)
 with_bytes_at-more zero [] b (x ∷ xs) = refl
 with_bytes_at-more zero (y ∷ ys) b (x ∷ xs) =
     let next : zero + length (y ∷ ys) ≡ suc (zero + length ys) = omega arith in
@@ -55,33 +53,11 @@ take-with_bytes_at (suc n) bytes (x ∷ xs) fits =
     let next : suc n + length bytes ≡ suc (n + length bytes) = omega arith in
     ap (λ m. take m (x ∷ with_bytes_at n bytes xs)) next ∙ ap (λ l. x ∷ l) (take-with_bytes_at n bytes xs (omega arith))
 
--- and what is before it stays
-pub front-with_bytes_at : (n : ℕ) (bytes buffer : List ℕ) → take n (with_bytes_at n bytes buffer) ≡ take n buffer
-front-with_bytes_at zero bytes buffer = refl
-front-with_bytes_at (suc n) bytes [] = ap (take (suc n)) (with_bytes_at-past (suc n) bytes [] (omega arith))
-front-with_bytes_at (suc n) bytes (x ∷ xs) = ap (λ l. x ∷ l) (front-with_bytes_at n bytes xs)
-
 pub PutsAt-none : (at : ℕ) (buffer : List ℕ) → at < 2 ^ 64 → PutsAt at [] buffer buffer at
 PutsAt-none at buffer h = record { written = sym (with_bytes_at-none at buffer); counted = omega arith }
 
 pub PutsAt-more : (at mid next : ℕ) (a b before then after : List ℕ) → length before < 2 ^ 64 → PutsAt at a before then mid → PutsAt mid b then after next → PutsAt at (a ++ b) before after next
-PutsAt-more at mid next a b before then after room h k =
-    let whole : length (a ++ b) ≡ length a + length b = omega (arith, length-append {A = ℕ}) in
-    record {
-      written = k.written ∙ elim (cases_lt (at + length a) (2 ^ 64)) [
-        | inl below ↦
-            let here : mid ≡ at + length a = omega (arith, h.counted) in
-            ap₂ (λ n l. with_bytes_at n b l) here h.written ∙ with_bytes_at-more at a b before
-        | inr past ↦
-            let last : mid ≡ 2 ^ 64 - 1 = omega (arith, h.counted) in
-            let size : length then ≡ length before = ap length h.written ∙ length-with_bytes_at at a before in
-            with_bytes_at-past mid b then (omega arith)
-            ∙ sym (with_bytes_at-past (at + length a) b then (omega arith))
-            ∙ ap (with_bytes_at (at + length a) b) h.written
-            ∙ with_bytes_at-more at a b before
-      ];
-      counted = omega (arith, h.counted, k.counted, whole);
-    }
+PutsAt-more at mid next a b before then after room h k = grind (arith, common_steps, length-append, cases_lt, with_bytes_at-more, length-with_bytes_at, with_bytes_at-past)
 
 pub IsPutting-start : (at : ℕ) (buffer whole left : List ℕ) → at < 2 ^ 64 → left ≡ whole → IsPutting at buffer at buffer whole left
 IsPutting-start at buffer whole left small same = record { put = []; puts = PutsAt-none at buffer small; parts = same }
@@ -105,9 +81,7 @@ pub pair-with_bytes_at : (n a b : ℕ) (buffer : List ℕ) → n + 2 ≤ length 
 pair-with_bytes_at n a b [] fits = absurd (omega arith)
 pair-with_bytes_at zero a b (x ∷ []) fits = absurd (omega arith)
 pair-with_bytes_at zero a b (x ∷ y ∷ buffer) fits = sym (ap (λ l. a ∷ b ∷ (l ++ buffer)) (take-nil (length buffer)))
-pair-with_bytes_at (suc n) a b (x ∷ buffer) fits =
-    let next : suc n + 1 ≡ suc (n + 1) = omega arith in
-    ap (λ m. slice_set (x ∷ slice_set buffer n a) m b) next ∙ ap (λ l. x ∷ l) (pair-with_bytes_at n a b buffer (omega arith))
+pair-with_bytes_at (suc n) a b (x ∷ buffer) fits = grind (arith, common_steps, pair-with_bytes_at n a b buffer (omega arith))
 
 pub PutsAt-pair : (at : ℕ) (pair buffer : List ℕ) → length pair ≡ 2 → at + 2 ≤ length buffer → length buffer < 2 ^ 64 → PutsAt at pair buffer (slice_set (slice_set buffer at (get_or pair 0 0)) (at + 1) (get_or pair 1 0)) (at + 2)
 PutsAt-pair at [] buffer two fits small = absurd (omega arith)
@@ -122,21 +96,9 @@ pub record FrontPut (bytes before after : List ℕ) (next : ℕ) : Type 0 where
   pub within : next ≤ length after
 
 pub front-put : (bytes before after : List ℕ) (next : ℕ) → PutsAt 0 bytes before after next → length bytes ≤ length before → length before < 2 ^ 64 → FrontPut bytes before after next
-front-put bytes before after next puts fits small =
-    let n : next ≡ 0 + length bytes = omega (arith, puts.counted) in
-    let long : length after ≡ length before = ap length puts.written ∙ length-with_bytes_at 0 bytes before in
-    record {
-      is = ap₂ take n puts.written ∙ take-with_bytes_at 0 bytes before (omega (arith, fits));
-      size = omega (arith, n);
-      within = omega (arith, n, long);
-    }
+front-put bytes before after next puts fits small = grind (arith, common_steps, length-with_bytes_at, take-with_bytes_at)
 
 -- ---- bytes that fit, put one after the other
-
--- without the first, if there is one
-pub drop-one : {X : Type 0} (n : ℕ) (xs : List X) → n ≡ min (length xs) 1 → drop n xs ≡ drop 1 xs
-drop-one n [] is = let none : n ≡ 0 = omega (arith, is) in ap (λ m. drop m []) none
-drop-one n (x ∷ xs) is = let one : n ≡ 1 = omega (arith, is) in ap (λ m. drop m (x ∷ xs)) one
 
 -- what is the same from one place on is the same from a later one on
 drop-later : (m n : ℕ) (xs ys : List ℕ) → m ≤ n → drop m xs ≡ drop m ys → drop n xs ≡ drop n ys
@@ -147,18 +109,8 @@ drop-later (suc m) (suc n) [] (y ∷ ys) h same = sym (drop-nil n) ∙ drop-late
 drop-later (suc m) (suc n) (x ∷ xs) [] h same = drop-later m n xs [] (omega arith) (same ∙ sym (drop-nil m)) ∙ drop-nil n
 drop-later (suc m) (suc n) (x ∷ xs) (y ∷ ys) h same = drop-later m n xs ys (omega arith) same
 
-pub stays-none : (at : ℕ) (buffer : List ℕ) → StaysAfter at at buffer buffer
-stays-none at buffer = record { later = omega arith; rest = refl }
-
-pub stays-more : (from mid to : ℕ) (before then after : List ℕ) → StaysAfter from mid before then → StaysAfter mid to then after → StaysAfter from to before after
-stays-more from mid to before then after h k = let later = k.later in record { later = omega (arith, h.later, k.later); rest = k.rest ∙ drop-later mid to then before later h.rest }
-
 pub stays-set : (at byte : ℕ) (buffer : List ℕ) → StaysAfter at (at + 1) buffer (slice_set buffer at byte)
 stays-set at byte buffer = record { later = omega arith; rest = drop-set-lt (at + 1) buffer at byte (omega arith) }
-
--- the same where the byte after what was put may have changed
-pub beyond-none : (at : ℕ) (buffer : List ℕ) → StaysBeyond at at buffer buffer
-beyond-none at buffer = record { later = omega arith; rest = refl }
 
 pub stays-beyond : (from to : ℕ) (before after : List ℕ) → StaysAfter from to before after → StaysBeyond from to before after
 stays-beyond from to before after h = record { later = h.later; rest = drop-later to (to + 1) after before (omega arith) h.rest }
@@ -173,10 +125,7 @@ beyond-set from to byte before after h = record { later = omega (arith, h.later)
 -- bytes before a place that were put where they fit
 fitted : (from to : ℕ) (before after whole left : List ℕ) → length after ≡ length before → to ≤ length before → StaysAfter from to before after → take to after ++ left ≡ take from before ++ whole
     → (after ≡ with_bytes_at from (drop from (take to after)) before) × (drop from (take to after) ++ left ≡ whole)
-fitted zero to before after whole left size within stays same =
-    let long : length (take to after) ≡ to = length-take-le to after (omega arith) in
-    let all : take (length before) (take to after) ≡ take to after = take_all (length before) (take to after) (omega arith) in
-    (sym (ap₂ (λ l n. l ++ drop n before) all long ∙ ap (λ l. take to after ++ l) (sym stays.rest) ∙ take-append-drop to after), same)
+fitted zero to before after whole left size within stays same = grind (arith, common_steps, length-take-le, take_all, take-append-drop)
 fitted (suc from) zero before after whole left size within stays same = let later = stays.later in absurd (omega arith)
 fitted (suc from) (suc to) [] after whole left size within stays same = absurd (omega arith)
 fitted (suc from) (suc to) (x ∷ xs) [] whole left size within stays same = absurd (omega arith)

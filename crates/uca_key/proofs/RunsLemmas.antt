@@ -1,5 +1,5 @@
 -- Common weights that are counted together.
-use Rattle.std.proofs.Common.{◌≡◌, ℕ, ◌+◌, ◌-◌, ◌<◌, ◌==◌, not, List, [], ◌∷◌, ◌++◌, drop, filter, get_or, length, slice_index, refl, sym, ap, ◌∙◌, arith, append_assoc, eq-eqb, ne_eqb, inl, inr}
+use Rattle.std.proofs.Common.{◌≡◌, ℕ, ◌+◌, ◌-◌, ◌<◌, ◌==◌, not, List, [], ◌∷◌, ◌++◌, drop, filter, get_or, length, slice_index, refl, sym, ◌∙◌, arith, append_assoc, eq-eqb, ne_eqb}
 use Rattle.std.proofs.lemmas.Bool.{cases_Bool, cond-true, cond-false}
 use Rattle.std.proofs.lemmas.List.{drop_more}
 use Rattle.uca_weights.specs.declared.element.Element.{Element}
@@ -8,6 +8,7 @@ use Rattle.uca_model.specs.LevelWeights.{level_weights}
 use Rattle.uca_key.specs.PackedKey.{common_weight, runs_after}
 use Rattle.uca_key.specs.Weighing.{all_own, own_weights}
 use Rattle.uca_key.proofs.WeighingLemmas.{own_weights-both}
+use Rattle.std.proofs.lemmas.Grind.{common_steps}
 
 -- one more
 one-common : (common run : ℕ) (ws : List ℕ) → run + 1 < 62 → runs_after common (run + 1) ws ≡ runs_after common run (common ∷ ws)
@@ -15,34 +16,17 @@ one-common common run ws few = sym (cond-true _ _ _ (eq-eqb common common refl) 
 
 -- a common weight is not zero
 common-stays : (level : ℕ) → filter (λ w. not (w == 0)) (common_weight level ∷ []) ≡ common_weight level ∷ []
-common-stays level = elim (cases_Bool (level == 2)) [
-  | inl second ↦ let e : common_weight level ≡ 32 = cond-true _ _ _ second in ap (λ (x : ℕ). filter (λ (y : ℕ). not (y == 0)) (x ∷ [])) e ∙ ap (λ (x : ℕ). x ∷ []) (sym e)
-  | inr later ↦ elim (cases_Bool (level == 3)) [
-    | inl third ↦ let e : common_weight level ≡ 2 = cond-false _ _ _ later ∙ cond-true _ _ _ third in ap (λ (x : ℕ). filter (λ (y : ℕ). not (y == 0)) (x ∷ [])) e ∙ ap (λ (x : ℕ). x ∷ []) (sym e)
-    | inr fourth ↦ let e : common_weight level ≡ 65535 = cond-false _ _ _ later ∙ cond-false _ _ _ fourth in ap (λ (x : ℕ). filter (λ (y : ℕ). not (y == 0)) (x ∷ [])) e ∙ ap (λ (x : ℕ). x ∷ []) (sym e)
-  ]
-]
+common-stays level = grind (arith, common_steps, cases_Bool, cond-true, cond-false)
 
 -- the weights from one element on
 pub weights-one : (v : Variable) (level i w : ℕ) (es : List Element) (d : Element) (ws : List ℕ) → i < length es → w ≡ slice_index (own_weights v (get_or es i d)) (level - 1)
     → level_weights level (all_own v (drop i es)) ++ ws ≡ filter (λ x. not (x == 0)) (w ∷ []) ++ (level_weights level (all_own v (drop (i + 1) es)) ++ ws)
-weights-one v level i w es d ws within is =
-    let weights : List Element → List ℕ = λ l. level_weights level (all_own v l) in
-    let e : Element = get_or es i d in let left : List Element = drop (i + 1) es in
-    ap (λ l. weights l ++ ws) (drop_more es i d within)
-    ∙ ap (λ l. l ++ ws) (own_weights-both v level (e ∷ []) left)
-    ∙ append_assoc (weights (e ∷ [])) (weights left) ws
-    ∙ ap (λ (x : ℕ). filter (λ (y : ℕ). not (y == 0)) (x ∷ []) ++ (weights left ++ ws)) (sym is)
+weights-one v level i w es d ws within is = grind (arith, common_steps, drop_more, own_weights-both, append_assoc)
 
 -- a common weight more, in a run that is not full
 pub run-step : (v : Variable) (level run n : ℕ) (es : List Element) (d : Element) (ws : List ℕ) {w : ℕ} → run + 1 < 62 → n < length es → w ≡ common_weight level → w ≡ slice_index (own_weights v (get_or es n d)) (level - 1)
     → runs_after (common_weight level) (run + 1) (level_weights level (all_own v (drop (n + 1) es)) ++ ws) ≡ runs_after (common_weight level) run (level_weights level (all_own v (drop n es)) ++ ws)
-run-step v level run n es d ws {w} few within common is =
-    let c : ℕ = common_weight level in
-    let left : List ℕ = level_weights level (all_own v (drop (n + 1) es)) ++ ws in
-    let own : filter (λ (x : ℕ). not (x == 0)) (w ∷ []) ≡ c ∷ [] = ap (λ (x : ℕ). filter (λ (y : ℕ). not (y == 0)) (x ∷ [])) common ∙ common-stays level in
-    one-common c run left few
-    ∙ ap (runs_after c run) (sym (weights-one v level n w es d ws within is ∙ ap (λ l. l ++ left) own))
+run-step v level run n es d ws {w} few within common is = grind (arith, common_steps, common-stays, one-common, weights-one)
 
 -- an element without a weight is passed
 pub blank-step : (v : Variable) (level n : ℕ) (es : List Element) (d : Element) (ws : List ℕ) → n < length es → slice_index (own_weights v (get_or es n d)) (level - 1) ≡ 0

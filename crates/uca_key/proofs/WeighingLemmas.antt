@@ -1,5 +1,5 @@
 -- Elements that were weighed where they lie: their weights, and those of two lists, one after the other.
-use Rattle.std.proofs.Common.{◌≡◌, ℕ, suc, ◌+◌, ◌-◌, ◌*◌, ◌<◌, ◌≤◌, ◌==◌, not, List, [], ◌∷◌, ◌++◌, map, filter, flat_map, length, drop, get_or, slice_index, refl, sym, ap, ap₂, ◌∙◌, arith, append_assoc}
+use Rattle.std.proofs.Common.{◌≡◌, ℕ, ◌+◌, ◌*◌, ◌<◌, ◌≤◌, ◌==◌, not, List, [], ◌∷◌, ◌++◌, map, filter, flat_map, length, drop, get_or, slice_index, refl, ap, ◌∙◌, arith, append_assoc}
 use Rattle.std.proofs.lemmas.Grind.{flat_map-append}
 use Rattle.std.proofs.Math.Seq.{drop-cons}
 use Rattle.std.proofs.lemmas.List.{length-map, map-append}
@@ -7,7 +7,7 @@ use Rattle.std.proofs.lemmas.List.Elements.{filter-append}
 use Rattle.uca_weights.specs.declared.element.Element.{Element}
 use Rattle.uca_weights.specs.declared.settings.Variable.{Variable}
 use Rattle.uca_weights.specs.declared.settings.Variable.TheVariants.{NonIgnorable}
-use Rattle.uca_weights.specs.VariableWeighting.{weighted, weights}
+use Rattle.uca_weights.specs.VariableWeighting.{weighted}
 use Rattle.uca_weights.specs.Weigher.{WeigherState, after_element, weighted_from}
 use Rattle.uca_model.specs.LevelWeights.{level_weights}
 use Rattle.uca_model.specs.SortKey.{level_bytes, weight_bytes}
@@ -15,23 +15,20 @@ use Rattle.uca_levels.specs.Primaries.{primary_of}
 use Rattle.uca_levels.proofs.PrimarySteps.{primaries-are, primaries-both}
 use Rattle.uca_key.specs.Weighing.{all_own, own_weights}
 use Rattle.uca_key.proofs.KeySize.{passed_few}
+use Rattle.std.proofs.lemmas.Grind.{common_steps}
 
 -- all weights are kept where no element is variable
 unchanged-from : (w : WeigherState) (es : List Element) → w.weighting ≡ NonIgnorable → weighted_from w es ≡ all_own NonIgnorable es
 unchanged-from w [] same = refl
-unchanged-from w (e ∷ es) same =
-    ap₂ (λ ws rest. ws ∷ rest) (ap (λ v. weights v w.after e) same) (unchanged-from (record w { after = after_element w.after e }) es same)
+unchanged-from w (e ∷ es) same = grind (arith, common_steps, unchanged-from (record w { after = after_element w.after e }) es same)
 
 pub unchanged-both : (w : WeigherState) (xs ys : List Element) → w.weighting ≡ NonIgnorable → weighted_from w (xs ++ ys) ≡ all_own NonIgnorable xs ++ weighted_from w ys
-unchanged-both w xs ys same =
-    unchanged-from w (xs ++ ys) same ∙ map-append (own_weights NonIgnorable) xs ys ∙ ap (λ l. all_own NonIgnorable xs ++ l) (sym (unchanged-from w ys same))
+unchanged-both w xs ys same = grind (arith, common_steps, unchanged-from, map-append)
 
 -- ---- the weights and the bytes of a level
 
 pub level_weights-append : (level : ℕ) (xs ys : List (List ℕ)) → level_weights level (xs ++ ys) ≡ level_weights level xs ++ level_weights level ys
-level_weights-append level xs ys =
-    let at : List ℕ → ℕ = λ w. slice_index w (level - 1) in
-    ap (filter (λ w. not (w == 0))) (map-append at xs ys) ∙ filter-append (λ w. not (w == 0)) (map at xs) (map at ys)
+level_weights-append level xs ys = grind (arith, common_steps, slice_index, map-append, filter-append)
 
 level_bytes-append : (level : ℕ) (xs ys : List (List ℕ)) → level_bytes (xs ++ ys) level ≡ level_bytes xs level ++ level_bytes ys level
 level_bytes-append level xs ys = ap (flat_map weight_bytes) (level_weights-append level xs ys) ∙ flat_map-append weight_bytes (level_weights level xs) (level_weights level ys)
@@ -54,14 +51,7 @@ first_weights-own v es = primaries-are v es ∙ ap (filter (λ w. not (w == 0)))
 -- the primary weights from one element on
 pub primary-one : (v : Variable) (i w : ℕ) (es : List Element) (d : Element) (ws : List ℕ) → i < length es → w ≡ primary_of v (get_or es i d)
     → level_weights 1 (weighted v (drop i es)) ++ ws ≡ filter (λ x. not (x == 0)) (w ∷ []) ++ (level_weights 1 (weighted v (drop (i + 1) es)) ++ ws)
-primary-one v i w es d ws within is =
-    let next : i + 1 ≡ suc i = omega arith in
-    let e : Element = get_or es i d in let rest : List ℕ = level_weights 1 (weighted v (drop (i + 1) es)) in
-    let first : drop i es ≡ e ∷ drop (i + 1) es = drop-cons es i d within ∙ ap (λ n. e ∷ drop n es) (sym next) in
-    let own : level_weights 1 (weighted v (e ∷ [])) ≡ filter (λ x. not (x == 0)) (w ∷ []) = primaries-are v (e ∷ []) ∙ ap (λ (x : ℕ). filter (λ (y : ℕ). not (y == 0)) (x ∷ [])) (sym is) in
-    ap (λ l. level_weights 1 (weighted v l) ++ ws) first
-    ∙ ap (λ l. l ++ ws) (primaries-both v (e ∷ []) (drop (i + 1) es) ∙ ap (λ l. l ++ rest) own)
-    ∙ append_assoc (filter (λ (x : ℕ). not (x == 0)) (w ∷ [])) rest ws
+primary-one v i w es d ws within is = grind (arith, common_steps, drop-cons, primaries-are, primaries-both, append_assoc)
 
 -- ---- how many bytes they have
 
@@ -70,10 +60,7 @@ length-bytes [] = refl
 length-bytes (w ∷ ws) = let more : length (flat_map weight_bytes ws) ≡ 2 * length ws = length-bytes ws in omega (arith, more)
 
 pub level_few : (v : Variable) (level : ℕ) (es : List Element) → length (level_bytes (all_own v es) level) ≤ 2 * length es
-level_few v level es =
-    let at : List ℕ → ℕ = λ ws. slice_index ws (level - 1) in
-    let few : length (level_weights level (all_own v es)) ≤ length (map at (all_own v es)) = passed_few (λ weight. not (weight == 0)) (map at (all_own v es)) in
-    omega (arith, few, length-map (all_own v es) at, length-map es (own_weights v), length-bytes (level_weights level (all_own v es)))
+level_few v level es = grind (arith, common_steps, slice_index, passed_few, length-map, length-bytes)
 
 -- ---- elements that were read, before those that are left
 

@@ -16,6 +16,7 @@ use Rattle.uca_keys.specs.Links.{child_of, kids_from}
 use Rattle.uca_keys.specs.Nodes.{path_after, paths_after, elements_in, entries_after, AreNext}
 use Rattle.uca_keys.proofs.PathLemmas.{chain, front_of_front, front_left, front_longer, upto}
 use Rattle.uca_keys.proofs.NodeLemmas.{path_front, path_long}
+use Rattle.std.proofs.lemmas.Grind.{common_steps}
 
 -- a child leads to the path with its code point
 pub record IsKid (paths : List (List ℕ)) (p : List ℕ) (c : Child) : Type 0 where
@@ -32,14 +33,10 @@ pub kids_stop : (d i : ℕ) (n : Node) (ns : List Node) → nat_lt n.depth d ≡
 kids_stop d i n ns fewer = ap (λ b. cond b [] (cond (eqb n.depth d) (child_of n i ∷ kids_from d (i + 1) ns) (kids_from d (i + 1) ns))) fewer
 
 pub kids_here : (d i : ℕ) (n : Node) (ns : List Node) → nat_lt n.depth d ≡ false → eqb n.depth d ≡ true → kids_from d i (n ∷ ns) ≡ child_of n i ∷ kids_from d (i + 1) ns
-kids_here d i n ns enough here =
-    ap (λ b. cond b [] (cond (eqb n.depth d) (child_of n i ∷ kids_from d (i + 1) ns) (kids_from d (i + 1) ns))) enough
-    ∙ ap (λ b. cond b (child_of n i ∷ kids_from d (i + 1) ns) (kids_from d (i + 1) ns)) here
+kids_here d i n ns enough here = grind (arith, common_steps)
 
 pub kids_deeper : (d i : ℕ) (n : Node) (ns : List Node) → nat_lt n.depth d ≡ false → eqb n.depth d ≡ false → kids_from d i (n ∷ ns) ≡ kids_from d (i + 1) ns
-kids_deeper d i n ns enough deeper =
-    ap (λ b. cond b [] (cond (eqb n.depth d) (child_of n i ∷ kids_from d (i + 1) ns) (kids_from d (i + 1) ns))) enough
-    ∙ ap (λ b. cond b (child_of n i ∷ kids_from d (i + 1) ns) (kids_from d (i + 1) ns)) deeper
+kids_deeper d i n ns enough deeper = grind (arith, common_steps)
 
 -- a child of a path leads to the path and its code point
 here_path : (p q : List ℕ) (d : ℕ) (n : Node) → take d q ≡ p → eqb n.depth d ≡ true → path_after q n ≡ p ++ n.point ∷ []
@@ -48,23 +45,22 @@ here_path p q d n front here = ap (λ m. take m q ++ n.point ∷ []) (eqb-true n
 pub kids_sound : (es : List Element) (pre : List (List ℕ)) (p q : List ℕ) (d i : ℕ) (ns : List Node) → AreNext es q ns → take d q ≡ p → d ≤ length q → length pre ≡ i → AllByRecursion (IsKid (pre ++ paths_after q ns) p) (kids_from d i ns)
 kids_sound es pre p q d i [] next front long size = tt
 kids_sound es pre p q d i (n ∷ ns) next front long size =
-    let r = path_after q n in
-    let more : length (pre ++ r ∷ []) ≡ i + 1 = length_push pre r ∙ ap (λ m. m + 1) size in
-    let same : (pre ++ r ∷ []) ++ paths_after r ns ≡ pre ++ r ∷ paths_after r ns = append_assoc pre (r ∷ []) (paths_after r ns) in
-    let rlong : length r ≡ n.depth + 1 = path_long q n next.0.from in
+    let more : length (pre ++ _ ∷ []) ≡ i + 1 = length_push pre _ ∙ ap (λ m. m + 1) size in
+    let same : (pre ++ _ ∷ []) ++ paths_after _ ns ≡ pre ++ _ ∷ paths_after _ ns = append_assoc pre (_ ∷ []) (paths_after _ ns) in
+    let rlong : length _ ≡ n.depth + 1 = path_long q n next.0.from in
     elim (cases_Bool (nat_lt n.depth d)) [
-      | inl fewer ↦ subst (AllByRecursion (IsKid (pre ++ r ∷ paths_after r ns) p)) (sym (kids_stop d i n ns fewer)) tt
+      | inl fewer ↦ subst (AllByRecursion (IsKid (pre ++ _ ∷ paths_after _ ns) p)) (sym (kids_stop d i n ns fewer)) tt
       | inr enough ↦
           let least : d ≤ n.depth = ltb-false n.depth d enough in
-          let again : take d r ≡ p = path_front q n d least next.0.from ∙ front in
-          let rest : AllByRecursion (IsKid (pre ++ r ∷ paths_after r ns) p) (kids_from d (i + 1) ns) =
-          subst (λ l. AllByRecursion (IsKid l p) (kids_from d (i + 1) ns)) same (kids_sound es (pre ++ r ∷ []) p r d (i + 1) ns next.1 again (omega arith) more) in
+          let again : take d _ ≡ p = path_front q n d least next.0.from ∙ front in
+          let rest : AllByRecursion (IsKid (pre ++ _ ∷ paths_after _ ns) p) (kids_from d (i + 1) ns) =
+          subst (λ l. AllByRecursion (IsKid l p) (kids_from d (i + 1) ns)) same (kids_sound es (pre ++ _ ∷ []) p _ d (i + 1) ns next.1 again (omega arith) more) in
           elim (cases_Bool (eqb n.depth d)) [
             | inl here ↦
-                let place = at_end pre r (paths_after r ns) i size in
-                let kid : IsKid (pre ++ r ∷ paths_after r ns) p (child_of n i) = record { within = place.0; path = place.1 ∙ here_path p q d n front here } in
-                subst (AllByRecursion (IsKid (pre ++ r ∷ paths_after r ns) p)) (sym (kids_here d i n ns enough here)) (kid, rest)
-            | inr deeper ↦ subst (AllByRecursion (IsKid (pre ++ r ∷ paths_after r ns) p)) (sym (kids_deeper d i n ns enough deeper)) rest
+                let place = at_end pre _ (paths_after _ ns) i size in
+                let kid : IsKid (pre ++ _ ∷ paths_after _ ns) p (child_of n i) = record { within = place.0; path = place.1 ∙ here_path p q d n front here } in
+                subst (AllByRecursion (IsKid (pre ++ _ ∷ paths_after _ ns) p)) (sym (kids_here d i n ns enough here)) (kid, rest)
+            | inr deeper ↦ subst (AllByRecursion (IsKid (pre ++ _ ∷ paths_after _ ns) p)) (sym (kids_deeper d i n ns enough deeper)) rest
           ]
     ]
 
@@ -142,10 +138,7 @@ front_short (x ∷ p) [] h = cc
 front_short (x ∷ p) (y ∷ k) h = let less : length p ≤ length k = front_short p k (and_parts (eqb y x) (is_front p k) h).1 in omega arith
 
 not_front : (p k : List ℕ) → length k < length p → is_front p k ≡ false
-not_front p k short = elim (cases_Bool (is_front p k)) [
-  | inl front ↦ let less : length p ≤ length k = front_short p k front in absurd (omega arith)
-  | inr none ↦ none
-]
+not_front p k short = grind (arith, common_steps, cases_Bool, front_short)
 
 -- nor is a key that is less
 pub not_below : (p k : List ℕ) → key_cmp k p ≡ Less → is_front p k ≡ false
@@ -186,15 +179,11 @@ none_or f false e es own rest = ap (λ b. b || list_any f es) own ∙ rest
 none_later : (es : List Element) (w q : List ℕ) (ns : List Node) → AreNext es q ns → ((k : List ℕ) → key_cmp q k ≡ Less → is_front w k ≡ false) → begins_entry (entries_after es q ns) w ≡ false
 none_later es w q [] next none = refl
 none_later es w q (n ∷ ns) next none =
-    let r = path_after q n in
-    none_or (λ e. is_front w e.0) (eqb n.count 0) (r, elements_in es n) (entries_after es r ns) (none r next.0.greater) (none_later es w r ns next.1 (λ k above. none k (chain q r k next.0.greater above)))
+    none_or (λ e. is_front w e.0) (eqb n.count 0) (_, elements_in es n) (entries_after es _ ns) (none _ next.0.greater) (none_later es w _ ns next.1 (λ k above. none k (chain q _ k next.0.greater above)))
 
 -- what has not the front has not what goes on from it
 not_longer : (p q k : List ℕ) → is_front p q ≡ true → is_front p k ≡ false → is_front q k ≡ false
-not_longer p q k front none = elim (cases_Bool (is_front q k)) [
-  | inl longer ↦ let h : is_front p k ≡ true = front_of_front p q k front longer in cc
-  | inr fine ↦ fine
-]
+not_longer p q k front none = grind (arith, common_steps, cases_Bool, front_of_front)
 
 whole : (p r : List ℕ) → is_front p r ≡ true → length r ≤ length p → is_front r p ≡ true
 whole [] [] front short = refl
@@ -211,21 +200,11 @@ eq_not : (x y : ℕ) → eqb x y ≡ false → x ≡ y → ⊥
 eq_not x y other same = let h : eqb x y ≡ true = eq-eqb x y same in true_not_false (sym h ∙ other)
 
 strict : (a b : ℕ) → a ≤ b → (a ≡ b → ⊥) → a + 1 ≤ b
-strict a b h f = elim (cases_lt a b) [
-  | inl less ↦ omega arith
-  | inr upto ↦ absurd (f (omega arith))
-]
+strict a b h f = grind (arith, common_steps, cases_lt, upto)
 
 -- a path that is no longer than the one which it begins with, and greater, does not begin with it
 passed : (p q r : List ℕ) → is_front p q ≡ true → key_cmp q r ≡ Less → length r ≤ length p → is_front p r ≡ false
-passed p q r front less short = elim (cases_Bool (is_front p r)) [
-  | inr none ↦ none
-  | inl again ↦
-      let back : is_front r p ≡ true = whole p r again short in
-      let whole_front : is_front r q ≡ true = front_of_front r p q back front in
-      let none : is_front r q ≡ false = not_below r q less in
-      cc
-]
+passed p q r front less short = grind (arith, common_steps, cases_Bool, whole, front_of_front, not_below)
 
 -- where no child has a code point, no key goes on with it
 pub kids_none : (es : List Element) (p q : List ℕ) (x d i : ℕ) (ns : List Node) → AreNext es q ns → take d q ≡ p → d ≤ length q → is_front (p ++ x ∷ []) q ≡ false → LacksPoint (kids_from d i ns) x → begins_entry (entries_after es q ns) (p ++ x ∷ []) ≡ false

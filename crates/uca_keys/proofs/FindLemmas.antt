@@ -22,6 +22,7 @@ use Rattle.uca_keys.proofs.PathLemmas.{below_longer, chain}
 use Rattle.uca_keys.proofs.PushLemmas.{both_parts}
 use Rattle.uca_model.proofs.AnchorElements.{or_false}
 use Rattle.uca_model.proofs.TableLemmas.{tied_keys}
+use Rattle.std.proofs.lemmas.Grind.{common_steps}
 
 length-paths : (p : List ℕ) (ns : List Node) → length (paths_after p ns) ≡ length ns
 length-paths p [] = refl
@@ -91,9 +92,8 @@ none_before es p w (n ∷ ns) next less = chain p (path_after p n) w next.0.grea
 none_among : (es : List Element) (p w : List ℕ) (ns : List Node) → AreNext es p ns → key_cmp (last_path p ns) w ≡ Less → begins_entry (entries_after es p ns) w ≡ false
 none_among es p w [] next less = refl
 none_among es p w (n ∷ ns) next less =
-    let q = path_after p n in
-    let own : is_front w q ≡ false = not_below w q (none_before es q w ns next.1 less) in
-    none_or (λ e. is_front w e.0) (eqb n.count 0) (q, elements_in es n) (entries_after es q ns) own (none_among es q w ns next.1 less)
+    let own : is_front w _ ≡ false = not_below w _ (none_before es _ w ns next.1 less) in
+    none_or (λ e. is_front w e.0) (eqb n.count 0) (_, elements_in es n) (entries_after es _ ns) own (none_among es _ w ns next.1 less)
 
 any-append : (f : List ℕ × List Element → Bool) (xs ys : List (List ℕ × List Element)) → list_any f xs ≡ false → list_any f (xs ++ ys) ≡ list_any f ys
 any-append f [] ys none = refl
@@ -140,9 +140,8 @@ pub child_is : (s : TrieState) (number k : ℕ) (d : Child) → AreNext s.elemen
 child_is s number k d next within inside =
     let p = path_at s number in let later = drop number s.nodes in
     let at = at_number s number next within in
-    let pre : List (List ℕ) = take number (paths_of s) ++ p ∷ [] in
-    let size : length pre ≡ number + 1 = length_push (take number (paths_of s)) p ∙ ap (λ m. m + 1) (length-take-le number (paths_of s) (omega (arith, length-paths_of s))) in
-    let all : AllByRecursion (IsKid (pre ++ paths_after p later) p) (kids_from (length p) (number + 1) later) = kids_sound s.elements pre p p (length p) (number + 1) later at.next at.front (le_refl (length p)) size in
+    let size : length _ ≡ number + 1 = length_push (take number (paths_of s)) p ∙ ap (λ m. m + 1) (length-take-le number (paths_of s) (omega (arith, length-paths_of s))) in
+    let all : AllByRecursion (IsKid (_ ++ paths_after p later) p) (kids_from (length p) (number + 1) later) = kids_sound s.elements _ p p (length p) (number + 1) later at.next at.front (le_refl (length p)) size in
     let same : AllByRecursion (IsKid (paths_of s) p) (kids_of s.nodes number) = subst (λ cs. AllByRecursion (IsKid (paths_of s) p) cs) (sym at.kids) (subst (λ l. AllByRecursion (IsKid l p) (kids_from (length p) (number + 1) later)) at.paths all) in
     All-from_recursion (IsKid (paths_of s) p) (kids_of s.nodes number) same k d inside
 
@@ -173,7 +172,6 @@ pub record IsRange (ns : List Node) (cs : List Child) (number from to : ℕ) : T
 pub listed_range : (ns : List Node) (cs : List Child) (starts : List ℕ) (number from to : ℕ) → AreLinked ns cs starts → number ≤ length ns → from ≡ get_or starts (length ns - number) from → to ≡ get_or starts (length ns - number + 1) to → IsRange ns cs number from to
 listed_range ns cs starts number from to linked upto first last =
     let listed = linked.each number upto in
-    let here : get_or starts (length ns - number) from ≡ from = sym first in
     let there : get_or starts (length ns - number + 1) from ≡ to = get_or_default starts (length ns - number + 1) from to (omega (arith, linked.size)) ∙ sym last in
     let count : to - from ≡ length (kids_of ns number) = omega (arith, listed.next from) in
     record {
@@ -198,8 +196,7 @@ node_with s ns number next other within same some =
     ∙ ap (λ b. cond b None (Some (elements_in s.elements (get_or ns (number - 1) no_node)))) (ne_eqb (get_or ns (number - 1) no_node).count 0 some)
 
 pub node_inside : (s : TrieState) (ns : List Node) (number : ℕ) → AreNext s.elements [] s.nodes → (number ≡ 0 → ⊥) → number ≤ length s.nodes → ns ≡ s.nodes → (get_or ns (number - 1) no_node).start + (get_or ns (number - 1) no_node).count ≤ length s.elements
-node_inside s ns number next other within same =
-    subst (λ l. (get_or l (number - 1) no_node).start + (get_or l (number - 1) no_node).count ≤ length s.elements) (sym same) (node_within s.elements [] s.nodes (number - 1) no_node next (omega (arith, some_number number other)))
+node_inside s ns number next other within same = grind (arith, common_steps, node_within, some_number)
 
 -- what stands in for a child past the end
 abbrev pub no_child : Child
@@ -212,13 +209,7 @@ pub record Leads (s : TrieState) (number x child : ℕ) : Type 0 where
   pub some : begins_entry (entries_of s) (path_at s number ++ x ∷ []) ≡ true
 
 pub leads_to : (s : TrieState) (cs : List Child) (number x at : ℕ) → AreNext s.elements [] s.nodes → AreFull s.nodes → number ≤ length s.nodes → cs ≡ kids_of s.nodes number → at < length cs → (get_or cs at no_child).point ≡ x → Leads s number x (get_or cs at no_child).node.number
-leads_to s cs number x at next full within same inside is =
-    let kid : IsKid (paths_of s) (path_at s number) (get_or cs at no_child) = subst (λ l. IsKid (paths_of s) (path_at s number) (get_or l at no_child)) (sym same) (child_is s number at no_child next within (subst (λ l. at < length l) same inside)) in
-    record {
-      within = omega (arith, kid.within, length-paths_of s);
-      path = kid.path ∙ ap (λ y. path_at s number ++ y ∷ []) is;
-      some = ap (λ y. begins_entry (entries_of s) (path_at s number ++ y ∷ [])) (sym is) ∙ child_begins s (path_at s number) (get_or cs at no_child) next full kid;
-    }
+leads_to s cs number x at next full within same inside is = grind (arith, common_steps, child_is, length-paths_of, child_begins)
 
 pub leads_nowhere : (s : TrieState) (cs : List Child) (number x : ℕ) → AreNext s.elements [] s.nodes → number ≤ length s.nodes → cs ≡ kids_of s.nodes number → LacksPoint cs x → begins_entry (entries_of s) (path_at s number ++ x ∷ []) ≡ false
 leads_nowhere s cs number x next within same lacks = child_none s number x next within (subst (λ l. LacksPoint l x) same lacks)
@@ -232,7 +223,6 @@ find_without (e ∷ es) w key none front =
       | inr fine ↦ fine
       | inl tie ↦
           let same : key ≡ e.0 = tied_keys key e.0 tie in
-          let h : is_front w e.0 ≡ true = ap (is_front w) (sym same) ∙ front in
           let g : is_front w e.0 ≡ false = parts.0 in
           cc
     ] in

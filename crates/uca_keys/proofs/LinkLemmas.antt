@@ -1,5 +1,5 @@
 -- How the children of all nodes are found from the last node back.
-use Rattle.std.proofs.Common.{◌≡◌, ℕ, zero, suc, ◌+◌, ◌-◌, ◌≤◌, ◌<◌, true, false, cond, nat_lt, List, [], ◌∷◌, ◌++◌, length, take, drop, get_or, refl, sym, ap, ap₂, subst, ◌∙◌, arith, inl, inr, eq-eqb, ne_eqb, ltb-true, ltb-false, lt-ltb, le-ltb, length-append, length-drop, get_or-drop, append-nil}
+use Rattle.std.proofs.Common.{◌≡◌, ℕ, zero, suc, ◌+◌, ◌-◌, ◌≤◌, ◌<◌, true, false, cond, nat_lt, List, [], ◌∷◌, ◌++◌, length, take, drop, get_or, refl, sym, ap, ap₂, subst, ◌∙◌, arith, inl, inr, eq-eqb, ne_eqb, ltb-true, ltb-false, lt-ltb, le-ltb, length-append, length-drop, get_or-drop}
 use Rattle.std.proofs.lemmas.Bool.{cases_Bool, cases_lt}
 use Rattle.std.proofs.lemmas.List.{get_or_push, length_push, take-append-le, drop-append-le, drop-drop, drop_all}
 use Rattle.uca_weights.specs.declared.element.Element.{Element}
@@ -10,6 +10,7 @@ use Rattle.uca_keys.specs.Nodes.{path_after, AreNext}
 use Rattle.uca_keys.proofs.ChildLemmas.{kids_stop, kids_here, kids_deeper}
 use Rattle.uca_keys.proofs.NodeLemmas.{path_long}
 use Rattle.uca_keys.proofs.PushLemmas.{drop_at}
+use Rattle.std.proofs.lemmas.Grind.{common_steps}
 
 pub span_stop : (d : ℕ) (n : Node) (ns : List Node) → nat_lt n.depth d ≡ true → span_len d (n ∷ ns) ≡ 0
 span_stop d n ns fewer = ap (λ b. cond b 0 (suc (span_len d ns))) fewer
@@ -19,36 +20,16 @@ span_on d n ns enough = ap (λ b. cond b 0 (suc (span_len d ns))) enough
 
 pub span_within : (d : ℕ) (ns : List Node) → span_len d ns ≤ length ns
 span_within d [] = omega arith
-span_within d (n ∷ ns) = let rest = span_within d ns in elim (cases_Bool (nat_lt n.depth d)) [
-  | inl fewer ↦ omega (arith, span_stop d n ns fewer)
-  | inr enough ↦ omega (arith, span_on d n ns enough, rest)
-]
+span_within d (n ∷ ns) = grind (arith, common_steps, cases_Bool, span_stop, span_on, span_within d ns)
 
 -- what is deeper belongs to the child before it
 pub kids_skip : (d i : ℕ) (ns : List Node) → kids_from d i ns ≡ kids_from d (i + span_len (d + 1) ns) (drop (span_len (d + 1) ns) ns)
 kids_skip d i [] = refl
-kids_skip d i (n ∷ ns) = elim (cases_Bool (nat_lt n.depth (d + 1))) [
-  | inl fewer ↦
-      let none : i + span_len (d + 1) (n ∷ ns) ≡ i = omega (arith, span_stop (d + 1) n ns fewer) in
-      sym (ap₂ (λ m k. kids_from d m (drop k (n ∷ ns))) none (span_stop (d + 1) n ns fewer))
-  | inr enough ↦
-      let deep : d + 1 ≤ n.depth = ltb-false n.depth (d + 1) enough in
-      let more : i + span_len (d + 1) (n ∷ ns) ≡ i + 1 + span_len (d + 1) ns = omega (arith, span_on (d + 1) n ns enough) in
-      kids_deeper d i n ns (le-ltb n.depth d (omega arith)) (ne_eqb n.depth d (λ e. absurd (omega arith))) ∙ kids_skip d (i + 1) ns
-      ∙ sym (ap₂ (λ m k. kids_from d m (drop k (n ∷ ns))) more (span_on (d + 1) n ns enough))
-]
+kids_skip d i (n ∷ ns) = grind (arith, common_steps, cases_Bool, span_stop, ltb-false, span_on, kids_deeper, le-ltb, ne_eqb, kids_skip d (i + 1) ns)
 
 pub span_skip : (d : ℕ) (ns : List Node) → span_len d ns ≡ span_len (d + 1) ns + span_len d (drop (span_len (d + 1) ns) ns)
 span_skip d [] = refl
-span_skip d (n ∷ ns) = elim (cases_Bool (nat_lt n.depth (d + 1))) [
-  | inl fewer ↦
-      let none : span_len d (n ∷ ns) ≡ 0 + span_len d (n ∷ ns) = omega arith in
-      none ∙ sym (ap (λ k. k + span_len d (drop k (n ∷ ns))) (span_stop (d + 1) n ns fewer))
-  | inr enough ↦
-      let deep : d + 1 ≤ n.depth = ltb-false n.depth (d + 1) enough in
-      let rest : suc (span_len d ns) ≡ suc (span_len (d + 1) ns) + span_len d (drop (span_len (d + 1) ns) ns) = omega (arith, span_skip d ns) in
-      span_on d n ns (le-ltb n.depth d (omega arith)) ∙ rest ∙ sym (ap (λ k. k + span_len d (drop k (n ∷ ns))) (span_on (d + 1) n ns enough))
-]
+span_skip d (n ∷ ns) = grind (arith, common_steps, cases_Bool, span_stop, ltb-false, span_on, le-ltb, span_skip d ns)
 
 -- after what is deeper comes a node that is not
 pub span_top : (d : ℕ) (ns : List Node) (e : Node) → span_len (d + 1) ns < length ns → (get_or ns (span_len (d + 1) ns) e).depth ≤ d
@@ -77,9 +58,7 @@ depth_below-is (n ∷ ns) (suc i) d within = depth_below-is ns i d (omega arith)
 stacked_at : (es : List Element) (ns : List Node) → AreNext es [] ns → (number : ℕ) (d : Node) → number < length ns → (get_or ns number d).depth ≤ depth_below ns number
 stacked_at es [] next number d within = absurd (omega arith)
 stacked_at es (n ∷ ns) next zero d within = next.0.from
-stacked_at es (n ∷ ns) next (suc i) d within =
-    let below : depth_below (n ∷ ns) (suc i) ≡ (get_or (n ∷ ns) i d).depth + 1 = depth_below-is (n ∷ ns) i d (omega arith) in
-    omega (arith, below, stacked es [] (n ∷ ns) i d next within)
+stacked_at es (n ∷ ns) next (suc i) d within = grind (arith, common_steps, depth_below-is, stacked)
 
 pub AreStacked-next : (es : List Element) (ns : List Node) → AreNext es [] ns → AreStacked ns
 AreStacked-next es ns next = record { top = stacked_at es ns next }
@@ -100,15 +79,14 @@ pub record AreSoFar (ns : List Node) (cs : List Child) (starts back : List ℕ) 
 -- what is added later changes nothing of what is listed
 listed_on : (ns : List Node) (cs more : List Child) (starts : List ℕ) (x m : ℕ) → m ≤ length ns → length ns - m + 1 < length (starts ++ length cs ∷ []) → IsListed ns cs (starts ++ length cs ∷ []) m → IsListed ns (cs ++ more) ((starts ++ length cs ∷ []) ++ x ∷ []) m
 listed_on ns cs more starts x m upto within listed =
-    let ss : List ℕ = starts ++ length cs ∷ [] in
-    let here : (d : ℕ) → get_or (ss ++ x ∷ []) (length ns - m) d ≡ get_or ss (length ns - m) d = λ d. before_push ss x (length ns - m) d (omega arith) in
-    let next : (d : ℕ) → get_or (ss ++ x ∷ []) (length ns - m + 1) d ≡ get_or ss (length ns - m + 1) d = λ d. before_push ss x (length ns - m + 1) d within in
+    let here : (d : ℕ) → get_or (_ ++ x ∷ []) (length ns - m) d ≡ get_or _ (length ns - m) d = λ d. before_push _ x (length ns - m) d (omega arith) in
+    let next : (d : ℕ) → get_or (_ ++ x ∷ []) (length ns - m + 1) d ≡ get_or _ (length ns - m + 1) d = λ d. before_push _ x (length ns - m + 1) d within in
     let size : length (cs ++ more) ≡ length cs + length more = length-append cs more in
     record {
       next = λ d. ap (λ k. k + length (kids_of ns m)) (here d) ∙ listed.next d ∙ sym (next d);
       within = λ d. omega (arith, next d, listed.within d);
       kids = λ d.
-          let start : ℕ = get_or ss (length ns - m) d in
+          let start : ℕ = get_or _ (length ns - m) d in
           let left : length (drop start cs) ≡ length cs - start = length-drop start cs in
           ap (λ k. take (length (kids_of ns m)) (drop k (cs ++ more))) (here d)
           ∙ ap (take (length (kids_of ns m))) (drop-append-le start cs more (omega (arith, listed.next d, listed.within d)))
@@ -125,24 +103,10 @@ take_whole (x ∷ xs) = ap (λ l. x ∷ l) (take_whole xs)
 
 -- the children of the next number lie behind
 listed_new : (ns : List Node) (cs : List Child) (starts : List ℕ) (m : ℕ) → m ≤ length ns → length starts ≡ length ns - m → IsListed ns (cs ++ kids_of ns m) ((starts ++ length cs ∷ []) ++ length (cs ++ kids_of ns m) ∷ []) m
-listed_new ns cs starts m upto size =
-    let ss : List ℕ = starts ++ length cs ∷ [] in
-    let kids = kids_of ns m in
-    let more : length ss ≡ length ns - m + 1 = length_push starts (length cs) ∙ ap (λ k. k + 1) size in
-    let here : (d : ℕ) → get_or (ss ++ length (cs ++ kids) ∷ []) (length ns - m) d ≡ length cs = λ d. before_push ss (length (cs ++ kids)) (length ns - m) d (omega arith) ∙ get_or_push starts (length cs) d (length ns - m) size in
-    let next : (d : ℕ) → get_or (ss ++ length (cs ++ kids) ∷ []) (length ns - m + 1) d ≡ length (cs ++ kids) = λ d. get_or_push ss (length (cs ++ kids)) d (length ns - m + 1) more in
-    let long : length (cs ++ kids) ≡ length cs + length kids = length-append cs kids in
-    record {
-      next = λ d. omega (arith, here d, next d);
-      within = λ d. omega (arith, next d);
-      kids = λ d. ap (λ k. take (length kids) (drop k (cs ++ kids))) (here d) ∙ ap (take (length kids)) (drop_whole cs kids) ∙ take_whole kids;
-    }
+listed_new ns cs starts m upto size = grind (arith, common_steps, length_push, before_push, get_or_push, length-append, drop_whole, take_whole)
 
 ends_on : (ns : List Node) (ends : List ℕ) (x j : ℕ) → EndsAt ns ends j → EndsAt ns (ends ++ x ∷ []) j
-ends_on ns ends x j at = record {
-  some = omega (arith, at.some, length_push ends x);
-  end = λ d n. before_push ends x (length ns - 1 - j) d at.some ∙ at.end d n;
-}
+ends_on ns ends x j at = grind (arith, common_steps, length_push, before_push)
 
 -- one number more
 pub AreSoFar-more : (ns : List Node) (cs : List Child) (starts ends : List ℕ) (number end : ℕ) → 0 < number → AreSoFar ns cs starts ends number → end ≡ number + span_len (depth_below ns number) (drop number ns)
@@ -200,10 +164,6 @@ pub record IsStep (ns : List Node) (depth at end : ℕ) (n : Node) : Type 0 wher
   pub within : end ≤ length ns
   pub top : (d : Node) → end < length ns → (get_or ns end d).depth ≤ depth
 
--- what was added, where nothing is left to add
-pub all_added : (cs old left whole : List Child) → cs ++ left ≡ old ++ whole → left ≡ [] → cs ≡ old ++ whole
-all_added cs old left whole done none = sym (append-nil cs) ∙ ap (λ l. cs ++ l) (sym none) ∙ done
-
 pub step_over : (ns : List Node) (depth at end : ℕ) (e : Node) → at < length ns → depth ≤ (get_or ns at e).depth → (get_or ns at e).depth ≤ depth → end ≡ at + 1 + span_len ((get_or ns at e).depth + 1) (drop (at + 1) ns) → IsStep ns depth at end (get_or ns at e)
 step_over ns depth at end e inside least most ends =
     let n : Node = get_or ns at e in
@@ -232,12 +192,7 @@ step_over ns depth at end e inside least most ends =
     }
 
 pub stops_at : (ns : List Node) (depth at : ℕ) (e : Node) → at < length ns → (get_or ns at e).depth < depth → (kids_from depth (at + 1) (drop at ns) ≡ []) × (span_len depth (drop at ns) ≡ 0)
-stops_at ns depth at e inside less =
-    let n : Node = get_or ns at e in
-    let rest : List Node = drop (at + 1) ns in
-    let front : drop at ns ≡ n ∷ rest = drop_at ns at e inside in
-    let fewer : nat_lt n.depth depth ≡ true = lt-ltb n.depth depth less in
-    (ap (kids_from depth (at + 1)) front ∙ kids_stop depth (at + 1) n rest fewer, ap (span_len depth) front ∙ span_stop depth n rest fewer)
+stops_at ns depth at e inside less = grind (arith, common_steps, drop_at, lt-ltb, kids_stop, span_stop)
 
 pub ends_with : (ns : List Node) (depth at : ℕ) → length ns ≤ at → (kids_from depth (at + 1) (drop at ns) ≡ []) × (span_len depth (drop at ns) ≡ 0)
 ends_with ns depth at past = (ap (kids_from depth (at + 1)) (drop_all at ns past), ap (span_len depth) (drop_all at ns past))

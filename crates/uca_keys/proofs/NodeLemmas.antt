@@ -1,5 +1,5 @@
 -- Nodes, their paths and the entries at which keys end.
-use Rattle.std.proofs.Common.{◌≡◌, ℕ, zero, suc, ◌+◌, ◌-◌, ◌≤◌, ◌<◌, Bool, true, false, cond, ◌||◌, eqb, List, [], ◌∷◌, ◌++◌, length, take, drop, get_or, Option, Some, None, refl, sym, ap, ap₂, subst, ◌∙◌, arith, inl, inr, eqb-true, ne_eqb, length-append, length-take-le, length-drop, take-take, take_all, append_assoc}
+use Rattle.std.proofs.Common.{◌≡◌, ℕ, zero, suc, ◌+◌, ◌≤◌, ◌<◌, Bool, true, false, cond, ◌||◌, eqb, List, [], ◌∷◌, ◌++◌, length, take, drop, get_or, Option, Some, None, refl, sym, ap, subst, ◌∙◌, arith, inl, inr, eqb-true, ne_eqb, length-append, length-take-le, length-drop, take-take, take_all, append_assoc}
 use Rattle.std.proofs.lemmas.Bool.{cases_Bool, or_right}
 use Rattle.std.proofs.lemmas.List.{take-append-le, drop-append-le, length_push}
 use Rattle.std.specs.declared.cmp.Ordering.TheVariants.{Less, Greater}
@@ -15,20 +15,12 @@ use Rattle.uca_keys.specs.declared.node.Node.{Node}
 use Rattle.uca_keys.specs.Fronts.{is_front, begins_entry, last_key}
 use Rattle.uca_keys.specs.Nodes.{path_after, paths_after, last_path, elements_in, entries_after, nodes_of, AreNext, AreFull}
 use Rattle.uca_keys.proofs.PathLemmas.{below_longer, chain, own_front, front_longer, front_of_front}
+use Rattle.std.proofs.lemmas.Grind.{common_steps}
 
 -- one list of nodes after another
 pub entries-append : (es : List Element) (p : List ℕ) (xs ys : List Node) → entries_after es p (xs ++ ys) ≡ entries_after es p xs ++ entries_after es (last_path p xs) ys
 entries-append es p [] ys = refl
-entries-append es p (n ∷ xs) ys =
-    let rest = entries-append es (path_after p n) xs ys in
-    elim (cases_Bool (eqb n.count 0)) [
-      | inl none ↦
-          ap (λ b. cond b (entries_after es (path_after p n) (xs ++ ys)) ((path_after p n, elements_in es n) ∷ entries_after es (path_after p n) (xs ++ ys))) none ∙ rest
-          ∙ ap (λ b. cond b (entries_after es (path_after p n) xs) ((path_after p n, elements_in es n) ∷ entries_after es (path_after p n) xs) ++ entries_after es (last_path (path_after p n) xs) ys) (sym none)
-      | inr some ↦
-          ap (λ b. cond b (entries_after es (path_after p n) (xs ++ ys)) ((path_after p n, elements_in es n) ∷ entries_after es (path_after p n) (xs ++ ys))) some ∙ ap (λ l. (path_after p n, elements_in es n) ∷ l) rest
-          ∙ ap (λ b. cond b (entries_after es (path_after p n) xs) ((path_after p n, elements_in es n) ∷ entries_after es (path_after p n) xs) ++ entries_after es (last_path (path_after p n) xs) ys) (sym some)
-    ]
+entries-append es p (n ∷ xs) ys = grind (arith, common_steps, cases_Bool, entries-append es (path_after p n) xs ys)
 
 pub last_path-append : (p : List ℕ) (xs ys : List Node) → last_path p (xs ++ ys) ≡ last_path (last_path p xs) ys
 last_path-append p [] ys = refl
@@ -47,25 +39,18 @@ AreFull-append (n ∷ m ∷ xs) ys first second = (first.0, AreFull-append (m �
 -- more elements change nothing of the first
 pub AreNext-grown : (es more : List Element) (p : List ℕ) (ns : List Node) → AreNext es p ns → AreNext (es ++ more) p ns
 AreNext-grown es more p [] next = tt
-AreNext-grown es more p (n ∷ ns) next =
-    let size : length (es ++ more) ≡ length es + length more = length-append es more in
-    (record { from = next.0.from; short = next.0.short; greater = next.0.greater; within = omega (arith, next.0.within); few = next.0.few }, AreNext-grown es more (path_after p n) ns next.1)
+AreNext-grown es more p (n ∷ ns) next = grind (arith, common_steps, length-append, AreNext-grown es more (path_after p n) ns next.1)
 
 elements_in-grown : (es more : List Element) (n : Node) → n.start + n.count ≤ length es → elements_in (es ++ more) n ≡ elements_in es n
-elements_in-grown es more n within =
-    let size : length (drop n.start es) ≡ length es - n.start = length-drop n.start es in
-    ap (take n.count) (drop-append-le n.start es more (omega arith)) ∙ take-append-le n.count (drop n.start es) more (omega arith)
+elements_in-grown es more n within = grind (arith, common_steps, length-drop, drop-append-le, take-append-le)
 
 pub entries-grown : (es more : List Element) (p : List ℕ) (ns : List Node) → AreNext es p ns → entries_after (es ++ more) p ns ≡ entries_after es p ns
 entries-grown es more p [] next = refl
-entries-grown es more p (n ∷ ns) next =
-    ap₂ (λ own l. cond (eqb n.count 0) l ((path_after p n, own) ∷ l)) (elements_in-grown es more n next.0.within) (entries-grown es more (path_after p n) ns next.1)
+entries-grown es more p (n ∷ ns) next = grind (arith, common_steps, elements_in-grown, entries-grown es more (path_after p n) ns next.1)
 
 -- the first code points of a path that goes on
 pub path_front : (p : List ℕ) (n : Node) (d : ℕ) → d ≤ n.depth → n.depth ≤ length p → take d (path_after p n) ≡ take d p
-path_front p n d upto from =
-    let size : length (take n.depth p) ≡ n.depth = length-take-le n.depth p from in
-    take-append-le d (take n.depth p) (n.point ∷ []) (omega arith) ∙ take-take d n.depth p upto
+path_front p n d upto from = grind (arith, common_steps, length-take-le, take-append-le, take-take)
 
 pub path_long : (p : List ℕ) (n : Node) → n.depth ≤ length p → length (path_after p n) ≡ n.depth + 1
 path_long p n from = length_push (take n.depth p) n.point ∙ ap (λ m. m + 1) (length-take-le n.depth p from)
@@ -193,9 +178,7 @@ any_later f false e es h = or_right (f e) (list_any f es) h
 
 -- some key begins with the path of the first node
 first_begins : (es : List Element) (p : List ℕ) (n : Node) (ns : List Node) → AreNext es p (n ∷ ns) → AreFull (n ∷ ns) → begins_entry (entries_after es p (n ∷ ns)) (path_after p n) ≡ true
-first_begins es p n [] next full =
-    let q = path_after p n in
-    ap (λ b. begins_entry (cond b [] ((q, elements_in es n) ∷ [])) q) (ne_eqb n.count 0 (omega (arith, full))) ∙ ap (λ b. b || false) (own_front q)
+first_begins es p n [] next full = grind (arith, common_steps, ne_eqb, own_front)
 first_begins es p n (m ∷ ns) next full =
     let q = path_after p n in
     let rest : List (List ℕ × List Element) = entries_after es q (m ∷ ns) in
@@ -219,5 +202,4 @@ pub begins_at : (es : List Element) (p : List ℕ) (ns : List Node) (i : ℕ) �
 begins_at es p [] i next full within = absurd (omega arith)
 begins_at es p (n ∷ ns) zero next full within = first_begins es p n ns next full
 begins_at es p (n ∷ ns) (suc i) next full within =
-    let q = path_after p n in
-    any_later (λ e. is_front (get_or (paths_after q ns) i []) e.0) (eqb n.count 0) (q, elements_in es n) (entries_after es q ns) (begins_at es q ns i next.1 (full_rest n ns full) (omega arith))
+    any_later (λ e. is_front (get_or (paths_after _ ns) i []) e.0) (eqb n.count 0) (_, elements_in es n) (entries_after es _ ns) (begins_at es _ ns i next.1 (full_rest n ns full) (omega arith))

@@ -5,10 +5,10 @@ use Rattle.std.specs.declared.cmp.Ordering.{Ordering}
 use Rattle.std.specs.declared.cmp.Ordering.TheVariants.{Less, Equal, Greater}
 use Rattle.std.specs.Cmp.{tied_itself, nat_cmp_total}
 use Rattle.std.specs.Cmp.Lexicographic.{nat_list_cmp_total}
-use Rattle.std.specs.Ordering.{nat_cmp, is_lt, ordering_then, ordering_reverse}
-use Rattle.std.specs.FinMap.{nat_cmp-IsAntisymmetric}
+use Rattle.std.specs.Ordering.{nat_cmp, is_lt, ordering_then}
 use Rattle.uca_model.specs.Table.{key_cmp}
 use Rattle.uca_keys.specs.Fronts.{is_front}
+use Rattle.std.proofs.lemmas.Grind.{common_steps}
 
 not_less : (o : Ordering) → o ≡ Less → T (is_lt o)
 not_less o e = subst (λ r. T (is_lt r)) (sym e) tt
@@ -26,12 +26,7 @@ chain a b c f g = nat_list_cmp_total.trans a b c f g
 
 -- two code points that differ decide
 apart_first : (x y : ℕ) (o : Ordering) → (x ≡ y → ⊥) → ordering_then (nat_cmp x y) o ≡ Less → nat_cmp x y ≡ Less
-apart_first x y o other h =
-    elim (nat_cmp x y) as (λ r. nat_cmp x y ≡ r → ordering_then r o ≡ Less → r ≡ Less) [
-      | Less ↦ λ is e. refl
-      | Equal ↦ λ is e. absurd (other (nat_cmp-IsAntisymmetric x y is))
-      | Greater ↦ λ is e. absurd (not_less Greater e)
-    ] refl h
+apart_first x y o other h = grind (arith, common_steps, not_less)
 
 pub first_same : (x y : ℕ) (p q : List ℕ) → x ∷ p ≡ y ∷ q → x ≡ y
 first_same x y p q e = ap (λ l. get_or l 0 x) e
@@ -81,12 +76,7 @@ below y x h = ap (λ b. cond b Less (cond (eqb y x) Equal Greater)) (lt-ltb y x 
 
 -- the first code points of keys in order are in order
 pub upto : (x y : ℕ) (o : Ordering) → ordering_then (nat_cmp x y) o ≡ Less → x ≤ y
-upto x y o h = elim (cases_lt y x) [
-  | inl above ↦
-      let turned : nat_cmp x y ≡ Greater = nat_cmp_total.antisymm x y ∙ ap ordering_reverse (below y x above) in
-      absurd (not_less Greater (ap (λ r. ordering_then r o) (sym turned) ∙ h))
-  | inr fine ↦ omega arith
-]
+upto x y o h = grind (arith, common_steps, cases_lt, below, not_less)
 
 between : (x y z : ℕ) (o r : Ordering) → ordering_then (nat_cmp x y) o ≡ Less → ordering_then (nat_cmp y z) r ≡ Less → x ≡ z → y ≡ x
 between x y z o r f g same = let first : x ≤ y = upto x y o f in let second : y ≤ z = upto y z r g in omega arith

@@ -54,6 +54,7 @@ impl<'t> Cursor<'t> {
     }
 
     /// Goes to the next entry, and returns its elements. After the last one it stays where it is.
+    #[tactic(auto, using(std::proofs::lemmas::List::nil_from_length, crate::proofs::NodeLemmas::no_nodes))]
     pub fn advance(&mut self) -> Option<&'t [Element]>
         ensures { MatchOption result
             ((self.old.coming ≡ []) × (self.new ≡ self.old))

@@ -129,6 +129,7 @@ impl Nodes {
     }
 
     /// The last key. It is empty where there is no key.
+    #[tactic(auto, using(crate::proofs::PushLemmas::last_is))]
     pub fn last(&self) -> &[char]
         ensures { result.now ≡ last_key self.now }
     {

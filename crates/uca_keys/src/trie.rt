@@ -201,6 +201,7 @@ impl Trie {
     }
 
     /// The entries by key order: by code points, a proper prefix first.
+    #[tactic(auto, using(crate::proofs::FindLemmas::fewer_entries))]
     pub fn entries(&self) -> Entries<'_>
         ensures value { result ≡ entries_of self.now }
         ensures few { length (entries_of self.now) < 2 ^ 64 }
@@ -351,6 +352,7 @@ impl Trie {
     }
 
     /// The elements of a key. `None`: it is no key.
+    #[tactic(auto, using(crate::proofs::PushLemmas::take_more, crate::proofs::FindLemmas::find_without, crate::proofs::ChildLemmas::taken_front))]
     pub fn get(&self, key: &[char]) -> Option<&[Element]>
         ensures { option_copied result ≡ find key_cmp key.now (entries_of self.now) }
     {
@@ -362,6 +364,7 @@ impl Trie {
     }
 
     /// The elements of a key of one code point. `None`: it is no key. `near` is as for [`Trie::child_near`].
+    #[tactic(auto, using(crate::proofs::FindLemmas::find_without, crate::proofs::ChildLemmas::taken_front))]
     pub fn get_near(&self, point: char, near: &mut usize) -> Option<&[Element]>
         ensures { option_copied result ≡ find key_cmp (point ∷ []) (entries_of self.now) }
     {

@@ -8,6 +8,7 @@ use Rattle.std.specs.List.{prefix_len}
 use lib.Count.{count_trailing_zeros}
 use lib.Lanes.{zip2, mask_l, top, chunk}
 use lib.Seq.{take-take}
+use Rattle.std.proofs.lemmas.Grind.{common_steps}
 
 abbrev pub differ : ℕ → ℕ → Bool
 differ a b = not (eqb a b)
@@ -48,8 +49,7 @@ in-block n xs ys mask few long_x long_y is =
     )
 
 pub length-blocks : (n first second : ℕ) (l : List ℕ) → first + n ≤ length l → second + n ≤ length l → length (chunk first n l ++ chunk second n l) ≡ n + n
-length-blocks n first second l in_first in_second =
-    length-append (chunk first n l) (chunk second n l) ∙ ap₂ (λ x y. x + y) (length-chunk first n l in_first) (length-chunk second n l in_second)
+length-blocks n first second l in_first in_second = grind (arith, common_steps, length-append, length-chunk)
 
 -- a shorter front is the same too
 pub common-fewer : (a b : List ℕ) (more at : ℕ) → at ≤ more → take more a ≡ take more b → take at a ≡ take at b
@@ -79,10 +79,7 @@ back-in-common xs xs' ys ys' k even same =
 -- two texts have in common what their blocks from the place `at` on have, where that ends in the first
 pub common-in-first : (n : ℕ) (a b : List ℕ) (at next k : ℕ) → at + n ≤ length a → at + n ≤ length b → take at a ≡ take at b → k ≤ n
     → take k (chunk at n a ++ chunk next n a) ≡ take k (chunk at n b ++ chunk next n b) → take (at + k) a ≡ take (at + k) b
-common-in-first n a b at next k in_a in_b before few same =
-    let long_a = length-chunk at n a in_a in
-    let long_b = length-chunk at n b in_b in
-    common-more n a b at k before few (front-in-common (chunk at n a) (chunk next n a) (chunk at n b) (chunk next n b) k (long_b ∙ sym long_a) (omega (arith, long_a, few)) same)
+common-in-first n a b at next k in_a in_b before few same = grind (arith, common_steps, length-chunk, common-more, front-in-common)
 
 -- where it ends in the second, which begins within the first or right after it
 pub common-in-second : (n : ℕ) (a b : List ℕ) (at next k end : ℕ) → at + n ≤ length a → at + n ≤ length b → take at a ≡ take at b → next ≤ at + n → n ≤ k → k ≤ n + n → end + n ≡ next + k

@@ -1,5 +1,5 @@
 -- Two texts in step: what one more character, the weight of one more element and the first difference do.
-use Rattle.std.proofs.Common.{◌⊎◌, ◌≡◌, ℕ, suc, ◌+◌, ◌-◌, ◌<◌, ◌≤◌, Bool, true, false, cond, not, ◌&&◌, ◌==◌, nat_lt, nat_eq, List, [], ◌∷◌, ◌++◌, length, drop, slice_index, Option, Some, None, MatchOption, unwrap_or, refl, sym, ap, ap₂, subst, ◌∙◌, arith, inl, inr, append_assoc, length-append, ltb-false, ne_eqb}
+use Rattle.std.proofs.Common.{◌⊎◌, ◌≡◌, ℕ, suc, ◌+◌, ◌-◌, ◌<◌, ◌≤◌, Bool, true, false, cond, not, ◌&&◌, ◌==◌, nat_lt, nat_eq, List, [], ◌∷◌, ◌++◌, length, slice_index, Option, Some, None, MatchOption, unwrap_or, refl, sym, ap, ap₂, subst, ◌∙◌, arith, inl, inr, append_assoc, length-append, ltb-false, ne_eqb}
 use Rattle.std.proofs.lemmas.Bool.{cond-true, cond-false}
 use Rattle.std.specs.Option.{option_map_or}
 use Rattle.uca_weights.specs.declared.element.Element.{Element}
@@ -10,20 +10,19 @@ use Rattle.uca_model.specs.ImplicitWeights.{implicit_over, is_assigned, in_range
 use Rattle.uca_model.proofs.TableLemmas.{IsEntry-elements_at}
 use Rattle.uca_model.specs.CollationElements.{elements_or_implicit}
 use Rattle.uca_model.specs.SafeCut.{is_cut, last_cut, cut_of}
-use Rattle.uca_model.specs.SafeText.{IsSafe}
-use Rattle.uca_weights.specs.declared.settings.Variable.{Variable}
 use Rattle.uca_model.specs.Source.{SourceState, unread, GivesNext, marked}
-use Rattle.uca_model.specs.Window.{WindowState, empty_window, ReadsOn, credit, is_wanting}
+use Rattle.uca_model.specs.Window.{WindowState, ReadsOn, credit, is_wanting}
 use Rattle.uca_model.proofs.LongestKey.{longest-some}
 use Rattle.uca_model.proofs.SafeCutLemmas.{DiffersFirst, common_front-is, last_cut-more}
 use Rattle.uca_match.specs.Yields.{Yields}
 use Rattle.uca_match.specs.RemainingElements.{ElementsState, is_asking, yielded_held, after_held, first_of, elements_held, window_held}
 use Rattle.uca_match.specs.WindowMatch.{key_held}
-use Rattle.uca_levels.specs.RemainingWeights.{WeightsState, new_weights, remaining_with_zeros, window_of_weights, weight_given, weigher_given, read_weights, WeighsHeld}
+use Rattle.uca_levels.specs.RemainingWeights.{WeightsState, remaining_with_zeros, window_of_weights, weight_given, weigher_given, read_weights, WeighsHeld}
 use Rattle.uca_levels.specs.FirstWeight.{PartAt, going_on}
 use Rattle.uca_levels.specs.Reads.{InStep, ReadsUp}
 use Rattle.uca_levels.specs.InCommon.{PassUnderWay, InCommon, Parted, ReadsOnce, work_left}
-use Rattle.uca_levels.proofs.ReadsLemmas.{InStep-start, InStep-more, given_some}
+use Rattle.uca_levels.proofs.ReadsLemmas.{InStep-more, given_some}
+use Rattle.std.proofs.lemmas.Grind.{common_steps}
 
 pub UnderWay-more : (was before now : SourceState) (w new : WindowState) → PassUnderWay was w before → ReadsOn w before new now → PassUnderWay was new now
 UnderWay-more was before now w new h t = record { text = t.text ∙ h.text; fits = t.fits; reads = omega (arith, h.reads, t.reads); rewinds = t.rewinds ∙ h.rewinds }
@@ -247,44 +246,12 @@ module _ (t : ElementTable) (was wus : SourceState) (xs ys : List ℕ) (left rig
 -- both were read on, by what the code names
 pub ReadsBoth-char : (left right : WeightsState) (a b : SourceState) (x y : Option ℕ) (c : ℕ) (now_left now_right : WeightsState) (now_a now_b : SourceState) → ReadsBoth left right a b x y now_left now_right now_a now_b → x ≡ Some c → x ≡ y
     → ReadsBoth left right a b (Some c) (Some c) now_left now_right now_a now_b
-ReadsBoth-char left right a b x y c now_left now_right now_a now_b r e f =
-    subst (λ u. ReadsBoth left right a b u (Some c) now_left now_right now_a now_b) e
-    (subst (λ u. ReadsBoth left right a b x u now_left now_right now_a now_b) (sym f ∙ e) r)
+ReadsBoth-char left right a b x y c now_left now_right now_a now_b r e f = grind (arith, common_steps)
 
 pub work-fewer : (left now : WeightsState) (a now_a : SourceState) → credit now.elements.window (unread now_a) < credit left.elements.window (unread a) → remaining_with_zeros now (unread now_a) ≡ remaining_with_zeros left (unread a) → work_left now now_a < work_left left a
 work-fewer left now a now_a fewer same = omega (arith, fewer, ap length same)
 
 -- ---- the start, and the end
-
-pub InCommon-start : (t : ElementTable) (v : Variable) (was wus : SourceState) (left right : WeightsState) → was.place ≡ 0 → wus.place ≡ 0 → IsSafe was.text → IsSafe wus.text → left ≡ new_weights t v 1 → right ≡ new_weights t v 1
-    → InCommon t was wus (remaining_with_zeros (new_weights t v 1) was.text) (remaining_with_zeros (new_weights t v 1) wus.text) left right false was wus
-InCommon-start t v was wus left right at_a at_b safe_a safe_b l r =
-    let whole_a : unread was ≡ was.text = ap (λ n. drop n was.text) at_a in
-    let whole_b : unread wus ≡ wus.text = ap (λ n. drop n wus.text) at_b in
-    record {
-      same = l ∙ sym r;
-      level = ap (λ (w : WeightsState). w.level) l;
-      table = ap (λ (w : WeightsState). w.elements.table) l;
-      size = ap (λ (w : WeightsState). w.elements.window.longest) l;
-      running = ap (λ (w : WeightsState). w.elements.window.ended) l;
-      front = [];
-      first = sym whole_a;
-      second = sym whole_b;
-      place_a = at_a;
-      place_b = at_b;
-      marks = record { none = λ _. refl; first = λ e. cc; second = λ e. cc };
-      reads_a = subst (λ (w : WeightsState). PassUnderWay was w.elements.window was) (sym l) (starts was whole_a safe_a);
-      reads_b = subst (λ (w : WeightsState). PassUnderWay wus w.elements.window wus) (sym r) (starts wus whole_b safe_b);
-      lists = InStep-start _ _ _ _ (ap₂ remaining_with_zeros l whole_a) (ap₂ remaining_with_zeros r whole_b);
-    }
-  where
-    starts : (s : SourceState) → unread s ≡ s.text → IsSafe s.text → PassUnderWay s (empty_window (longest t)) s
-    starts s whole safe = record {
-      text = refl;
-      fits = record { safe = subst IsSafe (sym whole) safe; ended = λ e. cc };
-      reads = omega (arith, ap length whole);
-      rewinds = refl;
-    }
 
 pub ReadsOnce-up : (was a after : SourceState) (w : WindowState) → PassUnderWay was w a → ReadsUp w a after → ReadsOnce was after
 ReadsOnce-up was a after w h r = record { text = r.text ∙ h.text; reads = omega (arith, h.reads, r.reads); rewinds = r.rewinds ∙ h.rewinds }

@@ -22,13 +22,13 @@ use Rattle.uca_levels.specs.RemainingWeights.{WeightsState, remaining_with_zeros
 use Rattle.uca_levels.specs.Reads.{InStep, ReadsRest, ReadsTimes}
 use Rattle.uca_levels.specs.FromCut.{ReadsFromCut, Undecided, goes_back}
 use Rattle.uca_levels.proofs.ReadsLemmas.{InStep-orders, new_weights-remaining, orders-text}
+use Rattle.std.proofs.lemmas.Grind.{common_steps}
 
 -- ---- the order of the first level
 
 -- the lists without their zeros
 InStep-filter : (p : ℕ → Bool) (xs ys l r : List ℕ) → InStep xs ys l r → InStep (filter p xs) (filter p ys) (filter p l) (filter p r)
-InStep-filter p xs ys l r h =
-    record { front = filter p h.front; first = ap (filter p) h.first ∙ filter-append p h.front l; second = ap (filter p) h.second ∙ filter-append p h.front r }
+InStep-filter p xs ys l r h = grind (arith, common_steps, filter-append)
 
 pub Parted-orders : (t : ElementTable) (v : Variable) (was wus : SourceState) (left right : WeightsState) (flag : Bool) (a b : SourceState) (o : Ordering)
     → Parted t was wus (remaining_with_zeros (new_weights t v 1) was.text) (remaining_with_zeros (new_weights t v 1) wus.text) left right flag a b
@@ -79,12 +79,7 @@ safe-cut_b t a b safe = let inside = common_front-first a b in safe-after t b (c
 -- ---- level after level
 
 pub undecided-first : (t : ElementTable) (s : Settings) (a b : List ℕ) → Undecided t s a b 1
-undecided-first t s a b = record {
-  order = λ _. ap₂ key_order (sort_key-levels t s a) (sort_key-levels t s b);
-  deciding = λ _. refl;
-  same = λ none. absurd (let some : 1 ≤ levels s.strength = (levels-within s.strength).0 in omega arith);
-  last = λ none. absurd (let some : 1 ≤ levels s.strength = (levels-within s.strength).0 in omega arith);
-}
+undecided-first t s a b = grind (arith, common_steps, sort_key-levels, levels-within)
 
 module _ (t : ElementTable) (s : Settings) (a b : List ℕ) (level : ℕ) (o : Ordering) (h : Undecided t s a b level) (inside : level ≤ levels s.strength) (orders : OrdersLevel level (level_list t s.weighting a level) (level_list t s.weighting b level) o) where
   -- the level leaves the order to the next one
@@ -92,22 +87,17 @@ module _ (t : ElementTable) (s : Settings) (a b : List ℕ) (level : ℕ) (o : O
   undecided-next equal =
       let la = level_list t s.weighting a in
       let lb = level_list t s.weighting b in
-      let top : ℕ = levels s.strength in
-      let within : top ≤ 5 = (levels-within s.strength).1 in
+      let within : _ ≤ 5 = (levels-within s.strength).1 in
       record {
-        order = λ more. (let some : top - level ≡ suc (top - (level + 1)) = omega arith in h.order inside ∙ ap (λ n. key_order (key_from n level la) (key_from n level lb)) some ∙ key_from-next (top - (level + 1)) level la lb o orders (omega (arith, some)) equal);
-        deciding = λ more. (let some : top - level ≡ suc (top - (level + 1)) = omega arith in h.deciding inside ∙ ap (λ n. deciding_from n level la lb) some ∙ deciding-next (top - (level + 1)) level la lb o orders.list equal);
-        same = λ past. (let none : top - level ≡ 0 = omega arith in h.order inside ∙ ap (λ n. key_order (key_from n level la) (key_from n level lb)) none ∙ key_from-last level la lb o orders ∙ equal);
-        last = λ past. (let none : top - level ≡ 0 = omega arith in let at : level ≡ top = omega arith in h.deciding inside ∙ deciding-last (top - level) level la lb none ∙ at);
+        order = λ more. (let some : _ - level ≡ suc (_ - (level + 1)) = omega arith in h.order inside ∙ ap (λ n. key_order (key_from n level la) (key_from n level lb)) some ∙ key_from-next (_ - (level + 1)) level la lb o orders (omega (arith, some)) equal);
+        deciding = λ more. (let some : _ - level ≡ suc (_ - (level + 1)) = omega arith in h.deciding inside ∙ ap (λ n. deciding_from n level la lb) some ∙ deciding-next (_ - (level + 1)) level la lb o orders.list equal);
+        same = λ past. (let none : _ - level ≡ 0 = omega arith in h.order inside ∙ ap (λ n. key_order (key_from n level la) (key_from n level lb)) none ∙ key_from-last level la lb o orders ∙ equal);
+        last = λ past. (let none : _ - level ≡ 0 = omega arith in let at : level ≡ _ = omega arith in h.deciding inside ∙ deciding-last (_ - level) level la lb none ∙ at);
       }
 
   -- the level decides
   pub decided-here : (o ≡ Equal → ⊥) → (key_order (sort_key t s a) (sort_key t s b) ≡ o) × (deciding_level t s a b ≡ level)
-  decided-here other =
-      let la = level_list t s.weighting a in
-      let lb = level_list t s.weighting b in
-      let within : levels s.strength ≤ 5 = (levels-within s.strength).1 in
-      (h.order inside ∙ key_from-here (levels s.strength - level) level la lb o orders (omega arith) other, h.deciding inside ∙ deciding-here (levels s.strength - level) level la lb o orders.list other)
+  decided-here other = grind (arith, common_steps, levels-within, key_from-here, deciding-here)
 
 -- ---- marks and ways back
 
@@ -137,27 +127,13 @@ back-unread flag m was s new e none some text = ap unread e ∙ ap₂ drop (back
 -- ---- counts
 
 pub FromCut-once : (m : ℕ) (was start after : SourceState) → start ≡ restarted was → ReadsOnce start after → ReadsFromCut 1 m was after
-FromCut-once m was start after e h = record {
-  text = h.text ∙ ap (λ (s : SourceState). s.text) e;
-  reads = omega (arith, h.reads, ap (λ (s : SourceState). s.reads) e, ap (λ (s : SourceState). length s.text) e);
-  rewinds = omega (arith, h.rewinds, ap (λ (s : SourceState). s.rewinds) e);
-}
+FromCut-once m was start after e h = grind (arith, common_steps)
 
 one_time_more : (n k : ℕ) → (n + 1) * k ≡ n * k + k
 one_time_more n k = grind arith
 
 pub FromCut-more : (flag : Bool) (m level : ℕ) (was s start after : SourceState) → ReadsFromCut (level - 1) m was s → 2 ≤ level → start ≡ goes_back flag s → unread start ≡ drop m was.text → ReadsRest start after → ReadsFromCut level m was after
-FromCut-more flag m level was s start after h low e left reads =
-    let k : ℕ = length was.text - m + 1 in
-    let times : level - 1 ≡ (level - 1 - 1) + 1 = omega arith in
-    let more : (level - 1) * k ≡ (level - 1 - 1) * k + k = ap (λ n. n * k) times ∙ one_time_more (level - 1 - 1) k in
-    let size : length (unread start) ≡ length was.text - m = ap length left ∙ length-drop m was.text in
-    let counts = back-counts flag s in
-    record {
-      text = reads.text ∙ ap (λ (v : SourceState). v.text) e ∙ back-text flag s ∙ h.text;
-      reads = omega (arith, h.reads, more, size, reads.reads, ap (λ (v : SourceState). v.reads) e, counts.0);
-      rewinds = omega (arith, h.rewinds, reads.rewinds, ap (λ (v : SourceState). v.rewinds) e, counts.1, low);
-    }
+FromCut-more flag m level was s start after h low e left reads = grind (arith, common_steps, one_time_more, length-drop, back-counts, back-text)
 
 mul-le : (n x y : ℕ) → x ≤ y → n * x ≤ n * y
 mul-le zero x y h = omega arith
@@ -165,12 +141,7 @@ mul-le (suc n) x y h = omega (arith, mul-le n x y h)
 
 -- as often as ever
 pub FromCut-times : (d m : ℕ) (old new : SourceState) → 1 ≤ d → ReadsFromCut d m old new → ReadsTimes d old new
-FromCut-times d m old new low h =
-    let n : ℕ = length old.text in
-    let less : (d - 1) * (n - m + 1) ≤ (d - 1) * (n + 1) = mul-le (d - 1) (n - m + 1) (n + 1) (omega arith) in
-    let times : d ≡ (d - 1) + 1 = omega arith in
-    let whole : d * (n + 1) ≡ (d - 1) * (n + 1) + (n + 1) = ap (λ k. k * (n + 1)) times ∙ one_time_more (d - 1) (n + 1) in
-    record { text = h.text; reads = omega (arith, h.reads, less, whole); rewinds = h.rewinds }
+FromCut-times d m old new low h = grind (arith, common_steps, mul-le, one_time_more)
 
 -- ---- one level
 
@@ -189,14 +160,13 @@ pub level-read : (t : ElementTable) (s : Settings) (was wus : SourceState) (flag
     → OrdersLevel level (level_list t s.weighting (unread start_a) level) (level_list t s.weighting (unread start_b) level) o
     → ReadsRest start_a new_a → ReadsRest start_b new_b → LevelRead t s was wus flag level o new_a new_b
 level-read t s was wus flag level o a b start_a start_b new_a new_b valid low marks old_a old_b back_a back_b orders read_a read_b =
-    let m : ℕ = cut_of t was.text wus.text in
-    let left_a : unread start_a ≡ drop m was.text = back-unread flag m was a start_a back_a marks.none marks.first old_a.text in
-    let left_b : unread start_b ≡ drop m wus.text = back-unread flag m wus b start_b back_b marks.none marks.second old_b.text in
+    let left_a : unread start_a ≡ drop _ was.text = back-unread flag _ was a start_a back_a marks.none marks.first old_a.text in
+    let left_b : unread start_b ≡ drop _ wus.text = back-unread flag _ wus b start_b back_b marks.none marks.second old_b.text in
     record {
-      orders = orders-cut t s.weighting was.text wus.text level o valid (orders-text t s.weighting level (drop m was.text) (drop m wus.text) _ _ o left_a left_b orders);
-      reads_a = FromCut-more flag m level was a start_a new_a old_a low back_a left_a read_a;
-      reads_b = FromCut-more flag m level wus b start_b new_b old_b low back_b left_b read_b;
-      marks = marks-stay flag m a b new_a new_b marks (read_a.mark ∙ ap (λ (v : SourceState). v.mark) back_a ∙ back-mark flag a) (read_b.mark ∙ ap (λ (v : SourceState). v.mark) back_b ∙ back-mark flag b);
+      orders = orders-cut t s.weighting was.text wus.text level o valid (orders-text t s.weighting level (drop _ was.text) (drop _ wus.text) _ _ o left_a left_b orders);
+      reads_a = FromCut-more flag _ level was a start_a new_a old_a low back_a left_a read_a;
+      reads_b = FromCut-more flag _ level wus b start_b new_b old_b low back_b left_b read_b;
+      marks = marks-stay flag _ a b new_a new_b marks (read_a.mark ∙ ap (λ (v : SourceState). v.mark) back_a ∙ back-mark flag a) (read_b.mark ∙ ap (λ (v : SourceState). v.mark) back_b ∙ back-mark flag b);
     }
 
 -- the order of two texts that a level decided, and how often they were read for it
@@ -211,9 +181,8 @@ pub level-decides : (t : ElementTable) (s : Settings) (was wus : SourceState) (f
     → LevelRead t s was wus flag level o a b → Undecided t s was.text wus.text level → 1 ≤ level → level ≤ levels s.strength → (o ≡ Equal → ⊥) → Decided t s was wus o a b
 level-decides t s was wus flag level o a b h undecided low inside other =
     let m : ℕ = cut_of t was.text wus.text in
-    let d : ℕ = deciding_level t s was.text wus.text in
     let decided = decided-here t s was.text wus.text level o undecided inside h.orders other in
-    let some : 1 ≤ d = omega (arith, decided.1, low) in
-    let from_a : ReadsFromCut d m was a = subst (λ n. ReadsFromCut n m was a) (sym decided.1) h.reads_a in
-    let from_b : ReadsFromCut d m wus b = subst (λ n. ReadsFromCut n m wus b) (sym decided.1) h.reads_b in
-    record { order = sym decided.0; reads_a = FromCut-times d m was a some from_a; reads_b = FromCut-times d m wus b some from_b; cut_a = from_a; cut_b = from_b }
+    let some : 1 ≤ _ = omega (arith, decided.1, low) in
+    let from_a : ReadsFromCut _ m was a = subst (λ n. ReadsFromCut n m was a) (sym decided.1) h.reads_a in
+    let from_b : ReadsFromCut _ m wus b = subst (λ n. ReadsFromCut n m wus b) (sym decided.1) h.reads_b in
+    record { order = sym decided.0; reads_a = FromCut-times _ m was a some from_a; reads_b = FromCut-times _ m wus b some from_b; cut_a = from_a; cut_b = from_b }

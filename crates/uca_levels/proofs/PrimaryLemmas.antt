@@ -40,11 +40,10 @@ in-step-apart t v a b x y xs ys h lists =
             second = lists.second ∙ ap (λ l. lists.front ++ level_list t v l 1) (h.second ∙ ap (λ f. f ++ y) none);
           }
       | inr both ↦
-          let passed = level_list t v h.front 1 in
           record {
-            front = lists.front ++ passed;
-            first = lists.first ∙ ap (λ l. lists.front ++ l) (ap (λ l. level_list t v l 1) h.first ∙ lists-apart t v h.front x both.0) ∙ sym (append_assoc lists.front passed (level_list t v x 1));
-            second = lists.second ∙ ap (λ l. lists.front ++ l) (ap (λ l. level_list t v l 1) h.second ∙ lists-apart t v h.front y both.1) ∙ sym (append_assoc lists.front passed (level_list t v y 1));
+            front = lists.front ++ _;
+            first = lists.first ∙ ap (λ l. lists.front ++ l) (ap (λ l. level_list t v l 1) h.first ∙ lists-apart t v h.front x both.0) ∙ sym (append_assoc lists.front _ (level_list t v x 1));
+            second = lists.second ∙ ap (λ l. lists.front ++ l) (ap (λ l. level_list t v l 1) h.second ∙ lists-apart t v h.front y both.1) ∙ sym (append_assoc lists.front _ (level_list t v y 1));
           }
     ]
 

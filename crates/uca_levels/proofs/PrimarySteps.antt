@@ -1,6 +1,5 @@
 -- The primary weights of a text, character after character.
-use Rattle.std.proofs.Common.{◌≡◌, ℕ, Bool, true, false, cond, not, ◌==◌, List, [], ◌∷◌, ◌++◌, drop, map, filter, slice_index, ne_eqb, refl, sym, ap, ap₂, ◌∙◌, arith}
-use Rattle.std.proofs.lemmas.Grind.{common_steps}
+use Rattle.std.proofs.Common.{◌≡◌, ℕ, Bool, true, false, cond, not, ◌==◌, List, [], ◌∷◌, ◌++◌, drop, map, filter, ne_eqb, refl, sym, ap, ap₂, ◌∙◌}
 use Rattle.std.specs.List.{list_all}
 use Rattle.std.proofs.lemmas.Bool.{and_parts, cond-true, cond-false}
 use Rattle.unicode_normalization.specs.Forms.{nfd}
@@ -8,7 +7,7 @@ use Rattle.uca_weights.specs.declared.element.Element.{Element}
 use Rattle.uca_weights.specs.declared.settings.Variable.{Variable}
 use Rattle.uca_weights.specs.declared.settings.Variable.TheVariants.{NonIgnorable, Blanked, Shifted}
 use Rattle.uca_weights.specs.Element.{is_variable}
-use Rattle.uca_weights.specs.VariableWeighting.{is_after_variable, weighted, weighted_after, weights}
+use Rattle.uca_weights.specs.VariableWeighting.{weighted}
 use Rattle.uca_model.specs.CollationElements.{elements}
 use Rattle.uca_model.specs.LevelWeights.{level_list, level_weights}
 use Rattle.uca_model.specs.Table.{ElementTable}
@@ -17,22 +16,14 @@ use Rattle.uca_table.specs.Lead.{IsLead}
 use Rattle.uca_levels.specs.Primaries.{primary_of}
 use Rattle.uca_levels.specs.Streams.{weight_before}
 
--- what comes before an element does not change its primary weight
-primary-is : (v : Variable) (after : Bool) (e : Element) → slice_index (weights v after e) 0 ≡ primary_of v e
-primary-is NonIgnorable after e = refl
-primary-is Blanked after e = grind (arith, common_steps)
-primary-is Shifted after e = grind (arith, common_steps)
-
 -- the primary weights of elements that are not zero
 abbrev pub primaries : Variable → List Element → List ℕ
 primaries v es = filter (λ w. not (w == 0)) (map (primary_of v) es)
 
-primaries-after : (v : Variable) (before es : List Element) → map (λ w. slice_index w 0) (weighted_after v before es) ≡ map (primary_of v) es
-primaries-after v before [] = refl
-primaries-after v before (e ∷ es) = ap₂ (λ w ws. w ∷ ws) (primary-is v (is_after_variable before) e) (primaries-after v (before ++ e ∷ []) es)
-
 pub primaries-are : (v : Variable) (es : List Element) → level_weights 1 (weighted v es) ≡ primaries v es
-primaries-are v es = ap (filter (λ w. not (w == 0))) (primaries-after v [] es)
+primaries-are NonIgnorable es = first_level-is NonIgnorable es
+primaries-are Blanked es = first_level-is Blanked es
+primaries-are Shifted es = first_level-is Shifted es
 
 -- those of two lists, one after the other
 pub primaries-both : (v : Variable) (xs ys : List Element) → level_weights 1 (weighted v (xs ++ ys)) ≡ level_weights 1 (weighted v xs) ++ level_weights 1 (weighted v ys)

@@ -1,28 +1,24 @@
 -- Remaining weights, how often texts are read, and texts that are read in step.
-use Rattle.std.proofs.Common.{◌≡◌, ℕ, ◌≤◌, true, false, not, ◌==◌, List, [], ◌∷◌, ◌++◌, filter, Option, Some, None, IfSome, refl, sym, ap, subst, ◌∙◌, arith, append_assoc, eq-eqb, ne_eqb}
-use Rattle.std.proofs.lemmas.Bool.{cond-true, cond-false}
+use Rattle.std.proofs.Common.{◌≡◌, ℕ, ◌≤◌, true, false, List, [], ◌∷◌, ◌++◌, Option, Some, None, IfSome, refl, sym, ap, subst, ◌∙◌, arith, append_assoc, ne_eqb}
+use Rattle.std.proofs.lemmas.Bool.{cond-false}
 use Rattle.std.specs.declared.cmp.Ordering.{Ordering}
 use Rattle.std.specs.declared.cmp.Ordering.TheVariants.{Less, Equal, Greater}
 use Rattle.std.specs.Ordering.{is_ne}
 use Rattle.uca_weights.specs.declared.settings.Variable.{Variable}
-use Rattle.unicode_normalization.specs.Forms.{nfd}
-use Rattle.uca_model.specs.SafeText.{IsSafe}
 use Rattle.uca_model.specs.Table.{ElementTable, longest}
 use Rattle.uca_model.specs.CollationElements.{elements}
-use Rattle.uca_model.specs.LevelWeights.{level_weights, level_list}
+use Rattle.uca_model.specs.LevelWeights.{level_list}
 use Rattle.uca_model.specs.DecidingLevel.{OrdersLevel}
 use Rattle.uca_model.proofs.LevelLemmas.{OrdersLevel-front}
 use Rattle.uca_model.specs.Source.{SourceState, unread}
-use Rattle.uca_model.specs.Window.{WindowState, empty_window, Fits, ReadsOn}
-use Rattle.uca_match.specs.Yields.{Yields, YieldsFirst}
-use Rattle.uca_levels.specs.RemainingWeights.{WeightsState, new_weights, remaining_with_zeros, remaining_weights, window_of_weights}
+use Rattle.uca_model.specs.Window.{WindowState, ReadsOn}
+use Rattle.uca_match.specs.Yields.{YieldsFirst}
+use Rattle.uca_levels.specs.RemainingWeights.{WeightsState, new_weights, remaining_weights}
 use Rattle.uca_weights.proofs.WeighingLemmas.{weighted-from}
 use Rattle.uca_levels.specs.Reads.{RestUnderWay, InStep}
+use Rattle.std.proofs.lemmas.Grind.{common_steps}
 
 -- ---- weights that are not zero
-
-pub ReadsOn-none : (w : WindowState) (s : SourceState) → Fits w (unread s) → ReadsOn w s w s
-ReadsOn-none w s fits = record { text = refl; mark = refl; fits = fits; longest = refl; reads = omega arith; rewinds = refl }
 
 pub ReadsOn-more : (w v u : WindowState) (s t r : SourceState) → ReadsOn w s v t → ReadsOn v t u r → ReadsOn w s u r
 ReadsOn-more w v u s t r h k = record { text = k.text ∙ h.text; mark = k.mark ∙ h.mark; fits = k.fits; longest = k.longest ∙ h.longest; reads = omega (arith, h.reads, k.reads); rewinds = k.rewinds ∙ h.rewinds }
@@ -32,52 +28,16 @@ pub record Passes (old : WeightsState) (before : SourceState) (new : WeightsStat
   pub reads : ReadsOn old.elements.window before new.elements.window now
   pub same : remaining_weights old (unread before) ≡ remaining_weights new (unread now)
 
-pub Passes-none : (w : WeightsState) (s : SourceState) → Fits w.elements.window (unread s) → Passes w s w s
-Passes-none w s fits = record { reads = ReadsOn-none w.elements.window s fits; same = refl }
-
-module _ (old mid new : WeightsState) (before then now : SourceState) (p : Passes old before mid then) where
-  pub Passes-zero : (weight : ℕ) → Yields remaining_with_zeros window_of_weights mid then (Some weight) new now → weight ≡ 0 → Passes old before new now
-  Passes-zero weight h zero_is =
-      record {
-        reads = ReadsOn-more _ _ _ before then now p.reads h.reads;
-        same = p.same ∙ ap (filter (λ weight. not (weight == 0))) h.first ∙ cond-false (not (weight == 0)) _ _ (ap not (eq-eqb weight 0 zero_is));
-      }
-
-  pub Passes-some : (weight : ℕ) → Yields remaining_with_zeros window_of_weights mid then (Some weight) new now → (weight ≡ 0 → ⊥) → Yields remaining_weights window_of_weights old before (Some weight) new now
-  Passes-some weight h other =
-      record {
-        reads = ReadsOn-more _ _ _ before then now p.reads h.reads;
-        first = p.same ∙ ap (filter (λ weight. not (weight == 0))) h.first ∙ cond-true (not (weight == 0)) _ _ (ap not (ne_eqb weight 0 other));
-      }
-
-  pub Passes-end : Yields remaining_with_zeros window_of_weights mid then None new now → Yields remaining_weights window_of_weights old before None new now
-  Passes-end h =
-      record {
-        reads = ReadsOn-more _ _ _ before then now p.reads h.reads;
-        first = (p.same ∙ ap (filter (λ weight. not (weight == 0))) h.first.0, ap (filter (λ weight. not (weight == 0))) h.first.1);
-      }
-
 -- what remains when nothing was read is the list of the level
 pub new_weights-remaining : (t : ElementTable) (v : Variable) (level : ℕ) (left : List ℕ) → level ≤ 4 → remaining_weights (new_weights t v level) left ≡ level_list t v left level
-new_weights-remaining t v level left low =
-    ap (level_weights level) (sym (weighted-from v (elements t (nfd left)))) ∙ sym (cond-false (level == 5) _ _ (ne_eqb level 5 (λ five. absurd (omega arith))))
+new_weights-remaining t v level left low = grind (arith, common_steps, weighted-from, cond-false, ne_eqb)
 
 -- ---- one pass
 
-empty-under_way : (old : SourceState) (longest : ℕ) → IsSafe (unread old) → RestUnderWay old (empty_window longest) old
-empty-under_way old longest safe = record { text = refl; mark = refl; fits = record { safe = safe; ended = λ e. cc }; reads = omega arith; rewinds = refl }
-
-pub RestUnderWay-start : (old : SourceState) (w : WindowState) (longest : ℕ) → IsSafe (unread old) → w ≡ empty_window longest → RestUnderWay old w old
-RestUnderWay-start old w longest safe new = subst (λ v. RestUnderWay old v old) (sym new) (empty-under_way old longest safe)
-
 pub RestUnderWay-more : (old before now : SourceState) (w new : WindowState) → RestUnderWay old w before → ReadsOn w before new now → RestUnderWay old new now
-RestUnderWay-more old before now w new h t =
-    record { text = t.text ∙ h.text; mark = t.mark ∙ h.mark; fits = t.fits; reads = omega (arith, h.reads, t.reads); rewinds = t.rewinds ∙ h.rewinds }
+RestUnderWay-more old before now w new h t = grind (arith, common_steps)
 
 -- ---- two texts in step
-
-pub InStep-start : (xs ys left right : List ℕ) → left ≡ xs → right ≡ ys → InStep xs ys left right
-InStep-start xs ys left right a b = record { front = []; first = sym a; second = sym b }
 
 pub InStep-more : (xs ys left right : List ℕ) (x y : ℕ) (later other : List ℕ) → InStep xs ys left right → left ≡ x ∷ later → right ≡ y ∷ other → x ≡ y → InStep xs ys later other
 InStep-more xs ys left right x y later other h a b e =
@@ -106,8 +66,7 @@ if_some P o x h e = let Q : Option _ → Type 0 = λ r. IfSome r P in subst Q e 
 
 -- the texts stay while their sources are read
 pub orders-text : (t : ElementTable) (v : Variable) (level : ℕ) (a b ta tb : List ℕ) (o : Ordering) → ta ≡ a → tb ≡ b → OrdersLevel level (level_list t v ta level) (level_list t v tb level) o → OrdersLevel level (level_list t v a level) (level_list t v b level) o
-orders-text t v level a b ta tb o x y h =
-    subst (λ u. OrdersLevel level (level_list t v u level) (level_list t v b level) o) x (subst (λ u. OrdersLevel level (level_list t v ta level) (level_list t v u level) o) y h)
+orders-text t v level a b ta tb o x y h = grind (arith, common_steps)
 
 pub from_ne : (o : Ordering) → is_ne o ≡ true → o ≡ Equal → ⊥
 from_ne Less h e = cc

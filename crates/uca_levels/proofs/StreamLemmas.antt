@@ -1,12 +1,12 @@
 -- Streams of weights, weight after weight.
-use Rattle.std.proofs.Common.{◌≡◌, ℕ, ◌≤◌, ◌<◌, ◌^◌, List, ◌++◌, length, Option, Some, None, IfSome, refl, sym, ap, subst, ◌∙◌, arith}
+use Rattle.std.proofs.Common.{◌≡◌, ℕ, ◌≤◌, ◌<◌, ◌^◌, List, Option, Some, None, IfSome, refl, subst, arith}
 use Rattle.std.specs.declared.cmp.Ordering.{Ordering}
 use Rattle.uca_model.specs.DecidingLevel.{OrdersLevel}
 use Rattle.uca_match.specs.Yields.{YieldsFirst}
 use Rattle.uca_levels.specs.Decides.{Decides, IsOfLevel, SameNumber}
 use Rattle.uca_levels.specs.Reads.{InStep}
-use Rattle.uca_levels.specs.Streams.{given_before}
 use Rattle.uca_levels.proofs.ReadsLemmas.{InStep-more, InStep-orders, given_some}
+use Rattle.std.proofs.lemmas.Grind.{common_steps}
 
 -- the next numbers decide the whole lists
 pub decides-whole : (level : ℕ) (x y u w : Option ℕ) (o : Ordering) (xs ys left right later other : List ℕ) → Decides u w o → u ≡ x → w ≡ y → level ≤ 5 → IfSome x (IsOfLevel level) → IfSome y (IsOfLevel level)
@@ -17,16 +17,7 @@ decides-whole level x y u w o xs ys left right later other decides same_x same_y
 
 -- the same number goes to what both have in common
 pub same-more : (x y u w : Option ℕ) (xs ys left right later other : List ℕ) → SameNumber u w → u ≡ x → w ≡ y → InStep xs ys left right → YieldsFirst left x later → YieldsFirst right y other → InStep xs ys later other
-same-more x y u w xs ys left right later other same same_x same_y lists first second =
-    InStep-more xs ys left right same.number same.number later other lists (given_some left later x same.number first (sym same_x ∙ same.first)) (given_some right other y same.number second (sym same_y ∙ same.second)) refl
-
-pub same-fewer : (x u w : Option ℕ) (left later : List ℕ) → SameNumber u w → u ≡ x → YieldsFirst left x later → length later < length left
-same-fewer x u w left later same same_x first = omega (arith, ap length (given_some left later x same.number first (sym same_x ∙ same.first)))
-
--- what the first gave comes before what it has left
-pub given-on : (xs ys left right later : List ℕ) (x : Option ℕ) → InStep xs ys left right → YieldsFirst left x later → InStep xs ys (given_before x later) right
-given-on xs ys left right later None lists first = record { front = lists.front; first = lists.first ∙ ap (λ l. lists.front ++ l) (first.0 ∙ sym first.1); second = lists.second }
-given-on xs ys left right later (Some w) lists first = record { front = lists.front; first = lists.first ∙ ap (λ l. lists.front ++ l) first; second = lists.second }
+same-more x y u w xs ys left right later other same same_x same_y lists first second = grind (arith, common_steps, InStep-more, given_some)
 
 pub of-weight : (level : ℕ) (x : Option ℕ) → IfSome x (λ weight. (0 < weight) × (weight < 2 ^ 16)) → IfSome x (IsOfLevel level)
 of-weight level None h = h

@@ -1,5 +1,5 @@
 -- Two texts without a common front have the order of the whole texts.
-use Rattle.std.proofs.Common.{◌≡◌, ℕ, zero, suc, ◌+◌, ◌-◌, ◌≤◌, Bool, ◌&&◌, ◌==◌, List, [], ◌∷◌, ◌++◌, All, length, take, drop, chars, IsUtf8, refl, sym, ap, ap₂, subst, ◌∙◌, arith, inl, inr, append-nil}
+use Rattle.std.proofs.Common.{◌≡◌, ℕ, zero, suc, ◌+◌, ◌≤◌, Bool, ◌&&◌, List, [], ◌∷◌, ◌++◌, All, length, take, drop, chars, IsUtf8, refl, sym, ap, ap₂, subst, ◌∙◌, arith, inl, inr, append-nil}
 use Rattle.std.proofs.lemmas.Bool.{cases_Bool, cond-true, cond-false}
 use Rattle.std.proofs.lemmas.List.Sums.{AllPass-from_list_all}
 use Rattle.std.proofs.lemmas.List.{length-take}
@@ -9,7 +9,6 @@ use Rattle.std.proofs.Math.Seq.{drop-append_seam}
 use Rattle.std.specs.Char.{IsScalar}
 use Rattle.std.specs.List.{list_all}
 use Rattle.std.specs.Str.{IsCharBoundary}
-use Rattle.std.specs.Ordering.{ordering_then}
 use Rattle.std.specs.declared.cmp.Ordering.{Ordering}
 use Rattle.std.specs.declared.cmp.Ordering.TheVariants.{Equal}
 use lib.Utf8.{scalar, scalars}
@@ -17,9 +16,8 @@ use Rattle.unicode_normalization.proofs.OrderLemmas.{canonical_order-nil}
 use Rattle.uca_weights.specs.declared.settings.Settings.{Settings}
 use Rattle.uca_weights.specs.declared.settings.Variable.{Variable}
 use Rattle.uca_weights.specs.Settings.{levels}
-use Rattle.uca_weights.specs.VariableWeighting.{weighted}
 use Rattle.uca_model.specs.Table.{ElementTable, IsTable}
-use Rattle.uca_model.specs.LevelWeights.{level_weights, level_list}
+use Rattle.uca_model.specs.LevelWeights.{level_list}
 use Rattle.uca_model.specs.DecidingLevel.{OrdersLevel, key_from, list_order}
 use Rattle.uca_model.specs.SafeText.{IsSafe}
 use Rattle.uca_model.specs.SortKey.{key_order, sort_key}
@@ -30,25 +28,15 @@ use Rattle.uca_model.proofs.StandAloneLemmas.{elements_none}
 use Rattle.uca_model.proofs.SafeCutLemmas.{IsCut-from, level_list-cut, IsSafe-back}
 use Rattle.uca_match.proofs.TextLemmas.{parts-at}
 use Rattle.uca_levels.specs.WithoutFront.{MayFollow, AreLeft, AreWithoutFront}
+use Rattle.std.proofs.lemmas.Grind.{common_steps}
 
 -- ---- level lists
 
 pub no_list : (t : ElementTable) (v : Variable) (level : ℕ) → level_list t v [] level ≡ []
-no_list t v level = elim (cases_Bool (level == 5)) [
-  | inl five ↦ cond-true _ _ _ five ∙ (nfd-is [] ∙ canonical_order-nil)
-  | inr weights ↦ cond-false _ _ _ weights ∙ ap (λ es. level_weights level (weighted v es)) (elements_none t)
-]
+no_list t v level = grind (arith, common_steps, cases_Bool, cond-true, nfd-is, canonical_order-nil, cond-false, elements_none)
 
 lists-follow : (t : ElementTable) (v : Variable) (front left : List ℕ) (level : ℕ) → IsTable t → MayFollow t left → level_list t v (front ++ left) level ≡ level_list t v front level ++ level_list t v left level
-lists-follow t v front left level valid may =
-    elim may [
-      | inl none ↦
-          ap (λ l. level_list t v (front ++ l) level) none ∙ ap (λ l. level_list t v l level) (append-nil front)
-          ∙ sym (append-nil (level_list t v front level)) ∙ ap (λ l. level_list t v front level ++ l) (sym (no_list t v level) ∙ ap (λ l. level_list t v l level) (sym none))
-      | inr some ↦
-          ap (λ l. level_list t v (front ++ l) level) some.same ∙ level_list-cut t v front some.later some.c valid (IsCut-from t some.c some.cut) level
-          ∙ ap (λ l. level_list t v front level ++ level_list t v l level) (sym some.same)
-    ]
+lists-follow t v front left level valid may = grind (arith, common_steps, append-nil, no_list, level_list-cut, IsCut-from)
 
 -- what is left of the texts decides
 pub orders-left : (t : ElementTable) (v : Variable) (a b x y : List ℕ) (level : ℕ) (o : Ordering) → IsTable t → AreWithoutFront t a b x y
@@ -87,28 +75,19 @@ scalars-after front left text e scalars =
 same-keys : (n level : ℕ) (la lb lx ly : ℕ → List ℕ) → level + n ≤ 5
     → ((k : ℕ) → level ≤ k → k ≤ level + n → OrdersLevel k (lx k) (ly k) (list_order (lx k) (ly k)) × OrdersLevel k (la k) (lb k) (list_order (lx k) (ly k)))
     → key_order (key_from n level lx) (key_from n level ly) ≡ key_order (key_from n level la) (key_from n level lb)
-same-keys zero level la lb lx ly inside orders =
-    let here = orders level (omega arith) (omega arith) in
-    here.0.last ∙ sym here.1.last
-same-keys (suc n) level la lb lx ly inside orders =
-    let here = orders level (omega arith) (omega arith) in
-    here.0.next (omega arith) (key_from n (level + 1) lx) (key_from n (level + 1) ly)
-    ∙ ap (ordering_then (list_order (lx level) (ly level))) (same-keys n (level + 1) la lb lx ly (omega arith) (λ k low top. orders k (omega arith) (omega arith)))
-    ∙ sym (here.1.next (omega arith) (key_from n (level + 1) la) (key_from n (level + 1) lb))
+same-keys zero level la lb lx ly inside orders = grind (arith, common_steps)
+same-keys (suc n) level la lb lx ly inside orders = grind (arith, common_steps, same-keys n (level + 1) la lb lx ly (omega arith) (λ k low top. orders k (omega arith) (omega arith)))
 
 -- what is left of the texts has the order of their keys
 pub keys-left : (t : ElementTable) (s : Settings) (a b x y : List ℕ) → IsTable t → All IsScalar a → All IsScalar b → AreWithoutFront t a b x y
     → key_order (sort_key t s x) (sort_key t s y) ≡ key_order (sort_key t s a) (sort_key t s b)
 keys-left t s a b x y valid of_a of_b h =
-    let v = s.weighting in
-    let n : ℕ = levels s.strength - 1 in
-    let some : 1 ≤ levels s.strength = (levels-within s.strength).0 in
     let few : levels s.strength ≤ 5 = (levels-within s.strength).1 in
     ap₂ key_order (sort_key-levels t s x) (sort_key-levels t s y)
-    ∙ same-keys n 1 (level_list t v a) (level_list t v b) (level_list t v x) (level_list t v y) (omega arith)
+    ∙ same-keys _ 1 (level_list t _ a) (level_list t _ b) (level_list t _ x) (level_list t _ y) (omega arith)
     (λ k low top. (
     let here = level-orders t s x y valid (scalars-after h.front x a h.first of_a) (scalars-after h.front y b h.second of_b) k low (omega arith) in
-    (here, orders-left t v a b x y k _ valid h here)))
+    (here, orders-left t _ a b x y k _ valid h here)))
     ∙ sym (ap₂ key_order (sort_key-levels t s a) (sort_key-levels t s b))
 
 -- ---- safe texts
@@ -144,15 +123,7 @@ equal-texts t s a b n all_a all_b same =
 -- what is left from a place on, up to which the bytes are the same
 pub left-at : (Follows : List ℕ → List ℕ → Type 0) (a b x y : List ℕ) (at : ℕ) → IsUtf8 a → IsUtf8 b → IsCharBoundary a at → IsCharBoundary b at → take at a ≡ take at b → x ≡ drop at a → y ≡ drop at b
     → Follows (chars (take at a)) (chars x) → Follows (chars (take at a)) (chars y) → AreLeft Follows (chars a) (chars b) (chars x) (chars y)
-left-at Follows a b x y at utf8_a utf8_b inside_a inside_b same of_a of_b may_a may_b = record {
-  front = chars (take at a);
-  first = parts-at a x at utf8_a inside_a of_a;
-  second = parts-at b y at utf8_b inside_b of_b ∙ ap (λ f. chars f ++ chars y) (sym same);
-  follow = inr (may_a, may_b);
-}
-
-pub left-whole : (Follows : List ℕ → List ℕ → Type 0) (a b : List ℕ) → AreLeft Follows a b a b
-left-whole Follows a b = record { front = []; first = refl; second = refl; follow = inl refl }
+left-at Follows a b x y at utf8_a utf8_b inside_a inside_b same of_a of_b may_a may_b = grind (arith, common_steps, parts-at)
 
 -- a character of the second text begins or ends where one of the first does, since the bytes before it are the same
 pub same-boundary : (a b : List ℕ) (at : ℕ) → IsUtf8 a → IsUtf8 b → IsCharBoundary a at → take at a ≡ take at b → IsCharBoundary b at

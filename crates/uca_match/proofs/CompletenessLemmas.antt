@@ -9,6 +9,7 @@ use Rattle.unicode_normalization.specs.Decompose.{decompose_canonical}
 use Rattle.unicode.specs.CanonicalCombiningClass.{canonical_combining_class as ccc}
 use Rattle.uca_model.specs.Table.{ElementTable}
 use Rattle.uca_model.specs.Prefix.{is_closed, is_silent, is_complete_from, is_complete}
+use Rattle.std.proofs.lemmas.Grind.{common_steps}
 
 -- the characters of a text that ends in one
 pub split-chars : (text front : List ℕ) (c : ℕ) → text ≡ front ++ encode_utf8 c → IsUtf8 text → IsUtf8 front → chars text ≡ chars front ++ c ∷ []
@@ -50,9 +51,7 @@ complete_stops t text front ds c decided b parts is ends some =
 
 pub complete_goes_on : (t : ElementTable) (text front ds : List ℕ) (c : ℕ) (decided : Option Bool) → text ≡ front ++ c ∷ [] → ds ≡ decompose_canonical c
     → ((before : List ℕ) → is_complete_from t (reverse ds ++ before) ≡ unwrap_or decided (is_complete_from t before)) → decided ≡ None → is_complete t front ≡ is_complete t text
-complete_goes_on t text front ds c decided parts is ends none =
-    complete-front t front
-    ∙ sym (complete-last t text front ds c parts is ∙ ends (reverse (flat_map decompose_canonical front)) ∙ ap (λ o. unwrap_or o (is_complete_from t (reverse (flat_map decompose_canonical front)))) none)
+complete_goes_on t text front ds c decided parts is ends none = grind (arith, common_steps, complete-front, complete-last, unwrap_or)
 
 -- the code points up to a place, from the last one on
 reverse-take : (ds : List ℕ) (n c : ℕ) → n < length ds → c ≡ get_or ds n c → reverse (take (n + 1) ds) ≡ c ∷ reverse (take n ds)
@@ -73,15 +72,11 @@ before_one m n some e = omega arith
 -- at a starter, at a nonstarter that has a primary weight, and at one that has none
 pub ends_starter : (t : ElementTable) (ds : List ℕ) (m n c class : ℕ) (b : Bool) → Same t ds m → 0 < m → n ≡ m - 1 → m ≤ length ds → c ≡ get_or ds n c → class ≡ ccc c → class ≡ 0 → b ≡ is_closed t c
     → (before : List ℕ) → is_complete_from t (reverse ds ++ before) ≡ b
-ends_starter t ds m n c class b same some e within is classed starter closed before =
-    sym (same before) ∙ ap (λ k. is_complete_from t (reverse (take k ds) ++ before)) (before_one m n some e)
-    ∙ ap (λ l. is_complete_from t (l ++ before)) (reverse-take ds n c (omega arith) is) ∙ cond-true _ _ _ (eq-eqb (ccc c) 0 (sym classed ∙ starter)) ∙ sym closed
+ends_starter t ds m n c class b same some e within is classed starter closed before = grind (arith, common_steps, before_one, reverse-take, cond-true, eq-eqb)
 
 mark-here : (t : ElementTable) (ds : List ℕ) (m n c class : ℕ) → Same t ds m → 0 < m → n ≡ m - 1 → m ≤ length ds → c ≡ get_or ds n c → class ≡ ccc c → (class ≡ 0 → ⊥)
     → (before : List ℕ) → is_complete_from t (reverse ds ++ before) ≡ (is_silent t c && is_complete_from t (reverse (take n ds) ++ before))
-mark-here t ds m n c class same some e within is classed mark before =
-    sym (same before) ∙ ap (λ k. is_complete_from t (reverse (take k ds) ++ before)) (before_one m n some e)
-    ∙ ap (λ l. is_complete_from t (l ++ before)) (reverse-take ds n c (omega arith) is) ∙ cond-false _ _ _ (ne_eqb (ccc c) 0 (λ z. mark (classed ∙ z)))
+mark-here t ds m n c class same some e within is classed mark before = grind (arith, common_steps, before_one, reverse-take, cond-false, ne_eqb)
 
 pub ends_heard : (t : ElementTable) (ds : List ℕ) (m n c class : ℕ) (b : Bool) → Same t ds m → 0 < m → n ≡ m - 1 → m ≤ length ds → c ≡ get_or ds n c → class ≡ ccc c → (class ≡ 0 → ⊥) → b ≡ is_silent t c → b ≡ false
     → (before : List ℕ) → is_complete_from t (reverse ds ++ before) ≡ false

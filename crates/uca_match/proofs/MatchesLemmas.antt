@@ -9,6 +9,7 @@ use Rattle.uca_model.proofs.RewritingLemmas.{matches-step}
 use Rattle.uca_table.proofs.MovedForward.{rewritten-rest}
 use Rattle.uca_match.specs.Matches.{match_of}
 use Rattle.uca_match.specs.declared.matches.Match.{Match}
+use Rattle.std.proofs.lemmas.Grind.{common_steps}
 
 -- the first match of a text, and those of what is left
 first_match : (is_key : List ℕ → Bool) (xs : List ℕ) → 0 < length xs → (step is_key xs).matched ∷ matches is_key (step is_key xs).rest ≡ matches is_key xs
@@ -25,11 +26,10 @@ pub matches-further : (is_key : List ℕ → Bool) (text new : List ℕ) (at n :
     → (step is_key (take (length text - at) (drop at text))).matched ≡ match_of one → (step is_key (take (length text - at) (drop at text))).rest ≡ drop n new
     → map match_of (out ++ one ∷ []) ++ matches is_key (drop (at + n) (put_mid at (length text - at) text new)) ≡ whole
 matches-further is_key text new at n out one whole within same matched rest =
-    let after = put_mid at (length text - at) text new in
     let left : take (length text - at) (drop at text) ≡ drop at text = take_rest text at in
     let size : length (drop at text) ≡ length text - at = length-drop at text in
-    let behind : drop at after ≡ new = rewritten-rest at text new (omega arith) in
-    let later : drop (at + n) after ≡ drop n new = sym (drop-drop n at after) ∙ ap (drop n) behind in
+    let behind : drop at _ ≡ new = rewritten-rest at text new (omega arith) in
+    let later : drop (at + n) _ ≡ drop n new = sym (drop-drop n at _) ∙ ap (drop n) behind in
     let key : match_of one ≡ (step is_key (drop at text)).matched = sym matched ∙ ap (λ xs. (step is_key xs).matched) left in
     let tail : drop n new ≡ (step is_key (drop at text)).rest = sym rest ∙ ap (λ xs. (step is_key xs).rest) left in
     ap₂ (λ xs r. xs ++ matches is_key r) (map-append match_of out (one ∷ [])) (later ∙ tail)
@@ -40,6 +40,4 @@ matches-further is_key text new at n out one whole within same matched rest =
 
 -- nothing is left
 pub matches-done : (is_key : List ℕ → Bool) (text : List ℕ) (at : ℕ) (out : List Match) (whole : List model.Match) → length text ≤ at → map match_of out ++ matches is_key (drop at text) ≡ whole → map match_of out ≡ whole
-matches-done is_key text at out whole past same =
-    let none : length (drop at text) ≡ 0 = ap length (drop_all at text past) in
-    sym (append-nil (map match_of out)) ∙ ap (λ ms. map match_of out ++ ms) (sym (no_matches is_key (drop at text) none)) ∙ same
+matches-done is_key text at out whole past same = grind (arith, common_steps, drop_all, append-nil, no_matches)

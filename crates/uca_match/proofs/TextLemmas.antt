@@ -1,5 +1,5 @@
 -- The elements of a text that are left: one step of its characters.
-use Rattle.std.proofs.Common.{◌≡◌, ℕ, Option, Some, None, ◌+◌, ◌-◌, ◌≤◌, true, append_assoc, append-nil, length-append, ap₂, max, length-take-le, take-take, take-append-drop, List, [], ◌∷◌, ◌++◌, length, take, drop, flat_map, All, chars, IsUtf8, refl, sym, ap, subst, ◌∙◌, arith, inl, inr}
+use Rattle.std.proofs.Common.{◌≡◌, ℕ, Option, Some, None, ◌+◌, ◌-◌, ◌≤◌, true, append_assoc, append-nil, length-append, max, length-take-le, take-take, take-append-drop, List, [], ◌∷◌, ◌++◌, length, take, drop, flat_map, All, chars, IsUtf8, refl, sym, ap, subst, ◌∙◌, arith}
 use Rattle.std.specs.Prelude.{IfSome, IfNone}
 use Rattle.std.proofs.lemmas.Bool.{cases_Bool}
 use Rattle.std.proofs.lemmas.List.{drop_at, take-append-le}
@@ -11,7 +11,7 @@ use Rattle.std.specs.Str.{IsCharBoundary}
 use Rattle.std.proofs.Math.Seq.{take-append_seam}
 use Rattle.unicode_normalization.specs.Decompose.{decompose_canonical}
 use Rattle.unicode_normalization.specs.Forms.{nfd}
-use Rattle.unicode_normalization.specs.Order.{is_nonstarter, is_ordered, canonical_order}
+use Rattle.unicode_normalization.specs.Order.{is_ordered, canonical_order}
 use Rattle.unicode_normalization.proofs.OrderLemmas.{canonical_order-front, is_ordered-canonical_order}
 use Rattle.uca_weights.specs.declared.limits.TheConstants.{MAX_DECOMPOSITION}
 use Rattle.uca_model.specs.CollationElements.{elements}
@@ -22,15 +22,13 @@ use Rattle.uca_model.proofs.ClosingLemmas.{apart-after}
 use Rattle.uca_model.proofs.SafeLemmas.{nfd-is, longest_run-nfd, run_after, runs-append}
 use Rattle.uca_model.proofs.StandAloneLemmas.{apart-before, apart-end}
 use Rattle.uca_match.specs.JoinsNothing.{JoinsNothing}
+use Rattle.std.proofs.lemmas.Grind.{common_steps}
 
 -- ---- what follows any front of a safe text is safe
 
 fewer-runs : (m n : ℕ) (xs : List ℕ) → m ≤ n → longest_run_after m xs ≤ longest_run_after n xs
 fewer-runs m n [] le = le
-fewer-runs m n (x ∷ xs) le = elim (cases_Bool (is_nonstarter x)) [
-  | inl mark ↦ rw mark (fewer-runs (m + 1) (n + 1) xs (omega arith))
-  | inr starter ↦ rw starter (omega arith)
-]
+fewer-runs m n (x ∷ xs) le = grind (arith, common_steps, cases_Bool, fewer-runs (m + 1) (n + 1) xs (omega arith))
 
 pub IsSafe-rest : (xs ys : List ℕ) → IsSafe (xs ++ ys) → IsSafe ys
 IsSafe-rest xs ys safe =
@@ -55,11 +53,7 @@ parts-at text left at utf8 inside e =
 
 -- what joins nothing has its elements after those of what comes before it
 pub elements-apart : (t : ElementTable) (front left : List ℕ) → JoinsNothing t left → elements t (nfd (front ++ left)) ≡ elements t (nfd front) ++ elements t (nfd left)
-elements-apart t front left joins =
-    elim joins [
-      | inl none ↦ ap (λ l. elements t (nfd (front ++ l))) none ∙ apart-end t front ∙ ap (λ l. elements t (nfd front) ++ elements t (nfd l)) (sym none)
-      | inr some ↦ ap (λ l. elements t (nfd (front ++ l))) some.same ∙ apart-before t front some.later some.c (omega (arith, some.apart)) ∙ ap (λ l. elements t (nfd front) ++ elements t (nfd l)) (sym some.same)
-    ]
+elements-apart t front left joins = grind (arith, common_steps, apart-end, apart-before)
 
 -- ---- what was read of a text, by what is left of it
 
@@ -75,10 +69,7 @@ front-none all = let e : length all - length all ≡ 0 = omega arith in ap (λ n
 
 -- the text after a front
 pub front-is : (all front left : List ℕ) → all ≡ front ++ left → front_of all left ≡ front
-front-is all front left e =
-    let size : length all ≡ length front + length left = ap length e ∙ length-append front left in
-    let n : length all - length left ≡ length front = omega (arith, size) in
-    ap₂ take n e ∙ take-append_seam front left
+front-is all front left e = grind (arith, common_steps, length-append, take-append_seam)
 
 -- one character more was read
 pub front-more : (all old new : List ℕ) (c : ℕ) → IsFront all old → old ≡ c ∷ new → front_of all new ≡ front_of all old ++ c ∷ []
@@ -90,9 +81,7 @@ IsFront-more all old new c is e =
 
 -- the NFD of a text and one character more
 pub nfd-more : (front : List ℕ) (c : ℕ) → nfd (front ++ c ∷ []) ≡ canonical_order (nfd front ++ decompose_canonical c)
-nfd-more front c =
-    nfd-is (front ++ c ∷ []) ∙ ap canonical_order (flat_map-append decompose_canonical front (c ∷ []) ∙ ap (λ l. flat_map decompose_canonical front ++ l) (append-nil (decompose_canonical c)))
-    ∙ sym (canonical_order-front (flat_map decompose_canonical front) (decompose_canonical c)) ∙ ap (λ l. canonical_order (l ++ decompose_canonical c)) (sym (nfd-is front))
+nfd-more front c = grind (arith, common_steps, nfd-is, flat_map-append, append-nil, canonical_order-front)
 
 pub nfd-ordered : (front : List ℕ) → is_ordered (nfd front) ≡ true
 nfd-ordered front = ap is_ordered (nfd-is front) ∙ is_ordered-canonical_order (flat_map decompose_canonical front)

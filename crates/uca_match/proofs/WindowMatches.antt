@@ -1,22 +1,23 @@
 -- Matches in a window: its closed points show the match at the front of its rest.
-use Rattle.std.proofs.Common.{◌≡◌, ℕ, suc, zero, ◌+◌, ◌-◌, ◌≤◌, ◌<◌, max, Bool, true, false, cond, ◌&&◌, nat_eq, nat_lt, List, [], ◌∷◌, ◌++◌, length, take, drop, get_or, not, refl, sym, ap, ap₂, subst, ◌∙◌, arith, inl, inr, append-nil, length-append, lt-ltb, ne_eqb, ◌==◌}
+use Rattle.std.proofs.Common.{◌≡◌, ℕ, suc, zero, ◌+◌, ◌-◌, ◌≤◌, ◌<◌, max, Bool, true, false, cond, ◌&&◌, nat_eq, nat_lt, List, [], ◌∷◌, ◌++◌, length, take, drop, get_or, refl, sym, ap, ap₂, subst, ◌∙◌, arith, append-nil, length-append, lt-ltb, ne_eqb, ◌==◌}
 use Rattle.std.proofs.lemmas.Bool.{cases_Bool, cond-true, cond-false, cases_lt}
 use Rattle.std.proofs.lemmas.List.{length-take, length-take-le, take_at, drop_at, drop-take, take-take, get_or-take, get_or_read}
 use Rattle.std.specs.List.{remove}
 use Rattle.unicode.specs.CanonicalCombiningClass.{canonical_combining_class as ccc}
 use Rattle.uca_model.specs.Table.{ElementTable, is_key, longest}
-use Rattle.uca_model.specs.Match.{Step, took, greatest, longest_match_len, discontiguous_match}
+use Rattle.uca_model.specs.Match.{took, greatest, longest_match_len, discontiguous_match}
 use Rattle.uca_model.specs.CollationElements.{step, took_alone}
 use Rattle.unicode_normalization.specs.Forms.{nfd}
 use Rattle.uca_model.specs.SafeText.{IsSafe}
 use Rattle.uca_model.proofs.SafeLemmas.{IsSafe-front}
 use Rattle.uca_model.specs.Source.{SourceState, unread}
-use Rattle.uca_model.specs.Window.{WindowState, is_wanting, IsWindow, Fits, ShowsFront, ReadsOn, ChangesRest, begins_segment, credit, rest_of}
+use Rattle.uca_model.specs.Window.{WindowState, is_wanting, IsWindow, Fits, ShowsFront, ChangesRest, begins_segment, rest_of}
 use Rattle.uca_model.proofs.MatchingLemmas.{extended_ends, extended_takes, extended_passes}
 use Rattle.uca_table.specs.Running.{highest_class, passed_over}
 use Rattle.uca_match.specs.WindowMatch.{IsTaking, TakesNonstarters, TakesMatch, key_held, after_match, TakesHeld}
-use Rattle.uca_table.proofs.MovedForward.{passed_over-more, passed_over-rest, passed_over-none}
+use Rattle.uca_table.proofs.MovedForward.{passed_over-more, passed_over-rest}
 use Rattle.uca_table.proofs.MatchLemmas.{longest_match_len-short, highest_class-more, taken_as}
+use Rattle.std.proofs.lemmas.Grind.{common_steps}
 
 -- ---- the start
 
@@ -35,9 +36,7 @@ step-alone : (is_key : List ℕ → Bool) (xs : List ℕ) → longest_match_len 
 step-alone is_key xs none = cond-true _ _ _ (ap (λ n. nat_eq n 0) none)
 
 step-key : (is_key : List ℕ → Bool) (xs : List ℕ) (n : ℕ) → longest_match_len is_key xs ≡ n → 0 < n → step is_key xs ≡ discontiguous_match is_key (take n xs) [] (drop n xs)
-step-key is_key xs n start some =
-    cond-false _ _ _ (ap (λ k. nat_eq k 0) start ∙ ne_eqb n 0 (λ none. absurd (omega arith)))
-    ∙ ap (λ k. discontiguous_match is_key (take k xs) [] (drop k xs)) start
+step-key is_key xs n start some = grind (arith, common_steps, cond-false, ne_eqb)
 
 -- ---- the nonstarters
 
@@ -50,13 +49,10 @@ passed_over-front a b start at n upto within same =
     ∙ ap (λ k. drop start (take k b)) (sym size) ∙ drop-take start (at - start) b
 
 removed-rest : (xs : List ℕ) (at : ℕ) → at ≤ length xs → drop at (remove xs at) ≡ drop (at + 1) xs
-removed-rest xs at within =
-    let next : suc at ≡ at + 1 = omega arith in
-    drop_at (take at xs) (drop (suc at) xs) at (length-take-le at xs within) ∙ ap (λ k. drop k xs) next
+removed-rest xs at within = grind (arith, common_steps, drop_at, length-take-le)
 
 passed_over-removed : (xs : List ℕ) (start at : ℕ) → start ≤ at → at ≤ length xs → passed_over (remove xs at) start at ≡ passed_over xs start at
-passed_over-removed xs start at upto within =
-    passed_over-front (remove xs at) xs start at at upto (omega arith) (take_at (take at xs) (drop (suc at) xs) at (length-take-le at xs within))
+passed_over-removed xs start at upto within = grind (arith, common_steps, passed_over-front, take_at, length-take-le)
 
 -- a starter ends the run, and so does the end of the text
 extension-ends : (is_key : List ℕ → Bool) (s passed ys : List ℕ) → begins_segment ys ≡ true → discontiguous_match is_key s passed ys ≡ took s (passed ++ ys)
@@ -70,24 +66,10 @@ abbrev pub ShowsFronts : WindowState → Type 0
 ShowsFronts w = (left : List ℕ) → Fits w left → ShowsFront w (rest_of w left)
 
 pub closed-within : (w : WindowState) (rest : List ℕ) → IsWindow w → ShowsFront w rest → w.closed ≤ length rest
-closed-within w rest valid shows =
-    omega (arith, ap length shows.front, length-take w.closed rest, length-take-le w.closed w.points valid.segments.within)
+closed-within w rest valid shows = grind (arith, common_steps, length-take, length-take-le)
 
 point-in_rest : (w : WindowState) (rest : List ℕ) (at d : ℕ) → at < w.closed → ShowsFront w rest → get_or w.points at d ≡ get_or rest at d
-point-in_rest w rest at d lt shows =
-    sym (get_or-take w.closed w.points at d lt) ∙ ap (λ l. get_or l at d) (sym shows.front) ∙ get_or-take w.closed rest at d lt
-
--- nothing was tried at the start
-pub IsTaking-start : (is_key : List ℕ → Bool) (start : ℕ) (key : List ℕ) (w : WindowState) → start ≤ w.closed → IsTaking is_key start key w key w start 0
-IsTaking-start is_key start key w within = record {
-  upto = omega arith;
-  within = within;
-  longest = refl;
-  ended = refl;
-  size = refl;
-  highest = sym (ap highest_class (passed_over-none w.points start));
-  over = λ left fits. (fits, ap (λ p. discontiguous_match is_key key p (drop start (rest_of w left))) (passed_over-none (rest_of w left) start));
-}
+point-in_rest w rest at d lt shows = grind (arith, common_steps, get_or-take)
 
 module _ (is_key : List ℕ → Bool) (start : ℕ) (first : List ℕ) (old : WindowState) (key : List ℕ) (w : WindowState) (at high : ℕ) (h : IsTaking is_key start first old key w at high) (valid : IsWindow w) (shows : ShowsFronts w) where
   highest-in_rest : (rest : List ℕ) → ShowsFront w rest → high ≡ highest_class (passed_over rest start at)
@@ -126,7 +108,6 @@ module _ (is_key : List ℕ → Bool) (start : ℕ) (first : List ℕ) (old : Wi
   pub IsTaking-takes : (x class : ℕ) (taken : Bool) (after : List ℕ) (new : WindowState) → at < w.closed → x ≡ get_or w.points at x → class ≡ ccc x → (class ≡ 0 → ⊥) → taken ≡ (nat_lt high (ccc x) && is_key (key ++ x ∷ [])) → taken ≡ true
       → after ≡ key ++ x ∷ [] → new ≡ record w { points = remove w.points at; closed = w.closed - 1 } → ChangesRest (λ rest. remove rest at) w new → IsTaking is_key start first old after new at high
   IsTaking-takes x class taken after new lt is e mark t holds more changed removes =
-      let inside : at < length w.points = omega (arith, valid.segments.within) in
       record {
         upto = h.upto;
         within = omega (arith, ap (λ (v : WindowState). v.closed) changed);
@@ -136,67 +117,31 @@ module _ (is_key : List ℕ → Bool) (start : ℕ) (first : List ℕ) (old : Wi
         highest = h.highest ∙ sym (ap highest_class (ap (λ (v : WindowState). passed_over v.points start at) changed ∙ passed_over-removed w.points start at h.upto (omega arith)));
         over = λ left fits.
             let was = h.over left fits in
-            let rest : List ℕ = rest_of w left in
-            let front : ShowsFront w rest = shows left was.0 in
+            let front : ShowsFront w _ = shows left was.0 in
             let gone = removes left was.0 in
-            let long : at < length rest = omega (arith, closed-within w rest valid front) in
-            let read : x ≡ get_or rest at x = is ∙ point-in_rest w rest at x lt front in (
+            let long : at < length _ = omega (arith, closed-within w _ valid front) in
+            let read : x ≡ get_or _ at x = is ∙ point-in_rest w _ at x lt front in (
               gone.0,
               ap₂ (λ k r. discontiguous_match is_key k (passed_over r start at) (drop at r)) more gone.1
-                  ∙ ap₂ (λ p r. discontiguous_match is_key (key ++ x ∷ []) p r) (passed_over-removed rest start at h.upto (omega arith)) (removed-rest rest at (omega arith))
-                  ∙ sym (extended_takes is_key key (passed_over rest start at) rest at x class taken long read e mark (taken_as is_key key (passed_over rest start at) high x class taken (highest-in_rest rest front) e mark t) holds)
+                  ∙ ap₂ (λ p r. discontiguous_match is_key (key ++ x ∷ []) p r) (passed_over-removed _ start at h.upto (omega arith)) (removed-rest _ at (omega arith))
+                  ∙ sym (extended_takes is_key key (passed_over _ start at) _ at x class taken long read e mark (taken_as is_key key (passed_over _ start at) high x class taken (highest-in_rest _ front) e mark t) holds)
                   ∙ was.1,
             );
       }
 
   -- a starter ends the run
   pub IsTaking-stops : (x class : ℕ) → at < w.closed → x ≡ get_or w.points at x → class ≡ ccc x → class ≡ 0 → TakesNonstarters is_key start first old key w
-  IsTaking-stops x class lt is e none = record {
-    within = omega (arith, h.upto, h.within);
-    size = h.size;
-    longest = h.longest;
-    ended = h.ended;
-    over = λ left fits.
-        let was = h.over left fits in
-        let rest : List ℕ = rest_of w left in
-        let front : ShowsFront w rest = shows left was.0 in
-        let long : at < length rest = omega (arith, closed-within w rest valid front) in
-        let read : x ≡ get_or rest at x = is ∙ point-in_rest w rest at x lt front in (
-          was.0,
-          sym was.1 ∙ extended_ends is_key key (passed_over rest start at) rest at x class long read e none ∙ ap (took key) (passed_over-rest rest start at h.upto),
-        );
-  }
+  IsTaking-stops x class lt is e none = grind (arith, common_steps, closed-within, point-in_rest, extended_ends, passed_over-rest)
 
   -- so does the end of the closed points, after which comes a starter or nothing
   pub IsTaking-ends : 0 < start → w.closed ≤ at → TakesNonstarters is_key start first old key w
-  IsTaking-ends some past = record {
-    within = omega (arith, h.upto, h.within);
-    size = h.size;
-    longest = h.longest;
-    ended = h.ended;
-    over = λ left fits.
-        let was = h.over left fits in
-        let rest : List ℕ = rest_of w left in
-        let front : ShowsFront w rest = shows left was.0 in
-        let end : at ≡ w.closed = omega (arith, h.within) in
-        let begins : begins_segment (drop at rest) ≡ true = ap (λ k. begins_segment (drop k rest)) end ∙ front.follows (omega (arith, h.upto)) in (
-          was.0,
-          sym was.1 ∙ extension-ends is_key key (passed_over rest start at) (drop at rest) begins ∙ ap (took key) (passed_over-rest rest start at h.upto),
-        );
-  }
+  IsTaking-ends some past = grind (arith, common_steps, extension-ends, passed_over-rest)
 
 -- ---- a match
 
 module _ (t : ElementTable) (w : WindowState) (same : w.longest ≡ longest t) (some : 0 < w.closed) (valid : IsWindow w) (shows : ShowsFronts w) where
   start-of_rest : (left : List ℕ) → Fits w left → (w.closed < w.longest → w.closed ≡ length (rest_of w left)) → longest_match_len (is_key t) (rest_of w left) ≡ longest_match_len (is_key t) (take w.closed w.points)
-  start-of_rest left fits enough =
-      let rest : List ℕ = rest_of w left in
-      let front : ShowsFront w rest = shows left fits in
-      sym (longest_match_len-front t rest w.closed (closed-within w rest valid front) (λ fewer. elim (cases_lt w.closed w.longest) [
-        | inl few ↦ absurd (omega (arith, enough few))
-        | inr all ↦ omega arith
-      ]))
-      ∙ ap (longest_match_len (is_key t)) front.front
+  start-of_rest left fits enough = grind (arith, common_steps, longest_match_len-front, closed-within, cases_lt)
 
   firsts-of_rest : (left : List ℕ) (n : ℕ) → Fits w left → n ≤ w.closed → take n (rest_of w left) ≡ take n w.points
   firsts-of_rest left n fits few = sym (take-take n w.closed (rest_of w left) few) ∙ ap (take n) (shows left fits).front ∙ take-take n w.closed w.points few
@@ -204,51 +149,12 @@ module _ (t : ElementTable) (w : WindowState) (same : w.longest ≡ longest t) (
   -- a code point that begins no key
   pub TakesMatch-alone : (key : List ℕ) (new : WindowState) → longest_match_len (is_key t) (take w.closed w.points) ≡ 0 → key ≡ take 1 w.points → new ≡ record w { points = drop 1 w.points; closed = w.closed - 1 } → ChangesRest (drop 1) w new → IsWindow new
       → TakesMatch t w key new
-  TakesMatch-alone key new none one changed drops is_window = record {
-    valid = is_window;
-    size = omega (arith, some, ap (λ (v : WindowState). v.closed) changed, ap length one ∙ length-take 1 w.points, valid.segments.within);
-    longest = ap (λ (v : WindowState). v.longest) changed;
-    ended = ap (λ (v : WindowState). v.ended) changed;
-    over = λ left fits enough.
-        let gone = drops left fits in
-        let stepped : step (is_key t) (rest_of w left) ≡ took_alone (rest_of w left) = step-alone (is_key t) (rest_of w left) (start-of_rest left fits enough ∙ none) in (
-          gone.0,
-          (ap (λ (s : Step). s.matched.code_points) stepped ∙ firsts-of_rest left 1 fits (omega arith) ∙ sym one, ap (λ (s : Step). s.rest) stepped ∙ sym gone.1),
-        );
-  }
+  TakesMatch-alone key new none one changed drops is_window = grind (arith, common_steps, length-take, step-alone, start-of_rest, firsts-of_rest)
 
   -- a key with the nonstarters that it took
   pub TakesMatch-key : (n : ℕ) (first key : List ℕ) (middle new : WindowState) → longest_match_len (is_key t) (take w.closed w.points) ≡ n → 0 < n → n ≤ w.closed → first ≡ take n w.points → TakesNonstarters (is_key t) n first w key middle
       → new ≡ record middle { points = drop n middle.points; closed = middle.closed - n } → ChangesRest (drop n) middle new → IsWindow new → TakesMatch t w key new
-  TakesMatch-key n first key middle new start positive few begins takes changed drops is_window = record {
-    valid = is_window;
-    size = omega (arith, takes.size, takes.within, few, ap (λ (v : WindowState). v.closed) changed, ap length begins ∙ length-take n w.points, valid.segments.within);
-    longest = ap (λ (v : WindowState). v.longest) changed ∙ takes.longest;
-    ended = ap (λ (v : WindowState). v.ended) changed ∙ takes.ended;
-    over = λ left fits enough.
-        let done = takes.over left fits in
-        let gone = drops left done.0 in
-        let stepped : step (is_key t) (rest_of w left) ≡ took key (drop n (rest_of middle left)) =
-        step-key (is_key t) (rest_of w left) n (start-of_rest left fits enough ∙ start) positive
-        ∙ ap (λ s. discontiguous_match (is_key t) s [] (drop n (rest_of w left))) (firsts-of_rest left n fits few ∙ sym begins) ∙ done.1 in (
-          gone.0,
-          (ap (λ (s : Step). s.matched.code_points) stepped, ap (λ (s : Step). s.rest) stepped ∙ sym gone.1),
-        );
-  }
-
--- a match after the window was filled reads nothing more
-pub ReadsOn-match : (t : ElementTable) (old filled new : WindowState) (key : List ℕ) (before after : SourceState) → ReadsOn old before filled after → TakesMatch t filled key new
-    → (filled.closed < filled.longest → filled.closed ≡ length (rest_of filled (unread after))) → ReadsOn old before new after
-ReadsOn-match t old filled new key before after reads takes enough =
-    let same : credit new (unread after) ≡ credit filled (unread after) = ap (λ b. length (unread after) + cond b 0 1) takes.ended in
-    record {
-      text = reads.text;
-      fits = (takes.over (unread after) reads.fits enough).0;
-      longest = takes.longest ∙ reads.longest;
-      reads = omega (arith, reads.reads);
-      mark = reads.mark;
-      rewinds = reads.rewinds;
-    }
+  TakesMatch-key n first key middle new start positive few begins takes changed drops is_window = grind (arith, common_steps, length-take, step-key, start-of_rest, firsts-of_rest)
 
 -- ---- a match in a window that wants no more
 
@@ -261,11 +167,7 @@ fits-held w left fits = record { safe = subst IsSafe (sym (append-nil w.points))
 
 -- whether it holds enough or the end was read
 enough-held : (w : WindowState) → IsWindow w → is_wanting w ≡ false → w.closed < w.longest → w.closed ≡ length (rest_of w [])
-enough-held w valid idle few =
-    elim (cases_Bool w.ended) [
-      | inl ended ↦ valid.segments.ended ended ∙ ap length (sym (nfd-held w valid))
-      | inr runs ↦ let clash : true ≡ false = sym (ap₂ (λ a b. a && b) (lt-ltb _ _ few) (ap not runs)) ∙ idle in cc
-    ]
+enough-held w valid idle few = grind (arith, common_steps, cases_Bool, nfd-held, lt-ltb)
 
 -- the match and the window after it are those of the points alone
 pub match-held : (t : ElementTable) (w new : WindowState) (key left : List ℕ) → IsWindow w → Fits w left → is_wanting w ≡ false → TakesMatch t w key new → 0 < w.closed → (key ≡ key_held t w) × (new ≡ after_match t w)
@@ -287,6 +189,4 @@ match-held t w new key left valid fits idle takes some =
 -- `fill` did nothing, and then the match was taken
 pub TakesHeld-filled : (t : ElementTable) (w filled new : WindowState) (key : List ℕ) (before after : SourceState) → IsWindow filled → Fits w (unread before) → is_wanting w ≡ false
     → (filled ≡ w) × (after ≡ before) → TakesMatch t filled key new → 0 < filled.closed → TakesHeld t w before key new after
-TakesHeld-filled t w filled new key before after valid fits idle same takes some =
-    let found = match-held t w new key (unread before) (subst IsWindow same.0 valid) fits idle (subst (λ v. TakesMatch t v key new) same.0 takes) (subst (λ v. 0 < v.closed) same.0 some) in
-    record { source = same.1; some = subst (λ v. 0 < v.closed) same.0 some; found = found.0; becomes = found.1 }
+TakesHeld-filled t w filled new key before after valid fits idle same takes some = grind (arith, common_steps, match-held)

@@ -241,22 +241,6 @@ module _ (level : ℕ) (weights : level < 5) where
             ∙ decides _ ∙ sym (decides _);
       }
 
--- the same of code points at level 5
-pub OrdersLevel-points_shorter : (y : ℕ) (ys : List ℕ) → OrdersLevel 5 [] (y ∷ ys) Less
-OrdersLevel-points_shorter y ys = record { list = refl; last = refl; next = λ h a b. absurd (omega arith) }
-
-pub OrdersLevel-points_longer : (x : ℕ) (xs : List ℕ) → OrdersLevel 5 (x ∷ xs) [] Greater
-OrdersLevel-points_longer x xs = record { list = refl; last = refl; next = λ h a b. absurd (omega arith) }
-
-pub OrdersLevel-points_differ : (x y : ℕ) (xs ys : List ℕ) → (x ≡ y → ⊥) → x < 2 ^ 24 → y < 2 ^ 24 → OrdersLevel 5 (x ∷ xs) (y ∷ ys) (nat_cmp x y)
-OrdersLevel-points_differ x y xs ys other small low =
-    let decides : (p : Ordering) → ordering_then (nat_cmp x y) p ≡ nat_cmp x y = λ p. then_decides (nat_cmp x y) p (λ e. other (exact_unsigned x y e)) in
-    record {
-      list = sym (decides (list_order xs ys));
-      last = point_first x y (flat_map code_point_bytes xs) (flat_map code_point_bytes ys) small low ∙ decides _;
-      next = λ h a b. absurd (omega arith);
-    }
-
 -- ---- the deciding level
 
 pub levels-within : (strength : Strength) → (1 ≤ levels strength) × (levels strength ≤ 5)

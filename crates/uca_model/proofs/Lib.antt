@@ -1,5 +1,4 @@
 pub mod MatchingLemmas
-pub mod JoinedLevels
 pub mod ImplicitLemmas
 pub mod RewritingLemmas
 pub mod StandAloneLemmas

@@ -8,7 +8,6 @@ use Rattle.std.proofs.Math.Seq.{take-append_seam, drop-append_seam}
 use Rattle.std.specs.List.{AllByRecursion, list_any, list_all}
 use Rattle.std.specs.FinMap.{entries, get-entries}
 use Rattle.std.specs.Option.{option_map_or, is_some}
-use Rattle.std.specs.declared.cmp.Ordering.{Ordering}
 use Rattle.unicode.specs.CanonicalCombiningClass.{canonical_combining_class as ccc}
 use Rattle.unicode_normalization.specs.Decompose.{decompose_canonical}
 use Rattle.unicode_normalization.specs.Forms.{nfd}
@@ -31,9 +30,7 @@ use Rattle.uca_model.specs.LevelWeights.{level_weights, level_list}
 use Rattle.uca_model.specs.SafeText.{IsSafe, longest_run, longest_run_after}
 use Rattle.uca_model.specs.SafeCut.{begins_with, begins_with_primary, keeps_apart, is_safe_starter, begins_apart, is_cut, common_front, last_cut}
 use Rattle.uca_model.specs.Laws.{IsCutApart, TextsAreCutApart}
-use Rattle.uca_model.specs.DecidingLevel.{OrdersLevel}
 use Rattle.uca_model.proofs.ImplicitLemmas.{found}
-use Rattle.uca_model.proofs.LevelLemmas.{OrdersLevel-front}
 use Rattle.uca_model.proofs.RewritingLemmas.{matches-step, elements_nil, elements_step, step_shorter}
 use Rattle.uca_model.proofs.SafeLemmas.{nfd-is, runs-append, run_after}
 use Rattle.uca_model.proofs.TableLemmas.{find-holds}
@@ -380,14 +377,6 @@ level_list-cut t v p x c valid cut level =
           ∙ ap (λ l. level_weights level (weighted v (elements t (nfd p))) ++ level_weights level (weighted v (elements t l))) (sym back)
           ∙ sym (ap₂ (λ a b. a ++ b) (cond-false _ _ _ weights) (cond-false _ _ _ weights))
     ]
-
--- what decides the lists after a common front up to a cut decides those of the texts
-pub OrdersLevel-cut : (t : ElementTable) (v : Variable) (p x y : List ℕ) (c : ℕ) (level : ℕ) (o : Ordering) → IsTable t → IsCut t c
-    → OrdersLevel level (level_list t v (c ∷ x) level) (level_list t v (c ∷ y) level) o → OrdersLevel level (level_list t v (p ++ c ∷ x) level) (level_list t v (p ++ c ∷ y) level) o
-OrdersLevel-cut t v p x y c level o valid cut h =
-    subst (λ l. OrdersLevel level l (level_list t v (p ++ c ∷ y) level) o) (sym (level_list-cut t v p x c valid cut level))
-    (subst (λ l. OrdersLevel level (level_list t v p level ++ level_list t v (c ∷ x) level) l o) (sym (level_list-cut t v p y c valid cut level))
-    (OrdersLevel-front level (level_list t v p level) (level_list t v (c ∷ x) level) (level_list t v (c ∷ y) level) o h))
 
 -- what follows a cut is safe text
 pub IsSafe-back : (t : ElementTable) (p x : List ℕ) (c : ℕ) → IsCut t c → IsSafe (p ++ c ∷ x) → IsSafe (c ∷ x)

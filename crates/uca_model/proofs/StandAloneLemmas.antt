@@ -390,22 +390,6 @@ ends_all_matches-last t (x ∷ y ∷ ds) h =
     let last : suc (suc (length ds)) - 1 ≡ suc (suc (length ds) - 1) = omega arith in
     ends_all_matches-last t (y ∷ ds) (omega arith) ∙ sym (ap (λ (n : ℕ). is_starter (get_or (x ∷ y ∷ ds) n 0) && ends_matches t (get_or (x ∷ y ∷ ds) n 0)) last)
 
--- a short key sets no flag
-pub longer-short : (p : ℕ) (key : List ℕ) → length key < 2 → is_longer_from p key ≡ false
-longer-short p [] h = refl
-longer-short p (x ∷ []) h = refl
-longer-short p (x ∷ y ∷ key) h = absurd (omega arith)
-
-pub inside-short : (p : ℕ) (key : List ℕ) → length key < 2 → is_inside p key ≡ false
-inside-short p [] h = refl
-inside-short p (x ∷ []) h = refl
-inside-short p (x ∷ y ∷ key) h = absurd (omega arith)
-
-pub longer-first : (p : ℕ) (key : List ℕ) → 2 ≤ length key → is_longer_from p key ≡ (get_or key 0 0 == p)
-longer-first p [] h = absurd (omega arith)
-longer-first p (x ∷ []) h = absurd (omega arith)
-longer-first p (x ∷ y ∷ key) h = refl
-
 -- ---- a single code point
 
 one_point : (key : List ℕ → Bool) (p : ℕ) → (step key (p ∷ [])).matched.code_points ≡ p ∷ []

@@ -20,6 +20,7 @@ use Rattle.uca_table.proofs.KeyLemmas.{last_key-at}
 use Rattle.uca_table.proofs.EntryLemmas.{all-put, table_put}
 use Rattle.uca_table.proofs.PutLemmas.{put_before, turned}
 use Rattle.uca_table.proofs.SearchLemmas.{found_at, found_nowhere, in_order, lower_before, same_at}
+use Rattle.std.proofs.lemmas.Grind.{common_steps}
 
 -- nothing is greater than what comes after all
 none_greater : (es : List (List ℕ × List Element)) (key : List ℕ) → BelongsAt key es (length es) → has_greater es key ≡ false
@@ -33,20 +34,15 @@ order_first key (e ∷ es) none = absurd (omega arith)
 -- no key is greater than the last
 at_most : (es : List (List ℕ × List Element)) (d : List ℕ × List Element) (key : List ℕ) → T (is_sorted key_cmp es) → key_cmp key (get_or es (length es - 1) d).0 ≡ Equal → (k : ℕ) (f : List ℕ × List Element) → k < length es → is_lt (key_cmp key (get_or es k f).0) ≡ false
 at_most es d key sorted is k f within =
-    let last : ℕ = length es - 1 in
-    let same : key ≡ (get_or es last d).0 = slice_cmp-IsAntisymmetric nat_cmp-IsAntisymmetric key (get_or es last d).0 is in
-    elim (cases_lt k last) [
-      | inl before ↦ ap (λ q. is_lt (key_cmp q (get_or es k f).0)) same ∙ ap is_lt (turned (get_or es k f).0 (get_or es last d).0 Less (in_order es k last f d sorted before (omega arith)))
-      | inr here ↦ ap (λ (e : List ℕ × List Element). is_lt (key_cmp key e.0)) (same_at es k last f d (omega arith) (omega arith)) ∙ ap is_lt is
+    let same : key ≡ (get_or es _ d).0 = slice_cmp-IsAntisymmetric nat_cmp-IsAntisymmetric key (get_or es _ d).0 is in
+    elim (cases_lt k _) [
+      | inl before ↦ ap (λ q. is_lt (key_cmp q (get_or es k f).0)) same ∙ ap is_lt (turned (get_or es k f).0 (get_or es _ d).0 Less (in_order es k _ f d sorted before (omega arith)))
+      | inr here ↦ ap (λ (e : List ℕ × List Element). is_lt (key_cmp key e.0)) (same_at es k _ f d (omega arith) (omega arith)) ∙ ap is_lt is
     ]
 
 -- how a key compares with all is how it compares with the last
 pub order_last : (key : List ℕ) (es : List (List ℕ × List Element)) (d : List ℕ × List Element) (o : Ordering) → T (is_sorted key_cmp es) → 0 < length es → key_cmp key (get_or es (length es - 1) d).0 ≡ o → IsOrder o key es
-order_last key es d Less sorted some is = record {
-  greater = list_any_at (λ e. is_lt (key_cmp key e.0)) es (length es - 1) d (omega arith) (ap is_lt is);
-  same = λ e. absurd (cc);
-  after = λ e. absurd (cc);
-}
+order_last key es d Less sorted some is = grind (arith, common_steps, list_any_at)
 order_last key es d Equal sorted some is = record {
   greater = list_any_none (λ e. is_lt (key_cmp key e.0)) es (λ k f within. at_most es d key sorted is k f within);
   same = λ _. ap is_some (found_at es (length es - 1) key d sorted (omega arith) (turned key (get_or es (length es - 1) d).0 Equal is));

@@ -86,14 +86,12 @@ guarded false a x s h = refl
 
 below_pairs : (es : List Element) (e : Element) → is_below (fold bounded unbounded es) e ≡ list_any (λ other. is_low_secondary e other || is_low_tertiary e other) es
 below_pairs es e =
-    let s : Bool = not (has_primary e) && not (e.l2 == 0) in
-    let t : Bool = not (has_primary e) && e.l2 == 0 && not (e.l3 == 0) in
-    let second : (s && nat_le e.l2 (fold bounded unbounded es).secondary) ≡ list_any (λ other. is_low_secondary e other) es =
+    let second : (_ && nat_le e.l2 (fold bounded unbounded es).secondary) ≡ list_any (λ other. is_low_secondary e other) es =
     guarded (not (has_primary e)) (list_any (λ o. has_primary o && nat_le e.l2 o.l2) es) e.l2 (fold bounded unbounded es).secondary (fold-secondary e.l2 unbounded es)
-    ∙ sym (any_and s (λ o. has_primary o && nat_le e.l2 o.l2) es) in
-    let third : (t && nat_le e.l3 (fold bounded unbounded es).tertiary) ≡ list_any (λ other. is_low_tertiary e other) es =
+    ∙ sym (any_and _ (λ o. has_primary o && nat_le e.l2 o.l2) es) in
+    let third : (_ && nat_le e.l3 (fold bounded unbounded es).tertiary) ≡ list_any (λ other. is_low_tertiary e other) es =
     guarded (not (has_primary e) && e.l2 == 0) (list_any (λ o. (has_primary o || not (o.l2 == 0)) && nat_le e.l3 o.l3) es) e.l3 (fold bounded unbounded es).tertiary (fold-tertiary e.l3 unbounded es)
-    ∙ sym (any_and t (λ o. (has_primary o || not (o.l2 == 0)) && nat_le e.l3 o.l3) es) in
+    ∙ sym (any_and _ (λ o. (has_primary o || not (o.l2 == 0)) && nat_le e.l3 o.l3) es) in
     ap₂ (λ a b. a || b) second third ∙ sym (any_or (λ other. is_low_secondary e other) (λ other. is_low_tertiary e other) es)
 
 inside_pairs : (es : List Element) (e : Element) → is_inside (fold bounded unbounded es) e ≡ list_any (λ low. list_any (lies_between e low) es) es

@@ -1,16 +1,16 @@
 -- What an insertion returns.
-use Rattle.std.proofs.Common.{◌≡◌, ℕ, ◌≤◌, Bool, cond, List, length, Some, None, Result, Ok, Err, OnOk, OnErr, refl, arith}
+use Rattle.std.proofs.Common.{◌≡◌, ℕ, ◌≤◌, Bool, cond, List, length, Some, None, Result, Ok, Err, OnOk, OnErr, arith}
 use Rattle.std.proofs.lemmas.Bool.{ne_eqb, le-ltb}
 use Rattle.uca_weights.specs.declared.element.Element.{Element}
 use Rattle.uca_weights.specs.declared.limits.TheConstants.{MAX_KEY, MAX_ELEMENTS}
 use Rattle.uca_model.specs.Table.{ElementTable, is_key}
 use Rattle.uca_table.specs.declared.fault.InsertFault.TheVariants.{Repeated}
 use Rattle.uca_table.specs.Builder.{insert_fault}
+use Rattle.std.proofs.lemmas.Grind.{common_steps}
 
 -- within the limits a repeated key is the only fault
 pub fault_within : (t : ElementTable) (key : List ℕ) (es : List Element) (b : Bool) → 1 ≤ length key → length key ≤ MAX_KEY → 1 ≤ length es → length es ≤ MAX_ELEMENTS → is_key t key ≡ b → insert_fault t key es ≡ cond b (Some Repeated) None
-fault_within t key es b some few some_es few_es known =
-    rw (ne_eqb (length key) 0 (omega arith), le-ltb MAX_KEY (length key) few, ne_eqb (length es) 0 (omega arith), le-ltb MAX_ELEMENTS (length es) few_es, known) refl
+fault_within t key es b some few some_es few_es known = grind (arith, common_steps, ne_eqb, le-ltb)
 
 -- a fact of an `Ok` turned into another
 pub on_ok : {A E : Type 0} (P Q : Type 0) (r : Result A E) → (P → Q) → OnOk r P → OnOk r Q

@@ -21,6 +21,7 @@ use Rattle.uca_table.specs.Marks.{IsIndex, place}
 use Rattle.uca_table.specs.declared.marks.Marks.{Marks}
 use Rattle.uca_table.proofs.MarkLemmas.{same_point}
 use Rattle.uca_keys.proofs.PathLemmas.{first_same}
+use Rattle.std.proofs.lemmas.Grind.{common_steps}
 
 -- ---- cells
 
@@ -29,9 +30,7 @@ drop-old old more new e = ap (drop (length old)) e ∙ drop_at old more (length 
 
 -- what was appended lies where the rest began
 pub taken-fresh : (old more new : List Element) (start count : ℕ) → new ≡ old ++ more → start ≡ length old → start + count ≡ length new → take count (drop start new) ≡ more
-taken-fresh old more new start count e at end =
-    let size : length new ≡ length old + length more = ap length e ∙ length-append old more in
-    ap (λ n. take count (drop n new)) at ∙ ap (take count) (drop-old old more new e) ∙ take_all count more (omega arith)
+taken-fresh old more new start count e at end = grind (arith, common_steps, length-append, drop-old, take_all)
 
 -- a cell stays sound where more elements follow
 pub IsCell-grown : (t : ElementTable) (es more : List Element) (c : ℕ) (cell : Cell) → Grows es more → IsCell t es c cell → IsCell t more c cell
@@ -116,9 +115,6 @@ pub given-more : {T : Type 0} {P Q : T → Type 0} (given : Option T) → IfSome
 given-more None holds more = tt
 given-more (Some x) holds more = more x holds
 
-pub none-same : (xs : List ℕ) (y : ℕ) (ys : List ℕ) → xs ≡ [] → xs ≡ y ∷ ys → ⊥
-none-same xs y ys none e = absurd (omega (arith, ap length (sym none ∙ e)))
-
 -- elements of a character, where the text after it joins no more than it bears
 pub alone-before : (t : ElementTable) (c : ℕ) (after : List ℕ) (es : List Element) (most : ℕ) → es ≡ elements t (nfd (c ∷ [])) → most ≤ bearing t c → ((n : ℕ) (x : List ℕ) → after ≡ n ∷ x → joining t n ≤ most) → es ++ elements t (nfd after) ≡ elements t (nfd (c ∷ after))
 alone-before t c [] es most are bears joins = ap (λ l. l ++ elements t (nfd [])) are ∙ sym (apart-alone t c [] refl)
@@ -149,23 +145,7 @@ run-apart t text n within fresh = elim (cases_lt n (length text)) [
 -- one step further in a text
 pub text-further : (t : ElementTable) (text : List ℕ) (at n : ℕ) (out es whole : List Element) → out ++ elements t (nfd (drop at text)) ≡ whole → es ++ elements t (nfd (drop n (drop at text))) ≡ elements t (nfd (drop at text))
     → (out ++ es) ++ elements t (nfd (drop (at + n) text)) ≡ whole
-text-further t text at n out es whole same step =
-    ap (λ l. (out ++ es) ++ elements t (nfd l)) (sym (drop-drop n at text)) ∙ append_assoc out es (elements t (nfd (drop n (drop at text)))) ∙ ap (λ l. out ++ l) step ∙ same
-
--- after the first character
-pub one-further : (t : ElementTable) (text : List ℕ) (c : ℕ) (out es new : List Element) → 0 < length text → c ≡ get_or text 0 0 → new ≡ out ++ es → ((after : List ℕ) → es ++ elements t (nfd after) ≡ elements t (nfd (c ∷ after))) → new ++ elements t (nfd (drop 1 text)) ≡ out ++ elements t (nfd text)
-one-further t [] c out es new some first is alone = absurd (omega arith)
-one-further t (x ∷ text) c out es new some first is alone =
-    ap (λ l. l ++ elements t (nfd text)) is ∙ append_assoc out es (elements t (nfd text)) ∙ ap (λ l. out ++ l) (alone text ∙ ap (λ n. elements t (nfd (n ∷ text))) first)
-
--- after a run
-pub run-further : (t : ElementTable) (text : List ℕ) (n : ℕ) (out es new : List Element) → new ≡ out ++ es → es ++ elements t (nfd (drop n text)) ≡ elements t (nfd text) → new ++ elements t (nfd (drop n text)) ≡ out ++ elements t (nfd text)
-run-further t text n out es new is apart = ap (λ l. l ++ elements t (nfd (drop n text))) is ∙ append_assoc out es (elements t (nfd (drop n text))) ∙ ap (λ l. out ++ l) apart
-
--- after some characters of what is left of a text
-pub others-further : (t : ElementTable) (text rest : List ℕ) (at n : ℕ) (out new whole : List Element) → rest ≡ drop at text → new ++ elements t (nfd (drop n rest)) ≡ out ++ elements t (nfd rest) → out ++ elements t (nfd (drop at text)) ≡ whole → new ++ elements t (nfd (drop (at + n) text)) ≡ whole
-others-further t text rest at n out new whole left step same =
-    ap (λ l. new ++ elements t (nfd l)) (sym (drop-drop n at text) ∙ ap (drop n) (sym left)) ∙ step ∙ ap (λ l. out ++ elements t (nfd l)) left ∙ same
+text-further t text at n out es whole same step = grind (arith, common_steps, drop-drop, append_assoc)
 
 pub text-done : (t : ElementTable) (text : List ℕ) (at : ℕ) (out whole : List Element) → length text ≤ at → out ++ elements t (nfd (drop at text)) ≡ whole → out ≡ whole
 text-done t text at out whole past same =

@@ -1,5 +1,5 @@
 -- The elements of a text match after match, where each match was put in order within the text.
-use Rattle.std.proofs.Common.{◌≡◌, ℕ, ◌+◌, ◌-◌, ◌≤◌, ◌<◌, List, ◌++◌, length, take, drop, sym, ap, ap₂, ◌∙◌, arith, append_assoc, append-nil}
+use Rattle.std.proofs.Common.{◌≡◌, ℕ, ◌+◌, ◌-◌, ◌≤◌, ◌<◌, List, ◌++◌, length, take, drop, ap₂, arith, append_assoc, append-nil}
 use Rattle.std.proofs.lemmas.List.{drop-drop, take_rest, drop_all, length-drop}
 use borrow.Rule.Slice.PartMut.{put_mid}
 use Rattle.uca_weights.specs.declared.element.Element.{Element}
@@ -7,6 +7,7 @@ use Rattle.uca_model.specs.Table.{ElementTable, is_key}
 use Rattle.uca_model.specs.CollationElements.{step, elements, elements_or_implicit}
 use Rattle.uca_model.proofs.RewritingLemmas.{elements_parts, elements_empty}
 use Rattle.uca_table.proofs.MovedForward.{rewritten-rest}
+use Rattle.std.proofs.lemmas.Grind.{common_steps}
 
 -- the match that was put to the front of what is left
 pub match_again : (text new : List ℕ) (at n : ℕ) → at < length text → take (at + n - at) (drop at (put_mid at (length text - at) text new)) ≡ take n new
@@ -16,19 +17,8 @@ match_again text new at n within = let few : at + n - at ≡ n = omega arith in 
 pub elements-further : (t : ElementTable) (text new : List ℕ) (at n : ℕ) (out whole : List Element) → at < length text → out ++ elements t (drop at text) ≡ whole
     → (step (is_key t) (take (length text - at) (drop at text))).matched.code_points ≡ take n new → (step (is_key t) (take (length text - at) (drop at text))).rest ≡ drop n new
     → (out ++ elements_or_implicit t (take (at + n - at) (drop at (put_mid at (length text - at) text new)))) ++ elements t (drop (at + n) (put_mid at (length text - at) text new)) ≡ whole
-elements-further t text new at n out whole within same matched rest =
-    let after = put_mid at (length text - at) text new in
-    let left : take (length text - at) (drop at text) ≡ drop at text = take_rest text at in
-    let size : length (drop at text) ≡ length text - at = length-drop at text in
-    let behind : drop at after ≡ new = rewritten-rest at text new (omega arith) in
-    let key : take (at + n - at) (drop at after) ≡ take n new = match_again text new at n within in
-    let later : drop (at + n) after ≡ drop n new = sym (drop-drop n at after) ∙ ap (drop n) behind in
-    let parts : elements_or_implicit t (take n new) ++ elements t (drop n new) ≡ elements t (drop at text)
-    = elements_parts t (drop at text) (take n new) (drop n new) (omega arith) (ap (λ xs. (step (is_key t) xs).matched.code_points) (sym left) ∙ matched) (ap (λ xs. (step (is_key t) xs).rest) (sym left) ∙ rest) in
-    ap₂ (λ k r. (out ++ elements_or_implicit t k) ++ elements t r) key later ∙ append_assoc out (elements_or_implicit t (take n new)) (elements t (drop n new)) ∙ ap (λ es. out ++ es) parts ∙ same
+elements-further t text new at n out whole within same matched rest = grind (arith, common_steps, take_rest, length-drop, rewritten-rest, match_again, drop-drop, elements_parts, append_assoc)
 
 -- nothing is left
 pub elements-done : (t : ElementTable) (text : List ℕ) (at : ℕ) (out whole : List Element) → length text ≤ at → out ++ elements t (drop at text) ≡ whole → out ≡ whole
-elements-done t text at out whole past same =
-    let none : length (drop at text) ≡ 0 = ap length (drop_all at text past) in
-    sym (append-nil out) ∙ ap (λ es. out ++ es) (sym (elements_empty t (drop at text) none)) ∙ same
+elements-done t text at out whole past same = grind (arith, common_steps, drop_all, append-nil, elements_empty)

@@ -1,11 +1,9 @@
 -- Tables that lie in a list of entries whose keys rise.
-use Rattle.std.proofs.Common.{◌≡◌, ℕ, ◌≤◌, max, true, false, cond, T, List, [], ◌∷◌, length, fold, map, Option, Some, None, is_some, IfSome, option_copied, Bor, refl, sym, ap, subst, ◌∙◌, arith, lit≤}
-use Rattle.std.specs.declared.cmp.Ordering.TheVariants.{Less, Equal, Greater}
+use Rattle.std.proofs.Common.{◌≡◌, ℕ, ◌≤◌, max, T, List, [], ◌∷◌, length, fold, map, Option, Some, None, is_some, IfSome, option_copied, Bor, refl, sym, ap, subst, ◌∙◌, arith, lit≤}
 use Rattle.std.specs.List.{All, AllByRecursion}
-use Rattle.std.specs.Ordering.{nat_cmp, eq_by_cmp}
-use Rattle.std.specs.Cmp.Lexicographic.{slice_cmp, nat_list_cmp_total}
+use Rattle.std.specs.Cmp.Lexicographic.{nat_list_cmp_total}
 use Rattle.std.specs.FinMap.{find, put, is_sorted, empty, insert, entries, from_sorted, entries-from_sorted, entries-insert, get-from_sorted, same_entries_map, empty_of_len, len-entries}
-use Rattle.std.specs.FinMap.Entries.{is_sorted-put, by_order}
+use Rattle.std.specs.FinMap.Entries.{is_sorted-put}
 use Rattle.std.proofs.lemmas.List.Elements.{All-from_recursion}
 use Rattle.uca_weights.specs.declared.element.Element.{Element}
 use Rattle.uca_weights.specs.declared.limits.TheConstants.{MAX_KEY}
@@ -15,6 +13,7 @@ use Rattle.uca_model.specs.UnifiedIdeographs.{AreIdeographs}
 use Rattle.uca_model.specs.Table.{key_cmp, elements_at, is_key, longest, IsEntry, IsTable, with_entry, with_ideographs}
 use Rattle.uca_table.specs.Stored.{AreStored, table_of, longest_of}
 use Rattle.uca_table.proofs.PutLemmas.{fold-some}
+use Rattle.std.proofs.lemmas.Grind.{common_steps}
 
 -- to put an entry is to insert it
 pub table_put : (es : List (List ℕ × List Element)) (rs : List Range) (k : List ℕ) (v : List Element) → T (is_sorted key_cmp es) → table_of (put key_cmp k v es) rs ≡ with_entry (table_of es rs) k v
@@ -30,12 +29,7 @@ table_none rs = ap (λ m. record { entries = m; ranges = rs; ideographs = [] }) 
 -- each entry is as in a table, the new one among them
 pub all-put : (es : List (List ℕ × List Element)) (k : List ℕ) (v : List Element) → IsEntry (k, v) → AllByRecursion IsEntry es → AllByRecursion IsEntry (put key_cmp k v es)
 all-put [] k v new all = (new, tt)
-all-put (e ∷ es) k v new all =
-    elim (slice_cmp nat_cmp k e.0) as (λ o. AllByRecursion IsEntry (by_order o ((k, v) ∷ e ∷ es) ((e.0, v) ∷ es) (e ∷ put key_cmp k v es))) [
-      | Less ↦ (new, all)
-      | Equal ↦ (record { some_points = all.0.some_points; few_points = all.0.few_points; points = all.0.points; some_elements = new.some_elements; few_elements = new.few_elements; elements = new.elements }, all.1)
-      | Greater ↦ (all.0, all-put es k v new all.1)
-    ]
+all-put (e ∷ es) k v new all = grind (arith, common_steps, all-put es k v new all.1)
 
 -- one more entry may be there
 pub AreStored-put : (es : List (List ℕ × List Element)) (rs : List Range) (k : List ℕ) (v : List Element) → AreStored es rs → IsEntry (k, v) → AreStored (put key_cmp k v es) rs
@@ -74,11 +68,7 @@ longest-bounds es all = (fold-some 1 es, fold-few 1 es (lit≤ tt) all)
 -- what holds of the elements of each entry holds of what is found
 pub found_entry : (P : List Element → Type 0) (es : List (List ℕ × List Element)) (q : List ℕ) → ((e : List ℕ × List Element) → IsEntry e → P e.1) → AllByRecursion IsEntry es → IfSome (find key_cmp q es) P
 found_entry P [] q f all = tt
-found_entry P (e ∷ es) q f all =
-    elim (eq_by_cmp key_cmp q e.0) as (λ b. IfSome (cond b (Some e.1) (find key_cmp q es)) P) [
-      | true ↦ f e all.0
-      | false ↦ found_entry P es q f all.1
-    ]
+found_entry P (e ∷ es) q f all = grind (arith, common_steps, found_entry P es q f all.1)
 
 -- a fact of a list that is reached through a reference
 pub if_found : (P : List Element → Type 0) (r : Option (Bor (List Element))) (o : Option (List Element)) → option_copied r ≡ o → IfSome o P → IfSome r (λ es. P es.now)

@@ -1,5 +1,5 @@
 -- The entries of a builder, which lie in two maps and one list of elements.
-use Rattle.std.proofs.Common.{◌≡◌, ℕ, ◌+◌, ◌≤◌, ◌<◌, ◌-◌, ◌*◌, ◌/◌, ◌%◌, zero, suc, Bool, ◌==◌, ◌&&◌, ◌||◌, true, false, cond, if◌then◌else◌, get_or, nat_eq, T, List, [], ◌∷◌, ◌++◌, length, take, drop, map, Some, None, is_some, refl, sym, ap, ap₂, subst, ◌∙◌, arith, inl, inr, eq-eqb, ne_eqb, length-drop, length-append}
+use Rattle.std.proofs.Common.{if◌then◌else◌, ◌≡◌, ℕ, ◌+◌, ◌≤◌, ◌<◌, ◌-◌, ◌*◌, ◌/◌, ◌%◌, zero, suc, Bool, ◌==◌, ◌&&◌, true, false, cond, get_or, nat_eq, T, List, [], ◌∷◌, ◌++◌, length, take, drop, map, Some, None, is_some, refl, sym, ap, ap₂, subst, ◌∙◌, arith, eq-eqb, ne_eqb, length-drop, length-append}
 use Rattle.std.proofs.lemmas.Bool.{cases_lt, le-leb}
 use Rattle.std.proofs.lemmas.List.{take_all, take-append-le, drop_all, drop-append-le, get_or_past}
 use Rattle.std.specs.declared.cmp.Ordering.TheVariants.{Less, Equal, Greater}
@@ -19,8 +19,9 @@ use Rattle.uca_table.specs.declared.single_map.Place.{Place}
 use Rattle.uca_table.specs.declared.single_map.SingleMap.{SingleMap}
 use Rattle.uca_table.specs.Builder.{known_fault}
 use Rattle.uca_table.specs.EntryMap.{entry_in, entries_in, is_key_at, pair_cmp, AreEntries, IsPlaced}
-use Rattle.uca_table.specs.SingleMap.{IsSingleMap, NoPlace, is_used, place_at, points_of, taken, with_point, with_points}
+use Rattle.uca_table.specs.SingleMap.{IsSingleMap, NoPlace, is_used, place_at, points_of, taken, with_points}
 use Rattle.uca_table.proofs.SingleLemmas.{Covers, find-single, find-longer, same-points, put-single, put-longer, longer_tied}
+use Rattle.std.proofs.lemmas.Grind.{common_steps}
 
 -- the second list begins with the first
 abbrev pub IsGrown : List Element → List Element → Type 0
@@ -28,16 +29,11 @@ IsGrown old new = new ≡ old ++ drop (length old) new
 
 -- a part of a list is one of each that begins with it
 part-grown : (xs ys : List Element) (m n : ℕ) → m + n ≤ length xs → IsGrown xs ys → take n (drop m ys) ≡ take n (drop m xs)
-part-grown xs ys m n within grown =
-    ap (λ l. take n (drop m l)) grown ∙ ap (take n) (drop-append-le m xs (drop (length xs) ys) (omega arith))
-    ∙ take-append-le n (drop m xs) (drop (length xs) ys) (omega (arith, length-drop m xs))
+part-grown xs ys m n within grown = grind (arith, common_steps, grown, drop-append-le, take-append-le, length-drop)
 
 -- so are the elements at a place, also where it is none
 taken-grown : (xs ys : List Element) (p : Place) → p.past ≤ length xs → IsGrown xs ys → taken p ys ≡ taken p xs
-taken-grown xs ys p within grown = elim (cases_lt p.past p.start) [
-  | inl none_here ↦ (let h : p.past - p.start ≡ 0 = omega arith in ap (λ n. take n (drop p.start ys)) h ∙ sym (ap (λ n. take n (drop p.start xs)) h))
-  | inr some ↦ part-grown xs ys p.start (p.past - p.start) (omega arith) grown
-]
+taken-grown xs ys p within grown = grind (arith, common_steps, cases_lt, part-grown, grown)
 
 -- what the map's insertion does is `put`
 put_inserted : {Y : Type 0} (es : List Element) (ms : List ((ℕ × Vec ℕ Y) × Place)) (k : ℕ × Vec ℕ Y) (p : Place) → map (entry_in es) (insert_entry pair_cmp ms k p) ≡ put key_cmp (k.0 ∷ k.1.items) (taken p es) (map (entry_in es) ms)
@@ -65,18 +61,11 @@ grown_by es v = ap (λ l. es ++ l) (sym (drop-append-le (length es) es v (omega 
 
 -- the elements after the first ones are those that were appended
 appended : (es v : List Element) (p : Place) → p.start ≡ length es → p.past ≡ length es + length v → taken p (es ++ v) ≡ v
-appended es v p start past =
-    (let count : p.past - p.start ≡ length v = omega arith in ap₂ (λ i j. take j (drop i (es ++ v))) start count)
-    ∙ ap (take (length v)) (drop-append-le (length es) es v (omega arith) ∙ ap (λ l. l ++ v) (drop_all (length es) es (omega arith))) ∙ take_all (length v) v (omega arith)
+appended es v p start past = grind (arith, common_steps, drop-append-le, drop_all, take_all)
 
 within-inserted : {Y : Type 0} (n : ℕ) (ms : List ((ℕ × Vec ℕ Y) × Place)) (k : ℕ × Vec ℕ Y) (p : Place) → 0 < length k.1.items → p.start ≤ p.past → p.past ≤ n → AllByRecursion (IsPlaced n) ms → AllByRecursion (IsPlaced n) (insert_entry pair_cmp ms k p)
 within-inserted n [] k p long used within placed = ((long, (used, within)), tt)
-within-inserted n (m ∷ ms) k p long used within placed =
-    elim (slice_cmp nat_cmp (k.0 ∷ k.1.items) (m.0.0 ∷ m.0.1.items)) as (λ o. AllByRecursion (IsPlaced n) (match_ordering o ((k, p) ∷ m ∷ ms) ((m.0, p) ∷ ms) (m ∷ insert_entry pair_cmp ms k p))) [
-      | Less ↦ ((long, (used, within)), placed)
-      | Equal ↦ ((placed.0.0, (used, within)), placed.1)
-      | Greater ↦ (placed.0, within-inserted n ms k p long used within placed.1)
-    ]
+within-inserted n (m ∷ ms) k p long used within placed = grind (arith, common_steps, within-inserted n ms k p long used within placed.1)
 
 -- ---- the places of single code points
 
@@ -99,9 +88,7 @@ none_single es n p (m ∷ ms) placed = ap (λ b. cond b (Some (entry_in es m).1)
     by_rest x (y ∷ ys) long = longer_tied p x y ys
 
 pub find-one : {Y : Type 0} (m : SingleMap) (ms : List ((ℕ × Vec ℕ Y) × Place)) (es : List Element) (p : ℕ) → AreEntries m ms es → find key_cmp (p ∷ []) (entries_in m ms es) ≡ cond (is_used (place_at m p)) (Some (taken (place_at m p) es)) None
-find-one m ms es p are =
-    find-single (place_at m) es (points_of m) p (map (entry_in es) ms) (covered m are.singles)
-    ∙ ap (cond (is_used (place_at m p)) (Some (taken (place_at m p) es))) (none_single es (length es) p ms are.placed)
+find-one m ms es p are = grind (arith, common_steps, find-single, covered, none_single)
 
 pub find-more : {Y : Type 0} (m : SingleMap) (ms : List ((ℕ × Vec ℕ Y) × Place)) (es : List Element) (q : List ℕ) → 1 < length q → find key_cmp q (entries_in m ms es) ≡ find key_cmp q (map (entry_in es) ms)
 find-more m ms es [] long = absurd (omega (arith, long))
@@ -115,30 +102,20 @@ known-one m ms es p are = ap (λ o. cond (is_some o) (Some Repeated) None) (find
 -- a longer key is known where the map of such keys has it
 known_by : {Y : Type 0} (es : List Element) (ms : List ((ℕ × Vec ℕ Y) × Place)) (k : ℕ × Vec ℕ Y) → known_fault (map (entry_in es) ms) (k.0 ∷ k.1.items) ≡ cond (is_some (lookup (is_at (pair_cmp k)) ms)) (Some Repeated) None
 known_by es [] k = refl
-known_by es (m ∷ ms) k =
-    elim (eq_by_cmp key_cmp (k.0 ∷ k.1.items) (m.0.0 ∷ m.0.1.items)) as (λ b. cond (is_some (cond b (Some (entry_in es m).1) (find key_cmp (k.0 ∷ k.1.items) (map (entry_in es) ms)))) (Some Repeated) None ≡ cond (is_some (cond b (Some m.1) (lookup (is_at (pair_cmp k)) ms))) (Some Repeated) None) [
-      | true ↦ refl
-      | false ↦ known_by es ms k
-    ]
+known_by es (m ∷ ms) k = grind (arith, common_steps, known_by es ms k)
 
 pub known-more : {Y : Type 0} (m : SingleMap) (ms : List ((ℕ × Vec ℕ Y) × Place)) (es : List Element) (k : ℕ × Vec ℕ Y) → 0 < length k.1.items → known_fault (entries_in m ms es) (k.0 ∷ k.1.items) ≡ cond (is_some (lookup (is_at (pair_cmp k)) ms)) (Some Repeated) None
 known-more m ms es k long = ap (λ o. cond (is_some o) (Some Repeated) None) (find-more m ms es (k.0 ∷ k.1.items) (omega (arith, long))) ∙ known_by es ms k
 
 pub found_among : {Y : Type 0} (es : List Element) (ms : List ((ℕ × Vec ℕ Y) × Place)) (q : List ℕ) → list_any (is_key_at q) ms ≡ is_some (find key_cmp q (map (entry_in es) ms))
 found_among es [] q = refl
-found_among es (m ∷ ms) q =
-    elim (eq_by_cmp key_cmp q (m.0.0 ∷ m.0.1.items)) as (λ b. (b || list_any (is_key_at q) ms) ≡ is_some (cond b (Some (entry_in es m).1) (find key_cmp q (map (entry_in es) ms)))) [
-      | true ↦ refl
-      | false ↦ found_among es ms q
-    ]
+found_among es (m ∷ ms) q = grind (arith, common_steps, found_among es ms q)
 
 -- ---- one more entry
 
 points-kept : (at : ℕ → Place) (es fs : List Element) (n : ℕ) (xs : List (List ℕ × List Element)) → ((p : ℕ) → (at p).past ≤ length es) → IsGrown es fs → with_points at fs n xs ≡ with_points at es n xs
 points-kept at es fs zero xs inside grown = refl
-points-kept at es fs (suc n) xs inside grown =
-    ap (λ v. cond (is_used (at n)) (put key_cmp (n ∷ []) v (with_points at fs n xs)) (with_points at fs n xs)) (taken-grown es fs (at n) (inside n) grown)
-    ∙ ap (with_point at es n) (points-kept at es fs n xs inside grown)
+points-kept at es fs (suc n) xs inside grown = grind (arith, common_steps, taken-grown, grown, points-kept at es fs n xs inside grown)
 
 -- a code point that gets its place has its elements, which are appended to the others
 module _ {Y : Type 0} (old new : SingleMap) (ms : List ((ℕ × Vec ℕ Y) × Place)) (es v fs : List Element) (c : ℕ) (p : Place) (are : AreEntries old ms es) (is : IsSingleMap new) (all : fs ≡ es ++ v) (start : p.start ≡ length es) (past : p.past ≡ length es + length v)
@@ -158,14 +135,7 @@ module _ {Y : Type 0} (old new : SingleMap) (ms : List ((ℕ × Vec ℕ Y) × Pl
       ∙ ap (put key_cmp (c ∷ []) v) (points-kept (place_at old) es fs (points_of old) (map (entry_in es) ms) are.inside grown)
 
   pub one-are : AreEntries new ms fs
-  one-are =
-      let size : length fs ≡ length es + length v = ap length all ∙ length-append es v in
-      record {
-        singles = is;
-        inside = λ q. subst (λ w. w.past ≤ length fs) (sym (given q)) (elim (c == q) as (λ b. (if b then p else place_at old q).past ≤ length fs) [ true ↦ omega (arith, size, past) | false ↦ omega (arith, size, are.inside q) ]);
-        placed = placed-kept (length es) (length fs) ms (omega (arith, size)) are.placed;
-        sorted = subst (λ l. T (is_sorted key_cmp l)) (sym (kept es fs ms grown are.placed)) are.sorted;
-      }
+  one-are = grind (arith, common_steps, length-append, placed-kept, kept, grown)
 
 pub put-more : (at : ℕ → Place) (es : List Element) (n x : ℕ) (ys : List ℕ) (v : List Element) (xs : List (List ℕ × List Element)) → 0 < length ys → T (is_sorted key_cmp xs) → with_points at es n (put key_cmp (x ∷ ys) v xs) ≡ put key_cmp (x ∷ ys) v (with_points at es n xs)
 put-more at es n x [] v xs long sorted = absurd (omega (arith, long))
@@ -177,15 +147,10 @@ module _ {Y : Type 0} (m : SingleMap) (ms ns : List ((ℕ × Vec ℕ Y) × Place
   begins = all ∙ grown_by es v ∙ ap (λ l. es ++ drop (length es) l) (sym all)
 
   others : map (entry_in fs) ns ≡ put key_cmp (k.0 ∷ k.1.items) v (map (entry_in es) ms)
-  others =
-      ap (map (entry_in fs)) given ∙ put_inserted fs ms k p
-      ∙ ap₂ (λ w xs. put key_cmp (k.0 ∷ k.1.items) w xs) (ap (taken p) all ∙ appended es v p start past) (kept es fs ms begins are.placed)
+  others = grind (arith, common_steps, put_inserted, appended, kept, begins)
 
   pub more-inserted : entries_in m ns fs ≡ put key_cmp (k.0 ∷ k.1.items) v (entries_in m ms es)
-  more-inserted =
-      ap (with_points (place_at m) fs (points_of m)) others
-      ∙ put-more (place_at m) fs (points_of m) k.0 k.1.items v (map (entry_in es) ms) long are.sorted
-      ∙ ap (put key_cmp (k.0 ∷ k.1.items) v) (points-kept (place_at m) es fs (points_of m) (map (entry_in es) ms) are.inside begins)
+  more-inserted = grind (arith, common_steps, others, put-more, points-kept, begins)
 
   pub more-are : AreEntries m ns fs
   more-are =

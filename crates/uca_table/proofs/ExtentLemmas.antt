@@ -1,5 +1,5 @@
 -- The extents of the bases once a range is put among the others.
-use Rattle.std.proofs.Common.{◌≡◌, ℕ, min, max, true, false, cond, ◌==◌, List, [], ◌∷◌, fold, map, filter, Option, Some, None, refl, sym, ap, ◌∙◌, arith, inl, inr, nat_lt, eqb-true}
+use Rattle.std.proofs.Common.{◌≡◌, ℕ, min, max, cond, ◌==◌, List, [], ◌∷◌, fold, map, filter, Option, Some, None, refl, ◌∙◌, arith, inl, inr, eqb-true}
 use Rattle.std.proofs.lemmas.Bool.{cases_Bool}
 use Rattle.std.specs.Option.{option_map_or}
 use Rattle.uca_weights.specs.declared.range.Range.{Range}
@@ -7,6 +7,7 @@ use Rattle.uca_model.specs.ImplicitWeights.{lowest_first}
 use Rattle.uca_table.specs.declared.extent.Extent.{Extent}
 use Rattle.uca_model.specs.Ranges.{highest_last, put_range}
 use Rattle.uca_table.specs.Extents.{extent_with, AreExtents}
+use Rattle.std.proofs.lemmas.Grind.{common_steps}
 
 -- the code points of the ranges with a base, taken one after the other
 abbrev over_base : (ℕ → ℕ → ℕ) → (Range → ℕ) → List Range → ℕ → ℕ → ℕ
@@ -18,31 +19,16 @@ over_one f end r base start = cond (r.base == base) (f start (end r)) start
 
 -- the first range comes first
 over_base-head : (f : ℕ → ℕ → ℕ) (end : Range → ℕ) (r : Range) (rs : List Range) (base start : ℕ) → over_base f end (r ∷ rs) base start ≡ over_base f end rs base (over_one f end r base start)
-over_base-head f end r rs base start = elim (r.base == base) as (λ b. fold f start (map end (cond b (r ∷ filter (λ s. s.base == base) rs) (filter (λ s. s.base == base) rs))) ≡ over_base f end rs base (cond b (f start (end r)) start)) [
-  | true ↦ refl
-  | false ↦ refl
-]
+over_base-head f end r rs base start = grind (arith, common_steps)
 
 -- two ranges may come either way round
 over_one-swap : (f : ℕ → ℕ → ℕ) (end : Range → ℕ) (r s : Range) (base start : ℕ) → ((x y z : ℕ) → f (f x y) z ≡ f (f x z) y) → over_one f end r base (over_one f end s base start) ≡ over_one f end s base (over_one f end r base start)
-over_one-swap f end r s base start either =
-    elim (r.base == base) as (λ a. cond a (f (over_one f end s base start) (end r)) (over_one f end s base start) ≡ over_one f end s base (cond a (f start (end r)) start)) [
-      | true ↦ elim (s.base == base) as (λ b. f (cond b (f start (end s)) start) (end r) ≡ cond b (f (f start (end r)) (end s)) (f start (end r))) [
-        | true ↦ either start (end s) (end r)
-        | false ↦ refl
-      ]
-      | false ↦ refl
-    ]
+over_one-swap f end r s base start either = grind (arith, common_steps)
 
 -- so it is one whether the range is put after others or taken first
 over_base-put : (f : ℕ → ℕ → ℕ) (end : Range → ℕ) (r : Range) (rs : List Range) (base start : ℕ) → ((x y z : ℕ) → f (f x y) z ≡ f (f x z) y) → over_base f end (put_range r rs) base start ≡ over_base f end rs base (over_one f end r base start)
 over_base-put f end r [] base start either = over_base-head f end r [] base start
-over_base-put f end r (s ∷ ss) base start either = elim (nat_lt r.first s.first) as (λ b. over_base f end (cond b (r ∷ s ∷ ss) (s ∷ put_range r ss)) base start ≡ over_base f end (s ∷ ss) base (over_one f end r base start)) [
-  | true ↦ over_base-head f end r (s ∷ ss) base start
-  | false ↦
-      over_base-head f end s (put_range r ss) base start ∙ over_base-put f end r ss base (over_one f end s base start) either
-      ∙ ap (over_base f end ss base) (over_one-swap f end r s base start either) ∙ sym (over_base-head f end s ss base (over_one f end r base start))
-]
+over_base-put f end r (s ∷ ss) base start either = grind (arith, common_steps, over_base-head, over_one-swap, over_base-put f end r ss base (over_one f end s base start) either)
 
 -- the lower one of three numbers
 min-swap : (x y z : ℕ) → min (min x y) z ≡ min (min x z) y

@@ -1,12 +1,13 @@
 -- A range of ideographs that is put among the others.
-use Rattle.std.proofs.Common.{◌≡◌, ℕ, ◌≤◌, ◌<◌, true, false, cond, nat_lt, List, [], ◌∷◌, ◌++◌, take, drop, arith, inl, inr}
+use Rattle.std.proofs.Common.{◌≡◌, ℕ, ◌≤◌, ◌<◌, false, nat_lt, List, [], ◌∷◌, ◌++◌, take, drop, arith, inl, inr}
 use Rattle.std.proofs.lemmas.Bool.{cases_Bool, ltb-false, or_parts}
 use Rattle.std.proofs.lemmas.Bool.Decides.{nat_tests}
 use Rattle.std.specs.Char.{IsScalar}
 use Rattle.std.specs.List.{AllByRecursion, list_any}
 use Rattle.uca_weights.specs.declared.range.Ideographs.{Ideographs}
-use Rattle.uca_model.specs.UnifiedIdeographs.{IsIdeographs, AreApart, AreIdeographs, repeats_listed}
+use Rattle.uca_model.specs.UnifiedIdeographs.{IsIdeographs, AreApart, AreIdeographs}
 use Rattle.uca_model.specs.AddedIdeographs.{are_bad_ideographs, put_ideographs, shares}
+use Rattle.std.proofs.lemmas.Grind.{common_steps}
 
 -- the range goes after the first i
 abbrev pub GoesAfter : Ideographs → List Ideographs → ℕ → Type 0
@@ -15,10 +16,7 @@ GoesAfter r rs i = put_ideographs r rs ≡ take i rs ++ put_ideographs r (drop i
 -- what holds of the range and of the others
 all-put : (P : Ideographs → Type 0) (r : Ideographs) (rs : List Ideographs) → P r → AllByRecursion P rs → AllByRecursion P (put_ideographs r rs)
 all-put P r [] new all = (new, tt)
-all-put P r (s ∷ ss) new all = elim (nat_lt r.first s.first) as (λ b. AllByRecursion P (cond b (r ∷ s ∷ ss) (s ∷ put_ideographs r ss))) [
-  | true ↦ (new, all)
-  | false ↦ (all.0, all-put P r ss new all.1)
-]
+all-put P r (s ∷ ss) new all = grind (arith, common_steps, all-put P r ss new all.1)
 
 -- what begins above the end of another range begins above all that ends below that
 all-above : (low high : ℕ) (rs : List Ideographs) → low ≤ high → AllByRecursion (λ t. high < t.first) rs → AllByRecursion (λ t. low < t.first) rs
@@ -42,10 +40,4 @@ apart-put r (s ∷ ss) ordered free each old =
 
 -- a range that is not bad is compatible with the others
 pub AreIdeographs-put : (r : Ideographs) (rs : List Ideographs) → IsScalar r.first → IsScalar r.last → are_bad_ideographs rs r ≡ false → AreIdeographs rs → AreIdeographs (put_ideographs r rs)
-AreIdeographs-put r rs first last fine old =
-    let order = or_parts (nat_lt r.last r.first) _ fine in let listed = or_parts (repeats_listed r) _ order.1 in
-    let ordered : r.first ≤ r.last = ltb-false r.last r.first order.0 in
-    record {
-      each = all-put IsIdeographs r rs (record { first = first; last = last; ordered = ordered; unlisted = listed.0 }) old.each;
-      apart = apart-put r rs ordered listed.1 old.each old.apart;
-    }
+AreIdeographs-put r rs first last fine old = grind (arith, common_steps, or_parts, ltb-false, all-put, apart-put)

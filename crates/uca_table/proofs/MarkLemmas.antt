@@ -1,5 +1,5 @@
 -- What keys say about code points, and how the marks are laid out in blocks.
-use Rattle.std.proofs.Common.{◌≡◌, ℕ, zero, suc, ◌+◌, ◌-◌, ◌*◌, ◌/◌, ◌%◌, ◌≤◌, ◌<◌, nat_lt, Bool, true, false, not, ◌||◌, ◌&&◌, ◌==◌, cond, if◌then◌else◌, List, [], ◌∷◌, length, take, drop, get_or, set, slice_index, Some, unwrap_or, refl, sym, ap, ap₂, subst, ◌∙◌, arith, inl, inr, eq-eqb, eqb-true, length-drop}
+use Rattle.std.proofs.Common.{if◌then◌else◌, ◌≡◌, ℕ, zero, suc, ◌+◌, ◌-◌, ◌*◌, ◌/◌, ◌%◌, ◌≤◌, ◌<◌, nat_lt, Bool, true, false, not, ◌||◌, ◌&&◌, ◌==◌, cond, List, [], ◌∷◌, length, take, drop, get_or, set, slice_index, Some, unwrap_or, refl, sym, ap, ap₂, ◌∙◌, arith, inl, inr, eq-eqb, eqb-true, length-drop}
 use Rattle.std.proofs.Math.Bool.{and-true, and_assoc, and_comm, or-false, or-true, or_assoc}
 use Rattle.std.proofs.lemmas.Bool.{cases_eq, lt-ltb, ne_eqb}
 use Rattle.std.proofs.lemmas.List.{drop_more, get_or-set_same, get_or-set_other}
@@ -9,19 +9,19 @@ use Rattle.std.specs.FinMap.{entries, entries_sorted, find, get-entries}
 use Rattle.std.specs.List.{list_any, list_all}
 use Rattle.std.specs.Ordering.{nat_cmp}
 use Rattle.unicode_normalization.specs.Decompose.{decompose_canonical}
-use Rattle.unicode_normalization.specs.Order.{is_starter}
 use Rattle.uca_weights.specs.declared.element.Element.{Element}
 use Rattle.uca_model.specs.Table.{ElementTable, key_cmp}
 use Rattle.uca_model.specs.CollationElements.{elements_or_implicit}
 use Rattle.uca_model.specs.ImplicitWeights.{implicit}
 use Rattle.uca_model.specs.Prefix.{have_primaries_of, is_primary_of, keeps_primary}
-use Rattle.uca_model.specs.SafeCut.{begins_with_primary, is_safe_starter, begins_apart, is_cut, keeps_apart}
-use Rattle.uca_model.specs.StandAlone.{is_first, is_longer_from, is_inside, begins, leads, continues, joining_of, is_before_last}
+use Rattle.uca_model.specs.SafeCut.{begins_with_primary, is_safe_starter, begins_apart, is_cut}
+use Rattle.uca_model.specs.StandAlone.{is_longer_from, begins, leads, continues, is_before_last}
 use Rattle.uca_model.proofs.SafeCutLemmas.{is_cut-parts}
 use Rattle.uca_table.specs.declared.marks.MarkTable.{MarkTable}
 use Rattle.uca_table.specs.declared.marks.Marks.{Marks}
-use Rattle.uca_table.specs.Marks.{HoldsMarks, IsIndex, Untouched, keep_apart, marks, marks_with, marks_after, keeps_longer, place, first_marks, inside_marks, between_marks}
+use Rattle.uca_table.specs.Marks.{HoldsMarks, IsIndex, Untouched, marks, marks_with, marks_after, keeps_longer, place, first_marks, inside_marks, between_marks}
 use Rattle.uca_table.proofs.SearchLemmas.{found_at}
+use Rattle.std.proofs.lemmas.Grind.{common_steps}
 
 -- ---- the test of a character
 
@@ -31,20 +31,6 @@ first_apart t (d ∷ ds) x some is = ap (is_safe_starter t) is
 
 pub cut-first : (t : ElementTable) (c x : ℕ) (ds : List ℕ) (tested : Bool) → ds ≡ decompose_canonical c → (length ds ≡ 0 → ⊥) → x ≡ get_or ds 0 x → tested ≡ is_safe_starter t x → tested ≡ is_cut t c
 cut-first t c x ds tested parts some is test = test ∙ first_apart t ds x some is ∙ ap (begins_apart t) parts ∙ sym (is_cut-parts t c)
-
--- the same by the parts of the test, where it holds
-pub apart-first : (t : ElementTable) (x : ℕ) (ds : List ℕ) → (length ds ≡ 0 → ⊥) → x ≡ get_or ds 0 x → is_starter x ≡ true → keep_apart t x ≡ true → begins_apart t ds ≡ true
-apart-first t x ds some is starter apart = sym (first_apart t ds x some is) ∙ ap₂ (λ a b. a && b) starter apart
-
--- how code points may join the text before them, by what is known of the first
-pub joining-known : (t : ElementTable) (x : ℕ) (ds : List ℕ) (m : Marks) → (length ds ≡ 0 → ⊥) → x ≡ get_or ds 0 x → m ≡ marks t x → joining_of t ds ≤ (if is_starter x then (if m.continues then 1 else 0) else 2)
-joining-known t x [] m some is known = absurd (some refl)
-joining-known t x (d ∷ ds) m some is known = subst (λ p. joining_of t (p ∷ ds) ≤ (if is_starter x then (if m.continues then 1 else 0) else 2)) is (go (is_starter x) (continues t x) m.continues (λ none. ap (λ k. k.continues) (sym known) ∙ none))
-  where
-    go : (starter inside said : Bool) → (said ≡ false → inside ≡ false) → (if starter then (if inside then 1 else 0) else 2) ≤ (if starter then (if said then 1 else 0) else 2)
-    go false inside said right = omega arith
-    go true inside true right = elim inside as (λ b. (if b then 1 else 0) ≤ 1) [ true ↦ omega arith | false ↦ omega arith ]
-    go true inside false right = subst (λ b. (if b then 1 else 0) ≤ 0) (sym (right refl)) (omega arith)
 
 -- ---- what one more key says
 
@@ -64,12 +50,10 @@ own-same blocks ms new block number p index within none is old fresh inside = el
   | inl same ↦
       let now : get_or (set blocks block number) (p / 128) 0 ≡ number = ap (λ b. get_or (set blocks block number) b 0) same ∙ get_or-set_same blocks block number 0 within in
       let was : get_or blocks (p / 128) 0 ≡ 0 = ap (λ b. get_or blocks b 0) same ∙ none in
-      let whole : length ms % 128 ≡ 0 = index.whole in
       ap (λ n. get_or new (n * 128 + p % 128) Untouched) now ∙ fresh (number * 128 + p % 128) (omega arith) (omega arith)
       ∙ sym (ap (λ n. get_or ms (n * 128 + p % 128) Untouched) was ∙ ap (λ k. get_or ms k Untouched) (first p) ∙ index.shared (p % 128) (omega arith))
   | inr other ↦
       let now : get_or (set blocks block number) (p / 128) 0 ≡ get_or blocks (p / 128) 0 = get_or-set_other blocks block (p / 128) number 0 other in
-      let few : get_or blocks (p / 128) 0 * 128 + 128 ≤ length ms = index.within (p / 128) inside in
       ap (λ n. get_or new (n * 128 + p % 128) Untouched) now ∙ old (place blocks p) (omega arith)
 ]
   where
@@ -78,10 +62,7 @@ own-same blocks ms new block number p index within none is old fresh inside = el
 
 -- two code points with one place, which their block does not share, are one
 pub same_point : (blocks : List ℕ) (ms : List Marks) (c d : ℕ) → IsIndex blocks ms → c / 128 < 8704 → d / 128 < 8704 → 0 < get_or blocks (c / 128) 0 → place blocks d ≡ place blocks c → d ≡ c
-same_point blocks ms c d index in_c in_d own same =
-    let number : get_or blocks (c / 128) 0 ≡ get_or blocks (d / 128) 0 = omega arith in
-    let block : c / 128 ≡ d / 128 = index.single (c / 128) (d / 128) in_c in_d number own in
-    omega arith
+same_point blocks ms c d index in_c in_d own same = grind (arith, common_steps)
 
 -- other marks at the place of a code point are those of that one
 pub put-one : (blocks : List ℕ) (ms : List Marks) (c p at : ℕ) (m : Marks) → IsIndex blocks ms → c / 128 < 8704 → 0 < get_or blocks (c / 128) 0 → at ≡ place blocks c → p / 128 < 8704
@@ -95,16 +76,6 @@ put-one blocks ms c p at m index in_c own is in_p = elim (cases_eq c p) [
       let apart : place blocks p ≡ at → ⊥ = λ e. other (sym (same_point blocks ms c p index in_c in_p own (e ∙ is))) in
       get_or-set_other ms at (place blocks p) m Untouched apart ∙ sym (ap (λ b. cond b m (get_or ms (place blocks p) Untouched)) (ne_eqb c p other))
 ]
-
--- of a table without keys all blocks share the first one
-pub new-index : (blocks : List ℕ) (ms : List Marks) → length blocks ≡ 8704 → ((b : ℕ) → get_or blocks b 0 ≡ 0) → length ms ≡ 128 → ((i : ℕ) → get_or ms i Untouched ≡ Untouched) → IsIndex blocks ms
-new-index blocks ms all none size fresh = record {
-  all = all;
-  whole = omega (arith, size);
-  within = λ b lt. omega (arith, size, none b);
-  single = λ b c lt below same some. absurd (omega (arith, some, none b));
-  shared = λ i lt. fresh i;
-}
 
 -- ---- the code points of a key
 
@@ -129,8 +100,7 @@ any_more (x ∷ points) (suc i) p c h is =
 -- one more code point after the first place
 pub inside-step : (m now new : Marks) (points : List ℕ) (i c p : ℕ) → i < length points → c ≡ get_or points i c → now ≡ inside_marks m (list_any (λ x. x == p) (take i points)) → new ≡ inside_marks now (c == p)
     → new ≡ inside_marks m (list_any (λ x. x == p) (take (i + 1) points))
-inside-step m now new points i c p h is before step =
-    step ∙ ap (λ n. inside_marks n (c == p)) before ∙ inside_more m (list_any (λ x. x == p) (take i points)) (c == p) ∙ ap (inside_marks m) (sym (any_more points i p c h is))
+inside-step m now new points i c p h is before step = grind (arith, common_steps, inside_more, any_more)
 
 -- one more between two others
 pub between-step : (m now new : Marks) (points : List ℕ) (at c p : ℕ) → 1 ≤ at → at < length points → c ≡ get_or points (at - 1) c → now ≡ between_marks m (list_any (λ x. x == p) (take (at - 1) points)) → new ≡ between_marks now (c == p)
@@ -151,10 +121,8 @@ between-all (x ∷ points) at p some within all = (let one : at - 1 ≡ length p
 -- the first code point, those after it, and those between them
 key_marks : (m : Marks) (b longer leads primary keeps kept inside between : Bool) → (b ≡ true → longer ≡ leads) → (b ≡ false → leads ≡ false) → (b ≡ true → keeps ≡ kept) → (b ≡ false → kept ≡ true)
     → between_marks (inside_marks (cond b (first_marks m longer primary keeps) m) inside) between ≡ said (m.begins || b) (m.leads || leads) (m.continues || inside) (m.apart && (not inside && (not b || primary))) (m.ends && not between) (m.keeps && kept)
-key_marks m true longer leads primary keeps kept inside between first other same none =
-    make _ _ _ _ _ _ _ _ _ _ _ _ (sym (or-true m.begins)) (ap (λ x. m.leads || x) (first refl)) refl (and_assoc m.apart primary (not inside) ∙ ap (λ b. m.apart && b) (and_comm primary (not inside))) refl (ap (λ x. m.keeps && x) (same refl))
-key_marks m false longer leads primary keeps kept inside between first other same none =
-    make _ _ _ _ _ _ _ _ _ _ _ _ (sym (or-false m.begins)) (sym (ap (λ x. m.leads || x) (other refl) ∙ or-false m.leads)) refl (ap (λ x. m.apart && x) (sym (and-true (not inside)))) refl (sym (ap (λ x. m.keeps && x) (none refl) ∙ and-true m.keeps))
+key_marks m true longer leads primary keeps kept inside between first other same none = grind (arith, common_steps, make, or-true, and_assoc, and_comm)
+key_marks m false longer leads primary keeps kept inside between first other same none = grind (arith, common_steps, make, or-false, and-true)
 
 -- what a key says about a code point, by its parts
 pub with-key : (t : ElementTable) (m first others all : Marks) (p c : ℕ) (key : List ℕ) (es : List Element) (longer primary keeps : Bool) → 0 < length key → c ≡ get_or key 0 c
@@ -186,8 +154,7 @@ with-key t m first others all p c (x ∷ key) es longer primary keeps some is lo
 
 -- one more key, and then the others
 after_more : (t : ElementTable) (m : Marks) (p : ℕ) (e : List ℕ × List Element) (es : List (List ℕ × List Element)) → marks_after t (marks_with t m p e) p es ≡ marks_after t m p (e ∷ es)
-after_more t m p e es =
-    make _ _ _ _ _ _ _ _ _ _ _ _ (or_assoc m.begins (is_first p e.0) _) (or_assoc m.leads (is_longer_from p e.0) _) (or_assoc m.continues (is_inside p e.0) _) (and_assoc m.apart (keeps_apart p e) _) (and_assoc m.ends (not (is_before_last p (drop 1 e.0))) _) (and_assoc m.keeps (keeps_longer t p e) _)
+after_more t m p e es = grind (arith, common_steps, make, or_assoc, and_assoc)
 
 pub after-step : (t : ElementTable) (now new whole : Marks) (p : ℕ) (key : List ℕ) (elements : List Element) (left rest : List (List ℕ × List Element)) → left ≡ (key, elements) ∷ rest → new ≡ marks_with t now p (key, elements)
     → marks_after t now p left ≡ whole → marks_after t new p rest ≡ whole
@@ -234,12 +201,8 @@ all-marks t p = make _ _ _ _ _ _ _ _ _ _ _ _ refl refl refl refl refl (all_keep 
 
 -- when no key is left
 pub after-none : (t : ElementTable) (now : Marks) (p : ℕ) (left : List (List ℕ × List Element)) → left ≡ [] → marks_after t now p left ≡ marks_after t Untouched p (entries t.entries) → now ≡ marks t p
-after-none t now p left none whole =
-    sym (ap (marks_after t now p) none ∙ make _ _ _ _ _ _ _ _ _ _ _ _ (or-false now.begins) (or-false now.leads) (or-false now.continues) (and-true now.apart) (and-true now.ends) (and-true now.keeps)) ∙ whole ∙ all-marks t p
+after-none t now p left none whole = grind (arith, common_steps, make, or-false, and-true, all-marks)
 
 -- the same blocks and marks are of the same table
 pub HoldsMarks-same : (t : ElementTable) (old new : MarkTable) → new.blocks.items ≡ old.blocks.items → new.marks.items ≡ old.marks.items → HoldsMarks t old → HoldsMarks t new
-HoldsMarks-same t old new blocks ms h = (
-  subst (λ bs. IsIndex bs new.marks.items) (sym blocks) (subst (IsIndex old.blocks.items) (sym ms) h.0),
-  λ p inside. ap₂ (λ l bs. get_or l (place bs p) Untouched) ms blocks ∙ h.1 p inside,
-)
+HoldsMarks-same t old new blocks ms h = grind (arith, common_steps)

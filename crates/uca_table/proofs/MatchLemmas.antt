@@ -1,24 +1,21 @@
 -- The discontiguous match nonstarter after nonstarter, and the keys that are looked up.
-use Rattle.std.proofs.Common.{◌≡◌, ℕ, suc, zero, ◌+◌, ◌-◌, ◌≤◌, ◌<◌, max, Bool, true, false, cond, not, ◌&&◌, ◌||◌, nat_le, nat_lt, List, [], ◌∷◌, ◌++◌, length, take, drop, get_or, sym, ap, ap₂, subst, ◌∙◌, arith, inl, inr, append_assoc, append-nil}
+use Rattle.std.proofs.Common.{◌≡◌, ℕ, suc, zero, ◌+◌, ◌-◌, ◌≤◌, ◌<◌, max, Bool, true, false, cond, not, ◌&&◌, nat_lt, List, [], ◌∷◌, ◌++◌, length, take, drop, get_or, sym, ap, ap₂, subst, ◌∙◌, arith, append_assoc, append-nil}
 use Rattle.std.proofs.lemmas.Bool.{cases_Bool, cases_lt, lt-ltb, le-ltb, le-leb, lt-leb}
 use Rattle.std.proofs.lemmas.List.{length-take-le, drop_all, get_or_read}
 use Rattle.std.proofs.Math.Bool.{and-false}
 use Rattle.std.proofs.Math.Nat.{pos_of_ne-zero}
 use Rattle.unicode.specs.CanonicalCombiningClass.{canonical_combining_class as ccc}
-use Rattle.unicode_normalization.specs.Order.{is_starter}
 use Rattle.uca_model.specs.Table.{ElementTable, is_key, longest}
-use Rattle.uca_model.specs.Match.{Step, took, greatest, longest_match_len, is_blocked, discontiguous_match}
+use Rattle.uca_model.specs.Match.{took, greatest, longest_match_len, is_blocked, discontiguous_match}
 use Rattle.uca_model.proofs.LongestKey.{longest-covers}
 use Rattle.uca_model.proofs.MatchingLemmas.{extended_ends, extended_takes, extended_passes, extended_done}
 use Rattle.uca_table.specs.Running.{brought_forward, highest_class, passed_over, IsExtending}
 use Rattle.uca_table.proofs.MovedForward.{brought-front, brought-between, brought-rest, passed_over-more, passed_over-rest}
+use Rattle.std.proofs.lemmas.Grind.{common_steps}
 
 -- no code points that are more than those of each key are a key
 pub longer_than_keys : (t : ElementTable) (key : List ℕ) → longest t < length key → is_key t key ≡ false
-longer_than_keys t key long = elim (cases_Bool (is_key t key)) [
-  | inl holds ↦ let h : length key ≤ longest t = longest-covers t key holds in absurd (omega arith)
-  | inr fails ↦ fails
-]
+longer_than_keys t key long = grind (arith, common_steps, cases_Bool, longest-covers)
 
 -- numbers that fail are not the greatest that passes
 pub greatest-below : (p : ℕ → Bool) (n d : ℕ) → ((k : ℕ) → n < k → k ≤ n + d → p k ≡ false) → greatest p (n + d) ≡ greatest p n
@@ -34,7 +31,6 @@ longest_match_len-short t text n within short =
     let whole : n + (length text - n) ≡ length text = omega arith in
     sym (greatest-below (λ k. is_key t (take k text)) n (length text - n) (λ k above upto.
     let size : length (take k text) ≡ k = length-take-le k text (omega arith) in
-    let last : longest t ≤ n = short (omega arith) in
     longer_than_keys t (take k text) (omega arith)))
     ∙ ap (greatest (λ k. is_key t (take k text))) whole
 
@@ -45,40 +41,18 @@ highest_class-more (d ∷ cs) c = let e : highest_class (cs ++ c ∷ []) ≡ max
 -- a nonstarter is blocked exactly where its class is not above the highest of those that were passed over
 pub not_blocked : (passed : List ℕ) (c : ℕ) → 0 < ccc c → not (is_blocked passed c) ≡ nat_lt (highest_class passed) (ccc c)
 not_blocked [] c mark = sym (lt-ltb 0 (ccc c) mark)
-not_blocked (b ∷ passed) c mark = elim (cases_lt (ccc b) (ccc c)) [
-  | inl above ↦
-      let first : nat_le (ccc c) (ccc b) ≡ false = lt-leb (ccc c) (ccc b) above in
-      ap (λ x. not (x || is_blocked passed c)) first ∙ not_blocked passed c mark ∙ (elim (cases_lt (highest_class passed) (ccc c)) [
-        | inl over ↦ lt-ltb (highest_class passed) (ccc c) over ∙ sym (lt-ltb (max (ccc b) (highest_class passed)) (ccc c) (omega arith))
-        | inr under ↦ le-ltb (highest_class passed) (ccc c) under ∙ sym (le-ltb (max (ccc b) (highest_class passed)) (ccc c) (omega arith))
-      ])
-  | inr below ↦
-      let first : nat_le (ccc c) (ccc b) ≡ true = le-leb (ccc c) (ccc b) below in
-      ap (λ x. not (x || is_blocked passed c)) first ∙ sym (le-ltb (max (ccc b) (highest_class passed)) (ccc c) (omega arith))
-]
+not_blocked (b ∷ passed) c mark = grind (arith, common_steps, cases_lt, lt-leb, lt-ltb, le-ltb, le-leb, not_blocked passed c mark)
 
 -- whether a nonstarter is taken, by the highest class or by the nonstarters that were passed over
 pub taken_as : (is_key : List ℕ → Bool) (s passed : List ℕ) (high x class : ℕ) (taken : Bool) → high ≡ highest_class passed → class ≡ ccc x → (class ≡ 0 → ⊥) → taken ≡ (nat_lt high (ccc x) && is_key (s ++ x ∷ []))
     → taken ≡ (not (is_blocked passed x) && is_key (s ++ x ∷ []))
-taken_as is_key s passed high x class taken highest e mark t =
-    let above : 0 < ccc x = pos_of_ne-zero (λ z. mark (e ∙ z)) in
-    t ∙ ap (λ b. b && is_key (s ++ x ∷ [])) (ap (λ h. nat_lt h (ccc x)) highest ∙ sym (not_blocked passed x above))
+taken_as is_key s passed high x class taken highest e mark t = grind (arith, common_steps, pos_of_ne-zero, not_blocked)
 
 -- nothing is taken where no code point makes a longer key
 pub none_taken : (is_key : List ℕ → Bool) (s passed cs : List ℕ) → ((c : ℕ) → is_key (s ++ c ∷ []) ≡ false) → discontiguous_match is_key s passed cs ≡ took s (passed ++ cs)
 unfolding discontiguous_match
 none_taken is_key s passed [] none = ap (took s) (sym (append-nil passed))
-none_taken is_key s passed (c ∷ cs) none =
-    let kept : Step = discontiguous_match is_key s (passed ++ c ∷ []) cs in
-    let ends : Step = took s (passed ++ c ∷ cs) in
-    let later : kept ≡ ends = none_taken is_key s (passed ++ c ∷ []) cs none ∙ ap (took s) (append_assoc passed (c ∷ []) cs) in
-    let other : Step = discontiguous_match is_key (s ++ c ∷ []) passed cs in
-    elim (cases_Bool (is_starter c)) [
-      | inl starts ↦ ap (λ b. cond b ends (cond (not (is_blocked passed c) && is_key (s ++ c ∷ [])) other kept)) starts
-      | inr mark ↦
-          let fails : (not (is_blocked passed c) && is_key (s ++ c ∷ [])) ≡ false = ap (λ b. not (is_blocked passed c) && b) (none c) ∙ and-false (not (is_blocked passed c)) in
-          ap (λ b. cond b ends (cond (not (is_blocked passed c) && is_key (s ++ c ∷ [])) other kept)) mark ∙ ap (λ b. cond b other kept) fails ∙ later
-    ]
+none_taken is_key s passed (c ∷ cs) none = grind (arith, common_steps, append_assoc, cases_Bool, and-false, none_taken is_key s (passed ++ c ∷ []) cs none)
 
 module _ (is_key : List ℕ → Bool) (start : ℕ) (old : List ℕ) where
   -- a nonstarter was taken, and moved to the end of the match
@@ -120,15 +94,11 @@ module _ (is_key : List ℕ → Bool) (start : ℕ) (old : List ℕ) where
   -- a starter ends the run
   pub IsExtending-stops : (text : List ℕ) (end at high x class : ℕ) → IsExtending is_key start old text end at high → at < length text → x ≡ get_or text at x → class ≡ ccc x → class ≡ 0
       → discontiguous_match is_key (take start old) [] (drop start old) ≡ took (take end text) (drop end text)
-  IsExtending-stops text end at high x class so within is e none =
-      sym so.same ∙ extended_ends is_key (take end text) (passed_over text end at) text at x class within is e none ∙ ap (took (take end text)) (passed_over-rest text end at so.upto)
+  IsExtending-stops text end at high x class so within is e none = grind (arith, common_steps, extended_ends, passed_over-rest)
 
   -- so does the end of the text
   pub IsExtending-ends : (text : List ℕ) (end at high : ℕ) → IsExtending is_key start old text end at high → length text ≤ at → discontiguous_match is_key (take start old) [] (drop start old) ≡ took (take end text) (drop end text)
-  IsExtending-ends text end at high so whole =
-      let none : drop at text ≡ [] = drop_all at text whole in
-      sym so.same ∙ extended_done is_key (take end text) (passed_over text end at) text at whole
-      ∙ ap (took (take end text)) (sym (append-nil (passed_over text end at)) ∙ ap (λ r. passed_over text end at ++ r) (sym none) ∙ passed_over-rest text end at so.upto)
+  IsExtending-ends text end at high so whole = grind (arith, common_steps, drop_all, extended_done, append-nil, passed_over-rest)
 
   -- the same under other names
   pub IsExtending-as : (text new : List ℕ) (end next at high top : ℕ) → new ≡ text → next ≡ end → top ≡ high → IsExtending is_key start old text end at high → IsExtending is_key start old new next at top

@@ -1,8 +1,9 @@
 -- Where the code points are after one was moved forward.
-use Rattle.std.proofs.Common.{◌≡◌, ℕ, ◌+◌, ◌-◌, ◌≤◌, ◌<◌, List, [], ◌∷◌, ◌++◌, length, take, drop, get_or, sym, ap, ap₂, ◌∙◌, arith, append-nil}
+use Rattle.std.proofs.Common.{◌≡◌, ℕ, ◌+◌, ◌-◌, ◌≤◌, ◌<◌, List, [], ◌∷◌, ◌++◌, length, take, drop, get_or, sym, ap, ◌∙◌, arith, append-nil}
 use Rattle.std.proofs.lemmas.List.{length-take-le, length-drop, length-append, length_push, take_at, drop_at, drop-drop, take-append-drop, take_more, drop_all, get_or-drop}
 use borrow.Rule.Slice.PartMut.{put_mid}
 use Rattle.uca_table.specs.Running.{brought_forward, passed_over}
+use Rattle.std.proofs.lemmas.Grind.{common_steps}
 
 module _ (text : List ℕ) (to from : ℕ) (ordered : to ≤ from) (within : from < length text) where
   abbrev front : List ℕ
@@ -21,9 +22,7 @@ module _ (text : List ℕ) (to from : ℕ) (ordered : to ≤ from) (within : fro
   brought-after = drop_at front _ (to + 1) long_front
 
   pub brought-between : passed_over (brought_forward text to from) (to + 1) (from + 1) ≡ passed_over text to from
-  brought-between =
-      let same : from + 1 - (to + 1) ≡ from - to = omega arith in
-      ap₂ take same brought-after ∙ take_at (passed_over text to from) (drop (from + 1) text) (from - to) long_between
+  brought-between = grind (arith, common_steps, brought-after, take_at, long_between)
 
   pub brought-rest : drop (from + 1) (brought_forward text to from) ≡ drop (from + 1) text
   brought-rest =
@@ -46,19 +45,9 @@ passed_over-rest text end at upto =
     let place : end + (at - end) ≡ at = omega arith in
     ap (λ n. passed_over text end at ++ drop n text) (sym place) ∙ ap (λ xs. passed_over text end at ++ xs) (sym (drop-drop (at - end) end text)) ∙ take-append-drop (at - end) (drop end text)
 
--- nothing was passed over
-pub passed_over-none : (text : List ℕ) (at : ℕ) → passed_over text at at ≡ []
-passed_over-none text at = let none : at - at ≡ 0 = omega arith in ap (λ n. take n (drop at text)) none
-
 -- the rest of a text was rewritten from a place on
 pub rewritten-rest : (at : ℕ) (text new : List ℕ) → at ≤ length text → drop at (put_mid at (length text - at) text new) ≡ new
-rewritten-rest at text new within =
-    let past : drop (length text - at) (drop at text) ≡ [] = drop_all (length text - at) (drop at text) (omega (arith, length-drop at text)) in
-    drop_at (take at text) _ at (length-take-le at text within) ∙ ap (λ xs. new ++ xs) past ∙ append-nil new
+rewritten-rest at text new within = grind (arith, common_steps, drop_all, length-drop, drop_at, length-take-le, append-nil)
 
 pub rewritten-length : (at : ℕ) (text new : List ℕ) → at ≤ length text → length new ≡ length text - at → length (put_mid at (length text - at) text new) ≡ length text
-rewritten-length at text new within size =
-    let past : drop (length text - at) (drop at text) ≡ [] = drop_all (length text - at) (drop at text) (omega (arith, length-drop at text)) in
-    let front : length (take at text) ≡ at = length-take-le at text within in
-    let whole : length (put_mid at (length text - at) text new) ≡ length (take at text) + length new = length-append (take at text) _ ∙ ap (λ xs. length (take at text) + length xs) (ap (λ xs. new ++ xs) past ∙ append-nil new) in
-    omega arith
+rewritten-length at text new within size = grind (arith, common_steps, drop_all, length-drop, length-take-le, length-append, append-nil)

@@ -1,14 +1,14 @@
 -- Entries that are appended to others with lower keys.
-use Rattle.std.proofs.Common.{◌≡◌, ℕ, zero, suc, ◌+◌, ◌<◌, ◌≤◌, ◌&&◌, Bool, true, false, cond, T, List, [], ◌∷◌, ◌++◌, length, get_or, map, Some, None, IfSome, refl, sym, ap, subst, ◌∙◌, arith, inl, inr}
+use Rattle.std.proofs.Common.{◌≡◌, ℕ, zero, suc, ◌+◌, ◌<◌, ◌≤◌, ◌&&◌, Bool, true, false, cond, T, List, [], ◌∷◌, ◌++◌, length, get_or, map, Some, None, IfSome, refl, sym, ap, subst, ◌∙◌, arith}
 use Rattle.std.proofs.lemmas.Bool.{cases_eq, cases_lt}
-use Rattle.std.specs.declared.cmp.Ordering.TheVariants.{Less, Equal, Greater}
+use Rattle.std.specs.declared.cmp.Ordering.TheVariants.{Less}
 use Rattle.std.specs.declared.vec.Vec.{Vec}
 use Rattle.std.specs.List.{AllByRecursion}
-use Rattle.std.specs.Ordering.{nat_cmp, eq_by_cmp, is_lt, ordering_then}
+use Rattle.std.specs.Ordering.{nat_cmp, eq_by_cmp, ordering_then}
 use Rattle.std.specs.Cmp.{nat_cmp_is, tied_itself}
 use Rattle.std.specs.Cmp.Lexicographic.{slice_cmp, nat_list_cmp_total}
 use Rattle.std.specs.FinMap.{find, put, is_sorted}
-use Rattle.std.specs.FinMap.Entries.{by_order, below_all}
+use Rattle.std.specs.FinMap.Entries.{below_all}
 use Rattle.uca_weights.specs.declared.element.Element.{Element}
 use Rattle.uca_model.specs.Table.{key_cmp, IsEntry}
 use Rattle.uca_keys.specs.Fronts.{last_key}
@@ -22,6 +22,7 @@ use Rattle.uca_table.proofs.KeyLemmas.{one_by_one}
 use Rattle.uca_table.proofs.PutLemmas.{turned, fold-some, longest-put}
 use Rattle.uca_table.proofs.SearchLemmas.{found_at, less, left, right}
 use Rattle.uca_model.proofs.TableLemmas.{tied_keys}
+use Rattle.std.proofs.lemmas.Grind.{common_steps}
 
 -- ---- the order of keys
 
@@ -31,16 +32,10 @@ first_less x y xs ys h = ap (λ o. ordering_then o (slice_cmp nat_cmp xs ys)) (s
 -- a key comes after the key that is its first code point
 pub front_less : (p x : ℕ) (ys : List ℕ) → p ≤ x → 0 < length ys → key_cmp (p ∷ []) (x ∷ ys) ≡ Less
 front_less p x [] h long = absurd (omega (arith, long))
-front_less p x (y ∷ ys) h long = elim (cases_eq p x) [
-  | inl same ↦ ap (λ o. ordering_then o Less) (sym (nat_cmp_is p x Equal same))
-  | inr other ↦ first_less p x [] (y ∷ ys) (omega arith)
-]
+front_less p x (y ∷ ys) h long = grind (arith, common_steps, cases_eq, first_less)
 
 first_below : (x y : ℕ) (xs ys : List ℕ) → key_cmp (x ∷ xs) (y ∷ ys) ≡ Less → x ≤ y
-first_below x y xs ys h = elim (cases_lt y x) [
-  | inl above ↦ absurd (subst (λ o. T (is_lt o)) (sym h ∙ ap (λ o. ordering_then o (slice_cmp nat_cmp xs ys)) (sym (nat_cmp_is x y Greater above))) tt)
-  | inr fine ↦ fine
-]
+first_below x y xs ys h = grind (arith, common_steps, cases_lt)
 
 -- ---- lower keys
 
@@ -53,9 +48,7 @@ below_last k (e ∷ f ∷ es) some below = below_last k (f ∷ es) some below.1
 -- what comes last is put there
 pub put_last : (k : List ℕ) (v : List Element) (xs : List (List ℕ × List Element)) → AreBelow k xs → xs ++ (k, v) ∷ [] ≡ put key_cmp k v xs
 put_last k v [] below = refl
-put_last k v (e ∷ es) below =
-    ap (λ ys. e ∷ ys) (put_last k v es below.1)
-    ∙ sym (ap (λ o. by_order o ((k, v) ∷ e ∷ es) ((e.0, v) ∷ es) (e ∷ put key_cmp k v es)) (turned e.0 k Less below.0))
+put_last k v (e ∷ es) below = grind (arith, common_steps, turned, put_last k v es below.1)
 
 below-push : (q k : List ℕ) (v : List Element) (xs : List (List ℕ × List Element)) → AreBelow q xs → key_cmp k q ≡ Less → AreBelow q (xs ++ (k, v) ∷ [])
 below-push q k v [] below h = (h, tt)
@@ -67,38 +60,23 @@ below-raised k q (e ∷ es) below h = (nat_list_cmp_total.trans e.0 k q below.0 
 
 below-put : (q k : List ℕ) (v : List Element) (xs : List (List ℕ × List Element)) → AreBelow q xs → key_cmp k q ≡ Less → AreBelow q (put key_cmp k v xs)
 below-put q k v [] below h = (h, tt)
-below-put q k v (e ∷ es) below h =
-    elim (slice_cmp nat_cmp k e.0) as (λ o. AreBelow q (by_order o ((k, v) ∷ e ∷ es) ((e.0, v) ∷ es) (e ∷ put key_cmp k v es))) [
-      | Less ↦ (h, below)
-      | Equal ↦ below
-      | Greater ↦ (below.0, below-put q k v es below.1 h)
-    ]
+below-put q k v (e ∷ es) below h = grind (arith, common_steps, below-put q k v es below.1 h)
 
 -- a longer key is above the code points up to its first one
 pub below-points : (at : ℕ → Place) (es : List Element) (n x : ℕ) (ys : List ℕ) (xs : List (List ℕ × List Element)) → n ≤ x + 1 → 0 < length ys → AreBelow (x ∷ ys) xs → AreBelow (x ∷ ys) (with_points at es n xs)
 below-points at es zero x ys xs h long below = below
-below-points at es (suc n) x ys xs h long below =
-    let before : AreBelow (x ∷ ys) (with_points at es n xs) = below-points at es n x ys xs (omega arith) long below in
-    elim (is_used (at n)) as (λ b. AreBelow (x ∷ ys) (cond b (put key_cmp (n ∷ []) (taken (at n) es) (with_points at es n xs)) (with_points at es n xs))) [
-      | true ↦ below-put (x ∷ ys) (n ∷ []) (taken (at n) es) (with_points at es n xs) before (front_less n x ys (omega arith) long)
-      | false ↦ before
-    ]
+below-points at es (suc n) x ys xs h long below = grind (arith, common_steps, below-put, front_less, below-points at es n x ys xs (omega arith) long below)
 
 -- ---- one more code point
 
 pub below-next : (p q : ℕ) (xs : List (List ℕ × List Element)) → p ≤ q → AreBelow (p ∷ []) xs → AreBelow (q ∷ []) xs
-below-next p q xs h below = elim (cases_eq p q) [
-  | inl same ↦ subst (λ r. AreBelow (r ∷ []) xs) same below
-  | inr other ↦ below-raised (p ∷ []) (q ∷ []) xs below (first_less p q [] [] (omega arith))
-]
+below-next p q xs h below = grind (arith, common_steps, cases_eq, below-raised, first_less)
 
 pub below-pushed : (p : ℕ) (v : List Element) (xs ys : List (List ℕ × List Element)) → AreBelow (p ∷ []) xs → ys ≡ xs ++ (p ∷ [], v) ∷ [] → AreBelow ((p + 1) ∷ []) ys
 below-pushed p v xs ys below is = subst (AreBelow ((p + 1) ∷ [])) (sym is) (below-push ((p + 1) ∷ []) (p ∷ []) v xs (below-next p (p + 1) xs (omega arith) below) (first_less p (p + 1) [] [] (omega arith)))
 
 pub point-pushed : (at : ℕ → Place) (es v : List Element) (p : ℕ) (xs ys : List (List ℕ × List Element)) → AreBelow (p ∷ []) xs → is_used (at p) ≡ true → v ≡ taken (at p) es → ys ≡ xs ++ (p ∷ [], v) ∷ [] → ys ≡ with_point at es p xs
-point-pushed at es v p xs ys below used value is =
-    is ∙ put_last (p ∷ []) v xs below ∙ ap (λ w. put key_cmp (p ∷ []) w xs) value
-    ∙ sym (ap (λ b. cond b (put key_cmp (p ∷ []) (taken (at p) es) xs) xs) used)
+point-pushed at es v p xs ys below used value is = grind (arith, common_steps, put_last)
 
 -- ---- one more longer key
 
@@ -107,11 +85,7 @@ below-longer x ys v xs zs below is = subst (AreBelow ((x + 1) ∷ [])) (sym is) 
 
 pub longer-pushed : (at : ℕ → Place) (es v : List Element) (n x : ℕ) (ys : List ℕ) (before xs zs : List (List ℕ × List Element)) → n ≤ x + 1 → 0 < length ys → T (is_sorted key_cmp before) → AreBelow (x ∷ ys) before → xs ≡ with_points at es n before → zs ≡ xs ++ (x ∷ ys, v) ∷ []
     → zs ≡ with_points at es n (before ++ (x ∷ ys, v) ∷ [])
-longer-pushed at es v n x ys before xs zs h long sorted below old new =
-    new ∙ ap (λ l. l ++ (x ∷ ys, v) ∷ []) old
-    ∙ put_last (x ∷ ys) v (with_points at es n before) (below-points at es n x ys before h long below)
-    ∙ sym (put-more at es n x ys v before long sorted)
-    ∙ ap (with_points at es n) (sym (put_last (x ∷ ys) v before below))
+longer-pushed at es v n x ys before xs zs h long sorted below old new = grind (arith, common_steps, put_last, below-points, put-more)
 
 -- ---- the parts of a list in order
 
@@ -178,12 +152,7 @@ entries_longer m ms es are all = one_by_one (map (entry_in es) ms) each where
 
 longest_points : (at : ℕ → Place) (es : List Element) (n : ℕ) (xs : List (List ℕ × List Element)) → longest_of (with_points at es n xs) ≡ longest_of xs
 longest_points at es zero xs = refl
-longest_points at es (suc n) xs =
-    let before : longest_of (with_points at es n xs) ≡ longest_of xs = longest_points at es n xs in
-    elim (is_used (at n)) as (λ b. longest_of (cond b (put key_cmp (n ∷ []) (taken (at n) es) (with_points at es n xs)) (with_points at es n xs)) ≡ longest_of xs) [
-      | true ↦ (let some : 1 ≤ longest_of (with_points at es n xs) = fold-some 1 (with_points at es n xs) in longest-put (n ∷ []) (taken (at n) es) (with_points at es n xs) ∙ omega arith ∙ before)
-      | false ↦ before
-    ]
+longest_points at es (suc n) xs = grind (arith, common_steps, fold-some, longest-put, longest_points at es n xs)
 
 -- it is one of the longer ones
 pub longest_all : {Y : Type 0} (m : SingleMap) (ms : List ((ℕ × Vec ℕ Y) × Place)) (es : List Element) → longest_of (map (entry_in es) ms) ≡ longest_of (entries_in m ms es)

@@ -1,7 +1,6 @@
 -- A range that is put among the others.
-use Rattle.std.proofs.Common.{◌≡◌, ℕ, ◌-◌, ◌≤◌, ◌<◌, ◌^◌, min, max, true, false, cond, ◌==◌, nat_lt, nat_le, List, [], ◌∷◌, sym, ◌∙◌, arith, inl, inr}
+use Rattle.std.proofs.Common.{◌≡◌, ℕ, ◌-◌, ◌≤◌, ◌<◌, ◌^◌, min, max, false, ◌==◌, nat_lt, List, [], ◌∷◌, sym, ◌∙◌, arith, inl, inr}
 use Rattle.std.proofs.lemmas.Bool.{cases_Bool, ltb-true, ltb-false, or_parts, false≢true, eq-eqb}
-use Rattle.std.proofs.lemmas.Bool.Decides.{nat_tests}
 use Rattle.std.specs.Char.{IsScalar}
 use Rattle.std.specs.List.{AllByRecursion, list_any}
 use Rattle.uca_weights.specs.declared.range.Range.{Range}
@@ -9,14 +8,12 @@ use Rattle.uca_model.specs.Table.{IsRange, AreDisjoint, AllDisjoint, AreRanges}
 use Rattle.uca_model.specs.ImplicitWeights.{lowest_first}
 use Rattle.uca_model.specs.Ranges.{shares, highest_last, spans_too_far, is_bad_range, put_range, AreByFirst}
 use Rattle.uca_model.proofs.ImplicitLemmas.{weaker, lowest_first-le}
+use Rattle.std.proofs.lemmas.Grind.{common_steps}
 
 -- what holds of the range and of the others
 all-put : (P : Range → Type 0) (r : Range) (rs : List Range) → P r → AllByRecursion P rs → AllByRecursion P (put_range r rs)
 all-put P r [] new all = (new, tt)
-all-put P r (s ∷ ss) new all = elim (nat_lt r.first s.first) as (λ b. AllByRecursion P (cond b (r ∷ s ∷ ss) (s ∷ put_range r ss))) [
-  | true ↦ (new, all)
-  | false ↦ (all.0, all-put P r ss new all.1)
-]
+all-put P r (s ∷ ss) new all = grind (arith, common_steps, all-put P r ss new all.1)
 
 -- two facts of each range together
 all-both : (P Q : Range → Type 0) (rs : List Range) → AllByRecursion P rs → AllByRecursion Q rs → AllByRecursion (λ s. P s × Q s) rs
@@ -25,13 +22,7 @@ all-both P Q (s ∷ ss) p q = ((p.0, q.0), all-both P Q ss p.1 q.1)
 
 -- two ranges that share no code point
 apart : (r s : Range) → shares r s ≡ false → AreDisjoint r s
-apart r s h = elim (cases_Bool (nat_le r.first s.last)) [
-  | inl holds ↦ elim (cases_Bool (nat_le s.first r.last)) [
-    | inl both ↦ absurd (grind (arith, nat_tests))
-    | inr above ↦ inl (grind (arith, nat_tests))
-  ]
-  | inr below ↦ inr (grind (arith, nat_tests))
-]
+apart r s h = grind (arith, common_steps, cases_Bool)
 
 -- a range that shares no code point with any
 pub all-apart : (r : Range) (rs : List Range) → list_any (shares r) rs ≡ false → AllByRecursion (AreDisjoint r) rs
@@ -46,18 +37,12 @@ flip r s (inr behind) = inl behind
 -- the ranges stay apart
 disjoint-put : (r : Range) (rs : List Range) → AllByRecursion (AreDisjoint r) rs → AllDisjoint rs → AllDisjoint (put_range r rs)
 disjoint-put r [] new old = (tt, tt)
-disjoint-put r (s ∷ ss) new old = elim (nat_lt r.first s.first) as (λ b. AllDisjoint (cond b (r ∷ s ∷ ss) (s ∷ put_range r ss))) [
-  | true ↦ (new, old)
-  | false ↦ (all-put (AreDisjoint s) r ss (flip r s new.0) old.0, disjoint-put r ss new.1 old.1)
-]
+disjoint-put r (s ∷ ss) new old = grind (arith, common_steps, all-put, flip, disjoint-put r ss new.1 old.1)
 
 -- the highest last code point is none lower
 highest-le : (rs : List Range) (base high : ℕ) → high ≤ highest_last rs base high
 highest-le [] base high = omega arith
-highest-le (s ∷ rs) base high = elim (cases_Bool (s.base == base)) [
-  | inl holds ↦ rw holds (let h : max high s.last ≤ highest_last rs base (max high s.last) = highest-le rs base (max high s.last) in omega arith)
-  | inr fails ↦ rw fails (highest-le rs base high)
-]
+highest-le (s ∷ rs) base high = grind (arith, common_steps, cases_Bool, highest-le rs base (max high s.last), highest-le rs base high)
 
 -- no range with the base ends above it
 highest-all : (rs : List Range) (base high top : ℕ) → highest_last rs base high ≤ top → AllByRecursion (λ s. s.base ≡ base → s.last ≤ top) rs
@@ -104,13 +89,7 @@ spans-put r rs near old =
 
 -- a range that is not bad is compatible with the others
 pub AreRanges-put : (r : Range) (rs : List Range) → IsRange r → is_bad_range rs r ≡ false → AreRanges rs → AreRanges (put_range r rs)
-AreRanges-put r rs new fine old =
-    let above = or_parts (nat_lt r.last r.first) _ fine in let shared = or_parts (nat_lt r.base 0x8000) _ above.1 in let far = or_parts (list_any (shares r) rs) _ shared.1 in
-    record {
-      each = all-put IsRange r rs new old.each;
-      disjoint = disjoint-put r rs (all-apart r rs far.0) old.disjoint;
-      spans = spans-put r rs far.1 old.spans;
-    }
+AreRanges-put r rs new fine old = grind (arith, common_steps, or_parts, all-put, disjoint-put, all-apart, spans-put)
 
 -- a range that begins below all still does
 first-put : (first : ℕ) (r : Range) (rs : List Range) → AllByRecursion (λ s. first < s.first) rs → first < r.first → AllByRecursion (λ s. first < s.first) (put_range r rs)
@@ -134,12 +113,8 @@ by_first-put r (s ∷ ss) ordered each disjoint old = elim (cases_Bool (nat_lt r
 
 -- what a builder keeps of its ranges
 pub ranges-put : (r : Range) (rs : List Range) → IsRange r → is_bad_range rs r ≡ false → AreRanges rs → AreByFirst rs → AreRanges (put_range r rs) × AreByFirst (put_range r rs)
-ranges-put r rs new fine old rising =
-    let above = or_parts (nat_lt r.last r.first) _ fine in let shared = or_parts (nat_lt r.base 0x8000) _ above.1 in let far = or_parts (list_any (shares r) rs) _ shared.1 in
-    (AreRanges-put r rs new fine old, by_first-put r rs new.ordered old.each (all-apart r rs far.0) rising)
+ranges-put r rs new fine old rising = grind (arith, common_steps, or_parts, AreRanges-put, by_first-put, all-apart)
 
 -- the range that is neither turned round nor below its base
 pub IsRange-fine : (r : Range) (rs : List Range) → IsScalar r.first → IsScalar r.last → r.base < 2 ^ 16 → is_bad_range rs r ≡ false → IsRange r
-IsRange-fine r rs first last base fine =
-    let above = or_parts (nat_lt r.last r.first) _ fine in let shared = or_parts (nat_lt r.base 0x8000) _ above.1 in
-    record { first = first; last = last; ordered = ltb-false r.last r.first above.0; above = ltb-false r.base 0x8000 shared.0; base = base }
+IsRange-fine r rs first last base fine = grind (arith, common_steps, or_parts, ltb-false)

@@ -1,5 +1,5 @@
 -- Ranges in a map by their last code points.
-use Rattle.std.proofs.Common.{◌≡◌, ℕ, ◌≤◌, ◌<◌, ◌⊎◌, Bool, true, false, cond, ◌==◌, nat_lt, nat_le, List, [], ◌∷◌, refl, sym, ap, ◌∙◌, arith, inl, inr}
+use Rattle.std.proofs.Common.{◌≡◌, ℕ, ◌≤◌, ◌<◌, ◌⊎◌, Bool, true, false, cond, nat_lt, nat_le, List, [], ◌∷◌, refl, sym, ap, ◌∙◌, arith, inl, inr}
 use Rattle.std.proofs.lemmas.Bool.{cases_Bool, or_parts}
 use Rattle.std.proofs.lemmas.Bool.Decides.{nat_tests}
 use Rattle.std.specs.BTreeMap.{insert_entry}
@@ -8,13 +8,14 @@ use Rattle.std.specs.declared.ops.Bound.TheVariants.{Included, Unbounded}
 use Rattle.std.specs.BTreeMap.Range.{entries_between, range_contains}
 use Rattle.std.specs.List.{AllByRecursion, list_any}
 use Rattle.std.specs.Map.{values_of}
-use Rattle.std.specs.Ordering.{nat_cmp, match_ordering}
+use Rattle.std.specs.Ordering.{nat_cmp}
 use Rattle.uca_weights.specs.declared.range.Range.{Range}
 use Rattle.uca_model.specs.Table.{IsRange, AreDisjoint, AreRanges}
 use Rattle.uca_model.specs.Ranges.{shares, is_bad_range, put_range, AreByFirst}
 use Rattle.uca_table.specs.Extents.{AreByLast}
 use Rattle.uca_table.proofs.RangeInsertion.{all-apart}
 use Rattle.uca_model.proofs.ImplicitLemmas.{weaker}
+use Rattle.std.proofs.lemmas.Grind.{common_steps}
 
 -- where one range lies before or after another, both of its ends decide
 order_by_last : (r s : Range) → r.first ≤ r.last → s.first ≤ s.last → AreDisjoint r s → nat_cmp r.last s.last ≡ cond (nat_lt r.first s.first) Less Greater
@@ -24,30 +25,16 @@ order_by_last r s ordered other (inr behind) = grind (arith, nat_tests)
 -- to insert a range by its last code point is to put it by its first one
 put_inserted : (es : List (ℕ × Range)) (r : Range) → r.first ≤ r.last → AreByLast es → AllByRecursion IsRange (values_of es) → AllByRecursion (AreDisjoint r) (values_of es) → values_of (insert_entry nat_cmp es r.last r) ≡ put_range r (values_of es)
 put_inserted [] r ordered by_last each apart = refl
-put_inserted (e ∷ es) r ordered by_last each apart =
-    let by_first : nat_cmp r.last e.0 ≡ cond (nat_lt r.first e.1.first) Less Greater = ap (nat_cmp r.last) by_last.0 ∙ order_by_last r e.1 ordered each.0.ordered apart.0 in
-    ap (λ o. values_of (match_ordering o ((r.last, r) ∷ e ∷ es) ((e.0, r) ∷ es) (e ∷ insert_entry nat_cmp es r.last r))) by_first
-    ∙ elim (nat_lt r.first e.1.first) as (λ b. values_of (match_ordering (cond b Less Greater) ((r.last, r) ∷ e ∷ es) ((e.0, r) ∷ es) (e ∷ insert_entry nat_cmp es r.last r)) ≡ cond b (r ∷ e.1 ∷ values_of es) (e.1 ∷ put_range r (values_of es))) [
-      | true ↦ refl
-      | false ↦ ap (λ rs. e.1 ∷ rs) (put_inserted es r ordered by_last.1 each.1 apart.1)
-    ]
+put_inserted (e ∷ es) r ordered by_last each apart = grind (arith, common_steps, order_by_last, put_inserted es r ordered by_last.1 each.1 apart.1)
 
 -- a range that isn't bad goes to its place
 pub values-put : (es : List (ℕ × Range)) (r : Range) → AreByLast es → AreRanges (values_of es) → is_bad_range (values_of es) r ≡ false → values_of (insert_entry nat_cmp es r.last r) ≡ put_range r (values_of es)
-values-put es r by_last ranges fine =
-    let above = or_parts (nat_lt r.last r.first) _ fine in let shared = or_parts (nat_lt r.base 0x8000) _ above.1 in let far = or_parts (list_any (shares r) (values_of es)) _ shared.1 in
-    put_inserted es r (grind (arith, nat_tests, above.0)) by_last ranges.each (all-apart r (values_of es) far.0)
+values-put es r by_last ranges fine = grind (arith, common_steps, or_parts, put_inserted, all-apart)
 
 -- each range is still at its last code point
 pub AreByLast-put : (es : List (ℕ × Range)) (r : Range) → AreByLast es → AreByLast (insert_entry nat_cmp es r.last r)
 AreByLast-put [] r by_last = (refl, tt)
-AreByLast-put (e ∷ es) r by_last = elim (cases_Bool (nat_lt r.last e.0)) [
-  | inl below ↦ rw below ((refl, by_last))
-  | inr above ↦ elim (cases_Bool (r.last == e.0)) [
-    | inl same ↦ rw (above, same) ((grind (arith, nat_tests), by_last.1))
-    | inr other ↦ rw (above, other) ((by_last.0, AreByLast-put es r by_last.1))
-  ]
-]
+AreByLast-put (e ∷ es) r by_last = grind (arith, common_steps, cases_Bool, AreByLast-put es r by_last.1)
 
 -- ranges that begin above a range share nothing with it
 none_shares : (r : Range) (rs : List Range) → AllByRecursion (λ s. r.last < s.first) rs → list_any (shares r) rs ≡ false

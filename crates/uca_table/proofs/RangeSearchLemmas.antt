@@ -1,5 +1,5 @@
 -- What a binary search finds among ranges that rise.
-use Rattle.std.proofs.Common.{◌≡◌, ℕ, suc, zero, ◌≤◌, ◌<◌, true, false, cond, nat_lt, nat_le, List, [], ◌∷◌, length, get_or, Option, Some, None, refl, sym, ap, ◌∙◌, arith, inl, inr}
+use Rattle.std.proofs.Common.{◌≡◌, ℕ, suc, zero, ◌≤◌, ◌<◌, true, false, cond, nat_lt, nat_le, List, [], ◌∷◌, length, get_or, Option, Some, None, refl, sym, arith, inl, inr}
 use Rattle.std.proofs.lemmas.Bool.{cases_Bool, ltb-true, ltb-false}
 use Rattle.std.proofs.lemmas.Bool.Decides.{nat_tests}
 use Rattle.std.specs.List.{AllByRecursion}
@@ -9,6 +9,7 @@ use Rattle.uca_model.specs.Table.{IsRange, AreDisjoint, AllDisjoint}
 use Rattle.uca_model.specs.ImplicitWeights.{is_between, range_of}
 use Rattle.uca_model.specs.Ranges.{AreByFirst}
 use Rattle.uca_model.proofs.ImplicitLemmas.{weaker}
+use Rattle.std.proofs.lemmas.Grind.{common_steps}
 
 -- what holds of each range holds of that at a place
 all-at : (P : Range → Type 0) (rs : List Range) (i : ℕ) (d : Range) → AllByRecursion P rs → i < length rs → P (get_or rs i d)
@@ -25,21 +26,13 @@ ends_above r s ordered above (inr behind) = absurd (omega arith)
 last-rises : (rs : List Range) (i j : ℕ) (d : Range) → AllByRecursion IsRange rs → AllDisjoint rs → AreByFirst rs → i ≤ j → j < length rs → (get_or rs i d).last ≤ (get_or rs j d).last
 last-rises [] i j d each apart rising before within = absurd (omega arith)
 last-rises (r ∷ rs) zero zero d each apart rising before within = omega arith
-last-rises (r ∷ rs) zero (suc j) d each apart rising before within =
-    let s = get_or rs j d in
-    let ordered : s.first ≤ s.last = (all-at IsRange rs j d each.1 (omega arith)).ordered in
-    let above : r.first < s.first = all-at (λ t. r.first < t.first) rs j d rising.0 (omega arith) in
-    let other : AreDisjoint r s = all-at (AreDisjoint r) rs j d apart.0 (omega arith) in
-    let behind : r.last < s.last = ends_above r s ordered above other in
-    omega arith
+last-rises (r ∷ rs) zero (suc j) d each apart rising before within = grind (arith, common_steps, all-at, ends_above)
 last-rises (r ∷ rs) (suc i) zero d each apart rising before within = absurd (omega arith)
 last-rises (r ∷ rs) (suc i) (suc j) d each apart rising before within = last-rises rs i j d each.1 apart.1 rising.1 (omega arith) (omega arith)
 
 -- first the ranges that end below a code point
 pub parted_by_last : (rs : List Range) (c : ℕ) → AllByRecursion IsRange rs → AllDisjoint rs → AreByFirst rs → IsPartitionedBy (λ r. nat_lt r.last c) rs
-parted_by_last rs c each apart rising i j d before within below =
-    let rises : (get_or rs i d).last ≤ (get_or rs j d).last = last-rises rs i j d each apart rising before within in
-    grind (arith, nat_tests, below, rises)
+parted_by_last rs c each apart rising i j d before within below = grind (arith, common_steps, last-rises)
 
 -- a code point lies in no range that begins above it
 none_above : (rs : List Range) (c : ℕ) → AllByRecursion (λ s. c < s.first) rs → range_of rs c ≡ None
@@ -53,13 +46,7 @@ if_begins c r = cond (nat_le r.first c) (Some r) None
 -- the first range that doesn't end below a code point is the one in which it lies, if it lies in any
 found_at : (rs : List Range) (i c : ℕ) (d : Range) → AreByFirst rs → i < length rs → ((k : ℕ) → k < i → nat_lt (get_or rs k d).last c ≡ true) → nat_lt (get_or rs i d).last c ≡ false → range_of rs c ≡ if_begins c (get_or rs i d)
 found_at [] i c d rising within below here = absurd (omega arith)
-found_at (r ∷ rs) zero c d rising within below here = elim (cases_Bool (nat_le r.first c)) [
-  | inl begins ↦ let h : is_between r.first r.last c ≡ true = grind (arith, nat_tests, begins, here) in rw (h, begins) refl
-  | inr behind ↦
-      let h : is_between r.first r.last c ≡ false = grind (arith, nat_tests, behind) in
-      let g : c < r.first = grind (arith, nat_tests, behind) in
-      rw (h, behind) (none_above rs c (weaker (λ s. r.first < s.first) (λ s. c < s.first) rs (λ s f. omega arith) rising.0))
-]
+found_at (r ∷ rs) zero c d rising within below here = grind (arith, common_steps, cases_Bool, none_above, weaker)
 found_at (r ∷ rs) (suc i) c d rising within below here =
     let h : is_between r.first r.last c ≡ false = (let g : nat_lt r.last c ≡ true = below 0 (omega arith) in grind (arith, nat_tests, g)) in
     rw h (found_at rs i c d rising.1 (omega arith) (λ k before. below (suc k) (omega arith)) here)
@@ -77,9 +64,7 @@ IsParted rs c i = IsPartitionPoint (λ r. nat_lt r.last c ≡ true) (λ r. nat_l
 
 -- what lies at such a place is what a search finds
 pub found_there : (rs : List Range) (i c : ℕ) (d r : Range) → AreByFirst rs → IsParted rs c i → true ≡ nat_lt i (length rs) → r ≡ get_or rs i d → range_of rs c ≡ if_begins c r
-found_there rs i c d r rising parted inside here =
-    let within : i < length rs = ltb-true i (length rs) (sym inside) in
-    found_at rs i c d rising within (λ k before. parted.0 k d (omega arith) before) (parted.1 i d (omega arith) within) ∙ ap (if_begins c) (sym here)
+found_there rs i c d r rising parted inside here = grind (arith, common_steps, ltb-true, found_at)
 
 -- and nothing where that place is the end
 pub found_none : (rs : List Range) (i c : ℕ) → IsParted rs c i → false ≡ nat_lt i (length rs) → range_of rs c ≡ None

@@ -11,6 +11,7 @@ use Rattle.std.specs.FinMap.{find, is_sorted}
 use Rattle.std.specs.FinMap.Entries.{below_all}
 use Rattle.uca_model.specs.Table.{key_cmp}
 use Rattle.uca_weights.specs.declared.element.Element.{Element}
+use Rattle.std.proofs.lemmas.Grind.{common_steps}
 
 -- an answer that tests as `Less`
 pub less : (o : Ordering) → T (is_lt o) → o ≡ Less
@@ -41,10 +42,9 @@ found_at (e ∷ es) zero q d sorted within here =
     let same : key_cmp q e.0 ≡ Equal = nat_list_cmp_total.antisymm q e.0 ∙ ap ordering_reverse here in
     ap (λ o. cond (is_eq o) (Some e.1) (find key_cmp q es)) same
 found_at (e ∷ es) (suc i) q d sorted within here =
-    let x = (get_or es i d).0 in
-    let below : key_cmp e.0 x ≡ Less = below_at e.0 es i d (left _ _ sorted) (omega arith) in
-    let above : key_cmp x e.0 ≡ Greater = nat_list_cmp_total.antisymm x e.0 ∙ ap ordering_reverse below in
-    let other : key_cmp q e.0 ≡ Greater = sym (nat_list_cmp_total.congr x q e.0 here) ∙ above in
+    let below : key_cmp e.0 _ ≡ Less = below_at e.0 es i d (left _ _ sorted) (omega arith) in
+    let above : key_cmp _ e.0 ≡ Greater = nat_list_cmp_total.antisymm _ e.0 ∙ ap ordering_reverse below in
+    let other : key_cmp q e.0 ≡ Greater = sym (nat_list_cmp_total.congr _ q e.0 here) ∙ above in
     ap (λ o. cond (is_eq o) (Some e.1) (find key_cmp q es)) other ∙ found_at es i q d (right _ _ sorted) (omega arith) here
 
 -- a key that ties with no entry is found nowhere
@@ -58,10 +58,7 @@ apart x q o e h = ap is_eq (nat_list_cmp_total.antisymm q x ∙ ap ordering_reve
 
 -- nor is a key found between two neighbours
 pub found_nowhere : (es : List (List ℕ × List Element)) (i : ℕ) (q : List ℕ) → IsPartitionPoint (λ (e : List ℕ × List Element). slice_cmp nat_cmp e.0 q ≡ Less) (λ (e : List ℕ × List Element). slice_cmp nat_cmp e.0 q ≡ Greater) es i → find key_cmp q es ≡ None
-found_nowhere es i q parted = found_not es q (λ k d within. elim (cases_lt k i) [
-  | inl below ↦ apart (get_or es k d).0 q Less (parted.0 k d (omega arith) below) refl
-  | inr above ↦ apart (get_or es k d).0 q Greater (parted.1 k d above within) refl
-])
+found_nowhere es i q parted = grind (arith, common_steps, found_not, cases_lt, apart)
 
 -- the keys at two places
 pub in_order : (es : List (List ℕ × List Element)) (i j : ℕ) (d f : List ℕ × List Element) → T (is_sorted key_cmp es) → i < j → j < length es → key_cmp (get_or es i d).0 (get_or es j f).0 ≡ Less

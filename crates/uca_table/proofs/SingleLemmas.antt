@@ -12,6 +12,7 @@ use Rattle.uca_weights.specs.declared.element.Element.{Element}
 use Rattle.uca_model.specs.Table.{key_cmp}
 use Rattle.uca_table.specs.declared.single_map.Place.{Place}
 use Rattle.uca_table.specs.SingleMap.{is_used, taken, with_point, with_points}
+use Rattle.std.proofs.lemmas.Grind.{common_steps}
 
 -- no key of one code point is at or above a number
 abbrev pub Covers : (ℕ → Place) → ℕ → Type 0
@@ -66,10 +67,7 @@ find-below at es (suc n) p xs below = elim (cases_eq p n) [
 
 -- a key of one code point has its place, where it is one
 pub find-single : (at : ℕ → Place) (es : List Element) (n p : ℕ) (xs : List (List ℕ × List Element)) → Covers at n → find key_cmp (p ∷ []) (with_points at es n xs) ≡ cond (is_used (at p)) (Some (taken (at p) es)) (find key_cmp (p ∷ []) xs)
-find-single at es n p xs covers = elim (cases_lt p n) [
-  | inl below ↦ find-below at es n p xs below
-  | inr above ↦ find-above at es n p xs above ∙ sym (ap (λ b. cond b (Some (taken (at p) es)) (find key_cmp (p ∷ []) xs)) (covers p above))
-]
+find-single at es n p xs covers = grind (arith, common_steps, cases_lt, find-below, find-above)
 
 -- ---- the same entries
 
@@ -93,11 +91,7 @@ alike xs ys g h no_points one more = same_entries key_cmp nat_list_cmp_total (sl
 
 -- two ways to lay out the same places
 pub same-points : (at bt : ℕ → Place) (es : List Element) (n m : ℕ) (xs : List (List ℕ × List Element)) → T (is_sorted key_cmp xs) → Covers at n → Covers bt m → ((p : ℕ) → bt p ≡ at p) → with_points bt es m xs ≡ with_points at es n xs
-same-points at bt es n m xs sorted covers covers_too same =
-    alike (with_points bt es m xs) (with_points at es n xs) (sorted-points bt es m xs sorted) (sorted-points at es n xs sorted)
-    (find-others bt es m [] xs (λ k. refl) ∙ sym (find-others at es n [] xs (λ k. refl)))
-    (λ p. find-single bt es m p xs covers_too ∙ ap (λ w. cond (is_used w) (Some (taken w es)) (find key_cmp (p ∷ []) xs)) (same p) ∙ sym (find-single at es n p xs covers))
-    (λ x y q. find-longer bt es m x y q xs ∙ sym (find-longer at es n x y q xs))
+same-points at bt es n m xs sorted covers covers_too same = grind (arith, common_steps, alike, sorted-points, find-others, find-single, find-longer)
 
 -- one more place, whichever entry comes first
 pub put-single : (at bt : ℕ → Place) (es : List Element) (n m c : ℕ) (v : List Element) (xs : List (List ℕ × List Element)) → T (is_sorted key_cmp xs) → Covers at n → Covers bt m

@@ -9,6 +9,7 @@ use Rattle.uca_model.proofs.SafeCutLemmas.{greatest-holds, greatest-within}
 use Rattle.uca_keys.proofs.ChildLemmas.{taken_front}
 use Rattle.uca_keys.proofs.FindLemmas.{find_without}
 use Rattle.uca_table.proofs.MatchLemmas.{greatest-below}
+use Rattle.std.proofs.lemmas.Grind.{common_steps}
 
 -- where no key begins with a front, the whole is none
 pub no_key-beyond : (t : ElementTable) (key : List ℕ) (n : ℕ) → begins_key t (take n key) ≡ false → is_key t key ≡ false
@@ -41,10 +42,7 @@ none_of None h = refl
 none_of (Some x) h = cc
 
 greatest-some : (p : ℕ → Bool) (n : ℕ) → 0 < greatest p n → p (greatest p n) ≡ true
-greatest-some p n some = elim (greatest-holds p n) [
-  | inl none ↦ absurd (omega arith)
-  | inr holds ↦ holds.0
-]
+greatest-some p n some = grind (arith, common_steps, greatest-holds)
 
 pub longest_match_len-le : (t : ElementTable) (text : List ℕ) → longest_match_len (is_key t) text ≤ length text
 longest_match_len-le t text = greatest-within (λ n. is_key t (take n text)) (length text)

@@ -155,6 +155,7 @@ fn has_key(longer: &BTreeMap<Key, Place>, key: &[char]) -> bool
 }
 
 /// Whether a key is a code point and others.
+#[tactic(auto, using(crate::proofs::EntryMapLemmas::is_pair))]
 fn is_key(first: char, others: &[char], key: &[char]) -> bool
     requires { 0 < length key.now }
     ensures { result ≡ eq_by_cmp key_cmp key.now (first ∷ others.now) }

@@ -163,10 +163,9 @@ impl MarkTable {
             Marks {
                 begins: true,
                 leads: marks.leads || longer,
-                continues: marks.continues,
                 apart: marks.apart && primary,
-                ends: marks.ends,
                 keeps: marks.keeps && keeps,
+                ..marks
             },
         );
         Ok(())
@@ -183,12 +182,9 @@ impl MarkTable {
         self.put(
             c,
             Marks {
-                begins: marks.begins,
-                leads: marks.leads,
                 continues: true,
                 apart: false,
-                ends: marks.ends,
-                keeps: marks.keeps,
+                ..marks
             },
         );
         Ok(())
@@ -205,12 +201,8 @@ impl MarkTable {
         self.put(
             c,
             Marks {
-                begins: marks.begins,
-                leads: marks.leads,
-                continues: marks.continues,
-                apart: marks.apart,
                 ends: false,
-                keeps: marks.keeps,
+                ..marks
             },
         );
         Ok(())

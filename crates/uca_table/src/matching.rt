@@ -111,6 +111,7 @@ pub struct Matched<'t> {
 
 /// Moves the longest match to the front of a text in NFD. What is left of the text follows it (UTS #10, 7.2, step
 /// S2.1). A code point that begins no key is a match by itself.
+#[tactic(auto, using(crate::proofs::WalkLemmas::no_elements))]
 pub fn match_front<'t>(t: &'t Table, text: &mut [char]) -> Matched<'t>
     requires { 0 < length text.old }
     ensures matched { (step (is_key t.now) text.old).matched.code_points ≡ take result.len text.new }

@@ -74,6 +74,7 @@ impl RangeMap {
     }
 
     /// Whether a range shares a code point with one of these. The first that doesn't end below it decides.
+    #[tactic(auto, using(crate::proofs::RangeMapLemmas::shares_first, crate::proofs::RangeMapLemmas::first_begins))]
     fn shares_with_any(&self, range: Range) -> bool
         requires { AreByFirst self.now }
         ensures { result ≡ list_any (shares range) self.now }

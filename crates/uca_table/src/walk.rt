@@ -56,6 +56,7 @@ impl<'t> Walk<'t> {
 
     /// Steps along one more code point, if some key begins with the path and it, and returns whether one does. Otherwise
     /// the walk stays as it is.
+    #[tactic(auto, using(crate::proofs::KeyLemmas::begins_short, std::proofs::lemmas::List::length_push))]
     pub fn step(&mut self, c: char) -> bool
         ensures answers { result ≡ begins_key (table_of_walk self.old) (path_of self.old ++ c ∷ []) }
         ensures path { path_of self.new ≡ cond result (path_of self.old ++ c ∷ []) (path_of self.old) }

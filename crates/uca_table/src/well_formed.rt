@@ -58,6 +58,7 @@ pub fn lint(t: &Table) -> ArrayVec<WellFormed, 5>
 }
 
 // Whether the table, whose elements have these bounds, breaks a condition.
+#[tactic(auto, using(crate::proofs::BoundsLemmas::against_all))]
 fn is_broken(t: &Table, bounds: Bounds, condition: WellFormed) -> bool
     requires { bounds ≡ fold bounded unbounded (all_elements t.now) }
     ensures { result ≡ is_broken t.now (condition_of condition) }

@@ -53,9 +53,6 @@ before_moves level w t es before last a is e = subst (λ x. list_any (cannot_mov
 
 -- Where an item is placed
 
-pub placed_nowhere : (level : ℕ) (t : ElementTable) (es : List Element) → anchor_of level es ≡ None → placed_after level t es ≡ Err small_weight
-placed_nowhere level t es a = ap (λ o. option_map_or (placed_at level t es) o (Err small_weight)) a
-
 pub placed_there : (level w : ℕ) (t u : ElementTable) (es before base : List Element) (last : Element) → anchor_of level es ≡ Some (anchor_as before last) → w ≡ weight level last → fault_at level w t es ≡ None
     → base ≡ map (with_gap level (weight level last)) before ++ raised level last ∷ [] → u ≡ table_with_gap level w t → placed_after level t es ≡ Ok (placed_as base u)
 placed_there level w t u es before base last a is e b moved =

@@ -13,15 +13,6 @@ length-with w (b ∷ bs) = let rest : length (bounds_with (w - 1) bs) ≡ length
   | inr high ↦ rw (le-ltb b w high) (omega arith)
 ]
 
-pub AreBlocks-none : (size : ℕ) → AreBlocks size [] []
-AreBlocks-none size = record {
-  same_length = refl;
-  blocks = λ at start.
-      let none : List ℕ = [] in
-      let empty : take size (drop at none) ≡ [] = ap (take size) (drop_all at none (omega arith)) ∙ take_all size none (omega arith) in
-      subst (λ (xs : List ℕ). AreBounds xs (take size (drop at none))) (sym empty) (subst (AreBounds []) (sym empty) AreBounds-none);
-}
-
 -- a block that lies in the front of a list
 front-block : {A : Type 0} (size at : ℕ) (p q : List A) → at + size ≤ length p → take size (drop at (p ++ q)) ≡ take size (drop at p)
 front-block size at p q h =

@@ -1,8 +1,7 @@
 -- The weights of a table that is tailored, counted over its items and over the entries that none of them hides.
-use Rattle.std.proofs.Common.{◌≡◌, ℕ, ◌+◌, ◌-◌, ◌≤◌, ◌<◌, true, false, cond, ◌&&◌, T, if◌then◌else◌, min, nat_lt, List, [], ◌∷◌, ◌++◌, length, map, take, get_or, slice_index, Option, Some, None, is_some, Vec, refl, sym, ap, ap₂, subst, ◌∙◌, arith, inl, inr}
+use Rattle.std.proofs.Common.{if◌then◌else◌, ◌≡◌, ℕ, ◌+◌, ◌-◌, ◌≤◌, ◌<◌, true, false, cond, ◌&&◌, T, min, List, [], ◌∷◌, ◌++◌, length, map, take, get_or, Option, Some, None, is_some, Vec, refl, sym, ap, ap₂, subst, ◌∙◌, arith, inl, inr}
 use mathlib.Core.List.{map-append}
 use Rattle.std.proofs.lemmas.Bool.{cases_Bool}
-use Rattle.std.proofs.lemmas.Bool.Decides.{nat_tests}
 use Rattle.std.proofs.lemmas.Cmp.{eq_by_cmp_equiv}
 use Rattle.std.proofs.lemmas.List.{take_all, length-map, get_or-map}
 use Rattle.std.specs.Cmp.Lexicographic.{slice_cmp, nat_list_cmp_total}
@@ -17,7 +16,6 @@ use Rattle.std.specs.declared.cmp.Ordering.{Ordering}
 use Rattle.std.specs.declared.cmp.Ordering.TheVariants.{Less, Equal, Greater}
 use Rattle.uca_weights.specs.declared.element.Element.{Element}
 use Rattle.uca_weights.specs.Element.{weight}
-use Rattle.uca_model.specs.Gap.{max_weight}
 use Rattle.uca_model.specs.Table.{ElementTable, key_cmp}
 use Rattle.uca_model.proofs.WeightLemmas.{Fits}
 use Rattle.uca_tailor.specs.declared.items.Item.{Item}
@@ -25,7 +23,7 @@ use Rattle.uca_tailor.specs.declared.moves.Moves.{Moves}
 use Rattle.uca_tailor.specs.declared.moves.Stamp.{Stamp}
 use Rattle.uca_tailor.specs.Copy.{cut_entry, item_entries}
 use Rattle.uca_tailor.specs.Counting.{count_shown, AreInOrder}
-use Rattle.uca_tailor.specs.Counts.{count_at, count_in, AreCapped, AreAllCounts, AreCounts, reaches_limit}
+use Rattle.uca_tailor.specs.Counts.{count_at, count_in, AreCapped}
 use Rattle.uca_tailor.specs.Moves.{start, moved_element, cut}
 use Rattle.uca_tailor.specs.Renumbered.{item_entry, moved_entry, all_entries, renumbered}
 use Rattle.uca_tailor.proofs.CopyLemmas.{copied}
@@ -170,21 +168,6 @@ pub AreCapped-next : (counts new : List ℕ) (n all left rest own : ℕ → ℕ)
     → AreCapped counts (λ x. n x + (all x - left x)) → AreCapped new (λ x. n x + (all x - rest x))
 AreCapped-next counts new n all left rest own is few step capped =
     AreCapped-same new (λ x. n x + (all x - left x) + own x) (λ x. n x + (all x - rest x)) (λ x. let e = is x in let h = few x in omega (arith, e, h)) (step (λ x. n x + (all x - left x)) capped)
-
--- counts of all are counts
-pub counts-all : (level : ℕ) (counts : List ℕ) (t : ElementTable) → AreAllCounts level counts t → AreCounts level counts t
-counts-all level counts t are = record {
-  within = let s = are.size in omega (arith, s);
-  reach = λ x h few. let e = are.capped x h in omega (arith, e, few);
-}
-
--- and show whether some element has the greatest weight
-pub limit-all : (level : ℕ) (counts : List ℕ) (t : ElementTable) → AreAllCounts level counts t → nat_lt 0 (slice_index counts (max_weight level)) ≡ reaches_limit level t
-limit-all level counts t are =
-    let s = are.size in let e = are.capped (max_weight level) (omega (arith, s)) in
-    ap (nat_lt 0) e ∙ capped_some (count_in level (max_weight level) (entries t.entries)) where
-      capped_some : (n : ℕ) → nat_lt 0 (min n 4294967295) ≡ nat_lt 0 n
-      capped_some n = grind (arith, nat_tests)
 
 -- ## Steps of the loops
 

@@ -1,22 +1,20 @@
 -- How relations, chains and rules are read, string by string.
-use Rattle.std.proofs.Common.{◌≡◌, ◌≢◌, ℕ, ◌+◌, ◌<◌, ◌≤◌, ◌==◌, Bool, true, false, List, [], ◌∷◌, ◌++◌, length, map, flat_map, All, Option, Some, None, Result, Ok, Err, MatchOption, is_ok, is_err, append-nil, append_assoc, length-append, refl, sym, ap, ap₂, subst, ◌∙◌, arith}
+use Rattle.std.proofs.Common.{◌≡◌, ◌≢◌, ℕ, ◌+◌, ◌<◌, ◌≤◌, ◌==◌, Bool, true, false, List, [], ◌∷◌, ◌++◌, length, map, flat_map, All, Option, Some, None, Result, Ok, Err, MatchOption, is_ok, is_err, append-nil, append_assoc, length-append, refl, sym, ap, subst, ◌∙◌, arith}
 use Rattle.std.proofs.lemmas.List.{map-append, length-map}
 use Rattle.std.proofs.lemmas.Bool.Decides.{nat_tests}
 use Rattle.std.proofs.lemmas.List.Concat.{flat_map-append}
 use Rattle.std.proofs.lemmas.List.Elements.{All-push}
-use Rattle.std.specs.Char.{IsScalar}
-use Rattle.unicode_normalization.specs.Forms.{nfd}
 use Rattle.uca_weights.specs.declared.limits.TheConstants.{MAX_RELATIONS}
 use Rattle.uca_model.specs.Rules as rules
-use Rattle.uca_model.specs.Rules.{IsRelation, IsChain, AreRules, items}
+use Rattle.uca_model.specs.Rules.{IsRelation, IsChain, items}
 use Rattle.uca_model.specs.RuleText as text
-use Rattle.uca_model.specs.RuleText.{RuleFault, Kind, string_of, part_faults, leading_faults, end_faults, segment_faults, before_next, counted, no_item, item, nothing, resets, relates, expands, grouped, with_segment, fault_if, too_many_relations, first_or, rules_of, faults, segments, parts}
+use Rattle.uca_model.specs.RuleText.{RuleFault, leading_faults, segment_faults, no_item, item, nothing, resets, relates, grouped, fault_if, too_many_relations, first_or, rules_of, faults, segments, parts}
 use Rattle.uca_tailor.proofs.StringLemmas.{some_faults}
 use Rattle.uca_tailor.specs.Chains.{operator_of, relation_of, chain_of}
 use Rattle.uca_tailor.specs.Faults.{reported_text_cause, RefusesText}
 use Rattle.uca_tailor.specs.Scan.{ScanState, scan_of}
-use Rattle.uca_tailor.specs.Strings.{left_of, segments_from, FindsNext, ReadsString, string_faults, BeginsWith, BeginsAt}
-use Rattle.uca_tailor.specs.Parsed.{expands_here, is_expansion, left_out_here, is_left_out_next, resets_here, EndsChain, IsRelationNext, after_faults, with_relation, ReadsRelation, ReadsChain}
+use Rattle.uca_tailor.specs.Strings.{left_of, segments_from, BeginsWith, BeginsAt}
+use Rattle.uca_tailor.specs.Parsed.{expands_here, is_expansion, left_out_here, is_left_out_next, resets_here, IsRelationNext, after_faults, with_relation, ReadsRelation, ReadsChain}
 use Rattle.uca_tailor.specs.declared.faults.RuleCause.{RuleCause}
 use Rattle.uca_tailor.specs.declared.faults.RuleCause.TheVariants as fault_cause
 use Rattle.uca_tailor.specs.declared.faults.RuleFault as declared
@@ -59,19 +57,6 @@ refuses_text f cs begins = go (reported_text_cause f.cause) begins
 
 -- Strings
 
--- after a string without fault come the faults of what follows
-string-after : (s t : ScanState) (string : List ℕ) (found : Option Found) → ReadsString s string found t → (kind : Kind) (n : ℕ) → after_faults kind n s ≡ segment_faults (before_next kind) (n + counted kind) (segments_from found t)
-string-after s t string found reads kind n =
-    sym (append_assoc (flat_map part_faults (left_of s).leading) (end_faults s.at (string_of (left_of s).leading)) (segment_faults (before_next kind) (n + counted kind) (left_of s).all))
-    ∙ ap (λ fs. fs ++ segment_faults (before_next kind) (n + counted kind) (left_of s).all) reads.fine
-    ∙ ap (segment_faults (before_next kind) (n + counted kind)) reads.rest
-
--- a fault of the string is the first
-pub string-begins : (f : declared.RuleFault) (s : ScanState) (kind : Kind) (n : ℕ) → BeginsWith f (string_faults s) → BeginsWith f (after_faults kind n s)
-string-begins f s kind n begins =
-    begins-same f _ _ (sym (append_assoc (flat_map part_faults (left_of s).leading) (end_faults s.at (string_of (left_of s).leading)) (segment_faults (before_next kind) (n + counted kind) (left_of s).all)))
-    (begins-more f (string_faults s) (segment_faults (before_next kind) (n + counted kind) (left_of s).all) begins)
-
 -- Relations
 
 -- where no expansion follows, an item and an expansion are one before what follows
@@ -96,102 +81,7 @@ no_expansion : (found : Option Found) (t : ScanState) → is_expansion found ≡
 no_expansion None t is other = refl
 no_expansion (Some f) t is other = no_expansion-at f.operator f.at t is other
 
--- an expansion may follow an item
-expansion_next-at : (o : Operator) (at : ℕ) (t : ScanState) (n : ℕ) → expands_here o ≡ true → segment_faults item n (segments_from (Some (record { operator = o; at = at })) t) ≡ after_faults expands n t
-expansion_next-at operator.Reset at t n is = cc
-expansion_next-at (operator.Relation op) at t n is = cc
-expansion_next-at operator.LeftOut at t n is = cc
-expansion_next-at operator.Expansion at t n is = refl
-
-expansion_next : (found : Option Found) (t : ScanState) (n : ℕ) → is_expansion found ≡ true → segment_faults item n (segments_from found t) ≡ after_faults expands n t
-expansion_next None t n is = cc
-expansion_next (Some f) t n is = expansion_next-at f.operator f.at t n is
-
-expansion_says-at : (o : Operator) (at : ℕ) (t : ScanState) → expands_here o ≡ true → grouped (segments_from (Some (record { operator = o; at = at })) t) ≡ with_segment expands (nfd (string_of (left_of t).leading)) (grouped (left_of t).all)
-expansion_says-at operator.Reset at t is = cc
-expansion_says-at (operator.Relation op) at t is = cc
-expansion_says-at operator.LeftOut at t is = cc
-expansion_says-at operator.Expansion at t is = refl
-
-expansion_says : (found : Option Found) (t : ScanState) → is_expansion found ≡ true → grouped (segments_from found t) ≡ with_segment expands (nfd (string_of (left_of t).leading)) (grouped (left_of t).all)
-expansion_says None t is = cc
-expansion_says (Some f) t is = expansion_says-at f.operator f.at t is
-
-expansion_counts : (found : Option Found) (t : ScanState) → is_expansion found ≡ true → length (segments_from found t) ≡ length (left_of t).all + 1
-expansion_counts None t is = cc
-expansion_counts (Some f) t is = omega arith
-
-relation-same : (o : rules.Operator) (i j e g : List ℕ) → i ≡ j → e ≡ g → (let r : rules.Relation = record { op = o; item = i; expansion = e } in let q : rules.Relation = record { op = o; item = j; expansion = g } in r ≡ q)
-relation-same o i j e g same_item same_expansion = ap₂ (λ x y. let r : rules.Relation = record { op = o; item = x; expansion = y } in r) same_item same_expansion
-
--- a relation without an expansion
-pub relation_alone : (s t : ScanState) (op : Op) (r : Relation) (found : Option Found) → ReadsString s r.item.items found t → is_expansion found ≡ false → r.op ≡ op → r.expansion.items ≡ [] → ReadsRelation s op r found t
-relation_alone s t op r found reads alone same_op none = record {
-  is_relation = record { item = reads.is_string; expansion = omega (arith, ap length none); scalars = subst (λ cs. All IsScalar cs) (sym none) (λ k d low. absurd (omega arith)) };
-  faults = λ n. string-after s t r.item.items found reads (relates (operator_of op)) n ∙ same_before found t (n + 1) alone;
-  says = λ at other.
-      ap (λ g. with_segment (relates (operator_of op)) (nfd (string_of (left_of s).leading)) (grouped g)) reads.rest
-      ∙ ap (λ q. with_relation q (grouped (segments_from found t)))
-      (relation-same (operator_of op) (nfd (string_of (left_of s).leading)) r.item.items (grouped (segments_from found t)).expansion r.expansion.items (sym reads.value) (no_expansion found t alone other ∙ sym none)
-      ∙ ap (λ o. let q : rules.Relation = record { op = operator_of o; item = r.item.items; expansion = r.expansion.items } in q) (sym same_op));
-  fewer = omega (arith, ap length reads.rest);
-}
-
--- a relation with one
-pub relation_expanded : (s t u : ScanState) (op : Op) (r : Relation) (found next : Option Found) → ReadsString s r.item.items found t → is_expansion found ≡ true → ReadsString t r.expansion.items next u → r.op ≡ op → ReadsRelation s op r next u
-relation_expanded s t u op r found next reads expanded more same_op = record {
-  is_relation = record { item = reads.is_string; expansion = more.is_string.few; scalars = more.is_string.scalars };
-  faults = λ n.
-      string-after s t r.item.items found reads (relates (operator_of op)) n ∙ expansion_next found t (n + 1) expanded
-      ∙ string-after t u r.expansion.items next more expands (n + 1)
-      ∙ ap (λ m. segment_faults no_item m (segments_from next u)) (let e : n + 1 + 0 ≡ n + 1 = omega arith in e);
-  says = λ at other.
-      ap (λ g. with_segment (relates (operator_of op)) (nfd (string_of (left_of s).leading)) (grouped g)) reads.rest
-      ∙ ap (with_segment (relates (operator_of op)) (nfd (string_of (left_of s).leading))) (expansion_says found t expanded)
-      ∙ ap (λ g. with_segment (relates (operator_of op)) (nfd (string_of (left_of s).leading)) (with_segment expands (nfd (string_of (left_of t).leading)) (grouped g))) more.rest
-      ∙ ap (λ q. with_relation q (grouped (segments_from next u)))
-      (relation-same (operator_of op) (nfd (string_of (left_of s).leading)) r.item.items (nfd (string_of (left_of t).leading)) r.expansion.items (sym reads.value) (sym more.value)
-      ∙ ap (λ o. let q : rules.Relation = record { op = operator_of o; item = r.item.items; expansion = r.expansion.items } in q) (sym same_op));
-  fewer = omega (arith, ap length reads.rest, ap length more.rest, expansion_counts found t expanded);
-}
-
--- a fault of the expansion
-pub expansion_begins : (f : declared.RuleFault) (s t : ScanState) (op : Op) (string : List ℕ) (found : Option Found) (n : ℕ) → ReadsString s string found t → is_expansion found ≡ true → BeginsWith f (string_faults t) → BeginsWith f (after_faults (relates (operator_of op)) n s)
-expansion_begins f s t op string found n reads expanded begins =
-    begins-same f _ _ (string-after s t string found reads (relates (operator_of op)) n ∙ expansion_next found t (n + 1) expanded) (string-begins f t expands (n + 1) begins)
-
 -- Chains
-
--- at the end of a chain no relation is left, and no operator's faults depend on what comes before
-ends_relations-at : (o : Operator) (at : ℕ) (t : ScanState) → resets_here o ≡ true → (grouped (segments_from (Some (record { operator = o; at = at })) t)).relations ≡ []
-ends_relations-at operator.Reset at t is = refl
-ends_relations-at (operator.Relation op) at t is = cc
-ends_relations-at operator.LeftOut at t is = cc
-ends_relations-at operator.Expansion at t is = cc
-
-ends_relations : (found : Option Found) (t : ScanState) → EndsChain found → (grouped (segments_from found t)).relations ≡ []
-ends_relations None t is = refl
-ends_relations (Some f) t is = ends_relations-at f.operator f.at t is
-
-ends_faults-at : (o : Operator) (at : ℕ) (t : ScanState) (n : ℕ) → resets_here o ≡ true → segment_faults no_item n (segments_from (Some (record { operator = o; at = at })) t) ≡ segment_faults nothing n (segments_from (Some (record { operator = o; at = at })) t)
-ends_faults-at operator.Reset at t n is = refl
-ends_faults-at (operator.Relation op) at t n is = cc
-ends_faults-at operator.LeftOut at t n is = cc
-ends_faults-at operator.Expansion at t n is = cc
-
-ends_faults : (found : Option Found) (t : ScanState) (n : ℕ) → EndsChain found → segment_faults no_item n (segments_from found t) ≡ segment_faults nothing n (segments_from found t)
-ends_faults None t n is = refl
-ends_faults (Some f) t n is = ends_faults-at f.operator f.at t n is
-
-ends_left-at : (o : Operator) (at : ℕ) → resets_here o ≡ true → left_out_here o ≡ false
-ends_left-at operator.Reset at is = refl
-ends_left-at (operator.Relation op) at is = cc
-ends_left-at operator.LeftOut at is = cc
-ends_left-at operator.Expansion at is = cc
-
-ends_left : (found : Option Found) → EndsChain found → is_left_out_next found ≡ false
-ends_left None is = refl
-ends_left (Some f) is = ends_left-at f.operator f.at is
 
 -- the relations of a chain so far, whose reset comes before s
 pub record InChain (s : ScanState) (count : ℕ) (relations : List Relation) (next : Option Found) (t : ScanState) : Type 0 where
@@ -201,16 +91,6 @@ pub record InChain (s : ScanState) (count : ℕ) (relations : List Relation) (ne
   pub chains : is_left_out_next next ≡ false → (grouped (left_of s).all).chains ≡ (grouped (segments_from next t)).chains
   pub room : count + length relations ≤ MAX_RELATIONS
   pub fewer : length (segments_from next t) ≤ length (left_of s).all
-
-pub chain_begins : (s t : ScanState) (count : ℕ) (reset : List ℕ) (next : Option Found) → ReadsString s reset next t → count ≤ MAX_RELATIONS → InChain s count [] next t
-chain_begins s t count reset next reads room = record {
-  are_relations = λ k d h. absurd (omega arith);
-  faults = string-after s t reset next reads resets count;
-  says = λ _. ap (λ g. (grouped g).relations) reads.rest;
-  chains = λ _. ap (λ g. (grouped g).chains) reads.rest;
-  room = omega arith;
-  fewer = omega (arith, ap length reads.rest);
-}
 
 -- the faults at a relation's operator that has none
 relation_fine : (next : Option Found) (n : ℕ) (op : Op) (t : ScanState) → IsRelationNext next n op → segment_faults no_item n (segments_from next t) ≡ after_faults (relates (operator_of op)) n t
@@ -242,32 +122,10 @@ chain_more s t u count relations next found op r is here reads =
     not_full : (n : ℕ) → n ≤ MAX_RELATIONS → (n == MAX_RELATIONS) ≡ false → n < MAX_RELATIONS
     not_full n low other = grind (arith, nat_tests)
 
--- fewer segments are left after a relation
-pub chain_smaller : (t u : ScanState) (count : ℕ) (next found : Option Found) (op : Op) (r : Relation) → IsRelationNext next count op → ReadsRelation t op r found u → length (segments_from found u) < length (segments_from next t)
-chain_smaller t u count next found op r here reads =
-    let counts : length (segments_from next t) ≡ length (left_of t).all + 1 = ap (λ f. length (segments_from f t)) here.is ∙ (let e : length (segments_from (Some (record { operator = operator.Relation op; at = here.at })) t) ≡ length (left_of t).all + 1 = omega arith in e) in
-    omega (arith, reads.fewer, counts)
-
 -- a relation's fault is the first of its chain
 pub chain_refused : (f : declared.RuleFault) (s t : ScanState) (count : ℕ) (relations : List Relation) (next : Option Found) (op : Op) → InChain s count relations next t → IsRelationNext next (count + length relations) op → ((n : ℕ) → BeginsWith f (after_faults (relates (operator_of op)) n t)) → BeginsWith f (after_faults resets count s)
 chain_refused f s t count relations next op is here begins =
     begins-same f _ _ (is.faults ∙ relation_fine next (count + length relations) op t here) (begins (count + length relations))
-
-pub chain_stopped : (f : declared.RuleFault) (s t : ScanState) (count : ℕ) (relations : List Relation) (next : Option Found) → InChain s count relations next t → BeginsWith f (segment_faults no_item (count + length relations) (segments_from next t)) → BeginsWith f (after_faults resets count s)
-chain_stopped f s t count relations next is begins = begins-same f _ _ is.faults begins
-
--- the whole chain
-pub chain_ends : (s t mid : ScanState) (count : ℕ) (c : Chain) (first next : Option Found) → ReadsString s c.reset.items first mid → InChain s count c.relations.items next t → EndsChain next → ReadsChain s count c next t
-chain_ends s t mid count c first next reads is ends = record {
-  is_chain = record { reset = reads.is_string; relations = is.are_relations };
-  faults = is.faults ∙ ends_faults next t (count + length c.relations.items) ends;
-  says = λ at.
-      let left = ends_left next ends in
-      ap₂ (λ string g. let w : rules.Chain = record { reset = string; relations = g } in w ∷ (grouped (left_of s).all).chains) (sym reads.value) (is.says left ∙ ap (λ rs. map relation_of c.relations.items ++ rs) (ends_relations next t ends) ∙ append-nil (map relation_of c.relations.items))
-      ∙ ap (λ cs. chain_of c ∷ cs) (is.chains left);
-  room = is.room;
-  fewer = is.fewer;
-}
 
 -- Rules
 
@@ -278,15 +136,6 @@ pub record InRules (cs : List ℕ) (chains : List Chain) (count : ℕ) (next : O
   pub room : count ≤ MAX_RELATIONS
   pub fine : faults (segments (parts cs)) ≡ segment_faults nothing count (segments_from next t)
   pub says : (grouped (segments (parts cs)).all).chains ≡ map chain_of chains ++ (grouped (segments_from next t)).chains
-
-pub rules_begin : (cs : List ℕ) (next : Option Found) (t : ScanState) → FindsNext leading_faults (scan_of cs) next t → InRules cs [] 0 next t
-rules_begin cs next t finds = record {
-  are_chains = λ k d h. absurd (omega arith);
-  counts = refl;
-  room = omega arith;
-  fine = ap (λ fs. fs ++ segment_faults nothing 0 (segments (parts cs)).all) finds.fine ∙ ap (segment_faults nothing 0) finds.rest;
-  says = ap (λ g. (grouped g).chains) finds.rest;
-}
 
 -- a reset is next
 reset_fine : (next : Option Found) (f : Found) (t : ScanState) (count : ℕ) → next ≡ Some f → f.operator ≡ operator.Reset → segment_faults nothing count (segments_from next t) ≡ after_faults resets count t
@@ -313,11 +162,6 @@ rules_more cs chains count next found f t u c is here resets_now reads =
           ∙ ap (λ ds. ds ++ (grouped (segments_from found u)).chains) (sym more);
     }
 
-pub rules_smaller : (count : ℕ) (next found : Option Found) (f : Found) (t u : ScanState) (c : Chain) → next ≡ Some f → ReadsChain t count c found u → length (segments_from found u) < length (segments_from next t)
-rules_smaller count next found f t u c here reads =
-    let counts : length (segments_from next t) ≡ length (left_of t).all + 1 = ap (λ g. length (segments_from g t)) here ∙ (let e : length (segments_from (Some f) t) ≡ length (left_of t).all + 1 = omega arith in e) in
-    omega (arith, reads.fewer, counts)
-
 -- a fault of a chain is the first of the text
 pub rules_refused : (f : declared.RuleFault) (cs : List ℕ) (chains : List Chain) (count : ℕ) (next : Option Found) (g : Found) (t : ScanState) → InRules cs chains count next t → next ≡ Some g → g.operator ≡ operator.Reset → BeginsWith f (after_faults resets count t) → RefusesText (rules_of cs) f
 rules_refused f cs chains count next g t is here resets_now begins = refuses_text f cs (begins-same f _ _ (is.fine ∙ reset_fine next g t count here resets_now) begins)
@@ -343,9 +187,6 @@ rules_end cs chains count next t is none =
     let fine : faults (segments (parts cs)) ≡ [] = is.fine ∙ ap (λ g. segment_faults nothing count (segments_from g t)) none in
     ap (λ fs. first_or fs (grouped (segments (parts cs)).all).chains) fine
     ∙ ap Ok (is.says ∙ ap (λ g. map chain_of chains ++ (grouped (segments_from g t)).chains) none ∙ append-nil (map chain_of chains))
-
-pub rules_are : (cs : List ℕ) (chains : List Chain) (count : ℕ) (next : Option Found) (t : ScanState) → InRules cs chains count next t → AreRules (map chain_of chains)
-rules_are cs chains count next t is = record { chains = is.are_chains; few = omega (arith, is.counts, is.room) }
 
 pub reset_from : (o : Operator) → resets_here o ≡ true → o ≡ operator.Reset
 reset_from operator.Reset is = refl

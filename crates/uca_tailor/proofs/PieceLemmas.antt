@@ -1,5 +1,5 @@
 -- How pieces are read, character by character.
-use Rattle.std.proofs.Common.{◌≡◌, cond, ℕ, zero, suc, ◌+◌, ◌*◌, ◌^◌, Ok, ◌-◌, ◌<◌, ◌≤◌, Bool, true, false, not, ◌==◌, List, [], ◌∷◌, ◌++◌, length, drop, Option, Some, None, append-nil, append_assoc, ne_eqb, refl, sym, ap, ap₂, subst, ◌∙◌, arith}
+use Rattle.std.proofs.Common.{◌≡◌, ℕ, zero, suc, ◌+◌, ◌*◌, ◌^◌, Ok, ◌-◌, ◌<◌, ◌≤◌, Bool, true, false, not, ◌==◌, List, [], ◌∷◌, ◌++◌, length, drop, Option, Some, None, append-nil, append_assoc, ne_eqb, refl, sym, ap, ap₂, subst, ◌∙◌, arith}
 use Rattle.std.proofs.lemmas.Bool.{cond-true, cond-false}
 use Rattle.std.proofs.lemmas.Bool.Decides.{nat_tests}
 use Rattle.std.proofs.lemmas.List.Sums.{take_while-cons}
@@ -12,7 +12,7 @@ use Rattle.uca_model.specs.Rules.{same}
 use Rattle.uca_model.proofs.RuleTextLemmas.{piece-some}
 use lib.Utf8.{scalar}
 use Rattle.uca_tailor.specs.Scan.{ScanState, passed, first_left, TakesOne}
-use Rattle.uca_tailor.specs.Pieces.{TakesPiece, quoted_piece, plain_piece, kind_of, first_piece, ReadsNext, takes_memory}
+use Rattle.uca_tailor.specs.Pieces.{TakesPiece, quoted_piece, plain_piece, kind_of, first_piece, ReadsNext}
 use Rattle.uca_tailor.specs.declared.pieces.Operator.{Operator}
 use Rattle.uca_tailor.specs.declared.pieces.Operator.TheVariants as operator
 use Rattle.uca_tailor.specs.declared.pieces.Piece.{Piece}
@@ -52,27 +52,9 @@ run_longer p s t c left is = ap (λ cs. length (take_while p cs)) left ∙ run-c
 pub run_goes_on : (p : ℕ → Bool) (s t : ScanState) (c : ℕ) → s.left ≡ c ∷ t.left → t ≡ passed 1 s → p c ≡ true → passed (length (take_while p t.left)) t ≡ passed (length (take_while p s.left)) s
 run_goes_on p s t c left e is = sym (ap (λ n. passed n s) (run_longer p s t c left is) ∙ passed-taken (length (take_while p t.left)) s t e)
 
-pub run_ended : (p : ℕ → Bool) (s : ScanState) → first_left s.left ≡ None → take_while p s.left ≡ []
-run_ended p s is = run_of_none p s.left is
-  where
-    run_of_none : (p : ℕ → Bool) (cs : List ℕ) → first_left cs ≡ None → take_while p cs ≡ []
-    run_of_none p [] is = refl
-    run_of_none p (c ∷ cs) is = cc
-
 stops_at : (p : ℕ → Bool) (c : ℕ) (cs : List ℕ) → Some c ≡ first_left cs → p c ≡ false → take_while p cs ≡ []
 stops_at p c [] is fails = cc
 stops_at p c (x ∷ cs) is fails = take_while-cons p x cs ∙ cond-false _ _ _ (let same : x ≡ c = cc in ap p same ∙ fails)
-
-pub run_stopped : (p : ℕ → Bool) (s : ScanState) (c : ℕ) → Some c ≡ first_left s.left → p c ≡ false → take_while p s.left ≡ []
-run_stopped p s c is fails = stops_at p c s.left is fails
-
-pub run_done : (p : ℕ → Bool) (s : ScanState) → take_while p s.left ≡ [] → passed (length (take_while p s.left)) s ≡ s
-run_done p s none = ap (λ cs. passed (length cs) s) none ∙ passed-zero s
-
--- no run of a character begins where it is not next
-pub run_of_other : (c : ℕ) (cs : List ℕ) → begins_with c cs ≡ false → take_while (λ x. x == c) cs ≡ []
-run_of_other c [] is = refl
-run_of_other c (x ∷ cs) is = take_while-cons (λ x. x == c) x cs ∙ cond-false _ _ _ is
 
 -- Quotes
 
@@ -206,29 +188,6 @@ code_point_taken n value c said s old t string longer is ok is_value e f appends
     })
 
 -- Memory
-
-takes-either : (b : Bool) (p q : text.Piece) → takes_memory p.kind ≡ true → takes_memory q.kind ≡ true → takes_memory (cond b p q).kind ≡ true
-takes-either true p q first second = first
-takes-either false p q first second = second
-
--- each piece with characters of a string allocates, whatever becomes of it
-pub code_point_takes : (n : ℕ) (said : Option ℕ) → takes_memory (code_point n said).kind ≡ true
-code_point_takes n None = refl
-code_point_takes n (Some c) = takes-either (scalar c) _ _ refl refl
-
-pub escape_takes : (cs : List ℕ) → takes_memory (text.escape cs).kind ≡ true
-escape_takes [] = refl
-escape_takes (c ∷ cs) = takes-either (c == text.small_u) _ _ (code_point_takes 4 (hex_value 4 0 cs)) (takes-either (c == text.capital_u) _ _ (code_point_takes 8 (hex_value 8 0 cs)) refl)
-
-pub quoted_takes : (q : Option Quoted) → takes_memory (quoted_piece q).kind ≡ true
-quoted_takes None = refl
-quoted_takes (Some q) = refl
-
-pub quote_takes : (cs : List ℕ) → takes_memory (text.quote cs).kind ≡ true
-quote_takes cs = takes-either (begins_with apostrophe cs) _ _ refl (quoted_takes (quoted cs))
-
-pub plain_takes : (c : ℕ) → takes_memory (plain_piece c).kind ≡ true
-plain_takes c = takes-either (text.is_left_out c) _ _ refl (takes-either (text.is_plain c) _ _ refl refl)
 
 -- Operators
 

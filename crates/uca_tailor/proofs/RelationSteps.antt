@@ -1,5 +1,5 @@
 -- One relation after the other.
-use Rattle.std.proofs.Common.{◌≡◌, ℕ, ◌+◌, ◌≤◌, ◌<◌, cond, is_some, List, [], ◌∷◌, ◌++◌, length, drop, map, get_or, Option, Some, None, Result, Ok, Err, MatchOption, refl, sym, ap, subst, ◌∙◌, arith}
+use Rattle.std.proofs.Common.{◌≡◌, ℕ, ◌+◌, ◌≤◌, ◌<◌, cond, is_some, List, [], ◌∷◌, length, drop, map, get_or, Option, Some, None, Result, Ok, Err, MatchOption, refl, sym, ap, subst, ◌∙◌, arith}
 use Rattle.std.proofs.lemmas.List.{drop_more, length-append, length-map, get_or-map, drop_all}
 use Rattle.std.proofs.lemmas.List.Elements.{All-get_or}
 use Rattle.std.specs.List.{All}
@@ -8,31 +8,14 @@ use Rattle.uca_model.specs.CollationElements.{elements}
 use Rattle.uca_model.specs.Rules.{Relation, Chain, items, IsRelation, IsChain}
 use Rattle.uca_model.specs.Table.{ElementTable}
 use Rattle.uca_model.specs.TableText.{◌>>=◌}
-use Rattle.uca_model.specs.Tailoring.{TailorCause, TailorFault, placed, entered, related, at_relation, related_all, tailored_from}
+use Rattle.uca_model.specs.Tailoring.{TailorCause, TailorFault, related, at_relation, related_all, tailored_from}
 use Rattle.uca_tailor.specs.declared.faults.TailorCause.{TailorCause as Cause}
 use Rattle.uca_tailor.specs.declared.faults.TailorFault.{TailorFault as Fault}
 use Rattle.uca_tailor.specs.declared.rules.Relation.{Relation as RelationParts}
 use Rattle.uca_tailor.specs.declared.rules.Chain.{Chain as ChainParts}
 use Rattle.uca_tailor.specs.Chains.{relation_of, chain_of}
 use Rattle.uca_tailor.specs.Faults.{reported_cause, RefusesRelation}
-use Rattle.uca_tailor.specs.Steps.{placed_as, related_as, Refuses}
-
--- a step that is refused refuses what depends on it
-refused_on : {A B : Type 0} (o : Option TailorCause) (says : Result A TailorCause) (next : A → Result B TailorCause) → MatchOption o (Unit {0}) (λ c. says ≡ Err c) → MatchOption o (Unit {0}) (λ c. (says >>= next) ≡ Err c)
-refused_on None says next h = tt
-refused_on (Some c) says next h = ap (λ x. x >>= next) h
-
-pub place_refused : (t : ElementTable) (anchor : List Element) (r : Relation) (cause : Cause) → Refuses (placed t anchor r.op) cause → Refuses (related t anchor r) cause
-place_refused t anchor r cause h = refused_on (reported_cause cause) (placed t anchor r.op) (λ p. entered r.item p (p.base ++ elements p.table r.expansion)) h
-
-related_on : (t u : ElementTable) (anchor base : List Element) (r : Relation) → placed t anchor r.op ≡ Ok (placed_as base u) → related t anchor r ≡ entered r.item (placed_as base u) (base ++ elements u r.expansion)
-related_on t u anchor base r h = ap (λ x. x >>= λ p. entered r.item p (p.base ++ elements p.table r.expansion)) h
-
-pub enter_refused : (t u : ElementTable) (anchor base : List Element) (r : Relation) (cause : Cause) → placed t anchor r.op ≡ Ok (placed_as base u) → Refuses (entered r.item (placed_as base u) (base ++ elements u r.expansion)) cause → Refuses (related t anchor r) cause
-enter_refused t u anchor base r cause h refused = subst (λ says. Refuses says cause) (sym (related_on t u anchor base r h)) refused
-
-pub related_ok : (t u v : ElementTable) (anchor base : List Element) (r : Relation) → placed t anchor r.op ≡ Ok (placed_as base u) → entered r.item (placed_as base u) (base ++ elements u r.expansion) ≡ Ok (related_as v base) → related t anchor r ≡ Ok (related_as v base)
-related_ok t u v anchor base r h e = related_on t u anchor base r h ∙ e
+use Rattle.uca_tailor.specs.Steps.{related_as, Refuses}
 
 -- The relations of a chain
 

@@ -1,10 +1,10 @@
 -- A table whose gaps are made together is the one whose gaps were made one after the other.
-use Rattle.std.proofs.Common.{◌≡◌, ℕ, suc, zero, ◌+◌, ◌≤◌, ◌<◌, max, Bool, true, false, cond, ◌||◌, List, [], ◌∷◌, ◌++◌, length, drop, map, flat_map, get_or, slice_index, unwrap_or, Option, Some, None, is_some, min, Vec, refl, sym, ap, ap₂, subst, ◌∙◌, arith, inl, inr, length-append}
+use Rattle.std.proofs.Common.{◌≡◌, ℕ, suc, zero, ◌+◌, ◌≤◌, ◌<◌, max, Bool, true, false, cond, ◌||◌, List, [], ◌∷◌, ◌++◌, length, drop, map, flat_map, get_or, unwrap_or, Option, Some, None, is_some, min, Vec, refl, sym, ap, ap₂, subst, ◌∙◌, arith, inl, inr, length-append}
 use mathlib.Core.List.{map-append}
 use Rattle.std.specs.Prelude.{◌⊎◌}
 use Rattle.std.proofs.lemmas.Bool.{cases_Bool, cases_lt, or_right}
 use Rattle.std.proofs.lemmas.Cmp.{eq_by_cmp_equiv}
-use Rattle.std.proofs.lemmas.List.{drop-append-le, drop_all, drop_more}
+use Rattle.std.proofs.lemmas.List.{drop-append-le, drop_all}
 use Rattle.std.specs.BTreeMap.{insert_entry, is_at}
 use Rattle.std.specs.Map.{lookup}
 use Rattle.std.specs.List.{AllByRecursion, list_any}
@@ -22,7 +22,6 @@ use Rattle.uca_weights.specs.Element.{weight}
 use Rattle.uca_model.specs.Gap.{moves, weight_with_gap, with_gap, entry_with_gap, table_with_gap, cannot_move}
 use Rattle.uca_model.specs.Table.{ElementTable, key_cmp, elements_at, is_key, with_entry, with_ideographs, longest, IsElement, IsKey, IsTable}
 use Rattle.uca_model.specs.CollationElements.{step, matches, matches_within, elements, elements_or_implicit}
-use Rattle.uca_model.specs.ImplicitWeights.{implicit}
 use Rattle.uca_model.specs.Match as model
 use Rattle.uca_model.proofs.RewritingLemmas.{step_some, matches-step}
 use Rattle.uca_model.proofs.GapLookups.{elements_at-with_gap}
@@ -398,19 +397,12 @@ at-given m items t q es none found = at-other m items t q none ∙ ap (option_ma
 pub at-none : {Y : Type 0} (m : Moves) (items : List (Vec ℕ Y × Item)) (t : ElementTable) (q : List ℕ) → item_at q items ≡ None → elements_at t q ≡ None → elements_at (renumbered m items t) q ≡ None
 at-none m items t q none absent = at-other m items t q none ∙ ap (option_map (map (moved_element m start))) absent
 
--- what is found, cut to sixteen bits, is what a match gives
-pub found_elements : (u v : ElementTable) (q : List ℕ) (es : List Element) → u ≡ v → Fits u → elements_at u q ≡ Some es → map cut es ≡ elements_or_implicit v q
-found_elements u v q es same fits found = elements-cut es (fits.entries q es found) ∙ sym (ap (λ o. unwrap_or o (implicit u (slice_index q 0))) found) ∙ ap (λ x. elements_or_implicit x q) same
-
 -- .. and what it has as an entry
 pub found_entry : (u v : ElementTable) (q : List ℕ) (es : List Element) → u ≡ v → Fits u → elements_at u q ≡ Some es → map cut es ≡ elements_or_none v q
 found_entry u v q es same fits found = elements-cut es (fits.entries q es found) ∙ sym (ap (λ o. unwrap_or o []) found) ∙ ap (λ x. elements_or_none x q) same
 
 pub no_entry : (u v : ElementTable) (q : List ℕ) → u ≡ v → elements_at u q ≡ None → [] ≡ elements_or_none v q
 no_entry u v q same none = sym (ap (λ o. unwrap_or o []) none) ∙ ap (λ x. elements_or_none x q) same
-
-pub none_elements : (u v : ElementTable) (q : List ℕ) → u ≡ v → elements_at u q ≡ None → implicit u (slice_index q 0) ≡ elements_or_implicit v q
-none_elements u v q same none = sym (ap (λ o. unwrap_or o (implicit u (slice_index q 0))) none) ∙ ap (λ x. elements_or_implicit x q) same
 
 pub is_key-renumbered : {Y : Type 0} (m : Moves) (items : List (Vec ℕ Y × Item)) (t u : ElementTable) (q : List ℕ) → renumbered m items t ≡ u → contains (key_set u) q ≡ (is_some (item_at q items) || is_key t q)
 is_key-renumbered m items t u q same =
@@ -441,9 +433,6 @@ elements_by t ms = flat_map (λ (m : model.Match). elements_or_implicit t m.code
 
 pub elements_by-keys : (t : ElementTable) (ms : List Match) (xs : List ℕ) → map match_of ms ≡ matches (contains (key_set t)) xs → elements_by t ms ≡ elements t xs
 elements_by-keys t ms xs are = ap (flat_map (λ (m : model.Match). elements_or_implicit t m.code_points)) (are ∙ (λ i. matches (λ key. contains-key_set t key i) xs))
-
-pub elements_by-more : (t : ElementTable) (ms : List Match) (i : ℕ) (d : Match) → i < length ms → elements_by t (drop i ms) ≡ elements_or_implicit t (get_or ms i d).key.items ++ elements_by t (drop (i + 1) ms)
-elements_by-more t ms i d h = ap (elements_by t) (drop_more ms i d h)
 
 pub some_matches : (k : List ℕ → Bool) (ms : List Match) (xs : List ℕ) → map match_of ms ≡ matches k xs → 0 < length xs → 0 < length ms
 some_matches k [] [] are h = absurd (omega arith)

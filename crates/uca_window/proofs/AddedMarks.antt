@@ -1,5 +1,5 @@
 -- How many nonstarters a character adds to a run, and why a text of few bytes, or one whose bytes add few, has no long run.
-use Rattle.std.proofs.Common.{◌≡◌, ℕ, ◌+◌, ◌-◌, ◌*◌, ◌≤◌, suc, nat_lt, ◌<◌, max, Bool, true, false, cond, not, List, [], ◌∷◌, ◌++◌, length, take, get_or, encode_utf8_all, chars, IsUtf8, refl, sym, ap, subst, ◌∙◌, arith, append_assoc, append-nil, length-append, inl, inr}
+use Rattle.std.proofs.Common.{◌≡◌, ℕ, ◌+◌, ◌-◌, ◌*◌, ◌≤◌, suc, ◌<◌, max, Bool, true, false, cond, not, List, [], ◌∷◌, ◌++◌, length, take, get_or, encode_utf8_all, chars, IsUtf8, refl, sym, ap, subst, ◌∙◌, arith, append_assoc, append-nil, length-append, inl, inr}
 use Rattle.std.proofs.lemmas.Bool.{cases_Bool, cases_eq, cases_lt}
 use Rattle.std.proofs.lemmas.Bool.Decides.{nat_tests}
 use Rattle.std.proofs.lemmas.List.{take_all}
@@ -14,7 +14,6 @@ use Rattle.ucd_normal.specs.CanonicalCombiningClass.{canonical_combining_class a
 use Rattle.unicode_normalization.specs.Decompose.{decompose_canonical}
 use Rattle.uca_weights.specs.declared.limits.TheConstants.{MAX_RUN}
 use Rattle.uca_model.specs.SafeText.{longest_run_after, IsSafe}
-use Rattle.uca_model.proofs.SafeLemmas.{run_after}
 use Rattle.uca_window.specs.Passing.{is_passed, is_pair, is_stop, is_of_pair, is_dense, is_high, added_by}
 use Rattle.uca_window.specs.Scan.{Fits}
 use Rattle.uca_window.proofs.PassedBytes.{first-passed, below_marks, stop-lead}
@@ -22,6 +21,7 @@ use Rattle.uca_window.proofs.PassedCharacters.{decompose-passed, decompose-short
 use Rattle.uca_window.proofs.PassedRuns.{longest-short, run-longest}
 use Rattle.uca_window.specs.Scan.{Scanned}
 use Rattle.uca_window.proofs.RunScan.{scanned_none, scanned_more}
+use Rattle.std.proofs.lemmas.Grind.{common_steps}
 
 -- ---- one character
 
@@ -52,10 +52,7 @@ grown n c = elim (cases_Bool (is_passed c)) [
 
 first-counts : (p : ℕ → Bool) (xs : List ℕ) → 0 < length xs → p (get_or xs 0 0) ≡ true → 1 ≤ count_by p xs
 first-counts p [] some h = absurd (omega arith)
-first-counts p (x ∷ xs) some h =
-    let one : cond {A = ℕ} (p x) 1 0 ≡ 1 = ap (λ b. cond {A = ℕ} b 1 0) h in
-    let more : count_by p (x ∷ xs) ≡ cond {A = ℕ} (p x) 1 0 + count_by p xs = sum_by-cons (λ y. cond {A = ℕ} (p y) 1 0) x xs in
-    omega (arith, one, more)
+first-counts p (x ∷ xs) some h = grind (arith, common_steps, sum_by-cons)
 
 -- a character that is not passed begins with a stop
 first-stop : (c : ℕ) → is_passed c ≡ false → is_stop (get_or (encode c) 0 0) ≡ true
@@ -78,17 +75,11 @@ high-stop b lead = grind (arith, nat_tests)
 
 begins-high : (c : ℕ) → is_passed c ≡ false → 1 ≤ count_by is_high (encode c)
 begins-high c other =
-    let first = get_or (encode c) 0 0 in
-    begins is_high c (high-stop first (stop-lead first (first-stop c other)))
+    begins is_high c (high-stop _ (stop-lead _ (first-stop c other)))
 
 -- and is no single byte
 long-other : (c : ℕ) → is_passed c ≡ false → 2 ≤ len_utf8 c
-long-other c other = elim (cases_lt c 0x300) [
-  | inl latin ↦ let clash : true ≡ false = sym (below_marks c latin) ∙ other in cc
-  | inr after ↦
-      let big : nat_lt c 0x80 ≡ false = grind (arith, nat_tests) in
-      rw big (elim (cases_Bool (nat_lt c 0x800)) [ inl two ↦ rw two (omega arith) | inr more ↦ rw more (elim (cases_Bool (nat_lt c 0x10000)) [ inl three ↦ rw three (omega arith) | inr four ↦ rw four (omega arith) ]) ])
-]
+long-other c other = grind (arith, common_steps, cases_lt, below_marks, cases_Bool)
 
 -- it adds no more than it has bytes, nor two for three bytes if none of them is dense, nor what either look at its bytes counts
 record Bounds (c : ℕ) : Type 0 where
@@ -148,30 +139,23 @@ growths (c ∷ cs) = growth c + growths cs
 pub scanned_few : (front cs : List ℕ) (n : ℕ) → Scanned front n → max n 3 + growths cs ≤ MAX_RUN → (m : ℕ) × Scanned (front ++ cs) m
 scanned_few front [] n s few = (n, subst (λ xs. Scanned xs n) (sym (append-nil front)) s)
 scanned_few front (c ∷ cs) n s few =
-    let m = run_after n (decompose_canonical c) in
-    let run : m ≤ longest_run_after n (decompose_canonical c) = run-longest n (decompose_canonical c) in
+    let run : _ ≤ longest_run_after n (decompose_canonical c) = run-longest n (decompose_canonical c) in
     let longest : longest_run_after n (decompose_canonical c) ≤ max n 3 + growth c = grown n c in
     let fits : Fits n c = (omega (arith, decompose-short c), omega arith) in
-    let next : Scanned (front ++ c ∷ []) m = scanned_more front n c m s fits (omega arith) refl in
-    let all = scanned_few (front ++ c ∷ []) cs m next (omega arith) in
+    let next : Scanned (front ++ c ∷ []) _ = scanned_more front n c _ s fits (omega arith) refl in
+    let all = scanned_few (front ++ c ∷ []) cs _ next (omega arith) in
     (all.0, subst (λ xs. Scanned xs all.0) (append_assoc front (c ∷ []) cs) all.1)
 
 pub growths-bytes : (cs : List ℕ) → growths cs ≤ length (encode_utf8_all cs)
 growths-bytes [] = omega arith
-growths-bytes (c ∷ cs) =
-    let size : length (encode_utf8_all (c ∷ cs)) ≡ length (encode c) + length (encode_utf8_all cs) = length-append (encode c) (encode_utf8_all cs) in
-    omega (arith, (bounds c).by_bytes, growths-bytes cs)
+growths-bytes (c ∷ cs) = grind (arith, common_steps, encode_utf8_all, length-append, bounds, growths-bytes cs)
 
 growths-thirds : (cs : List ℕ) → 3 * growths cs ≤ 2 * length (encode_utf8_all cs) + 2 * count_by is_dense (encode_utf8_all cs)
 growths-thirds [] = omega arith
-growths-thirds (c ∷ cs) =
-    let size : length (encode_utf8_all (c ∷ cs)) ≡ length (encode c) + length (encode_utf8_all cs) = length-append (encode c) (encode_utf8_all cs) in
-    let dense : count_by is_dense (encode_utf8_all (c ∷ cs)) ≡ count_by is_dense (encode c) + count_by is_dense (encode_utf8_all cs) = sum_by-append (λ b. cond (is_dense b) 1 0) (encode c) (encode_utf8_all cs) in
-    omega (arith, (bounds c).by_thirds, growths-thirds cs)
+growths-thirds (c ∷ cs) = grind (arith, common_steps, encode_utf8_all, length-append, sum_by-append, bounds, growths-thirds cs)
 
 added-append : (coarsely : Bool) (xs ys : List ℕ) → added_by coarsely (xs ++ ys) ≡ added_by coarsely xs + added_by coarsely ys
-added-append coarsely xs ys =
-    omega (arith, sum_by-append (λ b. cond (cond coarsely is_high is_stop b) 1 0) xs ys, sum_by-append (λ b. cond (cond coarsely is_dense is_of_pair b) 1 0) xs ys)
+added-append coarsely xs ys = grind (arith, common_steps, sum_by-append)
 
 by_look : (coarsely : Bool) (c : ℕ) → growth c ≤ added_by coarsely (encode c)
 by_look true c = (bounds c).by_high

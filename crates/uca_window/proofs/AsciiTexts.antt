@@ -1,5 +1,5 @@
 -- Texts that are all ASCII: their characters are starters.
-use Rattle.std.proofs.Common.{ℕ, ◌<◌, List, [], ◌∷◌, ◌++◌, suc, length, slice_index, sym, subst, append-nil, append_assoc, arith, inl, inr}
+use Rattle.std.proofs.Common.{ℕ, ◌<◌, List, [], ◌∷◌, ◌++◌, suc, length, slice_index, sym, subst, append-nil, append_assoc, arith}
 use Rattle.std.specs.Str.{chars, IsAscii}
 use Rattle.std.proofs.lemmas.Bool.{cases_lt}
 use Rattle.std.proofs.lemmas.List.{get_or_past}
@@ -8,6 +8,7 @@ use Rattle.uca_model.specs.Lines.{IsTextLine}
 use Rattle.uca_model.specs.SafeText.{IsSafe}
 use Rattle.uca_window.specs.Scan.{Scanned}
 use Rattle.uca_window.proofs.RunScan.{latin_ends, latin_fits, scanned_more, scanned_none}
+use Rattle.std.proofs.lemmas.Grind.{common_steps}
 
 -- ASCII characters after a safe text that ends in a starter
 ascii_scanned : (front cs : List ℕ) → Scanned front 0 → IsAscii cs → Scanned (front ++ cs) 0
@@ -25,7 +26,4 @@ ascii_line bs ascii = record { utf8 = IsUtf8-from_ascii bs ascii; safe = ascii_s
 
 -- bytes that are ASCII at each place
 pub all_ascii : (bs : List ℕ) → ((k : ℕ) → k < length bs → slice_index bs k < 0x80) → IsAscii bs
-all_ascii bs all i = elim (cases_lt i (length bs)) [
-  | inl l ↦ all i l
-  | inr g ↦ subst (λ b. b < 0x80) (sym (get_or_past bs i 0 g)) (omega arith)
-]
+all_ascii bs all i = grind (arith, common_steps, cases_lt, get_or_past)

@@ -1,16 +1,17 @@
 -- Lemmas on the NFD of points that are decomposed and in order, and of the characters after them.
-use Rattle.std.proofs.Common.{◌≡◌, ℕ, zero, suc, ◌<◌, ◌≤◌, Bool, true, false, List, [], ◌∷◌, ◌++◌, drop, flat_map, refl, sym, ap, ap₂, ◌∙◌, arith, inl, inr, append_assoc, append-nil}
+use Rattle.std.proofs.Common.{◌≡◌, ℕ, zero, suc, ◌<◌, ◌≤◌, Bool, true, List, [], ◌∷◌, ◌++◌, drop, flat_map, refl, sym, ap, ◌∙◌, arith, append_assoc, append-nil}
 use Rattle.std.proofs.lemmas.Grind.{flat_map-append}
 use Rattle.std.specs.List.{list_all}
 use Rattle.unicode.specs.CanonicalCombiningClass.{canonical_combining_class as ccc}
 use Rattle.unicode_normalization.specs.Decompose.{decompose_canonical}
 use Rattle.unicode_normalization.specs.Forms.{Nfd, nfd, IsInForm}
-use Rattle.unicode_normalization.specs.Order.{is_reorderable, is_ordered, canonical_order}
+use Rattle.unicode_normalization.specs.Order.{is_ordered, canonical_order}
 use Rattle.unicode_normalization.proofs.ComposeLemmas.{list_all-append, flat_map-final}
 use Rattle.unicode_normalization.proofs.DecomposeLemmas.{decompose-final, IsFull-decompose}
 use Rattle.unicode_normalization.proofs.OrderLemmas.{is_reorderable-false, not_reorderable_starter, not_reorderable_rising, is_reorderable_from, canonical_order-nil, canonical_order-front, canonical_order-exchange, canonical_order-at_starter, canonical_order-ordered, is_ordered-canonical_order, is_ordered-parts, is_ordered-cons, is_ordered-one, is_ordered-nil, is_ordered-tail, list_all-canonical_order}
 use Rattle.unicode_normalization.proofs.TableFacts.{is_final}
 use Rattle.uca_model.proofs.SafeLemmas.{nfd-is}
+use Rattle.std.proofs.lemmas.Grind.{common_steps}
 
 -- what the characters decompose to, not yet in order
 abbrev pub parts : List ℕ → List ℕ
@@ -47,8 +48,7 @@ IsInForm-from ds final ordered = nfd-is ds ∙ ap canonical_order (parts-final d
 
 -- decomposed points count as they are in the NFD of one list
 pub nfd-points : (ps cs : List ℕ) → all_final ps ≡ true → nfd (ps ++ cs) ≡ canonical_order (ps ++ parts cs)
-nfd-points ps cs final =
-    nfd-is (ps ++ cs) ∙ ap canonical_order (flat_map-append decompose_canonical ps cs ∙ ap (λ l. l ++ parts cs) (parts-final ps final))
+nfd-points ps cs final = grind (arith, common_steps, nfd-is, flat_map-append, parts-final)
 
 -- one character may be decomposed and put in order after the points before the others are
 pub nfd-read : (ps : List ℕ) (c : ℕ) (cs : List ℕ) → IsInForm Nfd ps → nfd (canonical_order (ps ++ decompose_canonical c) ++ cs) ≡ nfd (ps ++ c ∷ cs)
@@ -71,15 +71,11 @@ IsInForm-read ps c h =
 
 -- after a starter the nonstarters are put in order by themselves
 pub order-parted : (front : List ℕ) (s : ℕ) (marks later : List ℕ) → ccc s ≤ 0 → is_ordered front ≡ true → canonical_order ((front ++ s ∷ marks) ++ later) ≡ front ++ s ∷ canonical_order (marks ++ later)
-order-parted front s marks later starter ordered =
-    ap canonical_order (append_assoc front (s ∷ marks) later)
-    ∙ canonical_order-at_starter front s (marks ++ later) starter
-    ∙ ap (λ l. l ++ s ∷ canonical_order (marks ++ later)) (canonical_order-ordered front ordered)
+order-parted front s marks later starter ordered = grind (arith, common_steps, append_assoc, canonical_order-at_starter, canonical_order-ordered)
 
 -- a starter stays at the end
 pub order-push : (xs : List ℕ) (s : ℕ) → ccc s ≤ 0 → is_ordered xs ≡ true → canonical_order (xs ++ s ∷ []) ≡ xs ++ s ∷ []
-order-push xs s starter h =
-    canonical_order-at_starter xs s [] starter ∙ ap₂ (λ a b. a ++ s ∷ b) (canonical_order-ordered xs h) canonical_order-nil
+order-push xs s starter h = grind (arith, common_steps, canonical_order-at_starter, canonical_order-ordered, canonical_order-nil)
 
 -- ---- parts of a list in order
 
@@ -100,19 +96,7 @@ is_ordered-drop (suc n) (x ∷ xs) h = is_ordered-drop n xs (is_ordered-tail x x
 pub is_ordered-without : (xs : List ℕ) (m : ℕ) (ys : List ℕ) → 0 < ccc m → is_ordered (xs ++ m ∷ ys) ≡ true → is_ordered (xs ++ ys) ≡ true
 is_ordered-without [] m ys mark h = is_ordered-tail m ys h
 is_ordered-without (x ∷ []) m [] mark h = is_ordered-one x
-is_ordered-without (x ∷ []) m (y ∷ ys) mark h =
-    let first = is_ordered-parts x m (y ∷ ys) h in
-    let second = is_ordered-parts m y ys first.1 in
-    let far : is_reorderable x y ≡ false =
-    elim (is_reorderable-false m y second.0) [
-      | inl starter ↦ not_reorderable_starter x y starter
-      | inr rising ↦
-          elim (is_reorderable-false x m first.0) [
-            | inl clash ↦ absurd (omega arith)
-            | inr below ↦ not_reorderable_rising x y (omega arith)
-          ]
-    ] in
-    is_ordered-cons x y ys far second.1
+is_ordered-without (x ∷ []) m (y ∷ ys) mark h = grind (arith, common_steps, is_ordered-parts, is_reorderable-false, not_reorderable_starter, not_reorderable_rising, is_ordered-cons)
 is_ordered-without (x ∷ z ∷ xs) m ys mark h =
     let both = is_ordered-parts x z (xs ++ m ∷ ys) h in is_ordered-cons x z (xs ++ ys) both.0 (is_ordered-without (z ∷ xs) m ys mark both.1)
 
@@ -133,21 +117,15 @@ AreAbove n (x ∷ xs) = (n < ccc x) × AreAbove n xs
 is_ordered-with : (xs : List ℕ) (d : ℕ) (zs : List ℕ) → is_ordered (xs ++ zs) ≡ true → EndsAtMost (ccc d) xs → AreAbove (ccc d) zs → is_ordered (xs ++ d ∷ zs) ≡ true
 is_ordered-with [] d [] h low high = is_ordered-one d
 is_ordered-with [] d (z ∷ zs) h low high = let above = high.0 in is_ordered-cons d z zs (not_reorderable_rising d z (omega arith)) h
-is_ordered-with (x ∷ []) d zs h low high =
-    is_ordered-cons x d zs (not_reorderable_rising x d low) (is_ordered-with [] d zs (is_ordered-tail x zs h) tt high)
+is_ordered-with (x ∷ []) d zs h low high = grind (arith, common_steps, is_ordered-cons, not_reorderable_rising, is_ordered-tail, is_ordered-with [] d zs (is_ordered-tail x zs h) tt high)
 is_ordered-with (x ∷ y ∷ xs) d zs h low high =
     let both = is_ordered-parts x y (xs ++ zs) h in is_ordered-cons x y (xs ++ d ∷ zs) both.0 (is_ordered-with (y ∷ xs) d zs both.1 low high)
 
 -- a nonstarter at the end goes before all those of higher classes
 order-moved : (xs zs : List ℕ) (d : ℕ) → 0 < ccc d → AreAbove (ccc d) zs → canonical_order ((xs ++ zs) ++ d ∷ []) ≡ canonical_order (xs ++ d ∷ zs)
 order-moved xs [] d mark high = ap (λ l. canonical_order (l ++ d ∷ [])) (append-nil xs)
-order-moved xs (z ∷ zs) d mark high =
-    ap (λ l. canonical_order (l ++ d ∷ [])) (sym (append_assoc xs (z ∷ []) zs))
-    ∙ order-moved (xs ++ z ∷ []) zs d mark high.1
-    ∙ ap canonical_order (append_assoc xs (z ∷ []) (d ∷ zs))
-    ∙ canonical_order-exchange xs z d zs (is_reorderable_from z d mark high.0)
+order-moved xs (z ∷ zs) d mark high = grind (arith, common_steps, append_assoc, canonical_order-exchange, is_reorderable_from, order-moved (xs ++ z ∷ []) zs d mark high.1)
 
 -- and that is its place
 pub order-insert : (xs zs : List ℕ) (d : ℕ) → 0 < ccc d → is_ordered (xs ++ zs) ≡ true → EndsAtMost (ccc d) xs → AreAbove (ccc d) zs → canonical_order ((xs ++ zs) ++ d ∷ []) ≡ xs ++ d ∷ zs
-order-insert xs zs d mark h low high =
-    order-moved xs zs d mark high ∙ canonical_order-ordered _ (is_ordered-with xs d zs h low high)
+order-insert xs zs d mark h low high = grind (arith, common_steps, order-moved, canonical_order-ordered, is_ordered-with)

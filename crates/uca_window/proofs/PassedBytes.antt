@@ -1,14 +1,15 @@
 -- Bytes of a text of which none is a stop spell passed characters.
-use Rattle.std.proofs.Common.{◌≡◌, ℕ, ◌+◌, ◌/◌, ◌≤◌, ◌<◌, Bool, true, false, cond, ltb, List, [], ◌∷◌, ◌++◌, length, take, drop, get_or, encode_utf8_all, chars, IsUtf8, refl, sym, ap, subst, ◌∙◌, arith, inl, inr, append-nil, length-append, lt-ltb, le-leb}
+use Rattle.std.proofs.Common.{◌≡◌, ℕ, ◌+◌, ◌/◌, ◌≤◌, ◌<◌, Bool, true, false, cond, ltb, List, [], ◌∷◌, ◌++◌, length, take, drop, get_or, encode_utf8_all, chars, IsUtf8, refl, sym, ap, subst, ◌∙◌, arith, append-nil, length-append, lt-ltb, le-leb}
 use Rattle.std.proofs.lemmas.Bool.Decides.{nat_tests}
 use Rattle.std.proofs.lemmas.Bool.{cases_lt, and_from, or_left, or_right, ltb-true, ltb-false}
-use Rattle.std.proofs.lemmas.List.{get_or-append-add, get_or-take, length-take-le, nil_from_length, take_at, take-append-drop}
+use Rattle.std.proofs.lemmas.List.{get_or-append-add, get_or-take, length-take-le, take_at, take-append-drop}
 use Rattle.std.proofs.lemmas.Str.{IsUtf8-take, encodes-chars, chars_from_encodes, encodes-append, len_utf8_bounds, length-encode}
 use Rattle.std.specs.List.{list_all}
 use Rattle.std.specs.Char.{len_utf8}
 use Rattle.std.specs.Str.{IsCharBoundary}
 use lib.Utf8.{encode}
 use Rattle.uca_window.specs.Passing.{is_within, is_passed, is_passed_outside, is_passed_between, is_stop, last_of, Passes}
+use Rattle.std.proofs.lemmas.Grind.{common_steps}
 
 within-true : (low high n : ℕ) → low ≤ n → n < high → is_within low high n ≡ true
 within-true low high n above below = and_from _ _ (le-leb low n above) (lt-ltb n high below)
@@ -52,45 +53,15 @@ stop-high b low = grind (arith, nat_tests)
 
 -- a stop begins a character
 pub stop-lead : (b : ℕ) → is_stop b ≡ true → 192 ≤ b
-stop-lead b stop = elim (cases_lt b 192) [
-  | inl low ↦ let none : is_stop b ≡ false = grind (arith, nat_tests) in absurd (not_both b none stop)
-  | inr high ↦ high
-]
+stop-lead b stop = grind (arith, common_steps, cases_lt, not_both)
 
 -- ---- one character
 
 two_bytes : (c b : ℕ) → 128 ≤ c → c < 2048 → b ≡ 192 + c / 64 → is_stop b ≡ false → is_passed c ≡ true
-two_bytes c b low high is free = elim (cases_lt c 0x300) [
-  | inl latin ↦ below_marks c latin
-  | inr after ↦ elim (cases_lt c 0x380) [
-    | inl marks ↦ absurd (not_both b free (stop-marks b (omega arith) (omega arith)))
-    | inr later ↦ elim (cases_lt c 0x480) [
-      | inl letters ↦ greek c (omega arith) (omega arith)
-      | inr more ↦ elim (cases_lt c 0x4C0) [
-        | inl titlo ↦ absurd (not_both b free (stop-cyrillic b (omega arith)))
-        | inr most ↦ elim (cases_lt c 0x580) [
-          | inl others ↦ cyrillic c (omega arith) (omega arith)
-          | inr hebrew ↦ absurd (not_both b free (stop-middle b (omega arith) (omega arith)))
-        ]
-      ]
-    ]
-  ]
-]
+two_bytes c b low high is free = grind (arith, common_steps, cases_lt, below_marks, not_both, stop-marks, greek, stop-cyrillic, cyrillic, stop-middle)
 
 three_bytes : (c b : ℕ) → 2048 ≤ c → c < 65536 → b ≡ 224 + c / 4096 → is_stop b ≡ false → is_passed c ≡ true
-three_bytes c b low high is free = elim (cases_lt c 0x4000) [
-  | inl before ↦ absurd (not_both b free (stop-middle b (omega arith) (omega arith)))
-  | inr after ↦ elim (cases_lt c 0xA000) [
-    | inl ideographs ↦ han c (omega arith) (omega arith)
-    | inr later ↦ elim (cases_lt c 0xB000) [
-      | inl yi ↦ absurd (not_both b free (stop-yi b (omega arith)))
-      | inr more ↦ elim (cases_lt c 0xE000) [
-        | inl syllables ↦ hangul c (omega arith) (omega arith)
-        | inr private ↦ absurd (not_both b free (stop-high b (omega arith)))
-      ]
-    ]
-  ]
-]
+three_bytes c b low high is free = grind (arith, common_steps, cases_lt, not_both, stop-middle, han, stop-yi, hangul, stop-high)
 
 by_width : (c : ℕ) (r p q s : List ℕ) (x y z : Bool) → ltb c 128 ≡ x → ltb c 2048 ≡ y → ltb c 65536 ≡ z
     → is_stop (get_or (cond x (c ∷ []) (cond y ((192 + c / 64) ∷ p) (cond z ((224 + c / 4096) ∷ q) ((240 + c / 262144) ∷ s))) ++ r) 0 0) ≡ false → is_passed c ≡ true
@@ -124,11 +95,7 @@ utf8-front text n utf8 within stop = IsUtf8-take text n utf8 (within, λ inside 
 
 -- the front of a text up to a stop
 front-passed : (text : List ℕ) (n : ℕ) → IsUtf8 (take n text) → ((k : ℕ) → k < n → is_stop (get_or text k 0) ≡ false) → n ≤ length text → list_all is_passed (chars (take n text)) ≡ true
-front-passed text n utf8 free within =
-    let whole = encodes-chars (take n text) utf8 in
-    all-passed (chars (take n text)) (λ k h.
-    let size : length (encode_utf8_all (chars (take n text))) ≡ n = ap length whole ∙ length-take-le n text within in
-    ap (λ bs. is_stop (get_or bs k 0)) whole ∙ ap is_stop (get_or-take n text k 0 (omega arith)) ∙ free k (omega arith))
+front-passed text n utf8 free within = grind (arith, common_steps, encodes-chars, all-passed, encode_utf8_all, length-take-le, get_or-take)
 
 parts-of : (text front others : List ℕ) (n : ℕ) → front ≡ take n text → others ≡ drop n text → IsUtf8 front → text ≡ encode_utf8_all (chars front) ++ others
 parts-of text front others n is_front is_others utf8 = sym (take-append-drop n text) ∙ ap (λ bs. bs ++ drop n text) (sym (encodes-chars front utf8 ∙ is_front)) ∙ ap (λ bs. encode_utf8_all (chars front) ++ bs) (sym is_others)
@@ -168,11 +135,3 @@ passes-some text front others before n last end is_front is_others whole_utf8 wi
       passed = ap (λ bs. list_all is_passed (chars bs)) is_front ∙ front-passed text n (subst IsUtf8 is_front utf8) free within;
       end_is = sym (last-push last end (chars before)) ∙ ap (last_of last) spelt;
     }
-
-pub passes-none : (text front others : List ℕ) (n last : ℕ) → front ≡ take n text → others ≡ drop n text → length front ≡ 0 → Passes text last others last
-passes-none text front others n last is_front is_others none = record {
-  front = [];
-  parts = sym (take-append-drop n text) ∙ ap (λ bs. bs ++ drop n text) (sym is_front ∙ nil_from_length front none) ∙ sym is_others;
-  passed = refl;
-  end_is = refl;
-}

@@ -1,5 +1,5 @@
 -- The NFD of a passed code point begins with a starter, and that of most others adds one code point to a run, by the rows of the kit.
-use Rattle.std.proofs.Common.{◌≡◌, ℕ, zero, suc, ◌+◌, ◌-◌, ◌/◌, ◌%◌, ◌≤◌, ◌<◌, Bool, true, false, not, ◌||◌, ◌==◌, nat_le, List, [], ◌∷◌, ◌++◌, length, flat_map, cond, refl, sym, ap, ap₂, subst, ◌∙◌, arith, ◌⊎◌, inl, inr}
+use Rattle.std.proofs.Common.{◌≡◌, ℕ, zero, suc, ◌+◌, ◌-◌, ◌/◌, ◌%◌, ◌≤◌, ◌<◌, Bool, true, false, not, ◌||◌, ◌==◌, nat_le, List, [], ◌∷◌, ◌++◌, length, flat_map, cond, refl, sym, ap, ap₂, ◌∙◌, arith, ◌⊎◌, inl, inr}
 use Rattle.std.proofs.lemmas.Bool.{cases_Bool, cases_eq, cond-false, or_left}
 use Rattle.std.proofs.lemmas.Bool.Decides.{nat_tests}
 use Rattle.ucd_table.proofs.Facts.{tree_value, tree_of, tree_value-tree_of}
@@ -18,6 +18,7 @@ use Rattle.unicode_normalization.specs.Order.{is_nonstarter}
 use Rattle.unicode_normalization.proofs.DecomposeLemmas.{decompose-syllable}
 use Rattle.unicode_normalization.proofs.HangulLemmas.{is_syllable-true, decompose_hangul-two, decompose_hangul-three}
 use Rattle.uca_window.specs.Passing.{is_passed, is_passed_outside, is_passed_between, is_pair}
+use Rattle.std.proofs.lemmas.Grind.{common_steps}
 
 -- ---- the rows
 
@@ -145,18 +146,12 @@ hangul-passed c h =
 
 -- the decomposition of a passed code point begins with one
 pub decompose-passed : (c : ℕ) → is_passed c ≡ true → first_passed (decompose Nfd c) ≡ true
-decompose-passed c own = elim (cases_Bool (is_syllable c)) [
-  | inl syllable ↦ ap first_passed (decompose-syllable Nfd c syllable) ∙ hangul-passed c syllable
-  | inr other ↦ ap first_passed (decompose-other c other) ∙ itself-passed c (expand canonical_mapping 3 c) own (expand-passed 3 c own)
-]
+decompose-passed c own = grind (arith, common_steps, cases_Bool, decompose-syllable, hangul-passed, decompose-other, itself-passed, expand-passed)
 
 -- ---- lengths
 
 hangul-short : (c : ℕ) → length (decompose_hangul c) ≤ 4
-hangul-short c = elim (cases_eq ((c - 0xAC00) % 28) 0) [
-  | inl two ↦ let e : length (decompose_hangul c) ≡ 2 = ap length (decompose_hangul-two c two) in omega arith
-  | inr three ↦ let e : length (decompose_hangul c) ≡ 3 = ap length (decompose_hangul-three c three) in omega arith
-]
+hangul-short c = grind (arith, common_steps, cases_eq, decompose_hangul-two, decompose_hangul-three)
 
 itself-short : (c : ℕ) (xs : List ℕ) → length xs ≤ 4 → length (or_itself c xs) ≤ 4
 itself-short c [] h = omega arith
@@ -179,10 +174,7 @@ expand-short c = elim (cases_Bool (is_empty (canonical_mapping c))) [
 
 -- no decomposition is longer than four code points
 pub decompose-short : (c : ℕ) → length (decompose Nfd c) ≤ 4
-decompose-short c = elim (cases_Bool (is_syllable c)) [
-  | inl syllable ↦ let e : length (decompose Nfd c) ≡ length (decompose_hangul c) = ap length (decompose-syllable Nfd c syllable) in omega (arith, hangul-short c)
-  | inr other ↦ let e : length (decompose Nfd c) ≡ length (or_itself c (expand canonical_mapping 3 c)) = ap length (decompose-other c other) in omega (arith, itself-short c (expand canonical_mapping 3 c) (expand-short c))
-]
+decompose-short c = grind (arith, common_steps, cases_Bool, decompose-syllable, hangul-short, decompose-other, itself-short, expand-short)
 
 -- ---- what joins a run
 
@@ -194,10 +186,7 @@ joining-one : (c : ℕ) → 1 ≤ joining c
 joining-one c = elim (cases_Bool (is_pair c)) [ inl two ↦ rw two (omega arith) | inr one ↦ rw one (omega arith) ]
 
 joins-either : (c : ℕ) (points : List ℕ) → joins ccc c points ≡ true → Joins c points
-joins-either c points h = elim (cases_Bool (starts ccc points)) [
-  | inl starter ↦ inl starter
-  | inr other ↦ let few : nat_le (length points) (joining c) ≡ true = ap (λ b. b || nat_le (length points) (joining c)) (sym other) ∙ h in inr (grind (arith, nat_tests))
-]
+joins-either c points h = grind (arith, common_steps, cases_Bool)
 
 itself-joins : (c : ℕ) (xs : List ℕ) → Joins c xs → Joins c (or_itself c xs)
 itself-joins c [] h = inr (joining-one c)
@@ -218,7 +207,4 @@ starts-passed (x ∷ xs) h = elim (cases_Bool (ccc x == 0)) [
 
 -- a decomposition begins with a starter, or has few code points
 pub decompose-joins : (c : ℕ) → Joins c (decompose Nfd c)
-decompose-joins c = elim (cases_Bool (is_syllable c)) [
-  | inl syllable ↦ inl (ap (starts ccc) (decompose-syllable Nfd c syllable) ∙ starts-passed (decompose_hangul c) (hangul-passed c syllable))
-  | inr other ↦ subst (Joins c) (sym (decompose-other c other)) (itself-joins c (expand canonical_mapping 3 c) (expand-joins c))
-]
+decompose-joins c = grind (arith, common_steps, cases_Bool, decompose-syllable, starts-passed, hangul-passed, decompose-other, itself-joins, expand-joins)

@@ -1,15 +1,15 @@
 -- The run of nonstarters after a passed character is that of its own decomposition.
-use Rattle.std.proofs.Common.{◌≡◌, ℕ, ◌+◌, ◌≤◌, max, true, List, [], ◌∷◌, length, Option, None, Some, refl, arith, inl, inr}
+use Rattle.std.proofs.Common.{◌≡◌, ℕ, ◌+◌, ◌≤◌, max, true, List, [], ◌∷◌, length, Option, None, Some, refl, arith}
 use Rattle.std.specs.Prelude.{IsSome, IfSome, unwrap_or}
 use Rattle.std.proofs.lemmas.Bool.{cases_Bool}
 use Rattle.unicode_normalization.specs.Decompose.{decompose_canonical}
-use Rattle.unicode_normalization.specs.Order.{is_nonstarter}
 use Rattle.uca_weights.specs.declared.limits.TheConstants.{MAX_RUN}
 use Rattle.uca_model.specs.SafeText.{longest_run_after}
 use Rattle.uca_model.proofs.SafeLemmas.{run_after}
 use Rattle.uca_window.specs.Passing.{is_passed}
 use Rattle.uca_window.specs.Scan.{Fits}
 use Rattle.uca_window.proofs.PassedCharacters.{first_passed, passed-starter, decompose-passed, decompose-short}
+use Rattle.std.proofs.lemmas.Grind.{common_steps}
 
 -- what came before a passed code point doesn't count after it
 run-over : (n : ℕ) (xs : List ℕ) → first_passed xs ≡ true → run_after n xs ≡ run_after 0 xs
@@ -22,26 +22,18 @@ longest-over n (x ∷ xs) h = rw (passed-starter x h) (omega arith)
 
 pub longest-short : (n : ℕ) (xs : List ℕ) → longest_run_after n xs ≤ n + length xs
 longest-short n [] = omega arith
-longest-short n (x ∷ xs) = elim (cases_Bool (is_nonstarter x)) [
-  | inl mark ↦ rw mark (let h : longest_run_after (n + 1) xs ≤ n + 1 + length xs = longest-short (n + 1) xs in omega arith)
-  | inr starter ↦ rw starter (let h : longest_run_after 0 xs ≤ 0 + length xs = longest-short 0 xs in omega arith)
-]
+longest-short n (x ∷ xs) = grind (arith, common_steps, cases_Bool, longest-short (n + 1) xs, longest-short 0 xs)
 
 pub run-longest : (n : ℕ) (xs : List ℕ) → run_after n xs ≤ longest_run_after n xs
 run-longest n [] = omega arith
-run-longest n (x ∷ xs) = elim (cases_Bool (is_nonstarter x)) [
-  | inl mark ↦ rw mark (run-longest (n + 1) xs)
-  | inr starter ↦ rw starter (let h : run_after 0 xs ≤ longest_run_after 0 xs = run-longest 0 xs in omega arith)
-]
+run-longest n (x ∷ xs) = grind (arith, common_steps, cases_Bool, run_after, run-longest (n + 1) xs, run-longest 0 xs)
 
 -- no decomposition is a long run
 pub fits_alone : (c : ℕ) → Fits 0 c
 fits_alone c = (omega (arith, decompose-short c), omega (arith, decompose-short c, longest-short 0 (decompose_canonical c)))
 
 pub passed_fits : (count c : ℕ) → count ≤ MAX_RUN → is_passed c ≡ true → Fits count c
-passed_fits count c within passed =
-    let over : longest_run_after count (decompose_canonical c) ≡ max count (longest_run_after 0 (decompose_canonical c)) = longest-over count (decompose_canonical c) (decompose-passed c passed) in
-    (omega (arith, decompose-short c), omega (arith, over, decompose-short c, longest-short 0 (decompose_canonical c)))
+passed_fits count c within passed = grind (arith, common_steps, longest-over, decompose-passed, decompose-short, longest-short)
 
 pub passed_ends : (count c : ℕ) → is_passed c ≡ true → run_after count (decompose_canonical c) ≡ run_after 0 (decompose_canonical c)
 passed_ends count c passed = run-over count (decompose_canonical c) (decompose-passed c passed)

@@ -6,6 +6,7 @@ use Rattle.unicode.specs.CanonicalCombiningClass.{canonical_combining_class as c
 use Rattle.unicode_normalization.specs.Order.{is_ordered, canonical_order}
 use Rattle.uca_window.specs.Segment.{IsPlaceOf}
 use Rattle.uca_window.proofs.FormLemmas.{EndsAtMost, AreAbove, order-insert}
+use Rattle.std.proofs.lemmas.Grind.{common_steps}
 
 -- by the place of the last code point
 EndsAtMost-at : (n : ℕ) (xs : List ℕ) → ((k : ℕ) → suc k ≡ length xs → ccc (get_or xs k 0) ≤ n) → EndsAtMost n xs
@@ -34,9 +35,7 @@ order-placed points d at h ordered mark =
 
 -- one part more after points and the first parts
 pub order-more : (front parts : List ℕ) (i part : ℕ) (points after : List ℕ) → i < length parts → part ≡ get_or parts i part → points ≡ canonical_order (front ++ take i parts) → after ≡ canonical_order (points ++ part ∷ []) → after ≡ canonical_order (front ++ take (i + 1) parts)
-order-more front parts i part points after inside read was now =
-    now ∙ ap (λ l. canonical_order (l ++ part ∷ [])) was ∙ canonical_order-front (front ++ take i parts) (part ∷ [])
-    ∙ ap canonical_order (append_assoc front (take i parts) (part ∷ []) ∙ ap (λ l. front ++ l) (ap (λ x. take i parts ++ x ∷ []) read ∙ sym (take_more parts i part inside)))
+order-more front parts i part points after inside read was now = grind (arith, common_steps, canonical_order-front, append_assoc, take_more)
 
 -- no part yet
 pub order-none : (front : List ℕ) → is_ordered front ≡ true → front ≡ canonical_order (front ++ [])
@@ -44,5 +43,4 @@ order-none front h = sym (ap canonical_order (append-nil front) ∙ canonical_or
 
 -- how many points there are with the first parts
 pub length-ordered : (front parts points : List ℕ) (i : ℕ) → i ≤ length parts → points ≡ canonical_order (front ++ take i parts) → length points ≡ length front + i
-length-ordered front parts points i inside e =
-    ap length e ∙ length-canonical_order (front ++ take i parts) ∙ length-append front (take i parts) ∙ ap (λ n. length front + n) (length-take-le i parts inside)
+length-ordered front parts points i inside e = grind (arith, common_steps, length-canonical_order, length-append, length-take-le)

@@ -1,24 +1,20 @@
 -- Lemmas on runs of nonstarters: those of a part of a text are no longer than those of the text.
-use Rattle.std.proofs.Common.{◌≡◌, ℕ, ◌+◌, ◌≤◌, true, List, [], ◌∷◌, ◌++◌, length, take, drop, refl, subst, arith, inl, inr, take-append-drop}
+use Rattle.std.proofs.Common.{◌≡◌, ℕ, ◌+◌, ◌≤◌, true, List, [], ◌∷◌, ◌++◌, length, take, drop, refl, subst, arith, take-append-drop}
 use Rattle.std.proofs.lemmas.Bool.{cases_Bool, and_parts}
 use Rattle.std.specs.List.{list_all}
 use Rattle.unicode_normalization.specs.Order.{is_nonstarter}
 use Rattle.uca_model.specs.SafeText.{longest_run_after}
 use Rattle.uca_model.proofs.SafeLemmas.{run_after, count_le, runs-append}
+use Rattle.std.proofs.lemmas.Grind.{common_steps}
 
 -- more nonstarters before a text make no shorter runs
 runs-more : (m n : ℕ) (cs : List ℕ) → m ≤ n → longest_run_after m cs ≤ longest_run_after n cs
 runs-more m n [] le = le
-runs-more m n (c ∷ cs) le = elim (cases_Bool (is_nonstarter c)) [
-  | inl mark ↦ rw mark (runs-more (m + 1) (n + 1) cs (omega arith))
-  | inr starter ↦ rw starter (omega arith)
-]
+runs-more m n (c ∷ cs) le = grind (arith, common_steps, cases_Bool, runs-more (m + 1) (n + 1) cs (omega arith))
 
 -- the back of a text
 pub runs-back : (n : ℕ) (xs ys : List ℕ) → longest_run_after 0 ys ≤ longest_run_after n (xs ++ ys)
-runs-back n xs ys =
-    let h : longest_run_after 0 ys ≤ longest_run_after (run_after n xs) ys = runs-more 0 (run_after n xs) ys (omega arith) in
-    omega (arith, runs-append n xs ys)
+runs-back n xs ys = grind (arith, common_steps, run_after, runs-more, runs-append)
 
 -- what is left of a text without its first code points
 pub runs-drop : (k n : ℕ) (cs : List ℕ) → longest_run_after 0 (drop k cs) ≤ longest_run_after n cs
@@ -26,10 +22,7 @@ runs-drop k n cs = subst (λ l. longest_run_after 0 (drop k cs) ≤ longest_run_
 
 -- a text without a nonstarter
 pub runs-without : (n : ℕ) (xs : List ℕ) (m : ℕ) (ys : List ℕ) → is_nonstarter m ≡ true → longest_run_after n (xs ++ ys) ≤ longest_run_after n (xs ++ m ∷ ys)
-runs-without n xs m ys mark =
-    let one : longest_run_after (run_after n xs) (m ∷ ys) ≡ longest_run_after (run_after n xs + 1) ys = rw mark refl in
-    let more : longest_run_after (run_after n xs) ys ≤ longest_run_after (run_after n xs + 1) ys = runs-more (run_after n xs) (run_after n xs + 1) ys (omega arith) in
-    omega (arith, runs-append n xs ys, runs-append n xs (m ∷ ys))
+runs-without n xs m ys mark = grind (arith, common_steps, run_after, runs-more, runs-append)
 
 -- nonstarters in a row are a run
 pub length-run : (n : ℕ) (ms ys : List ℕ) → list_all is_nonstarter ms ≡ true → n + length ms ≤ longest_run_after n (ms ++ ys)

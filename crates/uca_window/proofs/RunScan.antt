@@ -1,5 +1,5 @@
 -- Lemmas on a scan: what it knows of the characters so far, and what one more shows.
-use Rattle.std.proofs.Common.{◌≡◌, ℕ, ◌+◌, ◌-◌, ◌≤◌, ◌<◌, max, not, true, false, ◌==◌, List, [], ◌∷◌, ◌++◌, length, drop, get_or, flat_map, ne_eqb, encode_utf8, refl, sym, ap, subst, ◌∙◌, arith, append_assoc, append-nil}
+use Rattle.std.proofs.Common.{◌≡◌, ℕ, ◌-◌, ◌≤◌, ◌<◌, max, not, true, false, ◌==◌, List, [], ◌∷◌, ◌++◌, length, drop, get_or, flat_map, ne_eqb, encode_utf8, refl, sym, ap, subst, ◌∙◌, arith, append_assoc, append-nil}
 use Rattle.std.proofs.lemmas.Bool.{cond-false, and_parts}
 use Rattle.std.proofs.lemmas.List.{drop_more}
 use Rattle.std.specs.Str.{chars, IsUtf8}
@@ -17,6 +17,7 @@ use Rattle.uca_window.specs.Passing.{is_passed, last_of, Passes}
 use Rattle.uca_window.specs.Scan.{Fits, Scanned, ScannedTo, IsPassedTo}
 use Rattle.uca_window.proofs.PassedBytes.{below_marks}
 use Rattle.uca_window.proofs.PassedRuns.{passed_fits, passed_ends, own_run_within}
+use Rattle.std.proofs.lemmas.Grind.{common_steps}
 
 -- no character is scanned yet
 pub scanned_none : Scanned [] 0
@@ -56,18 +57,11 @@ latin_ends count c h = sym (ap (run_after count) (latin_parts c h) ∙ cond-fals
 
 -- and it fits
 pub latin_fits : (count c : ℕ) → count ≤ MAX_RUN → c < 0xC0 → Fits count c
-latin_fits count c full h =
-    let one : length (decompose_canonical c) ≡ 1 = ap length (latin_parts c h) in
-    let run : longest_run_after count (decompose_canonical c) ≡ max count 0 = ap (longest_run_after count) (latin_parts c h) ∙ cond-false (is_nonstarter c) _ _ (latin_starter c h) in
-    (omega arith, omega arith)
+latin_fits count c full h = grind (arith, common_steps, latin_parts, cond-false, latin_starter)
 
 -- a nonstarter of the list follows a full run
 pub full_run : (n i c class : ℕ) (points : List ℕ) → i < length points → c ≡ get_or points i c → class ≡ ccc c → (class ≡ 0 → ⊥) → n ≡ MAX_RUN → MAX_RUN < longest_run_after n (drop i points)
-full_run n i c class points h is k mark full =
-    let first : drop i points ≡ c ∷ drop (i + 1) points = drop_more points i c h ∙ ap (λ x. x ∷ drop (i + 1) points) (sym is) in
-    let e : longest_run_after n (drop i points) ≡ longest_run_after n (c ∷ drop (i + 1) points) = ap (longest_run_after n) first in
-    let g : n < longest_run_after n (c ∷ drop (i + 1) points) = one_too_many n c (drop (i + 1) points) (ap not (ne_eqb (ccc c) 0 (λ z. mark (k ∙ z)))) in
-    omega arith
+full_run n i c class points h is k mark full = grind (arith, common_steps, drop_more, one_too_many, ne_eqb)
 
 -- one more character that is passed
 pub scanned_one : (front : List ℕ) (count c : ℕ) → Scanned front count → is_passed c ≡ true → Scanned (front ++ c ∷ []) (run_after 0 (decompose_canonical c))
@@ -87,10 +81,7 @@ last_passed last (c ∷ cs) passed all = let parts = and_parts (is_passed c) (li
 
 -- at first none are scanned, as after a character that is a starter
 pub passed_start : (text : List ℕ) (c : ℕ) → c < 0xC0 → IsPassedTo text text c
-passed_start text c latin = record {
-  to = record { front = []; stands = refl; scan = subst (Scanned []) (latin_ends 0 c latin) scanned_none };
-  passed = below_marks c (omega arith);
-}
+passed_start text c latin = grind (arith, common_steps, latin_ends, scanned_none, below_marks)
 
 -- past characters that are passed
 pub passed_over : (text rest others : List ℕ) (last end : ℕ) → IsPassedTo text rest last → Passes rest last others end → IsPassedTo text others end

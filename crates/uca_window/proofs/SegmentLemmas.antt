@@ -1,5 +1,5 @@
 -- Lemmas on segments: what one more point does to them, and that the NFD may be cut after a closed one.
-use Rattle.std.proofs.Common.{◌≡◌, ℕ, zero, suc, ◌<◌, ◌≤◌, Bool, true, List, [], ◌∷◌, ◌++◌, length, take, drop, refl, sym, ap, ap₂, subst, ◌∙◌, arith, inl, inr, append-nil, length-append, length-drop, take-append-drop, length-take-le}
+use Rattle.std.proofs.Common.{◌≡◌, ℕ, zero, suc, ◌<◌, ◌≤◌, Bool, true, List, [], ◌∷◌, ◌++◌, length, take, drop, refl, sym, ap, subst, ◌∙◌, arith, inl, inr, append-nil, length-append, length-drop, take-append-drop, length-take-le}
 use Rattle.std.proofs.lemmas.Bool.{cases_Bool, cases_lt, and_parts, and_from, not_from_false}
 use Rattle.std.proofs.lemmas.List.{drop_at, nil_from_length}
 use Rattle.std.proofs.lemmas.List.Folds.{list_all-append as list_all-split}
@@ -14,6 +14,7 @@ use Rattle.unicode_normalization.proofs.TableFacts.{is_final}
 use Rattle.uca_model.specs.Window.{begins_segment}
 use Rattle.uca_window.specs.Segment.{IsOpen}
 use Rattle.uca_window.proofs.FormLemmas.{parts, all_final, IsInForm-from, nfd-points, order-parted, is_ordered-front}
+use Rattle.std.proofs.lemmas.Grind.{common_steps}
 
 -- ---- tests of each code point
 
@@ -39,11 +40,7 @@ nonstarter_from d h = not_from_false _ (not_starter_from d h)
 
 -- the NFD of all is the front, and the NFD of what follows it
 pub nfd-cut : (front back left : List ℕ) → all_final (front ++ back) ≡ true → is_ordered front ≡ true → begins_segment back ≡ true → (back ≡ [] → left ≡ []) → nfd ((front ++ back) ++ left) ≡ front ++ nfd (back ++ left)
-nfd-cut front [] left final ordered begins last =
-    let none = last refl in
-    ap₂ (λ a b. nfd (a ++ b)) (append-nil front) none ∙ ap nfd (append-nil front)
-    ∙ IsInForm-from front (list_all-parts (is_final Nfd) front [] final).0 ordered
-    ∙ sym (ap (λ l. front ++ nfd l) none ∙ ap (λ l. front ++ l) (normalize-nil Nfd) ∙ append-nil front)
+nfd-cut front [] left final ordered begins last = grind (arith, common_steps, append-nil, IsInForm-from, list_all-parts, is_final, normalize-nil)
 nfd-cut front (s ∷ marks) left final ordered begins last =
     let starter = is_starter-true s begins in
     let own = (list_all-parts (is_final Nfd) front (s ∷ marks) final).1 in
@@ -62,17 +59,7 @@ nfd-begins (s ∷ marks) left final begins last =
 -- a nonstarter joins an open segment that begins with a starter
 after_starter : (front : List ℕ) (s : ℕ) (marks : List ℕ) (d closed : ℕ) (after : List ℕ) → closed ≡ length front → is_ordered front ≡ true → ccc s ≤ 0 → list_all is_nonstarter marks ≡ true → 0 < ccc d
     → after ≡ canonical_order ((front ++ s ∷ marks) ++ d ∷ []) → IsOpen closed after
-after_starter front s marks d closed after e ordered starter all mark h =
-    let whole = h ∙ order-parted front s marks (d ∷ []) starter ordered in
-    let back : drop closed after ≡ s ∷ canonical_order (marks ++ d ∷ []) = ap (drop closed) whole ∙ drop_at front _ closed (sym e) in
-    let size = ap length whole in
-    let more = length-append front (s ∷ canonical_order (marks ++ d ∷ [])) in
-    record {
-      within = omega arith;
-      begins = λ _. ap begins_segment back ∙ is_starter_from s starter;
-      nonstarters = ap (λ l. list_all is_nonstarter (drop 1 l)) back ∙ list_all-canonical_order is_nonstarter _ (list_all-push is_nonstarter marks d all (nonstarter_from d mark));
-      some = λ _. omega arith;
-    }
+after_starter front s marks d closed after e ordered starter all mark h = grind (arith, common_steps, order-parted, drop_at, length-append, is_starter_from, list_all-canonical_order, list_all-push, nonstarter_from)
 
 -- a nonstarter joins nonstarters at the start
 among_marks : (marks : List ℕ) (d : ℕ) (after : List ℕ) → list_all is_nonstarter marks ≡ true → 0 < ccc d → after ≡ canonical_order (marks ++ d ∷ []) → IsOpen 0 after
@@ -116,15 +103,3 @@ IsOpen-mark closed points d after h ordered mark e =
     h.begins h.nonstarters
     (λ positive. let some = h.some positive in omega (arith, length-drop closed points))
     mark (e ∙ ap (λ l. canonical_order (l ++ d ∷ [])) (sym whole))
-
--- a starter closes the segment before it, and opens one
-pub IsOpen-starter : (points : List ℕ) (s : ℕ) (after : List ℕ) → ccc s ≤ 0 → after ≡ points ++ s ∷ [] → IsOpen (length points) after
-IsOpen-starter points s after starter e =
-    let back : drop (length points) after ≡ s ∷ [] = ap (drop (length points)) e ∙ drop_at points (s ∷ []) (length points) refl in
-    let size = ap length e ∙ length-append points (s ∷ []) in
-    record {
-      within = omega arith;
-      begins = λ _. ap begins_segment back ∙ is_starter_from s starter;
-      nonstarters = ap (λ l. list_all is_nonstarter (drop 1 l)) back;
-      some = λ _. omega arith;
-    }

@@ -1,8 +1,7 @@
 -- Between two passed characters that are close together no run is long: each byte adds one nonstarter at most.
-use Rattle.std.proofs.Common.{◌≡◌, ℕ, ◌+◌, ◌≤◌, cond, ◌<◌, List, [], ◌∷◌, ◌++◌, length, take, drop, encode_utf8, encode_utf8_all, chars, IsUtf8, refl, sym, ap, subst, ◌∙◌, arith, append_assoc, append-nil, length-append, true}
+use Rattle.std.proofs.Common.{◌≡◌, ℕ, ◌+◌, ◌≤◌, ◌<◌, List, [], ◌∷◌, ◌++◌, length, take, drop, encode_utf8, encode_utf8_all, chars, IsUtf8, refl, sym, ap, subst, ◌∙◌, arith, append_assoc, append-nil, length-append, true}
 use Rattle.std.proofs.lemmas.List.{length-take-le, take-append-drop}
 use Rattle.std.proofs.lemmas.Str.{IsUtf8-take, IsUtf8-past_char, encodes-chars, encodes-append, length-encode, len_utf8_bounds}
-use Rattle.std.specs.Char.{len_utf8}
 use Rattle.std.specs.Str.{IsCharBoundary}
 use Rattle.unicode_normalization.specs.Decompose.{decompose_canonical}
 use Rattle.uca_weights.specs.declared.limits.TheConstants.{MAX_RUN}
@@ -14,19 +13,17 @@ use Rattle.uca_window.proofs.PassedCharacters.{joining}
 use Rattle.uca_window.proofs.AddedMarks.{grown, growth, growths-bytes, scanned_few}
 use Rattle.uca_window.proofs.PassedRuns.{run-longest}
 use Rattle.uca_window.proofs.RunScan.{scanned_one, all_safe}
+use Rattle.std.proofs.lemmas.Grind.{common_steps}
 
 -- a passed character ends in few nonstarters
 own_short : (c : ℕ) → is_passed c ≡ true → run_after 0 (decompose_canonical c) ≤ 3
-own_short c passed =
-    let none : growth c ≡ 0 = ap (λ b. cond b 0 (joining c)) passed in
-    omega (arith, run-longest 0 (decompose_canonical c), grown 0 c)
+own_short c passed = grind (arith, common_steps, growth, joining, run-longest, grown)
 
 -- past a passed character that is close to another
 pub passed_skip : (text rest others : List ℕ) (last end : ℕ) → IsPassedTo text rest last → Skips rest others end → IsPassedTo text others end
 passed_skip text rest others last end at s =
-    let count = run_after 0 (decompose_canonical last) in
-    let short : count ≤ 3 = own_short last at.passed in
-    let few = scanned_few at.to.front s.between count at.to.scan (omega (arith, s.few, growths-bytes s.between)) in
+    let short : _ ≤ 3 = own_short last at.passed in
+    let few = scanned_few at.to.front s.between _ at.to.scan (omega (arith, s.few, growths-bytes s.between)) in
     record {
       to = record {
         front = at.to.front ++ (s.between ++ end ∷ []);
@@ -39,31 +36,23 @@ passed_skip text rest others last end at s =
 -- what is left of a text after some characters is a text
 utf8_past : (cs bytes others : List ℕ) → IsUtf8 bytes → bytes ≡ encode_utf8_all cs ++ others → IsUtf8 others
 utf8_past [] bytes others utf8 is = subst IsUtf8 is utf8
-utf8_past (c ∷ cs) bytes others utf8 is =
-    utf8_past cs (encode_utf8_all cs ++ others) others (IsUtf8-past_char bytes (encode_utf8_all cs ++ others) c utf8 (is ∙ append_assoc (encode_utf8 c) (encode_utf8_all cs) others)) refl
+utf8_past (c ∷ cs) bytes others utf8 is = grind (arith, common_steps, encode_utf8_all, IsUtf8-past_char, append_assoc, encode_utf8, utf8_past cs (encode_utf8_all cs ++ others) others (IsUtf8-past_char bytes (encode_utf8_all cs ++ others) c utf8 (is ∙ append_assoc (encode_utf8 c) (encode_utf8_all cs) others)) refl)
 
 pub utf8_left : (text rest : List ℕ) (count : ℕ) → ScannedTo text rest count → IsUtf8 text → IsUtf8 rest
 utf8_left text rest count at utf8 = utf8_past at.front text rest utf8 at.stands
 
 -- less is left after it
 pub skips_shorter : (bytes others more : List ℕ) (last end next : ℕ) → Passes bytes last others end → Skips others more next → length more < length bytes
-skips_shorter bytes others more last end next p s =
-    let front : length bytes ≡ length (encode_utf8_all p.front) + length others = ap length p.parts ∙ length-append (encode_utf8_all p.front) others in
-    let all : length others ≡ length (encode_utf8_all (s.between ++ next ∷ [])) + length more = ap length s.parts ∙ length-append (encode_utf8_all (s.between ++ next ∷ [])) more in
-    let parts : length (encode_utf8_all (s.between ++ next ∷ [])) ≡ length (encode_utf8_all s.between) + length (encode_utf8_all (next ∷ [])) =
-    ap length (encodes-append s.between (next ∷ [])) ∙ length-append (encode_utf8_all s.between) (encode_utf8_all (next ∷ [])) in
-    let one : length (encode_utf8_all (next ∷ [])) ≡ len_utf8 next = ap length (append-nil (encode_utf8 next)) ∙ length-encode next in
-    omega (arith, (len_utf8_bounds next).0)
+skips_shorter bytes others more last end next p s = grind (arith, common_steps, encode_utf8_all, length-append, encodes-append, append-nil, encode_utf8, length-encode, len_utf8_bounds)
 
 -- a text is safe that ends soon after a passed character
 pub safe_end : (text rest : List ℕ) (last : ℕ) → IsPassedTo text rest last → IsUtf8 text → 3 + length rest ≤ MAX_RUN → IsSafe (chars text)
 safe_end text rest last at utf8 few =
-    let count = run_after 0 (decompose_canonical last) in
-    let short : count ≤ 3 = own_short last at.passed in
-    let more : IsUtf8 rest = utf8_left text rest count at.to utf8 in
+    let short : _ ≤ 3 = own_short last at.passed in
+    let more : IsUtf8 rest = utf8_left text rest _ at.to utf8 in
     let spelt : encode_utf8_all (chars rest) ≡ rest = encodes-chars rest more in
     let size : length (encode_utf8_all (chars rest)) ≡ length rest = ap length spelt in
-    let end = scanned_few at.to.front (chars rest) count at.to.scan (omega (arith, growths-bytes (chars rest))) in
+    let end = scanned_few at.to.front (chars rest) _ at.to.scan (omega (arith, growths-bytes (chars rest))) in
     let whole : ScannedTo text [] end.0 = record {
       front = at.to.front ++ chars rest;
       stands = stands_over text rest at.to.front (chars rest) [] at.to.stands (sym spelt ∙ sym (append-nil (encode_utf8_all (chars rest))));

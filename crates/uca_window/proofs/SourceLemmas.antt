@@ -10,6 +10,7 @@ use Rattle.std.proofs.lemmas.Str.{chars_past_char, chars-nil, IsUtf8-past_char}
 use Rattle.uca_model.specs.Source.{GivesNext}
 use Rattle.uca_io.specs.Counts.{one_more}
 use Rattle.uca_window.specs.PassageSource.{state_at, Follows, StandsIn}
+use Rattle.std.proofs.lemmas.Grind.{common_steps}
 
 -- what a call of `next` says about the characters that were left and are left
 abbrev GivesChar : List ℕ → Option ℕ → List ℕ → Type 0
@@ -52,19 +53,6 @@ next-given text left rest None h g = (h.follows ∙ g.0, ap (λ l. length text -
 next-given text left rest (Some c) h g =
     (h.follows ∙ g ∙ ap (λ l. c ∷ l) (sym (follows-next text left c rest h g).follows), place-next text left c rest h g)
 
--- the iterator at the start of a text
-pub stands_first : (text left : List ℕ) → IsUtf8 text → left ≡ text → StandsIn text left
-stands_first text left utf8 e =
-    record {
-      utf8 = subst IsUtf8 (sym e) utf8;
-      short = omega (arith, ap length e);
-      bytes = (let none : length text - length left ≡ 0 = omega (arith, ap length e) in ap (λ n. drop n text) none ∙ sym e);
-      follows = record {
-        within = omega (arith, ap (λ b. length (chars b)) e);
-        follows = (let none : length (chars text) - length (chars left) ≡ 0 = omega (arith, ap (λ b. length (chars b)) e) in ap (λ n. drop n (chars text)) none ∙ ap chars (sym e));
-      };
-    }
-
 -- the bytes that are left after a call
 bytes-given : (text : List ℕ) (s t : Chars) (given : Option ℕ) → length (chars_rest s) ≤ length text → drop (length text - length (chars_rest s)) text ≡ chars_rest s → chars_steps s given t
     → (length (chars_rest t) ≤ length text) × (drop (length text - length (chars_rest t)) text ≡ chars_rest t)
@@ -101,11 +89,7 @@ gives_next text s t marked given reads rewinds count h step counts =
 
 -- what is left after the front of a text follows in it
 follows-bytes : (text front left : List ℕ) → text ≡ front ++ left → IsUtf8 front → Follows (chars text) (chars left)
-follows-bytes text front left e utf8 =
-    let parts : chars text ≡ chars front ++ chars left = ap chars e ∙ chars-append front left utf8 in
-    let size : length (chars text) ≡ length (chars front) + length (chars left) = ap length parts ∙ length-append (chars front) (chars left) in
-    let first : length (chars text) - length (chars left) ≡ length (chars front) = omega (arith, size) in
-    record { within = omega (arith, size); follows = ap (λ n. drop n (chars text)) first ∙ ap (drop (length (chars front))) parts ∙ drop-append_seam (chars front) (chars left) }
+follows-bytes text front left e utf8 = grind (arith, common_steps, chars-append, length-append, drop-append_seam)
 
 -- an iterator over the bytes before what is left went one character back, to `front`
 pub record StepsBack (text rest front : List ℕ) : Type 0 where
@@ -115,13 +99,7 @@ pub record StepsBack (text rest front : List ℕ) : Type 0 where
 
 pub steps_back : (text rest : List ℕ) (s t : Chars) (given : Option ℕ) → StandsIn text rest → length (chars rest) < length (chars text) → chars_rest s ≡ take (length text - length rest) text → chars_steps_back s given t
     → StepsBack text rest (chars_rest t)
-steps_back text rest s t None stands some e h =
-    absurd (
-    let none : length (take (length text - length rest) text) ≡ 0 = ap length (sym e) ∙ h.0 in
-    let nothing : length text - length rest ≡ 0 = omega (arith, none, length-take (length text - length rest) text) in
-    let same : text ≡ rest = ap (λ n. drop n text) (sym nothing) ∙ stands.bytes in
-    let size : length (chars text) ≡ length (chars rest) = ap (λ b. length (chars b)) same in
-    omega arith)
+steps_back text rest s t None stands some e h = grind (arith, common_steps, length-take)
 steps_back text rest s t (Some c) stands some e h =
     let front = chars_rest t in
     let whole : text ≡ front ++ (encode_utf8 c ++ rest) =

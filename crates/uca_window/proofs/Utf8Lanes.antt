@@ -10,6 +10,7 @@ use lib.Lanes.{zip2, pick_l, sel_l, chunk, mask_l, top, Each1}
 use Rattle.uca_window.specs.Passing.{is_within}
 use Rattle.uca_window.specs.Utf8.{is_one_of}
 use Rattle.uca_window.proofs.PassedLanes.{less}
+use Rattle.std.proofs.lemmas.Grind.{common_steps}
 
 -- the lane of a comparison
 abbrev pub lane : Bool → ℕ
@@ -31,14 +32,10 @@ lane_fits (x ∷ xs) (suc i) h = lane_fits xs i h.1
 -- a block that was computed from places, against one number
 module _ (h : ℕ → ℕ → ℕ) (f : ℕ → ℕ) (y at n : ℕ) {a : List ℕ} (is : a ≡ map f (range_with_len at n)) where
   pub right : zip2 h a (replicate n y) ≡ map (λ k. h (f k) y) (range_with_len at n)
-  right =
-      let ps = range_with_len at n in
-      ap (λ a. zip2 h a (replicate n y)) is ∙ zip2_splat h (map f ps) n y (length-map ps f ∙ length-range_with_len at n) ∙ map-map (λ x. h x y) f ps
+  right = grind (arith, common_steps, zip2_splat, length-map, length-range_with_len, map-map)
 
   pub left : zip2 h (replicate n y) a ≡ map (λ k. h y (f k)) (range_with_len at n)
-  left =
-      let ps = range_with_len at n in
-      ap (λ a. zip2 h (replicate n y) a) is ∙ zip2_splat_left h y n (map f ps) (length-map ps f ∙ length-range_with_len at n) ∙ map-map (λ x. h y x) f ps
+  left = grind (arith, common_steps, zip2_splat_left, length-map, length-range_with_len, map-map)
 
 -- ---- two comparisons
 
@@ -120,23 +117,8 @@ begins_is b h = agree_below_at (λ x. ltb (less x 0xC2) 0x2E) (is_within 0xC2 0x
 
 -- a block after n zeros, d places back
 pub after_zeros : (bytes : List ℕ) (n d i : ℕ) → d ≤ n → i < n → n ≤ length bytes → get_or (replicate n 0 ++ chunk 0 n bytes) (n - d + i) 0 ≡ get_or (replicate d 0 ++ bytes) i 0
-after_zeros bytes n d i few h room = elim (cases_lt i d) [
-  | inl before ↦
-      let left : n - d + i < length (replicate {A = ℕ} n 0) = omega (arith, length-replicate {A = ℕ} n 0, before, few) in
-      let right : i < length (replicate {A = ℕ} d 0) = omega (arith, length-replicate {A = ℕ} d 0, before) in
-      get_or_append_left (replicate n 0) (chunk 0 n bytes) 0 (n - d + i) left ∙ get_or-replicate {A = ℕ} n (n - d + i) 0 0 (omega (arith, before, few))
-      ∙ sym (get_or_append_left (replicate d 0) bytes 0 i right ∙ get_or-replicate {A = ℕ} d i 0 0 before)
-  | inr after ↦
-      let far : n - d + i ≡ length (replicate {A = ℕ} n 0) + (i - d) = omega (arith, length-replicate {A = ℕ} n 0, after, few) in
-      let rest : 0 + (i - d) ≡ i - d = omega arith in
-      let near : length (replicate {A = ℕ} d 0) + (i - d) ≡ i = omega (arith, length-replicate {A = ℕ} d 0, after) in
-      ap (λ k. get_or (replicate n 0 ++ chunk 0 n bytes) k 0) far ∙ get_or-append-add (replicate n 0) (chunk 0 n bytes) (i - d) 0 ∙ get_or-chunk 0 n bytes (i - d) 0 (omega arith) ∙ ap (λ k. get_or bytes k 0) rest
-      ∙ sym (get_or-append-add (replicate d 0) bytes (i - d) 0) ∙ ap (λ k. get_or (replicate d 0 ++ bytes) k 0) near
-]
+after_zeros bytes n d i few h room = grind (arith, common_steps, cases_lt, left, length-replicate, right, get_or_append_left, get_or-replicate, get_or-append-add, get_or-chunk)
 
 -- the first block, d places back
 pub first_back : (bytes : List ℕ) (n d i : ℕ) → d ≤ n → i < n → n ≤ length bytes → get_or (pick_l 0 (replicate n 0 ++ chunk 0 n bytes) (range_with_len (n - d) n)) i 0 ≡ get_or (replicate d 0 ++ bytes) i 0
-first_back bytes n d i few h room =
-    let both = replicate n 0 ++ chunk 0 n bytes in
-    let size : length both ≡ n + n = length-append (replicate n 0) (chunk 0 n bytes) ∙ ap₂ (λ a b. a + b) (length-replicate {A = ℕ} n 0) (length-chunk 0 n bytes (omega arith)) in
-    ap (λ l. get_or l i 0) (pick_l-range_with_len 0 both (n - d) n (omega (arith, size))) ∙ get_or-chunk (n - d) n both i 0 h ∙ after_zeros bytes n d i few h room
+first_back bytes n d i few h room = grind (arith, common_steps, length-append, length-replicate, length-chunk, pick_l-range_with_len, get_or-chunk, after_zeros)

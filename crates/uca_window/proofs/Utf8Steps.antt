@@ -1,15 +1,16 @@
 -- Texts in which no byte is a fault after the two before it are UTF-8.
-use Rattle.std.proofs.Common.{◌≡◌, ℕ, zero, suc, ◌-◌, ◌<◌, ◌≤◌, ◌⊎◌, Bool, cond, true, false, nat_le, nat_lt, ◌==◌, ◌||◌, List, [], ◌∷◌, length, get_or, refl, sym, ap, subst, ◌∙◌, arith, inl, inr}
+use Rattle.std.proofs.Common.{◌≡◌, ℕ, zero, suc, ◌-◌, ◌<◌, ◌≤◌, ◌⊎◌, Bool, cond, true, false, nat_le, nat_lt, ◌==◌, ◌||◌, List, [], ◌∷◌, length, get_or, refl, sym, ap, subst, ◌∙◌, arith}
 use Rattle.std.specs.Str.{IsUtf8}
 use Rattle.std.proofs.lemmas.Bool.{cases_lt, cases_order, or_parts}
 use Rattle.std.proofs.lemmas.Bool.Decides.{nat_tests}
 use Rattle.std.proofs.lemmas.List.{get_or_past}
-use Rattle.simdutf8.specs.Steps.{IsContinuation, IsClosed, Step, first, second, later, Steps}
+use Rattle.simdutf8.specs.Steps.{IsContinuation, IsClosed, Step, Steps}
 use Rattle.simdutf8.specs.Tracks.{last_three}
 use Rattle.simdutf8.proofs.Chars.{least_is, most_is, StepsThen-IsUtf8}
 use Rattle.simdutf8.proofs.StepsLemmas.{At, StepsThen_parts, Steps_by_index}
 use Rattle.uca_window.specs.Passing.{is_within}
 use Rattle.uca_window.specs.Utf8.{is_one_of, is_unpaired, is_fault, ArePaired, AreFine}
+use Rattle.std.proofs.lemmas.Grind.{common_steps}
 
 one_of_none : (a b : Bool) → is_one_of a b ≡ false → a ≡ b
 one_of_none true true h = refl
@@ -35,44 +36,18 @@ continues_from y z b h g = grind (arith, nat_tests)
 
 -- E0 and ED, each with the bytes that may follow it
 out_from : (z b : ℕ) → (z == cond (nat_lt b 0xA0) 0xE0 0xED) ≡ false → ((0xA0 ≤ b) ⊎ (z ≡ 0xE0 → ⊥)) × ((b < 0xA0) ⊎ (z ≡ 0xED → ⊥))
-out_from z b h = elim (cases_lt b 0xA0) [
-  | inl low ↦ (inr (λ e. grind (arith, nat_tests)), inl low)
-  | inr high ↦ (inl high, inr (λ e. grind (arith, nat_tests)))
-]
+out_from z b h = grind (arith, common_steps, cases_lt)
 
 fine_from : (y z b : ℕ) → is_fault y z b ≡ false → Fine y z b
-fine_from y z b h =
-    let last = or_parts _ _ h in
-    let front = or_parts _ _ last.0 in
-    let begins = one_of_none _ _ front.1 in
-    record {
-      short = (begins_from z begins).0;
-      begins = (begins_from z begins).1;
-      continues = continues_from y z b (one_of_none _ _ front.0) begins;
-      overlong = (out_from z b last.1).0;
-      surrogate = (out_from z b last.1).1;
-    }
+fine_from y z b h = grind (arith, common_steps, or_parts, one_of_none, begins_from, continues_from, out_from)
 
 -- where no character has four bytes, a byte may follow the three before it just by these rules
 step_from : (x y z b : ℕ) → x < 0xF0 → Fine x y z → Fine y z b → y < 0xF0 → Step x y z b
-step_from x y z b low f g low-y = elim g.continues [
-  | inr none ↦ first (omega (arith, low, none.1.0, none.1.1)) none.0
-  | inl some ↦ elim (cases_lt z 0xC0) [
-    | inl after ↦ later (inr (omega (arith, some.1, after))) (omega (arith, f.continues, some.1, after)) some.0
-    | inr lead ↦ second (omega (arith, low, f.continues, lead)) (omega (arith, g.begins, g.short, lead)) (
-      omega (arith, least_is z, some.0, g.overlong, g.short),
-      omega (arith, most_is z, some.0, g.surrogate, g.short),
-    )
-  ]
-]
+step_from x y z b low f g low-y = grind (arith, common_steps, cases_lt, least_is, most_is)
 
 -- where all bytes but the last have a bound, and the last has a lower one, so has each
 low_by : (bs : List ℕ) (most : ℕ) → 0xC0 ≤ most → get_or (0 ∷ bs) (length bs) 0 < 0xC0 → ((i : ℕ) → suc i < length bs → get_or bs i 0 < most) → (i : ℕ) → get_or bs i 0 < most
-low_by bs most from last before i = elim (cases_order (suc i) (length bs)) [
-  | inl end ↦ let least : get_or bs i 0 < 0xC0 = subst (λ n. get_or (0 ∷ bs) n 0 < 0xC0) (sym end) last in omega (arith, least, from)
-  | inr (inl inside) ↦ before i inside
-  | inr (inr past) ↦ subst (λ b. b < most) (sym (get_or_past bs i 0 (omega (arith, past)))) (omega (arith, from))
-]
+low_by bs most from last before i = grind (arith, common_steps, cases_order, get_or_past)
 
 module _ (bs : List ℕ) (all : AreFine 0 (length bs) bs) (last : get_or (0 ∷ bs) (length bs) 0 < 0xC0) where
   low_at : (i : ℕ) → get_or bs i 0 < 0xF0
@@ -113,9 +88,7 @@ fine_utf8 bs some fine end = closed_utf8 bs fine (subst (λ b. b < 0xE0) (sym (b
 
 -- a byte after which one is not unpaired begins no character of three bytes
 short_from : (z b : ℕ) → is_unpaired z b ≡ false → z < 0xE0
-short_from z b h =
-    let none : is_within 0xC2 0xE0 z ≡ nat_le 0xC0 z = one_of_none _ _ (or_parts (is_one_of (is_within 0x80 0xC0 b) (is_within 0xC2 0xE0 z)) (is_one_of (is_within 0xC2 0xE0 z) (nat_le 0xC0 z)) h).1 in
-    grind (arith, nat_tests)
+short_from z b h = grind (arith, common_steps, one_of_none, or_parts)
 
 not_out : (t : Bool) (z : ℕ) → z < 0xE0 → (z == cond t 0xE0 0xED) ≡ false
 not_out true z h = grind (arith, nat_tests)
@@ -127,11 +100,7 @@ either_none false b p q = q
 
 -- after bytes below E0, one that is not unpaired is no fault
 paired_fine : (y z b : ℕ) → y < 0xE0 → z < 0xE0 → is_unpaired z b ≡ false → is_fault y z b ≡ false
-paired_fine y z b p q h =
-    let begins : is_within 0xC2 0xE0 z ≡ is_within 0xC2 0xF0 z = grind (arith, nat_tests) in
-    let needed : is_within 0xC2 0xE0 z ≡ (is_within 0xC2 0xF0 z || nat_le 0xE0 y) = grind (arith, nat_tests) in
-    let parts = or_parts (is_one_of (is_within 0x80 0xC0 b) (is_within 0xC2 0xE0 z)) (is_one_of (is_within 0xC2 0xE0 z) (nat_le 0xC0 z)) h in
-    either_none _ _ (either_none _ _ (subst (λ t. is_one_of (is_within 0x80 0xC0 b) t ≡ false) needed parts.0) (subst (λ t. is_one_of t (nat_le 0xC0 z) ≡ false) begins parts.1)) (not_out (nat_lt b 0xA0) z q)
+paired_fine y z b p q h = grind (arith, common_steps, or_parts, either_none, not_out)
 
 -- a text of characters of up to two bytes
 pub short_utf8 : (bs : List ℕ) → 0 < length bs → ArePaired 1 (length bs) bs → (is_unpaired 0 (get_or bs 0 0) ≡ false) × (get_or bs (length bs - 1) 0 < 0xC0) → IsUtf8 bs

@@ -1,7 +1,7 @@
 -- Lemmas on a window: what its calls do to its points, its rest and its credit.
-use Rattle.std.proofs.Common.{◌≡◌, ℕ, zero, suc, ◌+◌, ◌-◌, ◌<◌, ◌≤◌, Bool, true, false, not, ◌&&◌, List, [], ◌∷◌, ◌++◌, length, take, drop, nat_lt, lt-ltb, ltb-true, Some, All, get_or, refl, sym, ap, ap₂, subst, ◌∙◌, arith, inl, inr, append_assoc, append-nil, length-append, length-drop, take-append-drop, length-take-le, get_or-take}
+use Rattle.std.proofs.Common.{◌≡◌, ℕ, zero, suc, ◌+◌, ◌-◌, ◌<◌, ◌≤◌, Bool, true, false, not, ◌&&◌, List, [], ◌∷◌, ◌++◌, length, take, drop, nat_lt, lt-ltb, ltb-true, Some, All, get_or, refl, sym, ap, subst, ◌∙◌, arith, inl, inr, append_assoc, append-nil, length-append, length-drop, take-append-drop, length-take-le, get_or-take}
 use Rattle.std.proofs.lemmas.Bool.{cases_Bool, cases_lt, cond-true, cond-false, and_parts, and_from, not_from_false}
-use Rattle.std.proofs.lemmas.List.{drop_at, take_at, drop-append-le, drop_all, get_or_append_left}
+use Rattle.std.proofs.lemmas.List.{drop_at, take_at, drop-append-le, get_or_append_left}
 use Rattle.std.proofs.lemmas.List.Edits.{length-remove, remove-append_left}
 use Rattle.std.proofs.lemmas.List.Elements.{All-nil, All-cons, All-head, All-tail, All-append, All-take, All-drop}
 use Rattle.std.specs.List.{list_all, remove}
@@ -14,7 +14,7 @@ use Rattle.unicode_normalization.proofs.DecomposeLemmas.{decompose-final}
 use Rattle.unicode_normalization.proofs.FormsLemmas.{normalize-nil}
 use Rattle.unicode_normalization.proofs.OrderLemmas.{length-canonical_order}
 use Rattle.unicode_normalization.proofs.TableFacts.{is_final}
-use Rattle.uca_weights.specs.declared.limits.TheConstants.{MAX_RUN, MAX_DECOMPOSITION, MAX_KEY, MAX_LOOKAHEAD}
+use Rattle.uca_weights.specs.declared.limits.TheConstants.{MAX_RUN, MAX_KEY, MAX_LOOKAHEAD}
 use Rattle.uca_model.specs.SafeText.{longest_run, longest_run_after}
 use Rattle.uca_model.specs.Source.{SourceState, unread, GivesNext}
 use Rattle.uca_model.specs.Window.{WindowState, empty_window, begins_segment, is_wanting, last_starter, after_read, IsWindow, rest_of, Fits, ChangesRest, ReadsOn, ShowsFront}
@@ -23,6 +23,7 @@ use Rattle.uca_window.specs.Segment.{IsOpen}
 use Rattle.uca_window.proofs.RunLemmas.{runs-back, runs-drop, runs-without, length-run}
 use Rattle.uca_window.proofs.FormLemmas.{parts, all_final, ordered-IsInForm, final-IsInForm, IsInForm-from, nfd-points, nfd-read, IsInForm-read, is_ordered-front, is_ordered-drop, is_ordered-without}
 use Rattle.uca_window.proofs.SegmentLemmas.{list_all-parts, list_all-drop, list_all-take, nonstarter_from, nfd-cut, nfd-begins}
+use Rattle.std.proofs.lemmas.Grind.{common_steps}
 
 -- a window of these parts
 abbrev pub window_of : List ℕ → ℕ → ℕ → Bool → WindowState
@@ -66,11 +67,7 @@ length-open w left h fits =
 
 -- there is capacity for what a character decomposes to
 pub room_for : (w : WindowState) (c : ℕ) (left : List ℕ) → IsWindow w → Fits w (c ∷ left) → w.closed < w.longest → length w.points + length (decompose_canonical c) ≤ w.longest + MAX_LOOKAHEAD
-room_for w c left h fits few =
-    let one : length (nfd (c ∷ [])) ≤ MAX_DECOMPOSITION = All-head IsShort c left (shorts-parts w.points (c ∷ left) fits.safe.short).1 in
-    let size = length-nfd_one c in
-    let open_size = length-open w (c ∷ left) h fits in
-    omega arith
+room_for w c left h fits few = grind (arith, common_steps, All-head, shorts-parts, length-nfd_one, length-open)
 
 -- ---- calls that read
 
@@ -115,29 +112,6 @@ Steps-char w c left points closed h fits few runs e segments =
       rest = same;
     }
 
--- the end was read
-pub Steps-end : (w : WindowState) → IsWindow w → Fits w [] → Steps w [] (window_of w.points (length w.points) w.longest true) []
-Steps-end w h fits =
-    let none = drop_all (length w.points) w.points (omega arith) in
-    record {
-      window =
-          record {
-            form = h.form;
-            segments =
-                record {
-                  within = omega arith;
-                  begins = λ _. ap begins_segment none;
-                  nonstarters = ap (λ l. list_all is_nonstarter (drop 1 l)) none;
-                  running = λ ended. cc;
-                  ended = λ _. refl;
-                };
-            bound = h.bound;
-            longest = h.longest;
-          };
-      fits = record { safe = fits.safe; ended = λ _. refl };
-      rest = refl;
-    }
-
 -- `next` gave a character: what the window and the source are then
 pub reads-char : (w : WindowState) (before after : SourceState) (c : ℕ) (points : List ℕ) (closed : ℕ) → IsWindow w → Fits w (unread before) → w.closed < w.longest → w.ended ≡ false
     → GivesNext before (Some c) after → points ≡ canonical_order (w.points ++ decompose_canonical c) → IsOpen closed points → ReadsOn w before (window_of points closed w.longest w.ended) after
@@ -154,36 +128,24 @@ reads-char w before after c points closed h fits few runs given e segments =
 
 -- and the rest is the same
 pub rest-char : (w : WindowState) (before after : SourceState) (c : ℕ) (points : List ℕ) → IsWindow w → GivesNext before (Some c) after → points ≡ canonical_order (w.points ++ decompose_canonical c) → nfd (points ++ unread after) ≡ rest_of w (unread before)
-rest-char w before after c points h given e =
-    ap (λ l. nfd (l ++ unread after)) e ∙ nfd-read w.points c (unread after) h.form ∙ ap (rest_of w) (sym given.value.0)
+rest-char w before after c points h given e = grind (arith, common_steps, nfd-read)
 
 -- a window that wants no more and has few closed points holds all of the rest
 pub closed-end : (w : WindowState) (left : List ℕ) → IsWindow w → Fits w left → (nat_lt w.closed w.longest && not w.ended) ≡ false → w.closed < w.longest → w.closed ≡ length (rest_of w left)
-closed-end w left h fits stops few =
-    let ended : w.ended ≡ true = elim (cases_Bool w.ended) [
-      | inl e ↦ e
-      | inr runs ↦ let clash = sym stops ∙ and_from _ _ (lt-ltb w.closed w.longest few) (not_from_false _ runs) in cc
-    ] in
-    h.segments.ended ended ∙ ap length (sym (ap (λ l. nfd (w.points ++ l)) (fits.ended ended) ∙ ap nfd (append-nil w.points) ∙ h.form))
+closed-end w left h fits stops few = grind (arith, common_steps, cases_Bool, and_from, lt-ltb, not_from_false, append-nil)
 
 -- ---- what the closed points say about the rest
 
 -- where nothing follows the closed points, nothing is left
 last_segment : (w : WindowState) (left : List ℕ) → IsWindow w → Fits w left → 0 < w.closed → drop w.closed w.points ≡ [] → left ≡ []
-last_segment w left h fits some nothing =
-    elim (cases_Bool w.ended) [
-      | inl ended ↦ fits.ended ended
-      | inr runs ↦ let more = h.segments.running runs some in absurd (omega (arith, ap length nothing, length-drop w.closed w.points))
-    ]
+last_segment w left h fits some nothing = grind (arith, common_steps, cases_Bool, length-drop)
 
 -- the rest is the closed points, and the NFD of what follows them
 rest-cut : (w : WindowState) (left : List ℕ) → IsWindow w → Fits w left → 0 < w.closed → rest_of w left ≡ take w.closed w.points ++ nfd (drop w.closed w.points ++ left)
 rest-cut w left h fits some =
-    let front = take w.closed w.points in
-    let back = drop w.closed w.points in
     let split = take-append-drop w.closed w.points in
     ap (λ l. nfd (l ++ left)) (sym split)
-    ∙ nfd-cut front back left (ap all_final split ∙ final-IsInForm w.points h.form) (is_ordered-front front back (ap is_ordered split ∙ ordered-IsInForm w.points h.form))
+    ∙ nfd-cut _ _ left (ap all_final split ∙ final-IsInForm w.points h.form) (is_ordered-front _ _ (ap is_ordered split ∙ ordered-IsInForm w.points h.form))
     (h.segments.begins some) (last_segment w left h fits some)
 
 -- so it begins with the closed points, and goes on with a starter or ends
@@ -195,14 +157,13 @@ shows_front w left h fits =
           record { front = ap (λ n. take n (rest_of w left)) nothing ∙ sym (ap (λ n. take n w.points) nothing); follows = λ some. absurd (omega arith) }
       | inl some ↦
           let front = take w.closed w.points in
-          let back = drop w.closed w.points in
           let whole = rest-cut w left h fits some in
           let size = length-take-le w.closed w.points h.segments.within in
-          let final = list_all-parts (is_final Nfd) front back (ap all_final (take-append-drop w.closed w.points) ∙ final-IsInForm w.points h.form) in
+          let final = list_all-parts (is_final Nfd) front _ (ap all_final (take-append-drop w.closed w.points) ∙ final-IsInForm w.points h.form) in
           record {
-            front = ap (take w.closed) whole ∙ take_at front (nfd (back ++ left)) w.closed size;
-            follows = λ _. ap (λ l. begins_segment (drop w.closed l)) whole ∙ ap begins_segment (drop_at front (nfd (back ++ left)) w.closed size)
-                ∙ nfd-begins back left final.1 (h.segments.begins some) (last_segment w left h fits some);
+            front = ap (take w.closed) whole ∙ take_at front (nfd (_ ++ left)) w.closed size;
+            follows = λ _. ap (λ l. begins_segment (drop w.closed l)) whole ∙ ap begins_segment (drop_at front (nfd (_ ++ left)) w.closed size)
+                ∙ nfd-begins _ left final.1 (h.segments.begins some) (last_segment w left h fits some);
           }
     ]
 
@@ -238,24 +199,7 @@ changes-front w front closed change h some final ordered changes shorter left fi
 -- such a window is one
 IsWindow-front : (w : WindowState) (front points : List ℕ) (closed : ℕ) → IsWindow w → points ≡ front ++ drop w.closed w.points → closed ≡ length front → closed ≤ w.closed
     → all_final points ≡ true → is_ordered points ≡ true → IsWindow (window_of points closed w.longest w.ended)
-IsWindow-front w front points closed h e size le final ordered =
-    let back = drop w.closed w.points in
-    let behind : drop closed points ≡ back = ap (drop closed) e ∙ drop_at front back closed (sym size) in
-    let all = ap length e ∙ length-append front back in
-    let before = length-drop w.closed w.points in
-    record {
-      form = IsInForm-from points final ordered;
-      segments =
-          record {
-            within = omega arith;
-            begins = λ some. ap begins_segment behind ∙ h.segments.begins (omega arith);
-            nonstarters = ap (λ l. list_all is_nonstarter (drop 1 l)) behind ∙ h.segments.nonstarters;
-            running = λ runs some. let was = h.segments.running runs (omega arith) in omega arith;
-            ended = λ ended. omega (arith, h.segments.ended ended);
-          };
-      bound = omega (arith, h.bound, h.segments.within);
-      longest = h.longest;
-    }
+IsWindow-front w front points closed h e size le final ordered = grind (arith, common_steps, drop_at, length-append, length-drop, IsInForm-from)
 
 -- ---- the first points are dropped
 
@@ -282,14 +226,13 @@ changes-drop w n h le =
           subst (λ k. ChangesRest (drop k) w (window_of (drop k w.points) (w.closed - k) w.longest w.ended)) (sym nothing)
           (λ left fits. (record { safe = fits.safe; ended = fits.ended }, refl))
       | inl some ↦
-          let front = take w.closed w.points in
-          let final = list_all-parts (is_final Nfd) front (drop w.closed w.points) (ap all_final (take-append-drop w.closed w.points) ∙ final-IsInForm w.points h.form) in
-          let ordered = is_ordered-front front (drop w.closed w.points) (ap is_ordered (take-append-drop w.closed w.points) ∙ ordered-IsInForm w.points h.form) in
+          let final = list_all-parts (is_final Nfd) _ (drop w.closed w.points) (ap all_final (take-append-drop w.closed w.points) ∙ final-IsInForm w.points h.form) in
+          let ordered = is_ordered-front _ (drop w.closed w.points) (ap is_ordered (take-append-drop w.closed w.points) ∙ ordered-IsInForm w.points h.form) in
           subst (λ l. ChangesRest (drop n) w (window_of l (w.closed - n) w.longest w.ended)) (sym (drop-closed w n h le))
-          (changes-front w (drop n front) (w.closed - n) (drop n) h some
-          (list_all-drop (is_final Nfd) n front final.0) (is_ordered-drop n front ordered)
-          (λ left. sym (drop-append-le n front left (omega (arith, length-take-le w.closed w.points h.segments.within))))
-          (λ left. runs-drop n 0 (front ++ left)))
+          (changes-front w (drop n _) (w.closed - n) (drop n) h some
+          (list_all-drop (is_final Nfd) n _ final.0) (is_ordered-drop n _ ordered)
+          (λ left. sym (drop-append-le n _ left (omega (arith, length-take-le w.closed w.points h.segments.within))))
+          (λ left. runs-drop n 0 (_ ++ left)))
     ]
 
 -- ---- a nonstarter is removed
@@ -350,13 +293,7 @@ changes-remove w i h lt mark =
 
 -- it has no points
 pub IsWindow-new : (longest : ℕ) → 1 ≤ longest → longest ≤ MAX_KEY → IsWindow (empty_window longest)
-IsWindow-new longest some most =
-    record {
-      form = normalize-nil Nfd;
-      segments = record { within = omega arith; begins = λ (z : 0 < 0). refl; nonstarters = refl; running = λ _ (z : 0 < 0). z; ended = λ ended. cc };
-      bound = omega arith;
-      longest = (some, most);
-    }
+IsWindow-new longest some most = grind (arith, common_steps, normalize-nil)
 
 -- ---- what a window holds, by what it held
 
@@ -390,5 +327,4 @@ last_starter-open (p ∷ ps) (suc k) open_at =
     ]
 
 pub after_read-char : (w : WindowState) (c : ℕ) (points : List ℕ) (closed : ℕ) → points ≡ canonical_order (w.points ++ decompose_canonical c) → IsOpen closed points → window_of points closed w.longest w.ended ≡ after_read w (Some c)
-after_read-char w c points closed e segments =
-    ap₂ (λ ps k. window_of ps k w.longest w.ended) e (sym (last_starter-open points closed segments) ∙ ap last_starter e)
+after_read-char w c points closed e segments = grind (arith, common_steps, last_starter-open)

@@ -1,6 +1,7 @@
-use Rattle.std.proofs.Common.{◌-◌, arith}
+use Rattle.std.proofs.Common.{arith}
 use Rattle.uca_key.proofs.BoundLemmas.{end_past, end_here}
 use Rattle.uca_key.proofs.bounds.end_of_prefix.Goals as goal
+use Rattle.std.proofs.lemmas.Grind.{common_steps}
 
 -- src/bounds.rt:78:13
 pub returns-then-last-lt255 : goal.returns-then-last-lt255
@@ -9,7 +10,4 @@ returns-then-last-lt255 c = end_here c.args.bytes.now c.in_ok-end.end.items c.pu
 
 -- src/bounds.rt:72:5
 pub loop-n-preserved : goal.loop-n-preserved
-loop-n-preserved c = record {
-  within = omega arith;
-  same = end_past c.args.bytes.now c.loop-n.n c.loop-n.invariant.same c.loop-n-test.true c.loop-n.invariant.within (c.type_inv.bytes (c.loop-n.n - 1)) c.if-last-lt255.false;
-}
+loop-n-preserved c = grind (arith, common_steps, end_past)

@@ -1,18 +1,13 @@
-use Rattle.std.proofs.Common.{◌≡◌, ℕ, List, suc, ◌+◌, ◌-◌, ◌++◌, chars, refl, ap, arith}
+use Rattle.std.proofs.Common.{◌≡◌, ℕ, List, suc, ◌+◌, ◌-◌, ◌++◌, chars, ap, arith}
 use Rattle.unicode_normalization.specs.Forms.{nfd}
 use Rattle.uca_key.specs.Pieces.{weights_of}
 use Rattle.uca_key.specs.PackedKey.{later_levels, packed_later}
 use Rattle.uca_key.proofs.PlacingLemmas.{IsPutting-ends, IsPutting-more, IsPutting-size, IsPutting-start}
 use Rattle.uca_key.proofs.packed_levels.put_blank_levels.Goals as goal
+use Rattle.std.proofs.lemmas.Grind.{common_steps}
 
 pub levels-init : goal.levels-init
-levels-init c =
-    record {
-      first = omega arith;
-      last = c.requires.from;
-      size = refl;
-      putting = IsPutting-start c.args.at c.args.out.now (later_levels (c.args.last - 1) 2 (weights_of c.args.reading.now) (nfd (chars c.args.reading.now.text.now))) _ c.ranges.at.fits refl;
-    }
+levels-init c = grind (arith, common_steps, IsPutting-start)
 
 pub levels-preserved : goal.levels-preserved
 levels-preserved c =
@@ -29,10 +24,7 @@ levels-preserved c =
     }
 
 pub returns : goal.returns
-returns c =
-    let ws : List (List ℕ) = weights_of c.args.reading.now in let text : List ℕ = nfd (chars c.args.reading.now.text.now) in
-    let none : c.args.last - c.levels.level ≡ 0 = omega (arith, c.levels-test.false) in
-    IsPutting-ends _ _ _ _ _ _ c.levels.invariant.putting (ap (λ n. later_levels n (c.levels.level + 1) ws text) none)
+returns c = grind (arith, common_steps, IsPutting-ends)
 
 pub put_later-next-requires-clause-second : goal.put_later-next-requires-clause-second
 put_later-next-requires-clause-second c = c.first_marks-marks.ensures.second c.args.reading.now.weighting

@@ -1,4 +1,4 @@
-use Rattle.std.proofs.Common.{◌≡◌, ℕ, List, suc, ◌+◌, ◌-◌, ◌<◌, ◌^◌, ◌++◌, chars, length, refl, sym, subst, take, ap, ◌∙◌, arith}
+use Rattle.std.proofs.Common.{◌≡◌, ℕ, List, suc, ◌+◌, ◌-◌, ◌<◌, ◌^◌, ◌++◌, chars, length, sym, subst, take, ap, ◌∙◌, arith}
 use Rattle.unicode_normalization.specs.Forms.{nfd}
 use Rattle.uca_weights.specs.declared.settings.Settings.{Settings}
 use Rattle.uca_weights.specs.declared.settings.Variable.{Variable}
@@ -15,6 +15,7 @@ use Rattle.uca_key.specs.Weighing.{all_own}
 use Rattle.uca_key.proofs.PlacingLemmas.{PutsAt-more, IsPutting-ends, IsPutting-start, IsPutting-more}
 use Rattle.uca_key.proofs.PackedPieces.{packed-levels}
 use Rattle.uca_key.proofs.packed_levels.put_held.Goals as goal
+use Rattle.std.proofs.lemmas.Grind.{common_steps}
 
 -- the weights of a text by the settings, where a reader has them by the same option
 abbrev weights : ElementTable → Variable → List ℕ → List (List ℕ)
@@ -27,10 +28,7 @@ Done k t s text at before level next now =
 
 module _ (k : PrimaryCode) (t : ElementTable) (s : Settings) (text : List ℕ) (v : Variable) (option : s.weighting ≡ v) (at : ℕ) (before : List ℕ) (small : length before < 2 ^ 64) where
   first : (own : List (List ℕ)) (now : List ℕ) (next : ℕ) → at < 2 ^ 64 → own ≡ weights t v text → PutsAt at (primary_level k (start k) (level_weights 1 own)) before now next → Done k t s text at before 1 next now
-  first own now next fits held puts =
-      let same : own ≡ weights t s.weighting text = held ∙ ap (λ u. weights t u text) (sym option) in
-      IsPutting-more _ _ _ _ _ _ (IsPutting-start at before (packed_key_by k t s text) _ fits refl) _ _ _ (later_levels (levels s.strength - 1) 2 (weights t s.weighting text) (nfd text)) small (packed-levels k t s text)
-      (subst (λ us. PutsAt at (primary_level k (start k) (level_weights 1 us)) before now next) same puts)
+  first own now next fits held puts = grind (arith, common_steps, IsPutting-more, IsPutting-start, packed-levels)
 
   more : (level next later : ℕ) (now after : List ℕ) → level < levels s.strength → Done k t s text at before level next now → PutsAt next (packed_later (weights t v text) (nfd text) (level + 1)) now after later → Done k t s text at before (level + 1) later after
   more level next later now after below done puts =
@@ -41,16 +39,12 @@ module _ (k : PrimaryCode) (t : ElementTable) (s : Settings) (text : List ℕ) (
       (subst (λ u. PutsAt next (packed_later (weights t u text) (nfd text) (level + 1)) now after later) (sym option) puts)
 
   ends : (level next : ℕ) (now : List ℕ) → levels s.strength ≡ level → Done k t s text at before level next now → PutsAt at (packed_key_by k t s text) before now next
-  ends level next now last done =
-      let none : levels s.strength - level ≡ 0 = omega (arith, last) in
-      IsPutting-ends _ _ _ _ _ _ done (ap (λ n. later_levels n (level + 1) (weights t s.weighting text) (nfd text)) none)
+  ends level next now last done = grind (arith, common_steps, IsPutting-ends)
 
 -- the first level and the later ones
 whole : (k : PrimaryCode) (t : ElementTable) (s : Settings) (text : List ℕ) (v : Variable) (last : ℕ) (own : List (List ℕ)) → s.weighting ≡ v → last ≡ levels s.strength → own ≡ weights t v text
     → primary_level k (start k) (level_weights 1 own) ++ later_levels (last - 1) 2 (weights t v text) (nfd text) ≡ packed_key_by k t s text
-whole k t s text v last own option is held =
-    let key : List (List ℕ) → Variable → ℕ → List ℕ = λ ws u n. primary_level k (start k) (level_weights 1 ws) ++ later_levels (n - 1) 2 (weights t u text) (nfd text) in
-    ap (λ ws. key ws v last) held ∙ ap (λ u. key (weights t u text) u last) (sym option) ∙ ap (λ n. key (weights t s.weighting text) s.weighting n) is ∙ sym (packed-levels k t s text)
+whole k t s text v last own option is held = grind (arith, common_steps, packed-levels)
 
 pub returns-then-first : goal.returns-then-first
 returns-then-first c =

@@ -7,16 +7,10 @@ use Rattle.uca_key.specs.Placing.{PutsAt}
 use Rattle.uca_key.proofs.KeyPieces.{tail_of, key_from-split}
 use Rattle.uca_key.proofs.PlacingLemmas.{IsPutting-start, IsPutting-more, IsPutting-ends}
 use Rattle.uca_key.proofs.placing.put_levels.Goals as goal
+use Rattle.std.proofs.lemmas.Grind.{common_steps}
 
 pub each-init : goal.each-init
-each-init c =
-    record {
-      first = omega arith;
-      last = (levels-within c.args.s.strength).0;
-      holds = c.requires.holds;
-      size = refl;
-      putting = IsPutting-start _ _ _ _ c.ranges.at.fits (sym (sort_key-levels c.args.reading.now.table.now c.args.s (chars c.args.reading.now.text.now)));
-    }
+each-init c = grind (arith, common_steps, levels-within, IsPutting-start, sort_key-levels)
 
 pub returns-then-level-last-clause-bytes : goal.returns-then-level-last-clause-bytes
 returns-then-level-last-clause-bytes c =

@@ -1,19 +1,13 @@
-use Rattle.std.proofs.Common.{refl, flat_map, ap, ◌∙◌, arith}
+use Rattle.std.proofs.Common.{flat_map, ap, ◌∙◌, arith}
 use Rattle.uca_model.specs.SortKey.{code_point_bytes}
-use Rattle.uca_model.specs.Source.{unread}
-use Rattle.uca_model.specs.Window.{WindowState, rest_of}
 use Rattle.uca_levels.proofs.ReadsLemmas.{given_some, given_none}
 use Rattle.uca_key.proofs.KeyPieces.{none_from}
 use Rattle.uca_key.proofs.PlacingLemmas.{IsPutting-start, IsPutting-more, IsPutting-ends}
 use Rattle.uca_key.proofs.placing.put_points.Goals as goal
+use Rattle.std.proofs.lemmas.Grind.{common_steps}
 
 pub each-init : goal.each-init
-each-init g c =
-    record {
-      text = refl;
-      fits = c.new-points.ensures.fits (unread (g.S.Source.state c.args.source.now)) c.requires.safe;
-      putting = IsPutting-start _ _ _ _ (omega arith) (ap (λ (w : WindowState). flat_map code_point_bytes (rest_of w (unread (g.S.Source.state c.args.source.now)))) c.new-points.ensures.value);
-    }
+each-init g c = grind (arith, common_steps, IsPutting-start)
 
 pub each-preserved : goal.each-preserved
 each-preserved g c =
@@ -25,6 +19,4 @@ each-preserved g c =
     }
 
 pub returns-clause-bytes : goal.returns-clause-bytes
-returns-clause-bytes g c =
-    let last = given_none _ _ c.next.result c.next.ensures.yields.first (none_from c.next.result c.in_default.not-Some) in
-    IsPutting-ends _ _ _ _ _ _ c.each.invariant.putting (ap (flat_map code_point_bytes) last.0)
+returns-clause-bytes g c = grind (arith, common_steps, given_none, none_from, IsPutting-ends)

@@ -1,16 +1,12 @@
-use Rattle.std.proofs.Common.{take, refl, ap, ◌∙◌}
-use Rattle.uca_model.specs.SortKey.{level_bytes}
+use Rattle.std.proofs.Common.{arith, take, ◌∙◌}
 use Rattle.uca_key.specs.Pieces.{weights_left}
 use Rattle.uca_key.proofs.PlacingLemmas.{IsPutting-start, IsPutting-more}
 use Rattle.uca_key.proofs.WeighingLemmas.{bytes-read}
 use Rattle.uca_key.proofs.placing.put_weights_again.Goals as goal
+use Rattle.std.proofs.lemmas.Grind.{common_steps}
 
 pub each-init : goal.each-init
-each-init c = record {
-  weighting = c.again-left.ensures.weighting;
-  size = refl;
-  putting = IsPutting-start _ _ _ _ c.ranges.at.fits (ap (λ ws. level_bytes ws c.args.level) c.again-left.ensures.left);
-}
+each-init c = grind (arith, common_steps, IsPutting-start)
 
 pub each-preserved : goal.each-preserved
 each-preserved c = record {

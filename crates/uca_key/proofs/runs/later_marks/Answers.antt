@@ -1,9 +1,9 @@
-use Rattle.std.proofs.Common.{List, Bool, refl}
-use Rattle.uca_weights.specs.declared.element.Element.{Element}
+use Rattle.std.proofs.Common.{arith, Bool}
 use Rattle.uca_weights.specs.declared.settings.Variable.TheVariants.{NonIgnorable}
 use Rattle.uca_key.specs.Runs.{is_blank}
 use Rattle.uca_key.proofs.MaskLemmas.{blank-second, blank-third, blanks-fewer, parts-marked}
 use Rattle.uca_key.proofs.runs.later_marks.Goals as goal
+use Rattle.std.proofs.lemmas.Grind.{common_steps}
 
 pub overflow_sub-result : goal.overflow_sub-result
 overflow_sub-result c =
@@ -16,11 +16,7 @@ overflow_sub-result-2 c =
     blanks-fewer NonIgnorable 3 (is_blank asked) c.args.elements.now _ _ (blank-third NonIgnorable asked) (masks.third NonIgnorable) masks.none
 
 pub returns-clause-second : goal.returns-clause-second
-returns-clause-second c v =
-    let asked : Bool = c.args.asked in let masks = c.later_masks-second.ensures in
-    parts-marked v 2 (is_blank asked) c.args.elements.now _ _ (blank-second v asked) (masks.second v) masks.none refl
+returns-clause-second c v = grind (arith, common_steps, parts-marked, blank-second)
 
 pub returns-clause-third : goal.returns-clause-third
-returns-clause-third c v =
-    let asked : Bool = c.args.asked in let masks = c.later_masks-second.ensures in
-    parts-marked v 3 (is_blank asked) c.args.elements.now _ _ (blank-third v asked) (masks.third v) masks.none refl
+returns-clause-third c v = grind (arith, common_steps, parts-marked, blank-third)

@@ -1,21 +1,14 @@
-use Rattle.std.proofs.Common.{◌≡◌, ◌==◌, ◌&&◌, Bool, ap, not, ◌+◌, ◌*◌, ◌-◌, ◌^◌, ◌%◌, ◌≤◌, ◌<◌, ℕ, List, drop, length, refl, arith}
+use Rattle.std.proofs.Common.{◌==◌, ◌&&◌, Bool, ap, not, ◌+◌, ◌*◌, ◌-◌, ◌^◌, ◌≤◌, ◌<◌, ℕ, List, drop, refl, arith}
 use Rattle.std.proofs.lemmas.List.{length-drop}
 use Rattle.uca_weights.specs.declared.element.Element.{Element}
 use Rattle.uca_weights.specs.declared.settings.Variable.TheVariants.{NonIgnorable}
 use Rattle.uca_key.specs.Runs.{is_blank, is_other}
 use Rattle.uca_key.proofs.MaskLemmas.{blank-weights, block, mask-lanes, mask-none, mask-small}
 use Rattle.uca_key.proofs.runs.later_masks.Goals as goal
+use Rattle.std.proofs.lemmas.Grind.{common_steps}
 
 pub each-init : goal.each-init
-each-init c =
-    let es : List Element = c.args.elements.now in
-    record {
-      within = omega arith;
-      whole = c.requires.whole;
-      second = λ v. mask-none (is_other v 2) (length es) es (omega arith);
-      third = λ v. mask-none (is_other v 3) (length es) es (omega arith);
-      none = mask-none (is_blank c.args.asked) (length es) es (omega arith);
-    }
+each-init c = grind (arith, common_steps, mask-none)
 
 pub each-preserved : goal.each-preserved
 each-preserved c =

@@ -1,4 +1,4 @@
-use Rattle.std.proofs.Common.{◌≡◌, ◌^◌, ◌≤◌, ◌++◌, ℕ, List, length, take, drop, ap₂, refl, sym, ap, ◌∙◌, arith, take-append-drop}
+use Rattle.std.proofs.Common.{◌≡◌, ◌^◌, ◌≤◌, ◌++◌, ℕ, List, length, take, drop, ap₂, sym, ap, ◌∙◌, arith, take-append-drop}
 use Rattle.std.proofs.lemmas.List.{length-take}
 use Rattle.uca_weights.specs.declared.element.Element.{Element}
 use Rattle.uca_weights.specs.declared.settings.Variable.{Variable}
@@ -9,12 +9,10 @@ use Rattle.uca_key.proofs.KeyPieces.{IsSending-start, IsSending-room, IsSending-
 use Rattle.uca_key.proofs.PlacingLemmas.{FrontPut, front-put}
 use Rattle.uca_key.proofs.WeighingLemmas.{level_few, own_bytes-both}
 use Rattle.uca_key.proofs.streaming.send_elements.Goals as goal
+use Rattle.std.proofs.lemmas.Grind.{common_steps}
 
 pub pieces-init : goal.pieces-init
-pieces-init g c = record {
-  bytes = refl;
-  sending = IsSending-start _ _ _ _ refl;
-}
+pieces-init g c = grind (arith, common_steps, IsSending-start)
 
 -- a piece of what is left, and its bytes
 module _ (v : Variable) (level k : ℕ) (left piece rest : List Element) (bytes after : List ℕ) (size : ℕ) (most : k ≤ 64) (front : piece ≡ take k left) (back : rest ≡ drop k left) (long : length bytes ≡ 128)

@@ -6,68 +6,56 @@ use Rattle.uca_model.specs.LevelWeights.{level_list}
 use Rattle.uca_model.proofs.LevelLemmas.{sort_key-levels, levels-within}
 use Rattle.uca_key.proofs.KeyPieces.{IsSending-start, IsSending-room, IsSending-more, IsSending-stops, IsSending-ends, level-room, level-sent, level-stops, tail-none, tail-later}
 use Rattle.uca_key.proofs.streaming.send_key.Goals as goal
+use Rattle.std.proofs.lemmas.Grind.{common_steps}
 
 -- the weights of a level of the text that was read are those of the text
 own_list : (t u : ElementTable) (v w : Variable) (text read : List ℕ) (level : ℕ) → u ≡ t → w ≡ v → read ≡ text → level_list t v (chars text) level ≡ level_list u w (chars read) level
 own_list t u v w text read level table weighting same = sym (ap₂ (λ x y. level_list x w (chars y) level) table same ∙ ap (λ x. level_list t x (chars text) level) weighting)
 
 pub each-init : goal.each-init
-each-init g c =
-    record {
-      first = omega arith;
-      last = (levels-within c.args.s.strength).0;
-      holds = c.new-reading.ensures.holds;
-      size = c.new-reading.ensures.size;
-      sending = IsSending-start _ _ _ _ (sym (sort_key-levels c.args.t.now c.args.s (chars c.args.text.now)));
-    }
+each-init g c = grind (arith, common_steps, levels-within, IsSending-start, sort_key-levels)
 
 pub send_level-requires-clause-count : goal.send_level-requires-clause-count
 send_level-requires-clause-count g c =
-    let lists : ℕ → List ℕ = level_list c.args.t.now c.args.s.weighting (chars c.args.text.now) in
     let top : ℕ = levels c.args.s.strength in
     let same = own_list _ _ c.args.s.weighting _ _ _ c.each.level c.new-reading.ensures.table c.new-reading.ensures.weighting c.new-reading.ensures.text in
-    level-room _ _ _ _ _ top c.each.level lists c.each.invariant.sending _ same (2 ^ 128) c.requires.room
+    level-room _ _ _ _ _ top c.each.level _ c.each.invariant.sending _ same (2 ^ 128) c.requires.room
 
 pub returns-in-Err : goal.returns-in-Err
 returns-in-Err g c =
-    let lists : ℕ → List ℕ = level_list c.args.t.now c.args.s.weighting (chars c.args.text.now) in
     let top : ℕ = levels c.args.s.strength in
     let same = own_list _ _ c.args.s.weighting _ _ _ c.each.level c.new-reading.ensures.table c.new-reading.ensures.weighting c.new-reading.ensures.text in
-    level-stops _ _ _ _ _ top c.each.level lists c.each.invariant.sending _ same _ _ c.in-Err.ensures.bytes
+    level-stops _ _ _ _ _ top c.each.level _ c.each.invariant.sending _ same _ _ c.in-Err.ensures.bytes
 
 pub returns-then-level-last : goal.returns-then-level-last
 returns-then-level-last g c =
-    let lists : ℕ → List ℕ = level_list c.args.t.now c.args.s.weighting (chars c.args.text.now) in
     let top : ℕ = levels c.args.s.strength in
     let same = own_list _ _ c.args.s.weighting _ _ _ c.each.level c.new-reading.ensures.table c.new-reading.ensures.weighting c.new-reading.ensures.text in
-    let one = level-sent _ _ _ _ _ top c.each.level lists c.each.invariant.sending _ same _ _ c.in-Ok.ensures.bytes in
-    IsSending-ends _ _ _ _ _ _ one (tail-none top c.each.level lists (omega (arith, c.levels-last.ensures, c.if-level-last.true)))
+    let one = level-sent _ _ _ _ _ top c.each.level _ c.each.invariant.sending _ same _ _ c.in-Ok.ensures.bytes in
+    IsSending-ends _ _ _ _ _ _ one (tail-none top c.each.level _ (omega (arith, c.levels-last.ensures, c.if-level-last.true)))
 
 pub send_separator-requires : goal.send_separator-requires
 send_separator-requires g c =
-    let lists : ℕ → List ℕ = level_list c.args.t.now c.args.s.weighting (chars c.args.text.now) in
     let top : ℕ = levels c.args.s.strength in
     let same = own_list _ _ c.args.s.weighting _ _ _ c.each.level c.new-reading.ensures.table c.new-reading.ensures.weighting c.new-reading.ensures.text in
-    let one = level-sent _ _ _ _ _ top c.each.level lists c.each.invariant.sending _ same _ _ c.in-Ok.ensures.bytes in
-    let later = tail-later top c.each.level lists (omega (arith, c.each.invariant.last, c.levels-last.ensures, c.if-level-last.false)) in
+    let one = level-sent _ _ _ _ _ top c.each.level _ c.each.invariant.sending _ same _ _ c.in-Ok.ensures.bytes in
+    let later = tail-later top c.each.level _ (omega (arith, c.each.invariant.last, c.levels-last.ensures, c.if-level-last.false)) in
     IsSending-room _ _ _ _ _ _ one (0 ∷ 0 ∷ []) _ (2 ^ 128) later c.requires.room
 
 pub returns-in-Err-send_separator : goal.returns-in-Err-send_separator
 returns-in-Err-send_separator g c =
-    let lists : ℕ → List ℕ = level_list c.args.t.now c.args.s.weighting (chars c.args.text.now) in
     let top : ℕ = levels c.args.s.strength in
     let same = own_list _ _ c.args.s.weighting _ _ _ c.each.level c.new-reading.ensures.table c.new-reading.ensures.weighting c.new-reading.ensures.text in
-    let one = level-sent _ _ _ _ _ top c.each.level lists c.each.invariant.sending _ same _ _ c.in-Ok.ensures.bytes in
-    let later = tail-later top c.each.level lists (omega (arith, c.each.invariant.last, c.levels-last.ensures, c.if-level-last.false)) in
+    let one = level-sent _ _ _ _ _ top c.each.level _ c.each.invariant.sending _ same _ _ c.in-Ok.ensures.bytes in
+    let later = tail-later top c.each.level _ (omega (arith, c.each.invariant.last, c.levels-last.ensures, c.if-level-last.false)) in
     IsSending-stops _ _ _ _ _ _ one _ (0 ∷ 0 ∷ []) _ _ later c.in-Err-send_separator.ensures
 
 pub each-preserved : goal.each-preserved
 each-preserved g c =
-    let lists : ℕ → List ℕ = level_list c.args.t.now c.args.s.weighting (chars c.args.text.now) in
     let top : ℕ = levels c.args.s.strength in
     let same = own_list _ _ c.args.s.weighting _ _ _ c.each.level c.new-reading.ensures.table c.new-reading.ensures.weighting c.new-reading.ensures.text in
-    let one = level-sent _ _ _ _ _ top c.each.level lists c.each.invariant.sending _ same _ _ c.in-Ok.ensures.bytes in
-    let later = tail-later top c.each.level lists (omega (arith, c.each.invariant.last, c.levels-last.ensures, c.if-level-last.false)) in
+    let one = level-sent _ _ _ _ _ top c.each.level _ c.each.invariant.sending _ same _ _ c.in-Ok.ensures.bytes in
+    let later = tail-later top c.each.level _ (omega (arith, c.each.invariant.last, c.levels-last.ensures, c.if-level-last.false)) in
     record {
       first = omega arith;
       last = omega (arith, c.each.invariant.last, c.levels-last.ensures, c.if-level-last.false);

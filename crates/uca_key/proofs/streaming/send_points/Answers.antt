@@ -1,18 +1,12 @@
-use Rattle.std.proofs.Common.{refl, flat_map, ap, ◌∙◌}
+use Rattle.std.proofs.Common.{arith, flat_map, ap, ◌∙◌}
 use Rattle.uca_model.specs.SortKey.{code_point_bytes}
-use Rattle.uca_model.specs.Source.{unread}
-use Rattle.uca_model.specs.Window.{WindowState, rest_of}
 use Rattle.uca_levels.proofs.ReadsLemmas.{given_some, given_none}
 use Rattle.uca_key.proofs.KeyPieces.{IsSending-start, IsSending-room, IsSending-more, IsSending-stops, IsSending-ends, none_from}
 use Rattle.uca_key.proofs.streaming.send_points.Goals as goal
+use Rattle.std.proofs.lemmas.Grind.{common_steps}
 
 pub each-init : goal.each-init
-each-init g c =
-    record {
-      text = refl;
-      fits = c.new-points.ensures.fits (unread (g.S.Source.state c.args.source.now)) c.requires.safe;
-      sending = IsSending-start _ _ _ _ (ap (λ (w : WindowState). flat_map code_point_bytes (rest_of w (unread (g.S.Source.state c.args.source.now)))) c.new-points.ensures.value);
-    }
+each-init g c = grind (arith, common_steps, IsSending-start)
 
 pub send_point-requires : goal.send_point-requires
 send_point-requires g c =
@@ -34,6 +28,4 @@ returns-in-Err-clause-bytes g c =
     IsSending-stops _ _ _ _ _ _ c.each.invariant.sending _ (code_point_bytes c.in-Some.point) _ _ (ap (flat_map code_point_bytes) first) c.in-Err.ensures
 
 pub returns-clause-bytes : goal.returns-clause-bytes
-returns-clause-bytes g c =
-    let last = given_none _ _ c.next.result c.next.ensures.yields.first (none_from c.next.result c.in_default.not-Some) in
-    IsSending-ends _ _ _ _ _ _ c.each.invariant.sending (ap (flat_map code_point_bytes) last.0)
+returns-clause-bytes g c = grind (arith, common_steps, given_none, none_from, IsSending-ends)

@@ -2,11 +2,10 @@ use Rattle.std.proofs.Common.{◌∙◌, List, ℕ, arith, subst, sym}
 use Rattle.uca_key.specs.Placing.{StaysBeyond}
 use Rattle.uca_key.proofs.PlacingLemmas.{beyond-more, stays-beyond}
 use Rattle.uca_key.proofs.weight_bytes.put_each.Goals as goal
+use Rattle.std.proofs.lemmas.Grind.{common_steps}
 
 pub each-init : goal.each-init
-each-init c =
-    let start = c.put_start-step.ensures in
-    record { window = start.window; within = start.within; some = start.some; stays = stays-beyond _ _ _ _ start.stays; size = start.size; same = start.bytes }
+each-init c = grind (arith, common_steps, stays-beyond)
 
 pub each-preserved : goal.each-preserved
 each-preserved c =

@@ -1,12 +1,9 @@
-use Rattle.std.proofs.Common.{◌<◌, ◌++◌, ◌∷◌, List, ℕ, [], ap, ◌∙◌, arith, append-nil, length, refl, take}
-use Rattle.std.proofs.lemmas.List.{length-set, take_more_set}
-use Rattle.uca_weights.specs.VariableWeighting.{weighted}
+use Rattle.std.proofs.Common.{◌++◌, ◌∷◌, List, ℕ, [], ap, ◌∙◌, append-nil, refl}
 use Rattle.uca_model.specs.LevelWeights.{level_weights}
 use Rattle.uca_key.specs.PrimaryCode.{primary_level, start}
 use Rattle.uca_key.specs.Reach.{state_of}
 use Rattle.uca_key.specs.Weighing.{all_own}
-use Rattle.uca_key.proofs.PlacingLemmas.{IsPutting-start, IsPutting-more, IsPutting-ends, IsPutting-fitted, beyond-set}
-use Rattle.uca_key.proofs.WeighingLemmas.{first_weights-own}
+use Rattle.uca_key.proofs.PlacingLemmas.{IsPutting-start, IsPutting-more, IsPutting-ends}
 use Rattle.uca_key.proofs.weight_bytes.put_in_pieces.Goals as goal
 
 pub returns : goal.returns

@@ -1,4 +1,4 @@
-use Rattle.std.proofs.Common.{◌≡◌, ◌+◌, ◌<◌, ◌∷◌, ◌++◌, [], ◌∙◌, List, ℕ, ap, arith, get_or, inl, inr, length, length-append, subst, sym}
+use Rattle.std.proofs.Common.{◌≡◌, ◌+◌, ◌<◌, ◌∷◌, ◌++◌, [], ◌∙◌, List, ℕ, ap, arith, get_or, length, length-append}
 use Rattle.std.proofs.lemmas.Bool.{cases_lt}
 use Rattle.std.proofs.lemmas.Grind.{common_steps}
 use Rattle.uca_key.specs.WeightCodes.{IsWindow}
@@ -7,15 +7,7 @@ use Rattle.uca_key.proofs.windows.windows_of.Goals as goal
 
 -- a window more
 more : (P : ℕ → Window → Type 0) (n : ℕ) (w : Window) (items after : List Window) → length items ≡ n → after ≡ items ++ w ∷ [] → ((i : ℕ) (d : Window) → i < n → P i (get_or items i d)) → P n w → (i : ℕ) (d : Window) → i < n + 1 → P i (get_or after i d)
-more P n w items after size made each last i d within = elim (cases_lt i n) [
-  | inl before ↦
-      let same : get_or after i d ≡ get_or items i d = grind (arith, common_steps) in
-      subst (P i) (sym same) (each i d before)
-  | inr at ↦
-      let here : i ≡ n = omega arith in
-      let same : get_or after i d ≡ w = grind (arith, common_steps) in
-      subst (P i) (sym same) (subst (λ m. P m w) (sym here) last)
-]
+more P n w items after size made each last i d within = grind (arith, common_steps, cases_lt)
 
 pub loop-base-preserved : goal.loop-base-preserved
 loop-base-preserved c =
@@ -28,13 +20,4 @@ loop-base-preserved c =
     }
 
 pub returns : goal.returns
-returns c =
-    let i = c.loop-base.invariant in let k = c.args.codes.now in
-    let same : length c.anchors-base-items.result.now ≡ length k.anchors = ap length c.anchors-base-items.ensures.same in
-    let all : c.loop-base.base-index ≡ length k.anchors = omega (arith, c.loop-base.auto, c.loop-base-test.false, same) in
-    record {
-      size = i.size ∙ all;
-      some = omega (arith, i.size, all, same, c.anchors-base-items.ensures.number);
-      base = λ n d within. i.base n d (omega (arith, i.size));
-      each = λ n d within. i.each n d (omega (arith, i.size));
-    }
+returns c = grind (arith, common_steps)

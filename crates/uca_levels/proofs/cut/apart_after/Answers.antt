@@ -1,8 +1,9 @@
-use Rattle.std.proofs.Common.{chars, refl, subst, ap, ◌-◌, arith}
+use Rattle.std.proofs.Common.{chars, refl, subst, ap, arith}
 use Rattle.uca_levels.specs.WithoutFront.{IsApart}
 use Rattle.uca_levels.proofs.CommonFront.{common-fewer}
 use Rattle.uca_levels.proofs.WithoutFront.{left-at}
 use Rattle.uca_levels.proofs.cut.apart_after.Goals as goal
+use Rattle.std.proofs.lemmas.Grind.{common_steps}
 
 pub returns-then-is_apart-2 : goal.returns-then-is_apart-2
 returns-then-is_apart-2 c =
@@ -13,4 +14,4 @@ returns-then-is_apart-2 c =
     (subst (λ f. IsApart c.args.t.now f x) front (c.if-is_apart.ensures refl)) (subst (λ f. IsApart c.args.t.now f y) front (c.if-is_apart-2.ensures refl))
 
 pub back-preserved : goal.back-preserved
-back-preserved c = common-fewer c.args.a.now c.args.b.now c.back.at (c.back.at - 1) (omega arith) c.back.invariant
+back-preserved c = grind (arith, common_steps, common-fewer)

@@ -20,13 +20,11 @@ returns-then-next-last c =
 
 pub each-preserved : goal.each-preserved
 each-preserved c =
-    let a = c.args.a.now in
-    let b = c.args.b.now in
     let all : c.common_in_blocks-common.result ≡ 8 + 8 = omega (arith, c.if-common.false, c.common_in_blocks-common.ensures.within) in
-    let both = common-in-second 8 a b c.each.at c.min-next.result c.common_in_blocks-common.result (c.min-next.result + 8) c.each.invariant.in_a c.each.invariant.in_b c.each.invariant.same
+    let both = common-in-second 8 _ _ c.each.at c.min-next.result c.common_in_blocks-common.result (c.min-next.result + 8) c.each.invariant.in_a c.each.invariant.in_b c.each.invariant.same
     (omega (arith, c.min-next.ensures)) (omega (arith, all)) c.common_in_blocks-common.ensures.within (omega (arith, all)) c.common_in_blocks-common.ensures.same in
     record {
       in_a = omega (arith, c.min-at.ensures, c.min-last.ensures, c.requires.in_a, c.requires.in_b);
       in_b = omega (arith, c.min-at.ensures, c.min-last.ensures, c.requires.in_a, c.requires.in_b);
-      same = common-fewer a b (c.min-next.result + 8) c.min-at.result (omega (arith, c.min-at.ensures)) both;
+      same = common-fewer _ _ (c.min-next.result + 8) c.min-at.result (omega (arith, c.min-at.ensures)) both;
     }

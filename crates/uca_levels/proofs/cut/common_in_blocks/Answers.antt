@@ -27,9 +27,8 @@ in-blocks first second a b xs ys first_in_a first_in_b second_in_a second_in_b a
 
 pub returns-then-differ-eq0 : goal.returns-then-differ-eq0
 returns-then-differ-eq0 c =
-    let m : ℕ = differing c.two_blocks.result c.two_blocks-2.result in
     let h = in-blocks c.args.first c.args.second c.args.a.now c.args.b.now _ _ c.requires.first_in_a c.requires.first_in_b c.requires.second_in_a c.requires.second_in_b c.two_blocks.ensures c.two_blocks-2.ensures in
-    let all : common c.two_blocks.result c.two_blocks-2.result ≡ 16 = cond-true (eqb m 0) _ _ (eq-eqb m 0 c.if-differ-eq0.true) in
+    let all : common c.two_blocks.result c.two_blocks-2.result ≡ 16 = cond-true (eqb _ 0) _ _ (eq-eqb _ 0 c.if-differ-eq0.true) in
     record {
       within = omega arith;
       same = subst (λ k. take k (blocks c.args.first c.args.second c.args.a.now) ≡ take k (blocks c.args.first c.args.second c.args.b.now)) all h.1;
@@ -37,9 +36,8 @@ returns-then-differ-eq0 c =
 
 pub returns-else-differ-eq0 : goal.returns-else-differ-eq0
 returns-else-differ-eq0 c =
-    let m : ℕ = differing c.two_blocks.result c.two_blocks-2.result in
     let h = in-blocks c.args.first c.args.second c.args.a.now c.args.b.now _ _ c.requires.first_in_a c.requires.first_in_b c.requires.second_in_a c.requires.second_in_b c.two_blocks.ensures c.two_blocks-2.ensures in
-    let first : common c.two_blocks.result c.two_blocks-2.result ≡ count_trailing_zeros 64 m = cond-false (eqb m 0) _ _ (ne_eqb m 0 c.if-differ-eq0.false) in
+    let first : common c.two_blocks.result c.two_blocks-2.result ≡ count_trailing_zeros 64 _ = cond-false (eqb _ 0) _ _ (ne_eqb _ 0 c.if-differ-eq0.false) in
     record {
       within = subst (λ k. k ≤ 16) first h.0;
       same = subst (λ k. take k (blocks c.args.first c.args.second c.args.a.now) ≡ take k (blocks c.args.first c.args.second c.args.b.now)) first h.1;

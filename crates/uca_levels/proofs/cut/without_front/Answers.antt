@@ -1,8 +1,9 @@
-use Rattle.std.proofs.Common.{refl, ◌-◌, arith}
+use Rattle.std.proofs.Common.{refl, arith}
 use Rattle.uca_levels.specs.WithoutFront.{MayFollow}
 use Rattle.uca_levels.proofs.CommonFront.{common-fewer}
 use Rattle.uca_levels.proofs.WithoutFront.{left-at}
 use Rattle.uca_levels.proofs.cut.without_front.Goals as goal
+use Rattle.std.proofs.lemmas.Grind.{common_steps}
 
 pub returns-then-may_follow-2 : goal.returns-then-may_follow-2
 returns-then-may_follow-2 c =
@@ -10,4 +11,4 @@ returns-then-may_follow-2 c =
     (c.if-may_follow.ensures refl) (c.if-may_follow-2.ensures refl)
 
 pub back-preserved : goal.back-preserved
-back-preserved c = common-fewer c.args.a.now c.args.b.now c.back.at (c.back.at - 1) (omega arith) c.back.invariant
+back-preserved c = grind (arith, common_steps, common-fewer)

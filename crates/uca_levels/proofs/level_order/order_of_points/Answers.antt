@@ -1,17 +1,7 @@
-use Rattle.std.proofs.Common.{ap, arith}
-use Rattle.uca_model.specs.Source.{unread}
-use Rattle.uca_model.specs.Window.{WindowState, rest_of}
-use Rattle.uca_levels.proofs.ReadsLemmas.{RestUnderWay-start, RestUnderWay-more, InStep-start}
+use Rattle.std.proofs.Common.{arith}
+use Rattle.uca_levels.proofs.ReadsLemmas.{RestUnderWay-more}
 use Rattle.uca_levels.proofs.StreamLemmas.{decides-whole, same-more, of-point}
 use Rattle.uca_levels.proofs.level_order.order_of_points.Goals as goal
-
-pub loop-order-init : goal.loop-order-init
-loop-order-init g c =
-    record {
-      left = RestUnderWay-start _ _ _ c.requires.safe_a c.new-one.ensures.value;
-      right = RestUnderWay-start _ _ _ c.requires.safe_b c.new-other.ensures.value;
-      lists = InStep-start _ _ _ _ (ap (λ (w : WindowState). rest_of w (unread (g.S.Source.state c.args.a.now))) c.new-one.ensures.value) (ap (λ (w : WindowState). rest_of w (unread (g.T.Source.state c.args.b.now))) c.new-other.ensures.value);
-    }
 
 pub loop-order-preserved : goal.loop-order-preserved
 loop-order-preserved g c =

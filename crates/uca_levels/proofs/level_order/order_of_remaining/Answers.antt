@@ -1,15 +1,7 @@
-use Rattle.std.proofs.Common.{refl, arith}
-use Rattle.uca_levels.proofs.ReadsLemmas.{ReadsOn-none, ReadsOn-more, InStep-start}
+use Rattle.std.proofs.Common.{arith}
+use Rattle.uca_levels.proofs.ReadsLemmas.{ReadsOn-more}
 use Rattle.uca_levels.proofs.StreamLemmas.{decides-whole, same-more, of-weight}
 use Rattle.uca_levels.proofs.level_order.order_of_remaining.Goals as goal
-
-pub loop-order-init : goal.loop-order-init
-loop-order-init g c =
-    record {
-      left = ReadsOn-none _ (g.S.Source.state c.args.a.now) c.requires.fits_a;
-      right = ReadsOn-none _ (g.T.Source.state c.args.b.now) c.requires.fits_b;
-      lists = InStep-start _ _ _ _ refl refl;
-    }
 
 pub loop-order-preserved : goal.loop-order-preserved
 loop-order-preserved g c =
@@ -21,8 +13,7 @@ loop-order-preserved g c =
 
 pub returns-in-Some-clause-order : goal.returns-in-Some-clause-order
 returns-in-Some-clause-order g c =
-    let level = c.args.left.now.level in
-    decides-whole level c.next-x.result c.next-y.result c.widened.result c.widened-in-loop-order.result c.in-Some.order _ _ _ _ _ _
+    decides-whole _ c.next-x.result c.next-y.result c.widened.result c.widened-in-loop-order.result c.in-Some.order _ _ _ _ _ _
     c.in-Some.ensures.some c.widened.ensures c.widened-in-loop-order.ensures (omega (arith, c.requires.last))
-    (of-weight level c.next-x.result c.next-x.ensures.weight) (of-weight level c.next-y.result c.next-y.ensures.weight)
+    (of-weight _ c.next-x.result c.next-x.ensures.weight) (of-weight _ c.next-y.result c.next-y.ensures.weight)
     c.loop-order.invariant.lists c.next-x.ensures.yields.first c.next-y.ensures.yields.first

@@ -1,6 +1,7 @@
 use Rattle.std.proofs.Common.{arith}
 use Rattle.uca_levels.proofs.StreamLemmas.{decides-whole, same-more}
 use Rattle.uca_levels.proofs.primaries.order_of_primaries.Goals as goal
+use Rattle.std.proofs.lemmas.Grind.{common_steps}
 
 pub returns-in-Some-decided-clause-order : goal.returns-in-Some-decided-clause-order
 returns-in-Some-decided-clause-order c =
@@ -9,9 +10,4 @@ returns-in-Some-decided-clause-order c =
     c.weights.invariant.2 c.in-Some.ensures.first c.in-Some-next_primary.ensures.first
 
 pub weights-preserved : goal.weights-preserved
-weights-preserved c = (
-  c.in-Some.ensures.safe,
-  c.in-Some-next_primary.ensures.safe,
-  same-more c.in-Some.x c.in-Some-next_primary.y c.widened.result c.widened-in-weights.result _ _ _ _ _ _ c.in_default-decided.ensures.none c.widened.ensures c.widened-in-weights.ensures
-      c.weights.invariant.2 c.in-Some.ensures.first c.in-Some-next_primary.ensures.first,
-)
+weights-preserved c = grind (arith, common_steps, same-more)

@@ -14,9 +14,7 @@ pub returns : goal.returns
 returns c =
     let t = c.args.t.now in
     let s = c.args.s in
-    let x : List ℕ = chars c.without_front.result.0.now in
-    let y : List ℕ = chars c.without_front.result.1.now in
-    let of_x : c.new-left.result.text ≡ x = ap (λ (w : SourceState). w.text) c.new-left.ensures.value ∙ ap chars c.of_safe.ensures in
-    let of_y : c.new-right.result.text ≡ y = ap (λ (w : SourceState). w.text) c.new-right.ensures.value ∙ ap chars c.of_safe-2.ensures in
+    let of_x : c.new-left.result.text ≡ _ = ap (λ (w : SourceState). w.text) c.new-left.ensures.value ∙ ap chars c.of_safe.ensures in
+    let of_y : c.new-right.result.text ≡ _ = ap (λ (w : SourceState). w.text) c.new-right.ensures.value ∙ ap chars c.of_safe-2.ensures in
     c.compare_sources.ensures.order ∙ ap₂ (λ (u v : List ℕ). key_order (sort_key t s u) (sort_key t s v)) of_x of_y
-    ∙ keys-left t s (chars c.args.a.now) (chars c.args.b.now) x y c.longest-longest.ensures.valid (scalars-text c.args.a.now c.utf8.a) (scalars-text c.args.b.now c.utf8.b) c.without_front.ensures
+    ∙ keys-left t s (chars c.args.a.now) (chars c.args.b.now) _ _ c.longest-longest.ensures.valid (scalars-text c.args.a.now c.utf8.a) (scalars-text c.args.b.now c.utf8.b) c.without_front.ensures

@@ -1,5 +1,4 @@
 use Rattle.std.proofs.Common.{◌≤◌, chars, sym, ◌∙◌, arith}
-use Rattle.std.specs.declared.cmp.Ordering.{Ordering}
 use Rattle.uca_weights.specs.Settings.{levels}
 use Rattle.uca_model.specs.LevelWeights.{level_list}
 use Rattle.uca_model.specs.DecidingLevel.{OrdersLevel}
@@ -11,43 +10,33 @@ use Rattle.uca_levels.proofs.text_order.order_by_weights.Goals as goal
 
 pub returns-then-is_ne : goal.returns-then-is_ne
 returns-then-is_ne c =
-    let o : Ordering = c.in_ok-order.order in
     let some : 1 ≤ levels c.args.s.strength = (levels-within c.args.s.strength).0 in
-    sym (decided-here c.args.t.now c.args.s (chars c.args.a.now) (chars c.args.b.now) 1 o (undecided-first c.args.t.now c.args.s (chars c.args.a.now) (chars c.args.b.now)) some c.in_ok-order.ensures (from_ne o (sym c.is_ne.ensures ∙ c.if-is_ne.true))).0
+    sym (decided-here c.args.t.now c.args.s (chars c.args.a.now) (chars c.args.b.now) 1 _ (undecided-first c.args.t.now c.args.s (chars c.args.a.now) (chars c.args.b.now)) some c.in_ok-order.ensures (from_ne _ (sym c.is_ne.ensures ∙ c.if-is_ne.true))).0
 
 pub each-init : goal.each-init
 each-init c =
-    let o : Ordering = c.in_ok-order.order in
     let some : 1 ≤ levels c.args.s.strength = (levels-within c.args.s.strength).0 in
     record {
       first = omega arith;
       last = omega (arith, some);
-      undecided = undecided-next c.args.t.now c.args.s (chars c.args.a.now) (chars c.args.b.now) 1 o (undecided-first c.args.t.now c.args.s (chars c.args.a.now) (chars c.args.b.now)) some c.in_ok-order.ensures (from_not_ne o (sym c.is_ne.ensures ∙ c.if-is_ne.false));
+      undecided = undecided-next c.args.t.now c.args.s (chars c.args.a.now) (chars c.args.b.now) 1 _ (undecided-first c.args.t.now c.args.s (chars c.args.a.now) (chars c.args.b.now)) some c.in_ok-order.ensures (from_not_ne _ (sym c.is_ne.ensures ∙ c.if-is_ne.false));
     }
 
 pub returns-then-is_ne-2 : goal.returns-then-is_ne-2
 returns-then-is_ne-2 c =
-    let t = c.args.t.now in
-    let a = chars c.args.a.now in
-    let b = chars c.args.b.now in
-    let o : Ordering = c.in_ok-order-2.order in
-    let orders : OrdersLevel c.each.level (level_list t c.args.s.weighting a c.each.level) (level_list t c.args.s.weighting b c.each.level) o =
-    orders-left t c.args.s.weighting a b (chars c.without_front.result.0.now) (chars c.without_front.result.1.now) c.each.level o c.longest-longest.ensures.valid c.without_front.ensures c.in_ok-order-2.ensures in
-    sym (decided-here t c.args.s a b c.each.level o c.each.invariant.undecided (omega (arith, c.each-test.true, c.levels-last.ensures)) orders (from_ne o (sym c.is_ne-in-each.ensures ∙ c.if-is_ne-2.true))).0
+    let orders : OrdersLevel c.each.level (level_list _ c.args.s.weighting _ c.each.level) (level_list _ c.args.s.weighting _ c.each.level) _ =
+    orders-left _ c.args.s.weighting _ _ (chars c.without_front.result.0.now) (chars c.without_front.result.1.now) c.each.level _ c.longest-longest.ensures.valid c.without_front.ensures c.in_ok-order-2.ensures in
+    sym (decided-here _ c.args.s _ _ c.each.level _ c.each.invariant.undecided (omega (arith, c.each-test.true, c.levels-last.ensures)) orders (from_ne _ (sym c.is_ne-in-each.ensures ∙ c.if-is_ne-2.true))).0
 
 pub each-preserved : goal.each-preserved
 each-preserved c =
-    let t = c.args.t.now in
-    let a = chars c.args.a.now in
-    let b = chars c.args.b.now in
-    let o : Ordering = c.in_ok-order-2.order in
     let inside : c.each.level ≤ levels c.args.s.strength = omega (arith, c.each-test.true, c.levels-last.ensures) in
-    let orders : OrdersLevel c.each.level (level_list t c.args.s.weighting a c.each.level) (level_list t c.args.s.weighting b c.each.level) o =
-    orders-left t c.args.s.weighting a b (chars c.without_front.result.0.now) (chars c.without_front.result.1.now) c.each.level o c.longest-longest.ensures.valid c.without_front.ensures c.in_ok-order-2.ensures in
+    let orders : OrdersLevel c.each.level (level_list _ c.args.s.weighting _ c.each.level) (level_list _ c.args.s.weighting _ c.each.level) _ =
+    orders-left _ c.args.s.weighting _ _ (chars c.without_front.result.0.now) (chars c.without_front.result.1.now) c.each.level _ c.longest-longest.ensures.valid c.without_front.ensures c.in_ok-order-2.ensures in
     record {
       first = omega (arith, c.each.invariant.first);
       last = omega (arith, inside);
-      undecided = undecided-next t c.args.s a b c.each.level o c.each.invariant.undecided inside orders (from_not_ne o (sym c.is_ne-in-each.ensures ∙ c.if-is_ne-2.false));
+      undecided = undecided-next _ c.args.s _ _ c.each.level _ c.each.invariant.undecided inside orders (from_not_ne _ (sym c.is_ne-in-each.ensures ∙ c.if-is_ne-2.false));
     }
 
 pub order_of_weights-requires-clause-safe_a : goal.order_of_weights-requires-clause-safe_a

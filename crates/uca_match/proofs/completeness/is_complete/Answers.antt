@@ -1,6 +1,7 @@
-use Rattle.std.proofs.Common.{chars, sym, ◌∙◌}
+use Rattle.std.proofs.Common.{arith, chars, sym, ◌∙◌}
 use Rattle.uca_match.proofs.CompletenessLemmas.{complete_stops, complete_goes_on, complete_none}
 use Rattle.uca_match.proofs.completeness.is_complete.Goals as goal
+use Rattle.std.proofs.lemmas.Grind.{common_steps}
 
 pub returns-in-Some-ends_complete : goal.returns-in-Some-ends_complete
 returns-in-Some-ends_complete c =
@@ -15,4 +16,4 @@ loop-front-preserved c = (
 )
 
 pub returns : goal.returns
-returns c = sym (complete_none c.args.t.now (chars c.loop-front.left.now) c.in_default.ensures.none) ∙ c.loop-front.invariant.1
+returns c = grind (arith, common_steps, complete_none)

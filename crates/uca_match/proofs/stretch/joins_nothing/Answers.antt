@@ -1,8 +1,9 @@
-use Rattle.std.proofs.Common.{ap, sym, ◌∙◌, inl, inr, chars}
+use Rattle.std.proofs.Common.{arith, sym, ◌∙◌, inr, chars}
 use Rattle.std.proofs.lemmas.List.{nil_from_length}
 use Rattle.std.proofs.lemmas.Str.{chars_past_char, chars-nil}
 use Rattle.std.specs.Str.Iter.{chars_rest}
 use Rattle.uca_match.proofs.stretch.joins_nothing.Goals as goal
+use Rattle.std.proofs.lemmas.Grind.{common_steps}
 
 pub returns-in-Some : goal.returns-in-Some
 returns-in-Some c = λ apart. inr (record {
@@ -13,4 +14,4 @@ returns-in-Some c = λ apart. inr (record {
 })
 
 pub returns-in-None : goal.returns-in-None
-returns-in-None c = λ _. inl (ap chars (sym c.chars.ensures.rest ∙ nil_from_length _ c.in-None.ensures.steps.0.0) ∙ chars-nil)
+returns-in-None c = grind (arith, common_steps, nil_from_length, chars-nil)

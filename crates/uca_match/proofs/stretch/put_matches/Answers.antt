@@ -1,17 +1,11 @@
 use Rattle.std.proofs.Common.{◌≡◌, ℕ, ◌+◌, ◌-◌, ◌++◌, length, take, drop, sym, ap, ◌∙◌, arith, take-take}
 use Rattle.std.proofs.lemmas.List.{length-drop, take_rest}
 use borrow.Rule.Slice.PartMut.{put_mid}
-use Rattle.uca_model.specs.Table.{elements_at}
 use Rattle.uca_model.specs.CollationElements.{elements}
 use Rattle.uca_table.proofs.MovedForward.{rewritten-length}
-use Rattle.uca_table.proofs.ElementLemmas.{elements-further, elements-done, match_again}
+use Rattle.uca_table.proofs.ElementLemmas.{elements-further, elements-done}
 use Rattle.uca_match.proofs.TextLemmas.{kept-before}
 use Rattle.uca_match.proofs.stretch.put_matches.Goals as goal
-
-pub put_match-requires-clause-found : goal.put_match-requires-clause-found
-put_match-requires-clause-found c =
-    let at : ℕ = c.matches.next in let n : ℕ = c.match_front-matched.result.len in
-    c.match_front-matched.ensures.elements ∙ ap (elements_at c.args.t.now) (sym (match_again c.matches.points c.match_front-matched.new.text at n (omega (arith, c.matches-test.true))))
 
 pub returns-in_default-clause-none : goal.returns-in_default-clause-none
 returns-in_default-clause-none c =

@@ -1,23 +1,17 @@
-use Rattle.std.proofs.Common.{◌≡◌, ◌-◌, ◌++◌, IsUtf8, chars, encode_utf8, length, take, sym, ap, subst, ◌∙◌, arith}
+use Rattle.std.proofs.Common.{◌≡◌, ◌-◌, ◌++◌, chars, encode_utf8, length, take, sym, ap, ◌∙◌, arith}
 use Rattle.std.proofs.lemmas.Str.{IsCharBoundary-from_drop}
-use Rattle.uca_window.specs.PassageSource.{StandsIn}
 use Rattle.uca_match.proofs.OneBackLemmas.{stands-back}
 use Rattle.uca_match.proofs.text_elements.one_back.Goals as goal
+use Rattle.std.proofs.lemmas.Grind.{common_steps}
 
 pub split_at-requires : goal.split_at-requires
-split_at-requires c = IsCharBoundary-from_drop c.args.text.now _ (omega arith) (subst IsUtf8 (sym c.requires.bytes) c.requires.utf8)
+split_at-requires c = grind (arith, common_steps, IsCharBoundary-from_drop)
 
 pub split_at-requires-2 : goal.split_at-requires-2
-split_at-requires-2 c =
-    let is : take (length c.args.text.now - length c.args.rest.now) c.args.text.now ≡ c.as_str.result.now ++ encode_utf8 c.in_ok-last.last =
-    sym c.split_at.ensures.front ∙ sym c.chars-read.ensures.rest ∙ c.in_ok-last.ensures.steps ∙ ap (λ l. l ++ encode_utf8 c.in_ok-last.last) (sym c.as_str.ensures) in
-    (stands-back c.args.text.now c.args.rest.now c.as_str.result.now c.in_ok-last.last c.requires c.utf8.text c.as_str.utf8 is).boundary
+split_at-requires-2 c = grind (arith, common_steps, encode_utf8, stands-back)
 
 pub returns-clause-stands : goal.returns-clause-stands
-returns-clause-stands c =
-    let is : take (length c.args.text.now - length c.args.rest.now) c.args.text.now ≡ c.as_str.result.now ++ encode_utf8 c.in_ok-last.last =
-    sym c.split_at.ensures.front ∙ sym c.chars-read.ensures.rest ∙ c.in_ok-last.ensures.steps ∙ ap (λ l. l ++ encode_utf8 c.in_ok-last.last) (sym c.as_str.ensures) in
-    subst (StandsIn c.args.text.now) (sym c.split_at-2.ensures.back) (stands-back c.args.text.now c.args.rest.now c.as_str.result.now c.in_ok-last.last c.requires c.utf8.text c.as_str.utf8 is).stands
+returns-clause-stands c = grind (arith, common_steps, encode_utf8, stands-back)
 
 pub returns-clause-back : goal.returns-clause-back
 returns-clause-back c =

@@ -12,6 +12,7 @@ use Rattle.uca_match.proofs.OneBackLemmas.{stands-safe}
 use Rattle.uca_window.specs.PassageSource.{StandsIn}
 use Rattle.uca_window.proofs.SourceLemmas.{stands_next}
 use Rattle.uca_match.proofs.text_elements.put_alone.Goals as goal
+use Rattle.std.proofs.lemmas.Grind.{common_steps}
 
 pub characters-preserved : goal.characters-preserved
 characters-preserved c =
@@ -45,4 +46,4 @@ characters-preserved c =
     }
 
 pub returns-in-Some-one_back-clause-safe : goal.returns-in-Some-one_back-clause-safe
-returns-in-Some-one_back-clause-safe c = stands-safe c.args.text.now c.in-Some-one_back.back.1.now c.in-Some-one_back.ensures.stands c.requires.safe
+returns-in-Some-one_back-clause-safe c = grind (arith, common_steps, stands-safe)

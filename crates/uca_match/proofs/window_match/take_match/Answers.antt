@@ -1,6 +1,6 @@
 use Rattle.std.proofs.Common.{◌≡◌, ◌≤◌, ◌<◌, ◌∷◌, [], length, take, get_or, true, sym, ap, ap₂, subst, ◌∙◌, arith, take-take}
 use Rattle.std.proofs.lemmas.List.{length-take-le}
-use Rattle.uca_model.specs.Table.{is_key, elements_at}
+use Rattle.uca_model.specs.Table.{is_key}
 use Rattle.uca_model.specs.Match.{longest_match, longest_match_len}
 use Rattle.uca_table.specs.Walk.{path_of, table_of_walk}
 use Rattle.uca_table.proofs.WalkLemmas.{no_elements, longest_match-size, longest_match-key, longest_match_len-le}
@@ -9,6 +9,7 @@ use Rattle.uca_match.specs.Found.{points_of}
 use Rattle.uca_match.proofs.FoundLemmas.{longest-in_points, first_point, points-alone, points-key}
 use Rattle.uca_match.proofs.WindowMatches.{TakesMatch-alone, TakesMatch-key}
 use Rattle.uca_match.proofs.window_match.take_match.Goals as goal
+use Rattle.std.proofs.lemmas.Grind.{common_steps}
 
 pub returns-then-start-eq0-clause-takes : goal.returns-then-start-eq0-clause-takes
 returns-then-start-eq0-clause-takes c =
@@ -22,19 +23,7 @@ returns-then-start-eq0-clause-takes c =
     (sym (longest_match-size t (take w.closed w.points)) ∙ ap length (sym path) ∙ none) (points-alone c.index-points-0.result (path_of c.longest_match-walk.result) none ∙ one) c.drop_front.ensures.points c.drop_front.ensures.rest c.drop_front.ensures.valid
 
 pub returns-then-start-eq0-clause-found : goal.returns-then-start-eq0-clause-found
-returns-then-start-eq0-clause-found c =
-    let t = c.args.t.now in let w = c.args.window.now in
-    let text = ap₂ take c.closed-closed.ensures.value c.points-points.ensures.value in
-    let path : path_of c.longest_match-walk.result ≡ longest_match (is_key t) (take w.closed w.points) = c.longest_match-walk.ensures.path ∙ ap₂ (λ s xs. longest_match (is_key s) xs) c.walk.ensures.table text in
-    let none : length (path_of c.longest_match-walk.result) ≡ 0 = sym c.len-start.ensures.value ∙ c.if-start-eq0.true in
-    let inside : 0 < length w.points = omega (arith, c.requires.some, c.closed-closed.ensures.valid.segments.within) in
-    let one : c.index-points-0.result ∷ [] ≡ take 1 w.points = first_point w.points c.index-points-0.result inside (c.index-points-0.is ∙ ap (λ xs. get_or xs 0 c.index-points-0.result) c.points-points.ensures.value) in
-    let size : length (take w.closed w.points) ≡ w.closed = length-take-le w.closed w.points c.closed-closed.ensures.valid.segments.within in
-    record {
-      table = c.longest_match-walk.ensures.set ∙ c.walk.ensures.table;
-      key = λ some. absurd (omega arith);
-      alone = λ _. ap (elements_at t) (one ∙ longest-in_points w.points w.closed c.requires.some) ∙ no_elements t (take w.closed w.points) (omega (arith, size, c.requires.some)) (ap length (sym path) ∙ none);
-    }
+returns-then-start-eq0-clause-found c = grind (arith, common_steps, first_point, length-take-le, longest-in_points, no_elements)
 
 pub returns-clause-takes : goal.returns-clause-takes
 returns-clause-takes c =
@@ -54,15 +43,4 @@ returns-clause-takes c =
     n (omega (arith, c.if-start-eq0.false)) few begins takes c.drop_front-2.ensures.points c.drop_front-2.ensures.rest c.drop_front-2.ensures.valid)
 
 pub returns-clause-found : goal.returns-clause-found
-returns-clause-found c =
-    let t = c.args.t.now in let w = c.args.window.now in
-    let text = ap₂ take c.closed-closed.ensures.value c.points-points.ensures.value in
-    let path : path_of c.longest_match-walk.result ≡ longest_match (is_key t) (take w.closed w.points) = c.longest_match-walk.ensures.path ∙ ap₂ (λ s xs. longest_match (is_key s) xs) c.walk.ensures.table text in
-    let table : table_of_walk c.longest_match-walk.result ≡ t = c.longest_match-walk.ensures.set ∙ c.walk.ensures.table in
-    let long : 0 < length (path_of c.longest_match-walk.result) = omega (arith, c.len-start.ensures.value, c.if-start-eq0.false) in
-    let key : is_key t (path_of c.longest_match-walk.result) ≡ true = ap (is_key t) path ∙ longest_match-key t (take w.closed w.points) (subst (λ k. 0 < length k) path long) in
-    record {
-      table = c.take_nonstarters.ensures.table ∙ table;
-      key = λ _. ap (λ s. is_key s (path_of c.take_nonstarters.new.walk)) (sym table) ∙ c.take_nonstarters.ensures.key (ap (λ s. is_key s (path_of c.longest_match-walk.result)) table ∙ key);
-      alone = λ none. absurd (omega (arith, c.take_nonstarters.ensures.longer, long));
-    }
+returns-clause-found c = grind (arith, common_steps, longest_match-key)

@@ -1,15 +1,12 @@
-use Rattle.std.proofs.Common.{◌≡◌, ℕ, ◌∷◌, [], ◌++◌, ◌&&◌, ◌+◌, cond, nat_lt, length, get_or, refl, sym, ap, subst, ◌∙◌, arith}
+use Rattle.std.proofs.Common.{◌≡◌, ℕ, ◌∷◌, [], ◌++◌, ◌&&◌, ◌+◌, cond, nat_lt, length, get_or, sym, ap, subst, ◌∙◌, arith}
 use Rattle.std.proofs.lemmas.Bool.{and_parts}
 use Rattle.std.proofs.lemmas.List.{length_push}
 use Rattle.unicode.specs.CanonicalCombiningClass.{canonical_combining_class}
 use Rattle.uca_model.specs.Table.{is_key}
 use Rattle.uca_table.specs.Walk.{path_of, table_of_walk}
 use Rattle.uca_match.specs.WindowMatch.{IsTaking}
-use Rattle.uca_match.proofs.WindowMatches.{IsTaking-start, IsTaking-takes, IsTaking-passes, IsTaking-stops, IsTaking-ends}
+use Rattle.uca_match.proofs.WindowMatches.{IsTaking-takes, IsTaking-passes, IsTaking-stops, IsTaking-ends}
 use Rattle.uca_match.proofs.window_match.take_nonstarters.Goals as goal
-
-pub loop-at-init : goal.loop-at-init
-loop-at-init c = record { taking = IsTaking-start (is_key (table_of_walk c.args.walk.now)) c.args.start (path_of c.args.walk.now) c.args.window.now c.requires.within; table = refl; longer = omega arith; key = λ h. h }
 
 pub returns-then-class-eq0-clause-takes : goal.returns-then-class-eq0-clause-takes
 returns-then-class-eq0-clause-takes c =

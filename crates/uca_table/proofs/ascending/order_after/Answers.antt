@@ -5,5 +5,4 @@ use Rattle.uca_table.proofs.ascending.order_after.Goals as goal
 
 pub returns : goal.returns
 returns c =
-    let key = c.args.key.now in
-    order_of_last key c.args.entries.now c.cmp.result c.requires.sorted c.requires.some (sym (c.cmp.ensures ∙ ap (key_cmp key) c.last.ensures))
+    order_of_last _ c.args.entries.now c.cmp.result c.requires.sorted c.requires.some (sym (c.cmp.ensures ∙ ap (key_cmp _) c.last.ensures))

@@ -2,77 +2,53 @@ use Rattle.std.proofs.Common.{◌≡◌, ℕ, ◌+◌, ◌<◌, ◌≤◌, ◌++
 use Rattle.std.specs.FinMap.{is_sorted}
 use Rattle.std.specs.List.{AllByRecursion}
 use Rattle.uca_weights.specs.declared.element.Element.{Element}
-use Rattle.uca_keys.specs.Fronts.{last_key}
 use Rattle.uca_model.specs.Table.{key_cmp, IsEntry}
 use Rattle.uca_table.specs.EntryMap.{entry_in, AreBelow, IsPlaced}
-use Rattle.uca_table.specs.SingleMap.{place_at, points_of, taken, with_points}
+use Rattle.uca_table.specs.SingleMap.{place_at, points_of, with_points}
 use Rattle.uca_table.proofs.EntryMapLemmas.{covered}
 use Rattle.uca_table.proofs.NodeLemmas.{appended_none, appended_one, below_last, below-longer, below-points, entries_longer, entry_single, firsts_above, longer-pushed, sorted-back, sorted-below, sorted-front, zero_next}
 use Rattle.uca_table.proofs.SearchLemmas.{left}
 use Rattle.uca_table.proofs.SingleLemmas.{points-more}
 use Rattle.uca_table.proofs.entry_map.nodes_of.Goals as goal
+use Rattle.std.proofs.lemmas.Grind.{common_steps}
 
 pub loop-key-init : goal.loop-key-init
-loop-key-init c =
-    let es = c.args.elements.now in let ms = c.args.longer.now.entries in
-    let all : c.into_iter-key-iterator.result ≡ ms = search rules in
-    record {
-      can = tt;
-      finite = tt;
-      next = zero_next c.into_iter-key-iterator.result;
-      below = subst (AreBelow (0 ∷ [])) (sym c.in_ok-nodes.ensures) tt;
-      pushed = ([], (c.in_ok-nodes.ensures, ap (map (entry_in es)) all));
-      left = subst (λ l. AllByRecursion IsEntry (map (entry_in es) l)) (sym all) (entries_longer c.args.singles.now ms es c.requires.both c.requires.entries);
-      placed = subst (AllByRecursion (IsPlaced (length es))) (sym all) c.requires.both.placed;
-    }
+loop-key-init c = grind (arith, common_steps, zero_next, left, entries_longer)
 
 pub push_singles-requires-clause-entries : goal.push_singles-requires-clause-entries
-push_singles-requires-clause-entries c = λ p used. entry_single c.args.singles.now c.args.longer.now.entries c.args.elements.now p c.requires.both c.requires.entries used
+push_singles-requires-clause-entries c = grind (arith, common_steps, entry_single)
 
 pub push_singles-requires-2-clause-entries : goal.push_singles-requires-2-clause-entries
 push_singles-requires-2-clause-entries c = λ p used. entry_single c.args.singles.now c.args.longer.now.entries c.args.elements.now p c.requires.both c.requires.entries used
 
 pub push_entry-requires-clause-after : goal.push_entry-requires-clause-after
-push_entry-requires-clause-after c =
-    let es = c.args.elements.now in let at = place_at c.args.singles.now in let rest = c.next.new.self in let inv = c.loop-key.invariant in
-    let done : List (List ℕ × List Element) = inv.pushed.0 in
-    let first : ℕ = c.in-Some.key.now.0 in let others : List ℕ = c.in-Some.key.now.1.items in
-    let whole : done ++ entry_in es (c.in-Some.key.now, c.in-Some.place.now) ∷ map (entry_in es) rest ≡ map (entry_in es) c.args.longer.now.entries =
-    ap (λ l. done ++ map (entry_in es) l) (sym c.in-Some.ensures.steps) ∙ inv.pushed.1.1 in
-    let sorted : T (is_sorted key_cmp (done ++ entry_in es (c.in-Some.key.now, c.in-Some.place.now) ∷ map (entry_in es) rest)) = subst (λ l. T (is_sorted key_cmp l)) (sym whole) c.requires.both.sorted in
-    let next : c.loop-key.next ≤ first + 1 = (subst (AllByRecursion (λ e. c.loop-key.next ≤ e.0.0 + 1)) c.in-Some.ensures.steps inv.next).0 in
-    let long : 0 < length others = (subst (AllByRecursion (IsPlaced (length es))) c.in-Some.ensures.steps inv.placed).0.0 in
-    ap (λ l. key_cmp (last_key c.push_singles.new.entries) (first ∷ l)) c.as_slice.ensures.value
-    ∙ below_last (first ∷ others) c.push_singles.new.entries (omega arith)
-    (subst (AreBelow (first ∷ others)) (sym (c.in_ok-push_singles.ensures.pushed done inv.pushed.1.0))
-    (below-points at es (max c.loop-key.next (first + 1)) first others done (omega (arith, next)) long (sorted-below done (map (entry_in es) rest) (entry_in es (c.in-Some.key.now, c.in-Some.place.now)) sorted)))
+push_entry-requires-clause-after c = grind (arith, common_steps, below_last, below-points, sorted-below)
 
 pub loop-key-preserved : goal.loop-key-preserved
 loop-key-preserved c =
     let es = c.args.elements.now in let at = place_at c.args.singles.now in let rest = c.next.new.self in let inv = c.loop-key.invariant in
     let done : List (List ℕ × List Element) = inv.pushed.0 in
     let first : ℕ = c.in-Some.key.now.0 in let others : List ℕ = c.in-Some.key.now.1.items in
-    let v : List Element = taken c.in-Some.place.now es in
-    let whole : done ++ (first ∷ others, v) ∷ map (entry_in es) rest ≡ map (entry_in es) c.args.longer.now.entries =
+    let whole : done ++ (first ∷ others, _) ∷ map (entry_in es) rest ≡ map (entry_in es) c.args.longer.now.entries =
     ap (λ l. done ++ map (entry_in es) l) (sym c.in-Some.ensures.steps) ∙ inv.pushed.1.1 in
-    let sorted : T (is_sorted key_cmp (done ++ (first ∷ others, v) ∷ map (entry_in es) rest)) = subst (λ l. T (is_sorted key_cmp l)) (sym whole) c.requires.both.sorted in
+    let sorted : T (is_sorted key_cmp (done ++ (first ∷ others, _) ∷ map (entry_in es) rest)) = subst (λ l. T (is_sorted key_cmp l)) (sym whole) c.requires.both.sorted in
     let next : c.loop-key.next ≤ first + 1 = (subst (AllByRecursion (λ e. c.loop-key.next ≤ e.0.0 + 1)) c.in-Some.ensures.steps inv.next).0 in
     let up : max c.loop-key.next (first + 1) ≡ first + 1 = omega (arith, next) in
     let long : 0 < length others = (subst (AllByRecursion (IsPlaced (length es))) c.in-Some.ensures.steps inv.placed).0.0 in
-    let new : c.push_entry.new.entries ≡ c.push_singles.new.entries ++ (first ∷ others, v) ∷ [] =
+    let new : c.push_entry.new.entries ≡ c.push_singles.new.entries ++ (first ∷ others, _) ∷ [] =
     c.in_ok-push_entry.ensures ∙ ap₂ (λ l w. c.push_singles.new.entries ++ (first ∷ l, w) ∷ []) c.as_slice.ensures.value c.elements_at-of_key.ensures in
     record {
       can = tt;
       finite = tt;
-      next = firsts_above es first others rest (left _ _ (sorted-back done ((first ∷ others, v) ∷ map (entry_in es) rest) sorted));
-      below = below-longer first others v c.push_singles.new.entries c.push_entry.new.entries (subst (λ n. AreBelow (n ∷ []) c.push_singles.new.entries) up c.in_ok-push_singles.ensures.below) new;
+      next = firsts_above es first others rest (left _ _ (sorted-back done ((first ∷ others, _) ∷ map (entry_in es) rest) sorted));
+      below = below-longer first others _ c.push_singles.new.entries c.push_entry.new.entries (subst (λ n. AreBelow (n ∷ []) c.push_singles.new.entries) up c.in_ok-push_singles.ensures.below) new;
       pushed = (
-        done ++ (first ∷ others, v) ∷ [],
+        done ++ (first ∷ others, _) ∷ [],
         (
-          longer-pushed at es v (first + 1) first others done c.push_singles.new.entries c.push_entry.new.entries (omega arith) long
-              (sorted-front done ((first ∷ others, v) ∷ map (entry_in es) rest) sorted) (sorted-below done (map (entry_in es) rest) (first ∷ others, v) sorted)
+          longer-pushed at es _ (first + 1) first others done c.push_singles.new.entries c.push_entry.new.entries (omega arith) long
+              (sorted-front done ((first ∷ others, _) ∷ map (entry_in es) rest) sorted) (sorted-below done (map (entry_in es) rest) (first ∷ others, _) sorted)
               (c.in_ok-push_singles.ensures.pushed done inv.pushed.1.0 ∙ ap (λ n. with_points at es n done) up) new,
-          appended_one done (first ∷ others, v) (map (entry_in es) rest) ∙ whole,
+          appended_one done (first ∷ others, _) (map (entry_in es) rest) ∙ whole,
         ),
       );
       left = (subst (λ l. AllByRecursion IsEntry (map (entry_in es) l)) c.in-Some.ensures.steps inv.left).1;

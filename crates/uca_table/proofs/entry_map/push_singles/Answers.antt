@@ -1,6 +1,5 @@
-use Rattle.std.proofs.Common.{◌≡◌, ◌+◌, ◌/◌, ◌*◌, ◌≤◌, ◌∷◌, [], max, get_or, refl, sym, ap, subst, arith, ◌∙◌}
-use Rattle.uca_table.specs.EntryMap.{AreBelow}
-use Rattle.uca_table.specs.SingleMap.{is_used, place_at, with_points}
+use Rattle.std.proofs.Common.{◌≡◌, ◌+◌, ◌/◌, ◌*◌, ◌≤◌, get_or, refl, sym, ap, arith, ◌∙◌}
+use Rattle.uca_table.specs.SingleMap.{is_used, place_at}
 use Rattle.uca_table.proofs.EntryMapLemmas.{no_block}
 use Rattle.uca_table.proofs.NodeLemmas.{below-next}
 use Rattle.uca_table.proofs.SingleLemmas.{points-more}
@@ -21,13 +20,3 @@ loop-point-preserved c =
           let same : p / 128 ≡ old / 128 = omega (arith, above, below, near) in
           ap is_used (no_block m p c.requires.map (ap (λ b. get_or m.blocks.items b 0) same ∙ none_here))));
     }
-
-pub returns-clause-below : goal.returns-clause-below
-returns-clause-below c =
-    let done : c.loop-point.point ≡ max c.args.from c.args.end = omega (arith, c.loop-point.invariant.after, c.loop-point.invariant.within, c.loop-point-test.false) in
-    subst (λ n. AreBelow (n ∷ []) c.loop-point.entries) done c.loop-point.invariant.below
-
-pub returns-clause-pushed : goal.returns-clause-pushed
-returns-clause-pushed c = λ base is.
-    let done : c.loop-point.point ≡ max c.args.from c.args.end = omega (arith, c.loop-point.invariant.after, c.loop-point.invariant.within, c.loop-point-test.false) in
-    c.loop-point.invariant.pushed base is ∙ ap (λ n. with_points (place_at c.args.singles.now) c.args.elements.now n base) done

@@ -1,15 +1,14 @@
-use Rattle.std.proofs.Common.{◌≡◌, ◌+◌, ◌++◌, ◌∷◌, [], ◌&&◌, cond, nat_lt, ℕ, Bool, List, take, drop, get_or, sym, ap, ap₂, ◌∙◌, arith}
+use Rattle.std.proofs.Common.{◌≡◌, ◌+◌, ◌++◌, ◌∷◌, [], ◌&&◌, cond, nat_lt, ℕ, Bool, List, take, get_or, sym, ap, ap₂, ◌∙◌, arith}
 use Rattle.std.proofs.lemmas.List.{get_or_read}
 use Rattle.unicode.specs.CanonicalCombiningClass.{canonical_combining_class}
 use Rattle.uca_table.proofs.MovedForward.{brought-front}
 use Rattle.uca_table.proofs.MatchLemmas.{none_taken, IsExtending-takes, IsExtending-passes, IsExtending-stops, IsExtending-ends, IsExtending-as}
 use Rattle.uca_table.proofs.matching.extend.Goals as goal
 use Rattle.uca_table.proofs.matching.extend.Goals.{then-takes, else-takes}
+use Rattle.std.proofs.lemmas.Grind.{common_steps}
 
 pub returns-then-is_whole-clause-taken : goal.returns-then-is_whole-clause-taken
-returns-then-is_whole-clause-taken g c =
-    let is_key = g.P.Growing.is_key (g.P.Growing.set c.args.matched.now) in let front : List ℕ = take c.args.start c.args.text.now in
-    none_taken is_key front [] (drop c.args.start c.args.text.now) (λ x. ap (λ p. is_key (p ++ x ∷ [])) (sym c.requires.path) ∙ c.is_whole.ensures c.if-is_whole.true x)
+returns-then-is_whole-clause-taken g c = grind (arith, common_steps, none_taken)
 
 pub returns-then-class-eq0-clause-taken : goal.returns-then-class-eq0-clause-taken
 returns-then-class-eq0-clause-taken g c =

@@ -1,8 +1,9 @@
-use Rattle.std.proofs.Common.{◌≡◌, ◌+◌, ◌++◌, true, false, refl, sym, ap, subst, ◌∙◌, arith, encode_utf8, length, length-append}
+use Rattle.std.proofs.Common.{◌≡◌, ◌++◌, true, false, refl, sym, ap, ◌∙◌, arith, encode_utf8, length, length-append}
 use Rattle.std.specs.Str.Iter.{chars_rest}
-use Rattle.uca_window.specs.Scan.{Fits, ScannedTo}
+use Rattle.uca_window.specs.Scan.{Fits}
 use Rattle.uca_window.proofs.RunScan.{scanned_step, passed_next, not_safe, long_run_at, all_safe}
 use Rattle.uca_window.proofs.passage.count_marks.Goals as goal
+use Rattle.std.proofs.lemmas.Grind.{common_steps}
 
 pub returns-in_default-clause-end : goal.returns-in_default-clause-end
 returns-in_default-clause-end c =
@@ -10,9 +11,7 @@ returns-in_default-clause-end c =
     all_safe c.args.text.now c.marks.rest.now c.marks.run c.marks.invariant.1 c.utf8.text none
 
 pub returns-then-is_passed-clause-passed : goal.returns-then-is_passed-clause-passed
-returns-then-is_passed-clause-passed c =
-    let is : c.marks.rest.now ≡ encode_utf8 c.in-Some.c ++ chars_rest c.next.new.self = sym c.chars-characters.ensures.rest ∙ c.in-Some.ensures.steps.0 in
-    passed_next c.args.text.now c.marks.rest.now c.as_str.result.now c.marks.run c.in-Some.c c.marks.invariant.1 (is ∙ ap (λ bs. encode_utf8 c.in-Some.c ++ bs) (sym c.as_str.ensures)) (sym c.is_passed.ensures ∙ c.if-is_passed.true)
+returns-then-is_passed-clause-passed c = grind (arith, common_steps, encode_utf8, passed_next)
 
 pub returns-in_default-run_after_char-clause-refused : goal.returns-in_default-run_after_char-clause-refused
 returns-in_default-run_after_char-clause-refused c =
@@ -27,13 +26,4 @@ returns-in_default-run_after_char-clause-long c =
     long_run_at c.args.text.now c.marks.rest.now _ c.marks.run c.in-Some.c _ c.marks.invariant.1 c.utf8.text refl is unfit
 
 pub marks-preserved : goal.marks-preserved
-marks-preserved c =
-    let is : c.marks.rest.now ≡ encode_utf8 c.in-Some.c ++ chars_rest c.next.new.self = sym c.chars-characters.ensures.rest ∙ c.in-Some.ensures.steps.0 in
-    let count = c.in-Some-run_after_char.ensures.count in (
-      c.as_str-rest.utf8,
-      subst (λ more. ScannedTo c.args.text.now more c.in-Some-run_after_char.after) (sym c.as_str-rest.ensures)
-          (scanned_step c.args.text.now c.marks.rest.now (chars_rest c.next.new.self) c.marks.run c.in-Some.c _ c.marks.invariant.1 is (c.in-Some-run_after_char.ensures.fits.0 refl) count.0 count.1),
-      (let parts : length c.marks.rest.now ≡ length (encode_utf8 c.in-Some.c) + length (chars_rest c.next.new.self) = ap length is ∙ length-append (encode_utf8 c.in-Some.c) (chars_rest c.next.new.self) in
-          let left : length c.as_str-rest.result.now ≡ length (chars_rest c.next.new.self) = ap length c.as_str-rest.ensures in
-          omega (arith, c.marks.invariant.2)),
-    )
+marks-preserved c = grind (arith, common_steps, encode_utf8, scanned_step, length-append)

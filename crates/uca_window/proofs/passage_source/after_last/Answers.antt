@@ -10,23 +10,20 @@ split_at-requires c = IsCharBoundary-from_drop c.args.text.now _ (omega arith) (
 
 pub split_at-requires-2 : goal.split_at-requires-2
 split_at-requires-2 c =
-    let text = c.args.text.now in
-    let back : StepsBack text c.args.rest.now (chars_rest c.next_back-last.new.self) = steps_back text c.args.rest.now _ _ _ c.requires.stands c.requires.some (c.chars-front.ensures.rest ∙ c.split_at.ensures.front) c.next_back-last.ensures.steps in
-    let here : StepsBack text c.args.rest.now c.as_str.result.now = subst (StepsBack text c.args.rest.now) (sym c.as_str.ensures) back in
-    IsCharBoundary-from_take text _ c.utf8.text here.within (subst IsUtf8 (sym here.first) c.as_str.utf8)
+    let back : StepsBack _ c.args.rest.now (chars_rest c.next_back-last.new.self) = steps_back _ c.args.rest.now _ _ _ c.requires.stands c.requires.some (c.chars-front.ensures.rest ∙ c.split_at.ensures.front) c.next_back-last.ensures.steps in
+    let here : StepsBack _ c.args.rest.now c.as_str.result.now = subst (StepsBack _ c.args.rest.now) (sym c.as_str.ensures) back in
+    IsCharBoundary-from_take _ _ c.utf8.text here.within (subst IsUtf8 (sym here.first) c.as_str.utf8)
 
 pub returns-clause-stands : goal.returns-clause-stands
 returns-clause-stands c =
-    let text = c.args.text.now in
-    let back : StepsBack text c.args.rest.now (chars_rest c.next_back-last.new.self) = steps_back text c.args.rest.now _ _ _ c.requires.stands c.requires.some (c.chars-front.ensures.rest ∙ c.split_at.ensures.front) c.next_back-last.ensures.steps in
-    let here : StepsBack text c.args.rest.now c.as_str.result.now = subst (StepsBack text c.args.rest.now) (sym c.as_str.ensures) back in
-    let left : IsUtf8 (drop (length c.as_str.result.now) text) = IsUtf8-drop text _ c.utf8.text (IsCharBoundary-from_take text _ c.utf8.text here.within (subst IsUtf8 (sym here.first) c.as_str.utf8)) in
-    subst (StandsIn text) (sym (c.chars.ensures.rest ∙ c.split_at-2.ensures.back)) (stands_back text c.args.rest.now c.as_str.result.now here c.as_str.utf8 left)
+    let back : StepsBack _ c.args.rest.now (chars_rest c.next_back-last.new.self) = steps_back _ c.args.rest.now _ _ _ c.requires.stands c.requires.some (c.chars-front.ensures.rest ∙ c.split_at.ensures.front) c.next_back-last.ensures.steps in
+    let here : StepsBack _ c.args.rest.now c.as_str.result.now = subst (StepsBack _ c.args.rest.now) (sym c.as_str.ensures) back in
+    let left : IsUtf8 (drop (length c.as_str.result.now) _) = IsUtf8-drop _ _ c.utf8.text (IsCharBoundary-from_take _ _ c.utf8.text here.within (subst IsUtf8 (sym here.first) c.as_str.utf8)) in
+    subst (StandsIn _) (sym (c.chars.ensures.rest ∙ c.split_at-2.ensures.back)) (stands_back _ c.args.rest.now c.as_str.result.now here c.as_str.utf8 left)
 
 pub returns-clause-one_more : goal.returns-clause-one_more
 returns-clause-one_more c =
-    let text = c.args.text.now in
-    let back : StepsBack text c.args.rest.now (chars_rest c.next_back-last.new.self) = steps_back text c.args.rest.now _ _ _ c.requires.stands c.requires.some (c.chars-front.ensures.rest ∙ c.split_at.ensures.front) c.next_back-last.ensures.steps in
-    let here : StepsBack text c.args.rest.now c.as_str.result.now = subst (StepsBack text c.args.rest.now) (sym c.as_str.ensures) back in
-    let left : IsUtf8 (drop (length c.as_str.result.now) text) = IsUtf8-drop text _ c.utf8.text (IsCharBoundary-from_take text _ c.utf8.text here.within (subst IsUtf8 (sym here.first) c.as_str.utf8)) in
+    let back : StepsBack _ c.args.rest.now (chars_rest c.next_back-last.new.self) = steps_back _ c.args.rest.now _ _ _ c.requires.stands c.requires.some (c.chars-front.ensures.rest ∙ c.split_at.ensures.front) c.next_back-last.ensures.steps in
+    let here : StepsBack _ c.args.rest.now c.as_str.result.now = subst (StepsBack _ c.args.rest.now) (sym c.as_str.ensures) back in
+    let left : IsUtf8 (drop (length c.as_str.result.now) _) = IsUtf8-drop _ _ c.utf8.text (IsCharBoundary-from_take _ _ c.utf8.text here.within (subst IsUtf8 (sym here.first) c.as_str.utf8)) in
     ap (λ b. length (chars b)) (c.chars.ensures.rest ∙ c.split_at-2.ensures.back) ∙ here.one_more left

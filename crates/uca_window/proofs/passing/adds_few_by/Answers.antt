@@ -1,7 +1,6 @@
 use Rattle.std.proofs.Common.{◌≡◌, ◌≤◌, length, arith}
 use Rattle.std.proofs.lemmas.Simd.{length-chunk}
 use lib.Lanes.{chunk}
-use Rattle.uca_window.specs.Passing.{added_by}
 use Rattle.uca_window.proofs.AddedMarks.{added-step, added-end, added-few}
 use Rattle.uca_window.proofs.passing.adds_few_by.Goals as goal
 
@@ -9,7 +8,6 @@ pub overflow_add-count : goal.overflow_add-count
 overflow_add-count c =
     let v = chunk c.each.at 32 c.args.bytes.now in
     let size : length v ≡ 32 = length-chunk c.each.at 32 c.args.bytes.now (omega (arith, c.each.invariant.end, c.each.invariant.within)) in
-    let is : c.added_in-count.result ≡ added_by c.args.coarsely v = c.added_in-count.ensures in
     let few : c.each.count ≤ 57 = c.each.invariant.few in
     omega (arith, added-few c.args.coarsely v, few)
 

@@ -6,6 +6,5 @@ use Rattle.uca_window.proofs.passing.dense.Goals as goal
 
 pub returns : goal.returns
 returns c =
-    let v = c.args.block in
     let long = c.fits-block.0 in
-    masked _ is_dense v _ (omega arith) c.fits-block.1 (zip2_splat hit v 32 0xCD long) tt
+    masked _ is_dense _ _ (omega arith) c.fits-block.1 (zip2_splat hit _ 32 0xCD long) tt

@@ -6,6 +6,5 @@ use Rattle.uca_window.proofs.passing.high.Goals as goal
 
 pub returns : goal.returns
 returns c =
-    let v = c.args.block in
     let long = c.fits-block.0 in
-    masked _ is_high v _ (omega arith) c.fits-block.1 (zip2_splat_left at_most 0xBD 32 v long) tt
+    masked _ is_high _ _ (omega arith) c.fits-block.1 (zip2_splat_left at_most 0xBD 32 _ long) tt

@@ -6,6 +6,5 @@ use Rattle.uca_window.proofs.passing.of_pairs.Goals as goal
 
 pub returns : goal.returns
 returns c =
-    let v = c.args.block in
     let long = c.fits-block.0 in
-    masked _ is_of_pair v _ (omega arith) c.fits-block.1 (either _ _ v (zip2_splat hit v 32 0xCD long) (against below _ 2 32 v long (zip2_splat less v 32 0xBD long))) tt
+    masked _ is_of_pair _ _ (omega arith) c.fits-block.1 (either _ _ _ (zip2_splat hit _ 32 0xCD long) (against below _ 2 32 _ long (zip2_splat less _ 32 0xBD long))) tt

@@ -6,7 +6,6 @@ use Rattle.uca_window.proofs.passing.stops.Goals as goal
 
 pub returns : goal.returns
 returns c =
-    let v = c.args.block in
     let long = c.fits-block.0 in
-    masked _ is_stop v _ (omega arith) c.fits-block.1
-    (either _ _ v (either _ _ v (either _ _ v (either _ _ v (against below _ 2 32 v long (zip2_splat less v 32 0xCC long)) (zip2_splat hit v 32 0xD2 long)) (against below _ 14 32 v long (zip2_splat less v 32 0xD6 long))) (zip2_splat hit v 32 0xEA long)) (zip2_splat_left at_most 0xEE 32 v long)) tt
+    masked _ is_stop _ _ (omega arith) c.fits-block.1
+    (either _ _ _ (either _ _ _ (either _ _ _ (either _ _ _ (against below _ 2 32 _ long (zip2_splat less _ 32 0xCC long)) (zip2_splat hit _ 32 0xD2 long)) (against below _ 14 32 _ long (zip2_splat less _ 32 0xD6 long))) (zip2_splat hit _ 32 0xEA long)) (zip2_splat_left at_most 0xEE 32 _ long)) tt

@@ -1,21 +1,17 @@
-use Rattle.std.proofs.Common.{◌++◌, length, take_all, ap, sym, ◌∙◌, arith}
-use Rattle.unicode_normalization.specs.Order.{is_ordered, canonical_order}
+use Rattle.std.proofs.Common.{length, take_all, ap, ◌∙◌, arith}
+use Rattle.unicode_normalization.specs.Order.{is_ordered}
 use Rattle.unicode_normalization.proofs.OrderLemmas.{is_ordered-canonical_order}
 use Rattle.unicode_normalization.proofs.FormsLemmas.{class-latin}
 use Rattle.uca_window.proofs.RunScan.{latin_parts}
 use Rattle.uca_window.proofs.PlacedPoints.{order-more, order-none, length-ordered}
 use Rattle.uca_window.proofs.points.push_decomposed.Goals as goal
+use Rattle.std.proofs.lemmas.Grind.{common_steps}
 
 pub loop-point-init : goal.loop-point-init
 loop-point-init c = record { points = order-none c.args.points.now.items c.requires.ordered; segments = c.requires.segments }
 
 pub push_point-ends_at-requires-clause-room : goal.push_point-ends_at-requires-clause-room
-push_point-ends_at-requires-clause-room c =
-    omega (
-      arith,
-      length-ordered c.args.points.now.items c.decomposition-point-items.result.now c.loop-point.points.items c.loop-point.point-index (omega arith) c.loop-point.invariant.points,
-      ap length c.decomposition-point-items.ensures.value,
-    )
+push_point-ends_at-requires-clause-room c = grind (arith, common_steps, length-ordered)
 
 pub push_point-ends_at-requires-clause-ordered : goal.push_point-ends_at-requires-clause-ordered
 push_point-ends_at-requires-clause-ordered c = ap is_ordered c.loop-point.invariant.points ∙ is_ordered-canonical_order _
@@ -34,9 +30,7 @@ pub returns-clause-segments : goal.returns-clause-segments
 returns-clause-segments c = c.loop-point.invariant.segments
 
 pub returns-clause-points : goal.returns-clause-points
-returns-clause-points c =
-    c.loop-point.invariant.points
-    ∙ ap (λ l. canonical_order (c.args.points.now.items ++ l)) (take_all c.loop-point.point-index c.decomposition-point-items.result.now (omega arith) ∙ c.decomposition-point-items.ensures.value)
+returns-clause-points c = grind (arith, common_steps, take_all)
 
 pub push_starter-requires-clause-room : goal.push_starter-requires-clause-room
 push_starter-requires-clause-room c = omega (arith, ap length (latin_parts c.args.c c.if-c-lt-FIRST_DECOMPOSED.true), c.requires.room)
@@ -45,5 +39,4 @@ pub push_starter-requires-clause-starter : goal.push_starter-requires-clause-sta
 push_starter-requires-clause-starter c = class-latin c.args.c (omega (arith, c.if-c-lt-FIRST_DECOMPOSED.true))
 
 pub returns-then-c-lt-FIRST_DECOMPOSED-clause-points : goal.returns-then-c-lt-FIRST_DECOMPOSED-clause-points
-returns-then-c-lt-FIRST_DECOMPOSED-clause-points c =
-    c.push_starter.ensures.points ∙ ap (λ l. canonical_order (c.args.points.now.items ++ l)) (sym (latin_parts c.args.c c.if-c-lt-FIRST_DECOMPOSED.true))
+returns-then-c-lt-FIRST_DECOMPOSED-clause-points c = grind (arith, common_steps, latin_parts)

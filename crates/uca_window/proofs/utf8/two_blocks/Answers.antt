@@ -16,11 +16,10 @@ joined bytes first second i in_first in_second h =
 
 pub returns-clause-front : goal.returns-clause-front
 returns-clause-front c k h =
-    let bytes = c.args.bytes.now in
     let first = c.args.first in
     let second = c.args.second in
-    let inside : k < length (chunk first 8 bytes) = omega (arith, h, length-chunk first 8 bytes c.requires.in_first) in
-    joined bytes first second k c.requires.in_first c.requires.in_second (omega (arith, h)) ∙ get_or_append_left (chunk first 8 bytes) (chunk second 8 bytes) 0 k inside ∙ get_or-chunk first 8 bytes k 0 h
+    let inside : k < length (chunk first 8 _) = omega (arith, h, length-chunk first 8 _ c.requires.in_first) in
+    joined _ first second k c.requires.in_first c.requires.in_second (omega (arith, h)) ∙ get_or_append_left (chunk first 8 _) (chunk second 8 _) 0 k inside ∙ get_or-chunk first 8 _ k 0 h
 
 pub returns-clause-back : goal.returns-clause-back
 returns-clause-back c k h =

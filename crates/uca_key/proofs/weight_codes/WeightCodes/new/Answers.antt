@@ -4,12 +4,10 @@ use Rattle.uca_key.specs.PrimaryCode.{PrimaryCode, is_common, is_single}
 use Rattle.uca_key.specs.WeightCodes.{AreAny, AreCommons, AreNamed}
 use Rattle.uca_key.proofs.CodeSteps.{code-made}
 use Rattle.uca_key.proofs.weight_codes.WeightCodes.new.Goals as goal
+use Rattle.std.proofs.lemmas.Grind.{common_steps}
 
 pub returns : goal.returns
-returns c =
-    let singles = c.copy_from_slice.ensures.after ∙ c.as_slice.ensures.value ∙ c.in_ok-weights_of.ensures in
-    let anchors = c.copy_from_slice-2.ensures.after ∙ c.as_slice-2.ensures.value ∙ c.in_ok-weights_of-2.ensures in
-    code-made c.args.t.now c.in_ok-commons.commons.items c.copy_from_slice.new.self c.copy_from_slice-2.new.self c.in_ok-commons.ensures singles anchors
+returns c = grind (arith, common_steps, code-made)
 
 pub invariant_of-result : goal.invariant_of-result
 invariant_of-result c =

@@ -1,21 +1,16 @@
 use Rattle.std.proofs.Common.{◌≡◌, ◌+◌, ◌-◌, ◌≤◌, [], Some, length, get_or, take, drop, sym, ap, ap₂, subst, ◌∙◌, arith}
-use Rattle.std.specs.FinMap.{find}
-use Rattle.uca_model.specs.Table.{key_cmp}
 use Rattle.uca_keys.specs.declared.node.Node.{Node}
 use Rattle.uca_keys.specs.Nodes.{AreNext}
-use Rattle.uca_keys.specs.Paths.{TrieState, entries_of, path_at}
+use Rattle.uca_keys.specs.Paths.{TrieState}
 use Rattle.uca_keys.proofs.FindLemmas.{find_root, no_node, node_inside, node_with, node_without}
 use Rattle.uca_keys.proofs.trie.Trie.elements.Goals as goal
+use Rattle.std.proofs.lemmas.Grind.{common_steps}
 
 pub returns-then-node-eq0 : goal.returns-then-node-eq0
-returns-then-node-eq0 c =
-    let s : TrieState = c.args.self.now in
-    sym (ap (λ n. find key_cmp (path_at s n) (entries_of s)) c.if-node-eq0.true ∙ find_root s (subst (λ (r : TrieState). AreNext r.elements [] r.nodes) c.self.view_is c.self.invariant.0))
+returns-then-node-eq0 c = grind (arith, common_steps, find_root)
 
 pub returns-then-node-eq0-2 : goal.returns-then-node-eq0-2
-returns-then-node-eq0-2 c =
-    let s : TrieState = c.args.self.now in
-    sym (node_without s c.as_slice-nodes.result.now c.args.node.number (subst (λ (r : TrieState). AreNext r.elements [] r.nodes) c.self.view_is c.self.invariant.0) c.if-node-eq0.false c.requires (c.as_slice-nodes.ensures.value ∙ ap (λ (r : TrieState). r.nodes) c.self.view_is) c.if-node-eq0-2.true)
+returns-then-node-eq0-2 c = grind (arith, common_steps, node_without)
 
 pub slice_bounds-result-end : goal.slice_bounds-result-end
 slice_bounds-result-end c =

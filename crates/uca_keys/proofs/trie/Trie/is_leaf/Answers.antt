@@ -8,6 +8,5 @@ use Rattle.uca_keys.proofs.trie.Trie.is_leaf.Goals as goal
 
 pub returns : goal.returns
 returns c = λ leaf point.
-    let s : TrieState = c.args.self.now in
     let none : c.children_of.result.now ≡ [] = nil_from_length _ (search rules) in
-    leads_nowhere s c.children_of.result.now c.args.node.number point (subst (λ (r : TrieState). AreNext r.elements [] r.nodes) c.self.view_is c.self.invariant.0) c.requires c.children_of.ensures (subst (λ cs. LacksPoint cs point) (sym none) tt)
+    leads_nowhere _ c.children_of.result.now c.args.node.number point (subst (λ (r : TrieState). AreNext r.elements [] r.nodes) c.self.view_is c.self.invariant.0) c.requires c.children_of.ensures (subst (λ cs. LacksPoint cs point) (sym none) tt)

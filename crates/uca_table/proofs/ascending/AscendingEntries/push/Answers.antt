@@ -1,4 +1,4 @@
-use Rattle.std.proofs.Common.{◌≡◌, max, length, subst, sym, ap, ◌∙◌, rules}
+use Rattle.std.proofs.Common.{arith, ◌≡◌, max, length, subst, sym, ap, ◌∙◌, rules}
 use Rattle.std.specs.FinMap.{from_sorted, insert, put}
 use Rattle.std.specs.declared.cmp.Ordering.TheVariants.{Less, Equal, Greater}
 use Rattle.uca_model.specs.Table.{key_cmp, IsEntry}
@@ -8,9 +8,10 @@ use Rattle.uca_table.proofs.AscendingLemmas.{append_fault_within, put_last, AreA
 use Rattle.uca_table.proofs.KeyLemmas.{above_last}
 use Rattle.uca_table.proofs.PutLemmas.{longest-put}
 use Rattle.uca_table.proofs.ascending.AscendingEntries.push.Goals as goal
+use Rattle.std.proofs.lemmas.Grind.{common_steps}
 
 pub push-requires-clause-after : goal.push-requires-clause-after
-push-requires-clause-after c = above_last c.self.inside.entries c.args.key.now (search rules) (c.order_after.ensures.after c.in-Greater.is)
+push-requires-clause-after c = grind (arith, common_steps, above_last)
 
 pub invariant_of-self : goal.invariant_of-self
 invariant_of-self c =

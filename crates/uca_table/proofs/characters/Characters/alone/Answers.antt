@@ -1,19 +1,16 @@
 use Rattle.std.proofs.Common.{◌≡◌, ◌<◌, ◌≤◌, length, get_or, subst, arith}
 use Rattle.std.proofs.lemmas.List.{get_or_read}
-use Rattle.unicode_normalization.specs.Decompose.{decompose_canonical}
 use Rattle.uca_model.specs.StandAlone.{joining}
 use Rattle.uca_model.proofs.StandAloneLemmas.{joining-most}
 use Rattle.uca_table.specs.Cells.{IsCell}
 use Rattle.uca_table.proofs.CellLemmas.{alone-first, given-more}
 use Rattle.uca_table.proofs.characters.Characters.alone.Goals as goal
 use Rattle.uca_table.proofs.characters.Characters.alone.Goals.{After-elements_of, else-cell-lt2-via-then-cell-lt2+else-joining_at-cell, else-cell-lt2-via-else-cell-lt2}
+use Rattle.std.proofs.lemmas.Grind.{common_steps}
 
 -- the next character joins no more than the cell bears
 bears : (c : After-elements_of) → 1 < length c.args.text.now → joining c.args.self.now.table.now (get_or c.args.text.now 1 0) ≤ c.cell-cell.result.now.bearing
-bears c more = elim c.else-cell-lt2.branch [
-  | else-cell-lt2-via-then-cell-lt2+else-joining_at-cell w ↦ let joins : joining c.args.self.now.table.now (get_or c.args.text.now 1 0) ≤ w.joining_at.result = w.joining_at.ensures more in omega (arith, joins, w.if-joining_at-cell.false)
-  | else-cell-lt2-via-else-cell-lt2 w ↦ let most : joining c.args.self.now.table.now (get_or c.args.text.now 1 0) ≤ 2 = joining-most c.args.self.now.table.now (decompose_canonical (get_or c.args.text.now 1 0)) in omega (arith, most, w.if-cell-lt2.false)
-]
+bears c more = grind (arith, common_steps, else-cell-lt2-via-then-cell-lt2+else-joining_at-cell, else-cell-lt2-via-else-cell-lt2, joining-most)
 
 pub returns : goal.returns
 returns c =

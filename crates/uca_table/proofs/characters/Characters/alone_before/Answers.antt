@@ -16,9 +16,8 @@ bears c n x e = elim c.else-cell-lt2.branch [
 
 pub returns : goal.returns
 returns c =
-    let t = c.args.self.now.table.now in
-    let cell : IsCell t c.args.self.now.elements.now c.args.c c.cell-cell.result.now = c.cell-cell.ensures in
-    given-more c.elements_of.result c.elements_of.ensures (λ es own. alone-before t c.args.c (chars c.args.after.now) es.now c.cell-cell.result.now.bearing (own c.args.c cell) cell.bearing (bears c))
+    let cell : IsCell _ c.args.self.now.elements.now c.args.c c.cell-cell.result.now = c.cell-cell.ensures in
+    given-more c.elements_of.result c.elements_of.ensures (λ es own. alone-before _ c.args.c (chars c.args.after.now) es.now c.cell-cell.result.now.bearing (own c.args.c cell) cell.bearing (bears c))
 
 pub returns-then-cell-eq1 : goal.returns-then-cell-eq1
 returns-then-cell-eq1 c =

@@ -6,29 +6,19 @@ use Rattle.std.specs.Map.{lookup}
 use Rattle.uca_model.specs.Table.{key_cmp}
 use Rattle.uca_table.specs.declared.fault.InsertFault.TheVariants.{Repeated}
 use Rattle.uca_table.specs.Builder.{known_fault, reported_fault}
-use Rattle.uca_table.specs.EntryMap.{entries_in, pair_cmp}
-use Rattle.uca_table.specs.SingleMap.{is_used, place_at}
+use Rattle.uca_table.specs.EntryMap.{pair_cmp}
 use Rattle.uca_table.proofs.BuilderLemmas.{on_err}
 use Rattle.uca_table.proofs.EntryMapLemmas.{same_laid, one-inserted, one-are, more-inserted, more-are, key_is, key_one, known-one, known-more}
 use Rattle.uca_table.proofs.entry_map.EntryMap.insert.Goals as goal
+use Rattle.std.proofs.lemmas.Grind.{common_steps}
 
 -- ---- a key of one code point
 
 pub returns-in_err-insert-clause-err : goal.returns-in_err-insert-clause-err
-returns-in_err-insert-clause-err c =
-    let ms = c.self.inside.longer.entries in
-    on_err c.from_residual.result
-    (ap (entries_in c.insert.new.self ms) c.reserve.ensures.items
-    ∙ same_laid c.self.inside.singles c.insert.new.self ms c.self.inside.elements.items c.self.invariant c.insert.ensures.map c.in_err-insert.ensures.err
-    ∙ c.self.view_is)
+returns-in_err-insert-clause-err c = grind (arith, common_steps, on_err, same_laid)
 
 pub returns-in_err-insert-clause-fault : goal.returns-in_err-insert-clause-fault
-returns-in_err-insert-clause-fault c =
-    let key = c.args.key.now in let m = c.self.inside.singles in
-    let is : c.index-key-0.result ∷ [] ≡ key = key_one key c.index-key-0.result c.if-key-eq1.true c.index-key-0.is in
-    let known : known_fault c.args.self.now key ≡ cond (is_used (place_at m c.index-key-0.result)) (Some Repeated) None =
-    ap₂ (λ q xs. known_fault xs q) (sym is) (sym c.self.view_is) ∙ known-one m c.self.inside.longer.entries c.self.inside.elements.items c.index-key-0.result c.self.invariant in
-    subst (λ o. MatchResult c.from_residual.result (λ _. o ≡ None) (λ f. o ≡ reported_fault f)) (sym known) (search rules)
+returns-in_err-insert-clause-fault c = grind (arith, common_steps, key_one, known-one)
 
 pub invariant_of-self-then-key-eq1 : goal.invariant_of-self-then-key-eq1
 invariant_of-self-then-key-eq1 c =
@@ -47,10 +37,7 @@ returns-then-key-eq1-clause-ok c =
     ∙ ap₂ (λ q xs. put key_cmp q v xs) is c.self.view_is
 
 pub returns-then-key-eq1-clause-fault : goal.returns-then-key-eq1-clause-fault
-returns-then-key-eq1-clause-fault c =
-    let key = c.args.key.now in
-    let is : c.index-key-0.result ∷ [] ≡ key = key_one key c.index-key-0.result c.if-key-eq1.true c.index-key-0.is in
-    ap₂ (λ q xs. known_fault xs q) (sym is) (sym c.self.view_is) ∙ known-one c.self.inside.singles c.self.inside.longer.entries c.self.inside.elements.items c.index-key-0.result c.self.invariant ∙ c.in_ok-insert.ensures.fault
+returns-then-key-eq1-clause-fault c = grind (arith, common_steps, key_one, known-one)
 
 -- ---- a longer key
 

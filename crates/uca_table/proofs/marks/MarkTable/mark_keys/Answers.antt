@@ -1,7 +1,8 @@
-use Rattle.std.proofs.Common.{◌≡◌, ◌∷◌, ℕ, List, ap, sym, ◌∙◌}
+use Rattle.std.proofs.Common.{arith, ◌≡◌, ◌∷◌, ℕ, List, ap, sym, ◌∙◌}
 use Rattle.uca_table.proofs.MarkLemmas.{after-step, after-none}
 use Rattle.uca_table.specs.Marks.{marks_of}
 use Rattle.uca_table.proofs.marks.MarkTable.mark_keys.Goals as goal
+use Rattle.std.proofs.lemmas.Grind.{common_steps}
 
 pub entries-preserved : goal.entries-preserved
 entries-preserved c = record {
@@ -14,7 +15,4 @@ entries-preserved c = record {
 }
 
 pub returns : goal.returns
-returns c = (
-  c.entries.invariant.index,
-  λ p inside. after-none c.args.t.now (marks_of c.entries.self p) p c.entries.cursor.coming (c.in_default.ensures.0) (c.entries.invariant.marks p inside),
-)
+returns c = grind (arith, common_steps, after-none)

@@ -1,7 +1,8 @@
-use Rattle.std.proofs.Common.{ap, arith, ◌∙◌}
+use Rattle.std.proofs.Common.{arith}
 use Rattle.uca_table.proofs.MarkLemmas.{between-step, between-all}
-use Rattle.uca_table.specs.Marks.{between_marks, marks_of}
+use Rattle.uca_table.specs.Marks.{marks_of}
 use Rattle.uca_table.proofs.marks.MarkTable.mark_middles.Goals as goal
+use Rattle.std.proofs.lemmas.Grind.{common_steps}
 
 pub loop-at-preserved : goal.loop-at-preserved
 loop-at-preserved c = record {
@@ -14,6 +15,4 @@ loop-at-preserved c = record {
 }
 
 pub returns-clause-marks : goal.returns-clause-marks
-returns-clause-marks c = λ p inside.
-    c.loop-at.invariant.marks p inside
-    ∙ ap (between_marks (marks_of c.args.self.now p)) (between-all c.args.points.now c.loop-at.at p c.loop-at.invariant.some c.loop-at.invariant.within (omega (arith, c.loop-at-test.false)))
+returns-clause-marks c = grind (arith, common_steps, between-all)

@@ -2,11 +2,10 @@ use Rattle.std.proofs.Common.{◌≡◌, true, false, nat_le, nat_lt, get_or, le
 use Rattle.std.proofs.lemmas.Bool.Decides.{nat_tests}
 use Rattle.uca_table.proofs.RangeSearchLemmas.{found_there, found_none}
 use Rattle.uca_table.proofs.ranges.Ranges.range_of.Goals as goal
+use Rattle.std.proofs.lemmas.Grind.{common_steps}
 
 pub returns-in_err-range : goal.returns-in_err-range
-returns-in_err-range c =
-    let same : c.deref.result.now ≡ c.args.self.now = c.deref.ensures.value ∙ c.self.view_is in
-    c.from_residual.ensures ∙ sym (found_none c.args.self.now c.count_below.result c.args.c c.count_below.ensures (c.in_err-range.ensures.lookup.0 ∙ ap (λ rs. nat_lt c.count_below.result (length rs)) same))
+returns-in_err-range c = grind (arith, common_steps, found_none)
 
 pub returns-then-range-c : goal.returns-then-range-c
 returns-then-range-c c =

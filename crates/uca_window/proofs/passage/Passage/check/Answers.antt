@@ -1,4 +1,4 @@
-use Rattle.std.proofs.Common.{◌≡◌, true, false, ◌+◌, ◌≤◌, length, ap, subst, arith}
+use Rattle.std.proofs.Common.{◌≡◌, true, false, ◌+◌, ◌≤◌, subst, arith}
 use Rattle.std.specs.List.{count_by}
 use Rattle.uca_weights.specs.declared.limits.TheConstants.{MAX_RUN}
 use Rattle.uca_window.specs.Passing.{added_by, is_dense}
@@ -7,13 +7,11 @@ use Rattle.uca_window.proofs.passage.Passage.check.Goals as goal
 
 pub of_safe-requires : goal.of_safe-requires
 of_safe-requires c =
-    let size : length c.as_bytes-bytes.result.now ≡ length c.args.text.now = ap length c.as_bytes-bytes.ensures.value in
     short_safe c.args.text.now c.utf8.text (omega (arith, c.if-bytes-le-SHORT.true))
 
 pub of_safe-requires-then-none_dense : goal.of_safe-requires-then-none_dense
 of_safe-requires-then-none_dense c =
     let none = c.none_dense.ensures c.if-none_dense.true in
-    let size : length c.as_bytes-bytes.result.now ≡ length c.args.text.now = ap length c.as_bytes-bytes.ensures.value in
     medium_safe c.args.text.now c.utf8.text (subst (λ bs. count_by is_dense bs ≡ 0) c.as_bytes-bytes.ensures.value none) (omega (arith, c.if-bytes-le-MEDIUM.true))
 
 pub of_safe-requires-then-adds_few_coarsely : goal.of_safe-requires-then-adds_few_coarsely

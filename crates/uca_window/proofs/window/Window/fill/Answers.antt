@@ -1,7 +1,8 @@
-use Rattle.std.proofs.Common.{sym, subst, ◌∙◌, rules}
+use Rattle.std.proofs.Common.{arith, sym, subst, ◌∙◌, rules}
 use Rattle.uca_window.proofs.WindowCalls.{closed-end}
 use Rattle.uca_window.proofs.FillingLemmas.{IsFilling, IsFilling-read, IsFilling-holds, IsFilling-asked}
 use Rattle.uca_window.proofs.window.Window.fill.Goals as goal
+use Rattle.std.proofs.lemmas.Grind.{common_steps}
 
 pub loop-self-preserved : goal.loop-self-preserved
 loop-self-preserved g c =
@@ -11,8 +12,7 @@ loop-self-preserved g c =
     search rules
 
 pub returns-clause-enough : goal.returns-clause-enough
-returns-clause-enough g c =
-    λ few. closed-end c.loop-self.self _ c.wants.ensures.valid c.loop-self.invariant.reads.fits (sym c.wants.ensures.value ∙ c.loop-self-test.false) few
+returns-clause-enough g c = grind (arith, common_steps, closed-end)
 
 pub returns-clause-holds : goal.returns-clause-holds
 returns-clause-holds g c = IsFilling-holds _ _ c.loop-self.self _ c.loop-self.invariant.filling (sym c.wants.ensures.value ∙ c.loop-self-test.false)

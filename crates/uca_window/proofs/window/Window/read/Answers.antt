@@ -1,17 +1,13 @@
-use Rattle.std.proofs.Common.{◌≡◌, ◌<◌, ◌∷◌, false, Some, sym, subst, ap, ◌∙◌, arith}
+use Rattle.std.proofs.Common.{◌≡◌, ◌<◌, ◌∷◌, false, sym, subst, ap, ◌∙◌, arith}
 use Rattle.uca_model.specs.Source.{unread}
-use Rattle.uca_model.specs.Window.{Fits, ReadsOn, rest_of, is_wanting, after_read}
+use Rattle.uca_model.specs.Window.{Fits, ReadsOn, is_wanting}
 use Rattle.uca_window.proofs.FormLemmas.{ordered-IsInForm}
 use Rattle.uca_window.proofs.WindowCalls.{window_of, room_for, Steps-char, reads-char, rest-char, wants-few, after_read-char}
 use Rattle.uca_window.proofs.window.Window.read.Goals as goal
+use Rattle.std.proofs.lemmas.Grind.{common_steps}
 
 pub push_decomposed-self-inside-requires-clause-room : goal.push_decomposed-self-inside-requires-clause-room
-push_decomposed-self-inside-requires-clause-room g c =
-    let w = window_of c.self.inside.points.items c.self.inside.closed c.self.inside.longest c.self.inside.ended in
-    let given = c.in-Some.ensures in
-    let fits : Fits w (c.in-Some.c ∷ unread (g.S.Source.state c.next-given.new.self)) = subst (Fits w) given.value.0 (subst (λ v. Fits v (unread (g.S.Source.state c.args.source.now))) (sym c.self.view_is) c.requires.fits) in
-    let few : w.closed < w.longest = (wants-few w (ap is_wanting c.self.view_is ∙ c.requires.wants)).0 in
-    omega (arith, room_for w c.in-Some.c _ c.self.invariant fits few, c.self.invariant.longest.1)
+push_decomposed-self-inside-requires-clause-room g c = grind (arith, common_steps, window_of, wants-few, room_for)
 
 pub push_decomposed-self-inside-requires-clause-ordered : goal.push_decomposed-self-inside-requires-clause-ordered
 push_decomposed-self-inside-requires-clause-ordered g c = ordered-IsInForm _ c.self.invariant.form
@@ -38,12 +34,7 @@ returns-in-Some-clause-reads g c =
     (reads-char w _ _ c.in-Some.c _ _ c.self.invariant fits few runs c.in-Some.ensures c.push_decomposed-self-inside.ensures.points c.push_decomposed-self-inside.ensures.segments)
 
 pub returns-in-Some-clause-rest : goal.returns-in-Some-clause-rest
-returns-in-Some-clause-rest g c =
-    let w = window_of c.self.inside.points.items c.self.inside.closed c.self.inside.longest c.self.inside.ended in
-    rest-char w _ _ c.in-Some.c _ c.self.invariant c.in-Some.ensures c.push_decomposed-self-inside.ensures.points
-    ∙ ap (λ v. rest_of v (unread (g.S.Source.state c.args.source.now))) c.self.view_is
+returns-in-Some-clause-rest g c = grind (arith, common_steps, window_of, rest-char)
 
 pub returns-in-Some-clause-next : goal.returns-in-Some-clause-next
-returns-in-Some-clause-next g c =
-    let w = window_of c.self.inside.points.items c.self.inside.closed c.self.inside.longest c.self.inside.ended in
-    after_read-char w c.in-Some.c _ _ c.push_decomposed-self-inside.ensures.points c.push_decomposed-self-inside.ensures.segments ∙ ap (λ v. after_read v (Some c.in-Some.c)) c.self.view_is
+returns-in-Some-clause-next g c = grind (arith, common_steps, window_of, after_read-char)
