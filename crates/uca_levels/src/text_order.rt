@@ -69,9 +69,9 @@ fn order_of_weights(t: &Table, v: Variable, level: u8, a: &str, b: &str) -> Opti
     }
 }
 
-// The order of two texts at the first level, if it is not known. Both begin with bytes in common: it begins at the last place in them at
-// which both may be cut for their elements. `None`: many characters join each other. The letters of most scripts have one primary weight,
-// and most texts differ in one soon.
+// The order of two texts at the first level, if it is not known. It begins at the last place in the bytes that both begin with, if there
+// are any, at which both may be cut for their elements. `None`: many characters join each other. The letters of most scripts have one
+// primary weight, and most texts differ in one soon.
 #[inline(always)]
 fn order_at_first(
     t: &Table,
@@ -97,9 +97,9 @@ fn order_at_first(
     }
 }
 
-// The order of two texts at the first four levels, as many of them as there are. Both begin with bytes in common: the first level
-// begins at the last place in them at which both texts may be cut for their elements, and later levels at the last one at which they
-// may be cut for all weights. `None`: the fifth level is asked for, or many characters join each other.
+// The order of two texts at the first four levels, as many of them as there are. In the bytes that both begin with, the first level
+// begins at the last place at which both texts may be cut for their elements, and later levels at the last one at which they may be cut
+// for all weights. `None`: the fifth level is asked for, or many characters join each other.
 fn order_by_weights(
     t: &Table,
     s: Settings,
@@ -149,8 +149,8 @@ fn order_by_sources(t: &Table, s: Settings, a: &str, b: &str, common: usize) -> 
     compare_sources(t, s, &mut left, &mut right)
 }
 
-// The order of two texts that begin with bytes in common, if that at the first level is not known or they do not differ there. It is not
-// inlined, so that a comparison that ends at the first level does not pay for its stack frame.
+// The order of two texts, which may begin with bytes in common, if that at the first level is not known or they do not differ there. It
+// is not inlined, so that a comparison that ends at the first level does not pay for its stack frame.
 #[inline(never)]
 fn order_after(
     t: &Table,
