@@ -1,7 +1,5 @@
 pub mod LinesLemmas
-pub mod CommandLemmas
 pub mod SendingLemmas
-pub mod NoLines
 pub mod OrderingLemmas
 pub mod KeyFrontLemmas
 pub mod SortLemmas

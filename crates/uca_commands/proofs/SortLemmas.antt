@@ -1,103 +1,138 @@
 -- Lists that are sorted by keys, part by part.
-use Rattle.std.proofs.Common.{◌≡◌, ◌⊎◌, inl, inr, ℕ, ◌+◌, ◌-◌, ◌<◌, ◌≤◌, ◌==◌, Bool, true, false, cond, List, [], ◌∷◌, ◌++◌, length, get_or, map, filter, All, IsPermutation, is_lt, nat_le, refl, sym, ap, ap₂, ◌∙◌, arith, eqb-true}
-use Rattle.std.proofs.lemmas.Bool.{cases_Bool, eqb-false, leb-true, leb-false}
-use Rattle.std.proofs.lemmas.List.{get_or_append_left, get_or-append_right, length-append}
+use Rattle.std.proofs.Common.{◌≡◌, ◌⊎◌, inl, inr, ℕ, ◌+◌, ◌-◌, Bool, true, false, not, ◌&&◌, List, [], ◌∷◌, ◌++◌, length, get_or, map, filter, All, IsPermutation, is_lt, refl, sym, ap, ap₂, ◌∙◌, arith}
+use Rattle.std.proofs.lemmas.Bool.{cases_Bool, cases_lt}
+use Rattle.std.proofs.lemmas.Cmp.{nat_list_cmp_total, tied_itself}
+use Rattle.std.proofs.lemmas.List.{get_or_append_left, get_or-append_right, get_or-map, length-append, length-map}
 use Rattle.std.proofs.lemmas.List.Elements.{All-cons, All-head, All-nil, All-tail, All-get_or, All-weaker, filter-append}
-use Rattle.std.proofs.lemmas.List.Sorted.{All-permutation, IsPermutation-append, IsPermutation-trans}
-use Rattle.std.specs.List.Sorted.{IsSortedBy, IsStableByKey, ties}
+use Rattle.std.proofs.lemmas.List.Sorted.{All-permutation, IsPermutation-append, IsPermutation-map}
+use Rattle.std.proofs.lemmas.Map.Text.{is_eq-slice_cmp}
+use Rattle.std.proofs.lemmas.Slice.Eq.{bytes_eq-Decides}
+use Rattle.std.specs.Cmp.{IsTotalOrder}
+use Rattle.std.specs.declared.cmp.Ordering.{Ordering}
+use Rattle.std.specs.declared.cmp.Ordering.TheVariants.{Less, Equal, Greater}
+use Rattle.std.specs.List.Sorted.{IsSortedByKey, IsStableBy, IsStableByKey, ties}
+use Rattle.std.specs.Ordering.{is_eq, ordering_reverse}
 use Rattle.uca_model.specs.SortKey.{key_order}
 use Rattle.uca_commands.specs.LineSorting.{SortsByKey}
 
--- ---- lists of which one follows the other
+-- ---- keys that tie
 
-module _ {X : Type 0} (lt : X → X → Bool) (us vs : List X) where
-  -- nothing in vs is less than an element
-  abbrev pub IsBelow : X → Type 0
-  IsBelow a = All (λ b. lt b a ≡ false) vs
+-- neither is less than the other
+abbrev pub is_tie : Ordering → Ordering → Bool
+is_tie o r = not (is_lt o) && not (is_lt r)
 
-  sorted-append : IsSortedBy lt us → IsSortedBy lt vs → All IsBelow us → IsSortedBy lt (us ++ vs)
-  sorted-append up upper below k d low more =
-      let long : length (us ++ vs) ≡ length us + length vs = length-append us vs in
-      elim (cases_Bool (nat_le (k + 2) (length us))) [
-        | inl both ↦
-            let le : k + 2 ≤ length us = leb-true (k + 2) (length us) both in
-            ap₂ lt (get_or_append_left us vs d (k + 1) (omega arith)) (get_or_append_left us vs d k (omega arith)) ∙ up k d low (omega arith)
-        | inr few ↦
-            let gt : length us < k + 2 = leb-false (k + 2) (length us) few in
-            let next : get_or (us ++ vs) (k + 1) d ≡ get_or vs (k + 1 - length us) d = get_or-append_right us vs (length us) (k + 1) d refl (omega arith) in
-            elim (cases_Bool (k + 1 == length us)) [
-              | inl seam ↦
-                  let at : k + 1 ≡ length us = eqb-true (k + 1) (length us) seam in
-                  ap₂ lt next (get_or_append_left us vs d k (omega arith))
-                  ∙ All-get_or (λ b. lt b (get_or us k d) ≡ false) vs (k + 1 - length us) d (omega (arith, long)) (All-get_or IsBelow us k d (omega arith) below)
-              | inr other ↦
-                  let differ : k + 1 ≡ length us → ⊥ = eqb-false (k + 1) (length us) other in
-                  let here : get_or (us ++ vs) k d ≡ get_or vs (k - length us) d = get_or-append_right us vs (length us) k d refl (omega arith) in
-                  let after : k + 1 - length us ≡ (k - length us) + 1 = omega arith in
-                  ap₂ lt (next ∙ ap (λ i. get_or vs i d) after) here ∙ upper (k - length us) d (omega arith) (omega (arith, long))
-            ]
-      ]
+pub is_tie-same : {K : Type 0} {R : K → K → Ordering} → IsTotalOrder R → (a b : K) → a ≡ b → is_tie (R a b) (R b a) ≡ true
+is_tie-same {R = R} total a b is = rw (sym is, tied_itself total a) refl
 
--- ---- sorts by keys
+same_order : (o r : Ordering) → r ≡ ordering_reverse o → is_tie o r ≡ true → o ≡ Equal
+same_order Less r is tie = cc
+same_order Equal r is tie = refl
+same_order Greater r is tie = let less : is_lt r ≡ true = ap is_lt is in let none : not (is_lt r) ≡ false = ap not less in cc
 
-module _ {X : Type 0} (key : X → List ℕ) where
-  abbrev pub before : X → X → Bool
-  before a b = is_lt (key_order (key a) (key b))
-
-  pub SortsByKey-append : (us vs cs ds : List X) → SortsByKey key us cs → SortsByKey key vs ds → All (IsBelow before us vs) us → SortsByKey key (us ++ vs) (cs ++ ds)
-  SortsByKey-append us vs cs ds first second below =
-      let above : All (IsBelow before us ds) us = All-weaker (IsBelow before us vs) (IsBelow before us ds) (λ a each. All-permutation (λ b. before b a ≡ false) vs ds second.same each) us below in
-      record {
-        same = IsPermutation-append us cs vs ds first.same second.same;
-        sorted = sorted-append before cs ds first.sorted second.sorted (All-permutation (IsBelow before us ds) us cs first.same above);
-        stable = λ x. filter-append (ties before x) cs ds ∙ ap₂ (λ ls rs. ls ++ rs) (first.stable x) (second.stable x) ∙ sym (filter-append (ties before x) us vs);
-      }
-
-  -- a sort of what another stable sort left
-  pub SortsByKey-after : (xs ys zs : List X) → IsPermutation xs ys → IsStableByKey key key_order xs ys → SortsByKey key ys zs → SortsByKey key xs zs
-  SortsByKey-after xs ys zs same stable sorts = record {
-    same = IsPermutation-trans xs ys zs same sorts.same;
-    sorted = sorts.sorted;
-    stable = λ x. sorts.stable x ∙ stable x;
-  }
+tied_keys : (a b : List ℕ) → is_tie (key_order a b) (key_order b a) ≡ true → a ≡ b
+tied_keys a b tie = (bytes_eq-Decides a b).0 (sym (is_eq-slice_cmp a b) ∙ ap is_eq (same_order (key_order a b) (key_order b a) (nat_list_cmp_total.antisymm b a) tie))
 
 -- ---- elements that pass a test
 
-pub filter-map : {X Y : Type 0} (f : X → Y) (p : Y → Bool) (xs : List X) → filter p (map f xs) ≡ map f (filter (λ x. p (f x)) xs)
+filter-map : {X Y : Type 0} (f : X → Y) (p : Y → Bool) (xs : List X) → filter p (map f xs) ≡ map f (filter (λ x. p (f x)) xs)
 filter-map f p [] = refl
-filter-map {X} {Y} f p (x ∷ xs) = ap (λ rest. cond (p (f x)) (f x ∷ rest) rest) (filter-map f p xs) ∙ go (p (f x)) (filter (λ y. p (f y)) xs)
-  where
-    go : (b : Bool) (ys : List X) → cond b (f x ∷ map f ys) (map f ys) ≡ map f (cond b (x ∷ ys) ys)
-    go true ys = refl
-    go false ys = refl
+filter-map {X} {Y} f p (x ∷ xs) = elim (cases_Bool (p (f x))) [
+  | inl passes ↦ rw passes (ap (λ l. f x ∷ l) (filter-map f p xs))
+  | inr fails ↦ rw fails (filter-map f p xs)
+]
 
 -- those that pass p are among those that pass q
-pub filter-refined : {X : Type 0} (p q : X → Bool) (xs : List X) → All (λ x. p x ≡ true → q x ≡ true) xs → filter p (filter q xs) ≡ filter p xs
+filter-refined : {X : Type 0} (p q : X → Bool) (xs : List X) → All (λ x. p x ≡ true → q x ≡ true) xs → filter p (filter q xs) ≡ filter p xs
 filter-refined p q [] each = refl
 filter-refined {X} p q (x ∷ xs) each =
     let rest : filter p (filter q xs) ≡ filter p xs = filter-refined p q xs (All-tail (λ y. p y ≡ true → q y ≡ true) x xs each) in
-    go (q x) (p x) refl refl rest (All-head (λ y. p y ≡ true → q y ≡ true) x xs each)
-  where
-    go : (b c : Bool) → q x ≡ b → p x ≡ c → filter p (filter q xs) ≡ filter p xs → (p x ≡ true → q x ≡ true) → filter p (cond (q x) (x ∷ filter q xs) (filter q xs)) ≡ cond (p x) (x ∷ filter p xs) (filter p xs)
-    go true c passes is rest both = ap (λ b. filter p (cond b (x ∷ filter q xs) (filter q xs))) passes ∙ ap (λ l. cond (p x) (x ∷ l) l) rest
-    go false false fails not_p rest both = ap (λ b. filter p (cond b (x ∷ filter q xs) (filter q xs))) fails ∙ rest ∙ sym (ap (λ b. cond b (x ∷ filter p xs) (filter p xs)) not_p)
-    go false true fails is rest both = let holds : q x ≡ true = both is in absurd (cc)
+    let here : p x ≡ true → q x ≡ true = All-head (λ y. p y ≡ true → q y ≡ true) x xs each in
+    elim (cases_Bool (p x)) [
+      | inl passes ↦ rw (here passes, passes) (ap (λ l. x ∷ l) rest)
+      | inr fails ↦ elim (cases_Bool (q x)) [
+        | inl both ↦ rw (both, fails) rest
+        | inr none ↦ rw (none, fails) rest
+      ]
+    ]
 
-pub filter-alike : {X : Type 0} (p q : X → Bool) → ((x : X) → p x ≡ q x) → (xs : List X) → filter p xs ≡ filter q xs
-filter-alike p q alike [] = refl
-filter-alike p q alike (x ∷ xs) = ap₂ (λ b rest. cond b (x ∷ rest) rest) (alike x) (filter-alike p q alike xs)
-
-pub filter-none : {X : Type 0} (p : X → Bool) (xs : List X) → All (λ x. p x ≡ false) xs → filter p xs ≡ []
+filter-none : {X : Type 0} (p : X → Bool) (xs : List X) → All (λ x. p x ≡ false) xs → filter p xs ≡ []
 filter-none p [] none = refl
-filter-none p (x ∷ xs) none = ap (λ b. cond b (x ∷ filter p xs) (filter p xs)) (All-head (λ y. p y ≡ false) x xs none) ∙ filter-none p xs (All-tail (λ y. p y ≡ false) x xs none)
+filter-none p (x ∷ xs) none = rw (All-head (λ y. p y ≡ false) x xs none) (filter-none p xs (All-tail (λ y. p y ≡ false) x xs none))
 
--- an element that passes, or that there is none
-pub some_or_none : {X : Type 0} (p : X → Bool) (xs : List X) → ((x : X) × (p x ≡ true)) ⊎ All (λ x. p x ≡ false) xs
-some_or_none p [] = inr (All-nil (λ x. p x ≡ false))
-some_or_none {X} p (x ∷ xs) = elim (cases_Bool (p x)) [
-  | inl passes ↦ inl (x, passes)
-  | inr fails ↦ elim (some_or_none p xs) [
+-- an element of which Q is known passes, or none does
+some_or_none : {X : Type 0} (p : X → Bool) (Q : X → Type 0) (xs : List X) → All Q xs → ((x : X) × (p x ≡ true) × Q x) ⊎ All (λ x. p x ≡ false) xs
+some_or_none p Q [] all = inr (All-nil (λ x. p x ≡ false))
+some_or_none {X} p Q (x ∷ xs) all = elim (cases_Bool (p x)) [
+  | inl passes ↦ inl (x, passes, All-head Q x xs all)
+  | inr fails ↦ elim (some_or_none p Q xs (All-tail Q x xs all)) [
     | inl some ↦ inl some
     | inr none ↦ inr (All-cons (λ y. p y ≡ false) x xs fails none)
   ]
 ]
+
+-- ---- a sort and what its elements show
+
+-- where elements that show the same key tie, a stable sort keeps the order of what they show
+pub stable-map : {X Y : Type 0} (lt : X → X → Bool) (key : Y → List ℕ) (f : X → Y) (xs ys : List X) → All (λ x. All (λ z. key (f x) ≡ key (f z) → ties lt x z ≡ true) xs) xs
+    → IsPermutation xs ys → IsStableBy lt xs ys → IsStableByKey key key_order (map f xs) (map f ys)
+stable-map {X} lt key f xs ys alike same stable y =
+    filter-map f (λ b. is_tie (key_order (key y) (key b)) (key_order (key b) (key y))) ys
+    ∙ ap (map f) (elim (some_or_none tied (λ x. All (λ z. key (f x) ≡ key (f z) → ties lt x z ≡ true) xs) xs alike) [
+      | inl (z, tie, among) ↦
+          let each : All (λ x. tied x ≡ true → ties lt z x ≡ true) xs
+          = All-weaker (λ x. key (f z) ≡ key (f x) → ties lt z x ≡ true) (λ x. tied x ≡ true → ties lt z x ≡ true) (λ x alike_x is. alike_x (sym (tied_keys (key y) (key (f z)) tie) ∙ tied_keys (key y) (key (f x)) is)) xs among in
+          sym (filter-refined tied (ties lt z) ys (All-permutation (λ x. tied x ≡ true → ties lt z x ≡ true) xs ys same each)) ∙ ap (filter tied) (stable z) ∙ filter-refined tied (ties lt z) xs each
+      | inr none ↦ filter-none tied ys (All-permutation (λ x. tied x ≡ false) xs ys same none) ∙ sym (filter-none tied xs none)
+    ])
+    ∙ sym (filter-map f (λ b. is_tie (key_order (key y) (key b)) (key_order (key b) (key y))) xs)
+  where
+    tied : X → Bool
+    tied x = is_tie (key_order (key y) (key (f x))) (key_order (key (f x)) (key y))
+
+sorted-map : {X Y : Type 0} (key : X → List ℕ) (k : Y → List ℕ) (f : X → Y) (ys : List X) → All (λ x. key x ≡ k (f x)) ys → IsSortedByKey key key_order ys → IsSortedByKey k key_order (map f ys)
+sorted-map key k f [] has up i d low more = absurd (omega arith)
+sorted-map key k f (y ∷ ys) has up i d low more =
+    let count : length (map f (y ∷ ys)) ≡ length (y ∷ ys) = length-map (y ∷ ys) f in
+    let here : k (get_or (map f (y ∷ ys)) i d) ≡ key (get_or (y ∷ ys) i y) = ap k (get_or-map f (y ∷ ys) i y d (omega arith)) ∙ sym (has i y (omega arith)) in
+    let next : k (get_or (map f (y ∷ ys)) (i + 1) d) ≡ key (get_or (y ∷ ys) (i + 1) y) = ap k (get_or-map f (y ∷ ys) (i + 1) y d (omega arith)) ∙ sym (has (i + 1) y (omega arith)) in
+    ap₂ (λ a b. is_lt (key_order a b)) next here ∙ up i y low (omega arith)
+
+-- a sort by keys sorts what the elements show, where that has the same keys
+pub SortsByKey-map : {X Y : Type 0} (key : X → List ℕ) (k : Y → List ℕ) (f : X → Y) (xs ys : List X) → All (λ x. key x ≡ k (f x)) xs → SortsByKey key xs ys → SortsByKey k (map f xs) (map f ys)
+SortsByKey-map {X} key k f xs ys has sorts = record {
+  same = IsPermutation-map f xs ys sorts.same;
+  sorted = sorted-map key k f ys (All-permutation (λ x. key x ≡ k (f x)) xs ys sorts.same has) sorts.sorted;
+  stable = stable-map (λ a b. is_lt (key_order (key a) (key b))) k f xs ys
+      (All-weaker (λ x. key x ≡ k (f x)) (λ x. All (λ z. k (f x) ≡ k (f z) → is_tie (key_order (key x) (key z)) (key_order (key z) (key x)) ≡ true) xs)
+      (λ x has_x. All-weaker (λ z. key z ≡ k (f z)) (λ z. k (f x) ≡ k (f z) → is_tie (key_order (key x) (key z)) (key_order (key z) (key x)) ≡ true)
+      (λ z has_z is. is_tie-same nat_list_cmp_total (key x) (key z) (has_x ∙ is ∙ sym has_z)) xs has) xs has)
+      sorts.same sorts.stable;
+}
+
+-- ---- lists of which one follows the other
+
+-- no key in vs is less than that of a
+abbrev pub IsBelow : {X : Type 0} → (X → List ℕ) → List X → X → Type 0
+IsBelow key vs a = All (λ b. is_lt (key_order (key b) (key a)) ≡ false) vs
+
+sorted-append : {X : Type 0} (key : X → List ℕ) (us vs : List X) → IsSortedByKey key key_order us → IsSortedByKey key key_order vs → All (IsBelow key vs) us → IsSortedByKey key key_order (us ++ vs)
+sorted-append key us vs up upper below k d low more =
+    let long : length (us ++ vs) ≡ length us + length vs = length-append us vs in
+    elim (cases_lt (k + 1) (length us)) [
+      | inl both ↦ rw (get_or_append_left us vs d (k + 1) both, get_or_append_left us vs d k (omega arith)) (up k d low both)
+      | inr few ↦ rw (get_or-append_right us vs (length us) (k + 1) d refl few) (elim (cases_lt k (length us)) [
+        | inl seam ↦ rw (get_or_append_left us vs d k seam) (All-get_or (IsBelow key vs) us k d seam below (k + 1 - length us) d (omega (arith, long)))
+        | inr past ↦
+            let after : k + 1 - length us ≡ (k - length us) + 1 = omega arith in
+            rw (get_or-append_right us vs (length us) k d refl past, after) (upper (k - length us) d (omega arith) (omega (arith, long)))
+      ])
+    ]
+
+pub SortsByKey-append : {X : Type 0} (key : X → List ℕ) (us vs cs ds : List X) → SortsByKey key us cs → SortsByKey key vs ds → All (IsBelow key vs) us → SortsByKey key (us ++ vs) (cs ++ ds)
+SortsByKey-append {X} key us vs cs ds first second below =
+    let above : All (IsBelow key ds) us = All-weaker (IsBelow key vs) (IsBelow key ds) (λ a each. All-permutation (λ b. is_lt (key_order (key b) (key a)) ≡ false) vs ds second.same each) us below in
+    record {
+      same = IsPermutation-append us cs vs ds first.same second.same;
+      sorted = sorted-append key cs ds first.sorted second.sorted (All-permutation (IsBelow key ds) us cs first.same above);
+      stable = λ x. simp filter-append (ap₂ (λ ls rs. ls ++ rs) (first.stable x) (second.stable x));
+    }

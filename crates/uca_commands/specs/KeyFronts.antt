@@ -10,3 +10,7 @@ front (suc n) key = front n key * 256 + get_or key n 0
 pub record IsFront (n : ℕ) (key : List ℕ) (number : ℕ) : Type 0 where
   pub bytes : (i : ℕ) → i < n → get_or key i 0 < 256
   pub value : number ≡ front n key
+
+-- the first n bytes of two keys are the same
+abbrev pub HaveSameFront : ℕ → List ℕ → List ℕ → Type 0
+HaveSameFront n a b = (i : ℕ) → i < n → get_or a i 0 ≡ get_or b i 0

@@ -9,11 +9,6 @@ piece bytes from to = take (to - from) (drop from bytes)
 abbrev pub key_at : List ℕ → List ℕ → ℕ → List ℕ
 key_at ends bytes n = piece bytes (get_or (0 ∷ ends) n 0) (get_or ends n 0)
 
--- the pieces that end at these places, where the first begins at `from`
-abbrev pub pieces : List ℕ → List ℕ → ℕ → List (List ℕ)
-pieces [] bytes from = []
-pieces (e ∷ es) bytes from = piece bytes from e ∷ pieces es bytes e
-
 -- where keys one after the other from a place on end
 abbrev pub ends_from : ℕ → List (List ℕ) → List ℕ
 ends_from from [] = []

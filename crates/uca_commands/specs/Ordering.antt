@@ -7,9 +7,9 @@ use Rattle.uca_io.specs.Writer.{WritesAll, WritesFront}
 use Rattle.uca_model.specs.Lines.{lines_of}
 use Rattle.uca_model.specs.OrderOutput.{IsOrderOutput, line_key}
 use Rattle.uca_model.specs.Table.{ElementTable}
-use Rattle.uca_commands.specs.Commands.{Ends}
+use Rattle.uca_commands.specs.Commands.{Ends, Fails, order_command}
 use Rattle.uca_commands.specs.KeyPieces.{ends_from}
-use Rattle.uca_commands.specs.Input.{ReadsLines, RefusesInput}
+use Rattle.uca_commands.specs.Input.{ReadsLines}
 use Rattle.uca_commands.specs.declared.faults.CliFault.{CliFault}
 use Rattle.uca_commands.specs.declared.faults.CliFault.TheVariants as fault
 
@@ -49,13 +49,6 @@ pub record Orders (t : ElementTable) (s : Settings) (old new : Ends) (count : �
   pub reads : ReadsLines old.input new.input bytes
   pub writes : WritesInOrder t s bytes old.output new.output count
 
--- its lines were read, and not all were written
-pub record StopsOrdering (t : ElementTable) (s : Settings) (old new : Ends) (f : CliFault) : Type 0 where
-  pub bytes : List ℕ
-  pub reads : ReadsLines old.input new.input bytes
-  pub writes : StopsInOrder t s bytes old.output new.output f
-
--- why they were not put in order: at a fault of the input nothing was written
+-- why they were not: the command failed
 abbrev pub RefusesOrder : ElementTable → Settings → Ends → Ends → CliFault → Type 0
-RefusesOrder t s old new (fault.Input f) = RefusesInput old.input new.input f × (new.output ≡ old.output)
-RefusesOrder t s old new f = StopsOrdering t s old new f
+RefusesOrder = Fails order_command

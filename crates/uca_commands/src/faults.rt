@@ -1,4 +1,5 @@
 ghost use Rattle.std.specs.Prelude.{◌≡◌};
+ghost use Rattle.uca_commands.specs.declared.faults.CliFault.TheVariants.{Conform, Input, Output, OutOfMemory, Rules, Table, Tailor};
 
 use crate::input_fault::{InputCause, InputFault};
 use std::alloc::AllocError;
@@ -45,8 +46,6 @@ pub enum CliFault {
 }
 
 impl From<AllocError> for CliFault {
-    ghost use Rattle.uca_commands.specs.declared.faults.CliFault.TheVariants.{OutOfMemory};
-
     ghost from_gives = { λ _ result. result ≡ OutOfMemory };
 
     fn from(_refused: AllocError) -> CliFault {
@@ -55,8 +54,6 @@ impl From<AllocError> for CliFault {
 }
 
 impl From<ReadFault> for CliFault {
-    ghost use Rattle.uca_commands.specs.declared.faults.CliFault.TheVariants.{Table};
-
     ghost from_gives = { λ fault result. result ≡ Table fault };
 
     fn from(fault: ReadFault) -> CliFault {
@@ -65,8 +62,6 @@ impl From<ReadFault> for CliFault {
 }
 
 impl From<RuleFault> for CliFault {
-    ghost use Rattle.uca_commands.specs.declared.faults.CliFault.TheVariants.{Rules};
-
     ghost from_gives = { λ fault result. result ≡ Rules fault };
 
     fn from(fault: RuleFault) -> CliFault {
@@ -75,8 +70,6 @@ impl From<RuleFault> for CliFault {
 }
 
 impl From<TailorFault> for CliFault {
-    ghost use Rattle.uca_commands.specs.declared.faults.CliFault.TheVariants.{Tailor};
-
     ghost from_gives = { λ fault result. result ≡ Tailor fault };
 
     fn from(fault: TailorFault) -> CliFault {
@@ -85,8 +78,6 @@ impl From<TailorFault> for CliFault {
 }
 
 impl From<InputFault> for CliFault {
-    ghost use Rattle.uca_commands.specs.declared.faults.CliFault.TheVariants.{Input};
-
     ghost from_gives = { λ fault result. result ≡ Input fault };
 
     fn from(fault: InputFault) -> CliFault {
@@ -95,8 +86,6 @@ impl From<InputFault> for CliFault {
 }
 
 impl From<ConformFault> for CliFault {
-    ghost use Rattle.uca_commands.specs.declared.faults.CliFault.TheVariants.{Conform};
-
     ghost from_gives = { λ fault result. result ≡ Conform fault };
 
     fn from(fault: ConformFault) -> CliFault {
@@ -105,8 +94,6 @@ impl From<ConformFault> for CliFault {
 }
 
 impl From<WriteFault> for CliFault {
-    ghost use Rattle.uca_commands.specs.declared.faults.CliFault.TheVariants.{Output};
-
     ghost from_gives = { λ fault result. result ≡ Output fault };
 
     fn from(fault: WriteFault) -> CliFault {

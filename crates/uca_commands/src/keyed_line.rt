@@ -108,11 +108,11 @@ pub(crate) fn line_at(input: &[u8], place: LinePlace) -> &[u8]
 }
 
 impl<'a> KeyedLines<'a> {
-    ghost use Rattle.uca_commands.specs.KeyedLines.{key_of, keyed, line_of};
+    ghost use Rattle.uca_commands.specs.KeyedLines.{key_of, number_line};
 
     /// The line.
     pub(crate) fn line(&self, line: KeyedLine) -> &'a [u8]
-        ensures { result.now ≡ line_of self.now line }
+        ensures { result.now ≡ number_line self.now line.number }
     {
         line_at(self.input, place_at(self.places, line.number))
     }
@@ -130,8 +130,8 @@ impl<'a> KeyedLines<'a> {
 
     /// The line, with the eight bytes of its key after so many.
     pub(crate) fn with_front(&self, line: KeyedLine, depth: usize) -> KeyedLine
-        ensures same { keyed self.now result ≡ keyed self.now line }
-        ensures front { IsFront 8 (drop depth (key_of self.now line)) result.front }
+        ensures same { result.number ≡ line.number }
+        ensures front { IsFront 8 (drop depth (key_of self.now result)) result.front }
     {
         let front = front_of(bytes_after(self.key(line), depth));
         KeyedLine {

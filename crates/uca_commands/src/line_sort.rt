@@ -1,7 +1,7 @@
 //! A stable sort of lines by their sort keys: by eight bytes of the keys at a time, which each line has beside it.
-ghost use Rattle.std.specs.Prelude.{◌≡◌, ◌*◌, ◌<◌, ◌≤◌, length, map, OnOk};
-ghost use Rattle.uca_commands.specs.KeyedLines.{keyed};
-ghost use Rattle.uca_commands.specs.LineSorting.{IsRun, SharesFront, ShowsFronts, SortsByFront, SortsLines};
+ghost use Rattle.std.specs.Prelude.{◌≡◌, ◌*◌, ◌<◌, ◌≤◌, length, map, All, OnOk};
+ghost use Rattle.uca_commands.specs.KeyedLines.{number_of};
+ghost use Rattle.uca_commands.specs.LineSorting.{IsRun, SharesFront, ShowsFront, SortsByFront, SortsLines};
 
 use crate::keyed_line::{FRONT, KeyedLine, KeyedLines};
 use std::alloc::{AllocError, Global};
@@ -28,22 +28,22 @@ fn sort_by_front(alloc: Global, lines: &mut [KeyedLine]) -> Result<(), AllocErro
 
 // Takes the eight bytes of each key after so many.
 fn take_fronts(of: &KeyedLines<'_>, lines: &mut [KeyedLine], depth: usize)
-    ensures same { map (keyed of.now) lines.new ≡ map (keyed of.now) lines.old }
-    ensures fronts { ShowsFronts of.now depth lines.new }
+    ensures same { map number_of lines.new ≡ map number_of lines.old }
+    ensures fronts { All (ShowsFront of.now depth) lines.new }
 {
     for at in 0..lines.len() {
         lines[at] = of.with_front(lines[at], depth);
     }
 }
 
-// Where the lines end that have the same bytes beside them as the one at a place.
-fn run_end(lines: &[KeyedLine], from: usize) -> usize
-    requires { from < length lines.now }
-    ensures { IsRun lines.now from result }
+// How many lines have the same bytes beside them as the first.
+fn run_size(lines: &[KeyedLine]) -> usize
+    requires { 0 < length lines.now }
+    ensures { IsRun lines.now result }
 {
-    for to in from + 1..lines.len() {
-        if lines[to].front != lines[from].front {
-            return to;
+    for size in 1..lines.len() {
+        if lines[size].front != lines[0].front {
+            return size;
         }
     }
     lines.len()
@@ -76,7 +76,7 @@ fn sort_round(
     sort_by_front(alloc, lines)?;
     let mut from = 0;
     while from < lines.len() {
-        let to = run_end(lines, from);
+        let to = from + run_size(&lines[from..]);
         sort_round(alloc, of, &mut lines[from..to], round + 1)?;
         from = to;
     }

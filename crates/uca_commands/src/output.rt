@@ -38,13 +38,6 @@ struct KeyRoom {
 }
 
 impl KeyRoom {
-    fn new(alloc: Global) -> KeyRoom {
-        KeyRoom {
-            maker: KeyMaker::new(alloc),
-            key: Vec::new(alloc),
-        }
-    }
-
     /// Makes the key of a text, in place of the last one.
     fn make_key(
         &mut self,
@@ -137,34 +130,7 @@ fn send_line<W: Writer>(
     Ok(())
 }
 
-/// Writes what a command writes for each line of an input, which was checked. The keys are made in the buffer that is given.
-fn send_lines<W: Writer>(
-    alloc: Global,
-    form: LineForm,
-    t: &Table,
-    s: Settings,
-    bytes: &[u8],
-    keys: &mut KeyRoom,
-    w: &mut W,
-) -> Result<(), CliFault>
-    requires small { length bytes.now ≤ MAX_INPUT }
-    requires texts { All IsTextLine (lines_of bytes.now) }
-    ensures { MatchResult result
-        (λ _. WritesAll (W.state w.old) (W.state w.new) (lines_text form t.now s bytes.now))
-        (StopsOutput (W.state w.old) (W.state w.new) (lines_text form t.now s bytes.now)) }
-{
-    let mut out = OutputBlock::new();
-    let mut left = bytes;
-    while !left.is_empty() {
-        let (line, rest) = first_line(left);
-        send_line(alloc, form, t, s, line, keys, w, &mut out)?;
-        left = rest;
-    }
-    out.flush(w)?;
-    Ok(())
-}
-
-/// Writes what a command writes for each line of an input, which was checked.
+/// Writes what a command writes for each line of an input, which was checked, and returns the command's status.
 pub(crate) fn write_lines<W: Writer>(
     alloc: Global,
     form: LineForm,
@@ -172,13 +138,24 @@ pub(crate) fn write_lines<W: Writer>(
     s: Settings,
     bytes: &[u8],
     w: &mut W,
-) -> Result<(), CliFault>
+) -> Result<u8, CliFault>
     requires small { length bytes.now ≤ MAX_INPUT }
     requires texts { All IsTextLine (lines_of bytes.now) }
     ensures { MatchResult result
-        (λ _. WritesAll (W.state w.old) (W.state w.new) (lines_text form t.now s bytes.now))
+        (λ status. WritesAll (W.state w.old) (W.state w.new) (lines_text form t.now s bytes.now) × (status ≡ 0))
         (StopsOutput (W.state w.old) (W.state w.new) (lines_text form t.now s bytes.now)) }
 {
-    let mut keys = KeyRoom::new(alloc);
-    send_lines(alloc, form, t, s, bytes, &mut keys, w)
+    let mut keys = KeyRoom {
+        maker: KeyMaker::new(alloc),
+        key: Vec::new(alloc),
+    };
+    let mut out = OutputBlock::new();
+    let mut left = bytes;
+    while !left.is_empty() {
+        let (line, rest) = first_line(left);
+        send_line(alloc, form, t, s, line, &mut keys, w, &mut out)?;
+        left = rest;
+    }
+    out.flush(w)?;
+    Ok(0)
 }

@@ -1,7 +1,5 @@
+mod Steps
 mod UpperEndLemmas
-mod HandleValues
 mod OpeningLemmas
-mod Values
+mod Parts
 mod LevelSteps
-mod MatchLists
-pub mod FingerprintLemmas

@@ -1,5 +1,5 @@
 -- What the calls of a collator answer, by its table.
-use Rattle.std.specs.Prelude.{◌≡◌, ◌≢◌, ℕ, Bool, ◌-◌, ◌^◌, min, List, [], length, Option, Some, None, Result, Ok, Err, chars}
+use Rattle.std.specs.Prelude.{◌≡◌, ◌≢◌, ℕ, Bool, ◌-◌, ◌^◌, min, List, [], length, Option, Some, None, Result, Ok, Err, MatchResult, chars}
 use Rattle.std.specs.Option.{option_map, option_map_or}
 use Rattle.std.specs.declared.cmp.Ordering.{Ordering}
 use Rattle.sha2.specs.Sha256.{sha256}
@@ -68,15 +68,18 @@ pub record IsOrder (t : ElementTable) (s : Settings) (a b : List ℕ) (order : O
 
 -- two texts are compared by a table, or the first that is none has this fault
 abbrev pub ComparesBy : ElementTable → Settings → List ℕ → List ℕ → Result Ordering CompareFault → Type 0
-ComparesBy t s a b (Ok order) = IsOrder t s a b order
-ComparesBy t s a b (Err compare.Closed) = ⊥
-ComparesBy t s a b (Err (compare.First f)) = IsFault a f
-ComparesBy t s a b (Err (compare.Second f)) = IsTextLine a × IsFault b f
+ComparesBy t s a b result = MatchResult result (IsOrder t s a b) (λ f. TellsFault a b (Some f))
 
 -- the same by a collator, which may have no table
 abbrev pub Compares : Option ElementTable → Settings → List ℕ → List ℕ → Result Ordering CompareFault → Type 0
 Compares None s a b result = result ≡ Err compare.Closed
 Compares (Some t) s a b result = ComparesBy t s a b result
+
+-- bytes that are no text have this fault, or an allocation failed
+abbrev pub Refuses : List ℕ → KeyFault → Type 0
+Refuses text key.Closed = ⊥
+Refuses text (key.Text f) = IsFault text f
+Refuses text key.OutOfMemory = IsTextLine text
 
 -- a key of a text is in the front of a buffer, and this is its length
 pub record IsKeyIn (bytes text before after : List ℕ) (size : ℕ) : Type 0 where
@@ -86,10 +89,7 @@ pub record IsKeyIn (bytes text before after : List ℕ) (size : ℕ) : Type 0 wh
 
 -- a key of a text, which has these bytes, is made, or the buffer stays as it was
 abbrev pub MakesKeyBy : List ℕ → List ℕ → List ℕ → List ℕ → Result ℕ KeyFault → Type 0
-MakesKeyBy bytes text before after (Ok size) = IsKeyIn bytes text before after size
-MakesKeyBy bytes text before after (Err key.Closed) = ⊥
-MakesKeyBy bytes text before after (Err (key.Text f)) = IsFault text f × (after ≡ before)
-MakesKeyBy bytes text before after (Err key.OutOfMemory) = IsTextLine text × (after ≡ before)
+MakesKeyBy bytes text before after result = MatchResult result (IsKeyIn bytes text before after) (λ f. Refuses text f × (after ≡ before))
 
 -- the sort key is made by a collator, which may have no table
 abbrev pub MakesKey : Option ElementTable → Settings → List ℕ → List ℕ → List ℕ → Result ℕ KeyFault → Type 0
@@ -109,10 +109,7 @@ pub record IsKeyWritten (t : ElementTable) (s : Settings) (text before after : L
 
 -- the key is written without memory, or the buffer stays as it was
 abbrev pub WritesKeyBy : ElementTable → Settings → List ℕ → List ℕ → List ℕ → Result ℕ KeyFault → Type 0
-WritesKeyBy t s text before after (Ok size) = IsKeyWritten t s text before after size
-WritesKeyBy t s text before after (Err key.Closed) = ⊥
-WritesKeyBy t s text before after (Err (key.Text f)) = IsFault text f × (after ≡ before)
-WritesKeyBy t s text before after (Err key.OutOfMemory) = ⊥
+WritesKeyBy t s text before after result = MatchResult result (IsKeyWritten t s text before after) (λ f. (f ≢ key.OutOfMemory) × Refuses text f × (after ≡ before))
 
 -- the same by a collator, which may have no table
 abbrev pub WritesKey : Option ElementTable → Settings → List ℕ → List ℕ → List ℕ → Result ℕ KeyFault → Type 0
@@ -139,29 +136,20 @@ PutsEndsBy prefix complete text lower lower_after upper upper_after (Err bounds.
 PutsEndsBy prefix complete text lower lower_after upper upper_after (Err (bounds.Text f)) = IsFault text f × (lower_after ≡ lower) × (upper_after ≡ upper)
 PutsEndsBy prefix complete text lower lower_after upper upper_after (Err bounds.OutOfMemory) = IsTextLine text × (lower_after ≡ lower) × (upper_after ≡ upper)
 
--- the bounds of the keys of all texts whose primary weights begin with those of a text: they begin with its key at the strength Primary
-abbrev pub PutsBoundsBy : ElementTable → Variable → List ℕ → List ℕ → List ℕ → List ℕ → List ℕ → Result BoundsSize BoundsFault → Type 0
-PutsBoundsBy t v text lower lower_after upper upper_after result = PutsEndsBy (primary_key t v (chars text)) (is_complete t (chars text)) text lower lower_after upper upper_after result
-
--- the same of the packed keys: they begin with the first level of its packed key, without the end of the level
-abbrev pub PutsPackedBoundsBy : ElementTable → Variable → List ℕ → List ℕ → List ℕ → List ℕ → List ℕ → Result BoundsSize BoundsFault → Type 0
-PutsPackedBoundsBy t v text lower lower_after upper upper_after result = PutsEndsBy (packed_prefix t v (chars text)) (is_complete t (chars text)) text lower lower_after upper upper_after result
-
--- the same by a collator, which may have no table
+-- the bounds of the keys of all texts whose primary weights begin with those of a text are found by a collator, which may have no
+-- table: the keys begin with the text's key at the strength Primary
 abbrev pub PutsBounds : Option ElementTable → Variable → List ℕ → List ℕ → List ℕ → List ℕ → List ℕ → Result BoundsSize BoundsFault → Type 0
 PutsBounds None v text lower lower_after upper upper_after result = (result ≡ Err bounds.Closed) × (lower_after ≡ lower) × (upper_after ≡ upper)
-PutsBounds (Some t) v text lower lower_after upper upper_after result = PutsBoundsBy t v text lower lower_after upper upper_after result
+PutsBounds (Some t) v text lower lower_after upper upper_after result = PutsEndsBy (primary_key t v (chars text)) (is_complete t (chars text)) text lower lower_after upper upper_after result
 
--- the same of packed keys
+-- the same of the packed keys: they begin with the first level of the text's packed key, without the end of the level
 abbrev pub PutsPackedBounds : Option ElementTable → Variable → List ℕ → List ℕ → List ℕ → List ℕ → List ℕ → Result BoundsSize BoundsFault → Type 0
 PutsPackedBounds None v text lower lower_after upper upper_after result = (result ≡ Err bounds.Closed) × (lower_after ≡ lower) × (upper_after ≡ upper)
-PutsPackedBounds (Some t) v text lower lower_after upper upper_after result = PutsPackedBoundsBy t v text lower lower_after upper upper_after result
+PutsPackedBounds (Some t) v text lower lower_after upper upper_after result = PutsEndsBy (packed_prefix t v (chars text)) (is_complete t (chars text)) text lower lower_after upper upper_after result
 
 -- the fingerprint of a table and settings
 abbrev pub FingerprintsBy : ElementTable → Settings → Result (List ℕ) FingerprintFault → Type 0
-FingerprintsBy t s (Ok digest) = digest ≡ sha256 (fingerprinted t s)
-FingerprintsBy t s (Err fingerprint.Closed) = ⊥
-FingerprintsBy t s (Err fingerprint.OutOfMemory) = Unit {0}
+FingerprintsBy t s result = MatchResult result (λ digest. digest ≡ sha256 (fingerprinted t s)) (λ f. f ≢ fingerprint.Closed)
 
 -- the same by a collator, which may have no table
 abbrev pub Fingerprints : Option ElementTable → Settings → Result (List ℕ) FingerprintFault → Type 0

@@ -1,14 +1,14 @@
 -- The matches of a text, as they are put into arrays.
-use Rattle.std.specs.Prelude.{◌≡◌, ℕ, Bool, List, ◌++◌, length, take, drop, map, flat_map, Option, Some, None, Result, Ok, Err, chars, if◌then◌else◌}
+use Rattle.std.specs.Prelude.{◌≡◌, ℕ, Bool, List, ◌++◌, length, take, drop, map, flat_map, Option, Some, None, Result, Err, MatchResult, chars, if◌then◌else◌}
 use Rattle.unicode_normalization.specs.Forms.{nfd}
 use Rattle.uca_model.specs.CollationElements.{elements, elements_or_implicit, matches}
 use Rattle.uca_model.specs.Lines.{IsTextLine}
 use Rattle.uca_model.specs.Match.{Match}
 use Rattle.uca_model.specs.Table.{ElementTable, is_key}
 use Rattle.uca_weights.specs.declared.element.Element.{Element}
-use Rattle.uca_window.specs.TextFaults.{IsFault}
 use Rattle.uca_handle.specs.declared.faults.KeyFault.{KeyFault}
-use Rattle.uca_handle.specs.declared.faults.KeyFault.TheVariants.{Closed, Text, OutOfMemory}
+use Rattle.uca_handle.specs.declared.faults.KeyFault.TheVariants.{Closed}
+use Rattle.uca_handle.specs.Calls.{Refuses}
 use Rattle.uca_handle.specs.declared.matches.ElementForm.{ElementForm}
 use Rattle.uca_handle.specs.declared.matches.MatchForm.{MatchForm}
 use Rattle.uca_handle.specs.declared.matches.MatchesSize.{MatchesSize}
@@ -55,10 +55,7 @@ pub record SameArrays (matches_before matches_after : List MatchForm) (points_be
 
 -- the matches are found, or the arrays stay as they were
 abbrev pub PutsMatchesBy : ElementTable → List ℕ → List MatchForm → List MatchForm → List ℕ → List ℕ → List ElementForm → List ElementForm → Result MatchesSize KeyFault → Type 0
-PutsMatchesBy t text ms ms' ps ps' es es' (Ok size) = AreMatchesIn t text ms ms' ps ps' es es' size
-PutsMatchesBy t text ms ms' ps ps' es es' (Err Closed) = ⊥
-PutsMatchesBy t text ms ms' ps ps' es es' (Err (Text f)) = IsFault text f × SameArrays ms ms' ps ps' es es'
-PutsMatchesBy t text ms ms' ps ps' es es' (Err OutOfMemory) = IsTextLine text × SameArrays ms ms' ps ps' es es'
+PutsMatchesBy t text ms ms' ps ps' es es' result = MatchResult result (AreMatchesIn t text ms ms' ps ps' es es') (λ f. Refuses text f × SameArrays ms ms' ps ps' es es')
 
 -- the same by a collator, which may have no table
 abbrev pub PutsMatches : Option ElementTable → List ℕ → List MatchForm → List MatchForm → List ℕ → List ℕ → List ElementForm → List ElementForm → Result MatchesSize KeyFault → Type 0

@@ -1,8 +1,8 @@
 ghost use Rattle.std.specs.Prelude.{◌≡◌, chars, length};
 ghost use Rattle.std.specs.Option.{option_map};
-ghost use Rattle.uca_model.specs.Lines.{IsTextLine};
-ghost use Rattle.uca_model.specs.Prefix.{end_of_prefix};
-ghost use Rattle.uca_handle.specs.Calls.{AreEndsIn, PutsBoundsBy, PutsPackedBoundsBy};
+ghost use Rattle.uca_key.specs.PackedKey.{packed_prefix};
+ghost use Rattle.uca_model.specs.Prefix.{end_of_prefix, is_complete, primary_key};
+ghost use Rattle.uca_handle.specs.Calls.{AreEndsIn, PutsEndsBy};
 
 use crate::faults::BoundsFault;
 use crate::opened::Opened;
@@ -54,7 +54,7 @@ pub(crate) fn put_bounds(
     lower: &mut [u8],
     upper: &mut [u8],
 ) -> Result<BoundsSize, BoundsFault>
-    ensures { PutsBoundsBy t.now v text.now lower.old lower.new upper.old upper.new result }
+    ensures { PutsEndsBy (primary_key t.now v (chars text.now)) (is_complete t.now (chars text.now)) text.now lower.old lower.new upper.old upper.new result }
 {
     let passage = match Passage::of_bytes(text) {
         Ok(passage) => passage,
@@ -75,7 +75,7 @@ pub(crate) fn put_packed_bounds(
     lower: &mut [u8],
     upper: &mut [u8],
 ) -> Result<BoundsSize, BoundsFault>
-    ensures { PutsPackedBoundsBy opened.now v text.now lower.old lower.new upper.old upper.new result }
+    ensures { PutsEndsBy (packed_prefix opened.now v (chars text.now)) (is_complete opened.now (chars text.now)) text.now lower.old lower.new upper.old upper.new result }
 {
     let passage = match Passage::of_bytes(text) {
         Ok(passage) => passage,

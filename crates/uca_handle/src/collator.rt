@@ -1,6 +1,5 @@
 ghost use Rattle.std.specs.Prelude.{◌≡◌, None, Some, IfOk, is_some, option_map};
 ghost use Rattle.std.specs.Arc.{arc_value};
-ghost use Rattle.std.specs.Box.{box_value};
 
 use crate::bounds::{BoundsSize, put_bounds, put_packed_bounds};
 use crate::completeness::completeness_of;
@@ -16,7 +15,6 @@ use crate::opening::table_of;
 use crate::texts::order_of;
 use std::alloc::{AllocError, Global};
 use std::cmp::Ordering;
-use std::mem::replace;
 use std::sync::Arc;
 use uca_levels::compare;
 use uca_table::Table;
@@ -37,7 +35,10 @@ pub struct Collator {
 
 impl Drop for Collator {
     fn drop(self) {
-        let _table = self.into_table();
+        let Collator { handle, is_open } = self;
+        if is_open {
+            let _table = handle.into_loose().into_box();
+        }
     }
 }
 
@@ -69,38 +70,13 @@ impl Collator {
         }
     }
 
-    fn into_table(self) -> Option<Shared>
-        ensures { option_map box_value result ≡ self.handle.table }
-    {
-        let Collator { handle, is_open } = self;
-        if is_open {
-            Some(handle.into_loose().into_box())
-        } else {
-            None
-        }
-    }
-
-    fn take(&mut self, alloc: Global) -> Option<Shared>
-        ensures table { option_map box_value result ≡ self.old.handle.table }
-        ensures closed { self.new.handle.table ≡ None }
-    {
-        replace(self, Collator::closed(alloc)).into_table()
-    }
-
-    fn fill(&mut self, table: Shared)
-        ensures { self.new.handle.table ≡ Some table.value }
-    {
-        *self = Collator::of(table);
-    }
-
     /// Gives the collator the table that two texts say: the first in the format of `allkeys.txt`, and the second rules that
     /// tailor it. It lets go of the table that it has had, or keeps it where the texts say none.
     pub fn load(&mut self, alloc: Global, table: &[u8], rules: &[u8]) -> Result<(), OpenFault>
         ensures { Opens table.now rules.now (held self.old) (held self.new) result }
     {
         let opened = shared(alloc, table_of(alloc, table, rules)?)?;
-        let _before = self.take(alloc);
-        self.fill(opened);
+        *self = Collator::of(opened);
         Ok(())
     }
 
@@ -108,7 +84,7 @@ impl Collator {
     pub fn close(&mut self, alloc: Global)
         ensures { held self.new ≡ None }
     {
-        let _table = self.take(alloc);
+        *self = Collator::closed(alloc);
     }
 
     /// Gives another collator the same table. That lets go of the one that it has had, or keeps it where there is none to
@@ -121,8 +97,7 @@ impl Collator {
             return Err(ShareFault::Closed);
         }
         let copy = copy_of(alloc, self.handle.get_mut())?;
-        let _before = other.take(alloc);
-        other.fill(copy);
+        *other = Collator::of(copy);
         Ok(())
     }
 
@@ -164,13 +139,8 @@ impl Collator {
         if !self.is_open {
             return Err(KeyFault::Closed);
         }
-        put_key(
-            alloc,
-            opened_in(self.handle.get_mut()).table(),
-            s,
-            text,
-            out,
-        )
+        let table = opened_in(self.handle.get_mut()).table();
+        put_key(alloc, table, s, text, out)
     }
 
     /// Puts the packed sort key of a text into the front of a buffer, or as many of its bytes as fit, and returns how many bytes
@@ -206,13 +176,8 @@ impl Collator {
         if !self.is_open {
             return Err(KeyFault::Closed);
         }
-        put_text_key(
-            alloc,
-            opened_in(self.handle.get_mut()).table(),
-            s,
-            text,
-            out,
-        )
+        let table = opened_in(self.handle.get_mut()).table();
+        put_text_key(alloc, table, s, text, out)
     }
 
     /// Puts the packed sort key of a text that was checked before into the front of a buffer, as [`Collator::packed_key`] does.
@@ -261,14 +226,8 @@ impl Collator {
         if !self.is_open {
             return Err(BoundsFault::Closed);
         }
-        put_bounds(
-            alloc,
-            opened_in(self.handle.get_mut()).table(),
-            v,
-            text,
-            lower,
-            upper,
-        )
+        let table = opened_in(self.handle.get_mut()).table();
+        put_bounds(alloc, table, v, text, lower, upper)
     }
 
     /// The same of packed keys: the packed keys of all texts whose primary weights begin with those of the text, of whatever
@@ -287,14 +246,8 @@ impl Collator {
         if !self.is_open {
             return Err(BoundsFault::Closed);
         }
-        put_packed_bounds(
-            alloc,
-            opened_in(self.handle.get_mut()),
-            v,
-            text,
-            lower,
-            upper,
-        )
+        let opened = opened_in(self.handle.get_mut());
+        put_packed_bounds(alloc, opened, v, text, lower, upper)
     }
 
     /// Whether a text is complete: then every text that begins with it has its keys between the ends that
@@ -355,14 +308,8 @@ impl Collator {
         if !self.is_open {
             return Err(KeyFault::Closed);
         }
-        put_matches(
-            alloc,
-            opened_in(self.handle.get_mut()).table(),
-            text,
-            matches,
-            points,
-            elements,
-        )
+        let table = opened_in(self.handle.get_mut()).table();
+        put_matches(alloc, table, text, matches, points, elements)
     }
 }
 

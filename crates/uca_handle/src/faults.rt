@@ -82,9 +82,11 @@ impl From<AllocError> for OpenFault {
 }
 
 impl From<ReadFault> for OpenFault {
-    ghost use Rattle.uca_handle.specs.Opening.{table_fault_by};
+    ghost use Rattle.uca_allkeys.specs.Faults.{read_cause};
+    ghost use Rattle.uca_handle.specs.Opening.{reported};
+    ghost use Rattle.uca_handle.specs.declared.faults.OpenFault.TheVariants.{Table};
 
-    ghost from_gives = { λ fault opened. opened ≡ table_fault_by fault.cause fault };
+    ghost from_gives = { λ fault opened. opened ≡ reported (read_cause fault.cause) (Table fault) };
 
     fn from(fault: ReadFault) -> OpenFault {
         match fault.cause {
@@ -95,9 +97,11 @@ impl From<ReadFault> for OpenFault {
 }
 
 impl From<RuleFault> for OpenFault {
-    ghost use Rattle.uca_handle.specs.Opening.{rules_fault_by};
+    ghost use Rattle.uca_tailor.specs.Faults.{reported_text_cause};
+    ghost use Rattle.uca_handle.specs.Opening.{reported};
+    ghost use Rattle.uca_handle.specs.declared.faults.OpenFault.TheVariants.{Rules};
 
-    ghost from_gives = { λ fault opened. opened ≡ rules_fault_by fault.cause fault };
+    ghost from_gives = { λ fault opened. opened ≡ reported (reported_text_cause fault.cause) (Rules fault) };
 
     fn from(fault: RuleFault) -> OpenFault {
         match fault.cause {
@@ -108,9 +112,11 @@ impl From<RuleFault> for OpenFault {
 }
 
 impl From<TailorFault> for OpenFault {
-    ghost use Rattle.uca_handle.specs.Opening.{tailor_fault_by};
+    ghost use Rattle.uca_tailor.specs.Faults.{reported_cause};
+    ghost use Rattle.uca_handle.specs.Opening.{reported};
+    ghost use Rattle.uca_handle.specs.declared.faults.OpenFault.TheVariants.{Tailor};
 
-    ghost from_gives = { λ fault opened. opened ≡ tailor_fault_by fault.cause fault };
+    ghost from_gives = { λ fault opened. opened ≡ reported (reported_cause fault.cause) (Tailor fault) };
 
     fn from(fault: TailorFault) -> OpenFault {
         match fault.cause {

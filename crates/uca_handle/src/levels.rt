@@ -46,8 +46,7 @@ fn decide(t: &Table, s: Settings, a: &Passage, b: &Passage) -> Decision
     let _longest = t.longest();
     let (_text_a, _text_b) = (a.as_str(), b.as_str());
     let last = s.levels();
-    let mut level = 1;
-    'each: loop {
+    for level in 1..last {
         let upto = Settings {
             strength: strength_of(level),
             weighting: s.weighting,
@@ -56,10 +55,10 @@ fn decide(t: &Table, s: Settings, a: &Passage, b: &Passage) -> Decision
         if order.is_ne() {
             return Decision { order, level };
         }
-        if level == last {
-            return Decision { order, level };
-        }
-        level += 1;
+    }
+    Decision {
+        order: compare(t, s, a, b),
+        level: last,
     }
 }
 

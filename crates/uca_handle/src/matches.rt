@@ -1,12 +1,11 @@
 // The matches of a text, which are put into arrays.
-ghost use Rattle.std.specs.Prelude.{◌≡◌, ◌<◌, ◌≤◌, ◌++◌, [], length, map, IfOk, OnOk};
-ghost use Rattle.unicode_normalization.specs.Forms.{nfd};
+ghost use Rattle.std.specs.Prelude.{◌≡◌, ◌<◌, ◌≤◌, ◌++◌, [], ◌∷◌, length, map, IfOk, OnOk};
 ghost use Rattle.uca_weights.specs.declared.limits.TheConstants.{MAX_ELEMENTS};
-ghost use Rattle.uca_model.specs.CollationElements.{elements, elements_or_implicit};
+ghost use Rattle.uca_model.specs.CollationElements.{elements_or_implicit};
 ghost use Rattle.uca_window.specs.Passage.{text_of};
 ghost use Rattle.uca_match.specs.Matches.{match_of};
-ghost use Rattle.uca_handle.specs.Listed.{ListsMatch};
-ghost use Rattle.uca_handle.specs.Matches.{PutsMatchesBy, element_form, match_form, match_points, text_matches, with_items};
+ghost use Rattle.uca_handle.specs.Listed.{Lists};
+ghost use Rattle.uca_handle.specs.Matches.{PutsMatchesBy, element_form, text_matches, with_items};
 
 use crate::faults::KeyFault;
 use std::alloc::{AllocError, Global};
@@ -101,9 +100,7 @@ fn push_forms_of(out: &mut Vec<ElementForm>, t: &Table, key: &[char]) -> Result<
 
 impl Listed {
     fn new(alloc: Global) -> Listed
-        ensures matches { result.matches.items ≡ [] }
-        ensures points { result.points.items ≡ [] }
-        ensures elements { result.elements.items ≡ [] }
+        ensures { (t : _) → Lists t [] result }
     {
         Listed {
             matches: Vec::new(alloc),
@@ -115,7 +112,7 @@ impl Listed {
     /// Adds a match.
     fn push(&mut self, t: &Table, matched: &Match) -> Result<(), AllocError>
         requires { 0 < length matched.now.key.items }
-        ensures { OnOk result (ListsMatch t.now (match_of matched.now) self.old self.new) }
+        ensures { (ms : _) → Lists t.now ms self.old → OnOk result (Lists t.now (ms ++ match_of matched.now ∷ []) self.new) }
     {
         let key = matched.key.as_slice();
         push_points(&mut self.points, key)?;
@@ -131,9 +128,7 @@ impl Listed {
 
 /// The matches of a text.
 fn list_matches(alloc: Global, t: &Table, p: &Passage) -> Result<Listed, AllocError>
-    ensures matches { IfOk result (λ l. l.matches.items ≡ map (match_form t.now) (text_matches t.now (text_of p.now))) }
-    ensures points { IfOk result (λ l. l.points.items ≡ match_points (text_matches t.now (text_of p.now))) }
-    ensures elements { IfOk result (λ l. l.elements.items ≡ map element_form (elements t.now (nfd (text_of p.now)))) }
+    ensures { IfOk result (Lists t.now (text_matches t.now (text_of p.now))) }
 {
     let matches = matches_of(alloc, t, p)?;
     let mut all = Listed::new(alloc);
@@ -167,32 +162,16 @@ pub(crate) fn put_matches(
         Ok(passage) => passage,
         Err(fault) => return Err(KeyFault::Text(fault)),
     };
-    match list_matches(alloc, t, &passage) {
-        Ok(all) => Ok(put_listed(&all, matches, points, elements)),
-        Err(_) => Err(KeyFault::OutOfMemory),
-    }
-}
-
-/// Puts what was listed into the fronts of three arrays, and returns how much it is.
-fn put_listed(
-    all: &Listed,
-    matches: &mut [MatchForm],
-    points: &mut [u32],
-    elements: &mut [ElementForm],
-) -> MatchesSize
-    ensures matches { matches.new ≡ with_items all.now.matches.items matches.old }
-    ensures points { points.new ≡ with_items all.now.points.items points.old }
-    ensures elements { elements.new ≡ with_items all.now.elements.items elements.old }
-    ensures matches_size { result.matches ≡ length all.now.matches.items }
-    ensures points_size { result.points ≡ length all.now.points.items }
-    ensures elements_size { result.elements ≡ length all.now.elements.items }
-{
+    let all = match list_matches(alloc, t, &passage) {
+        Ok(all) => all,
+        Err(_) => return Err(KeyFault::OutOfMemory),
+    };
     copy_items(all.matches.as_slice(), matches);
     copy_items(all.points.as_slice(), points);
     copy_items(all.elements.as_slice(), elements);
-    MatchesSize {
+    Ok(MatchesSize {
         matches: all.matches.len(),
         points: all.points.len(),
         elements: all.elements.len(),
-    }
+    })
 }

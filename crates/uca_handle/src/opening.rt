@@ -1,5 +1,5 @@
 ghost use Rattle.std.specs.Prelude.{MatchResult};
-ghost use Rattle.uca_handle.specs.Opening.{RefusesBaseBy, RefusesTable, SaysBase, SaysTable};
+ghost use Rattle.uca_handle.specs.Opening.{RefusesBase, RefusesRules, RefusesTable, SaysBase, SaysTable, Tailors};
 
 use crate::bytes::Bytes;
 use crate::faults::OpenFault;
@@ -11,15 +11,15 @@ use uca_tailor::{parse, tailor};
 
 /// The table that a text says.
 fn base_of(alloc: Global, table: &[u8]) -> Result<Table, OpenFault>
-    ensures { MatchResult result (SaysBase table.now) (RefusesBaseBy table.now) }
+    ensures { MatchResult result (SaysBase table.now) (RefusesBase table.now) }
 {
     let mut reader = Bytes::new(table);
     Ok(read_table(alloc, &mut reader)?)
 }
 
-/// The table that the rules in a text make of another, whatever text says that one.
+/// The table that the rules in a text make of another.
 fn tailored_by(alloc: Global, base: &Table, rules: &[u8]) -> Result<Table, OpenFault>
-    ensures { (table : _) → SaysBase table base.now → MatchResult result (SaysTable table rules.now) (RefusesTable table rules.now) }
+    ensures { MatchResult result (Tailors base.now rules.now) (RefusesRules base.now rules.now) }
 {
     let text = match from_utf8(rules) {
         Ok(text) => text,

@@ -1,5 +1,5 @@
 -- What was read of a text, and why it is refused.
-use Rattle.std.proofs.Common.{◌≡◌, ℕ, ◌+◌, ◌-◌, ◌<◌, ◌≤◌, List, [], ◌++◌, length, take, drop, length-take, length-drop, refl, sym, ap, subst, ◌∙◌, arith, append_assoc, length-append, inl, inr}
+use Rattle.std.proofs.Common.{◌≡◌, ℕ, ◌+◌, ◌-◌, ◌<◌, ◌≤◌, List, [], ◌++◌, length, take, drop, length-take, length-drop, refl, sym, ap, ◌∙◌, arith, append_assoc, length-append, inl, inr}
 use Rattle.std.proofs.KnownBytes.{Consumes-nil}
 use Rattle.std.proofs.lemmas.List.{append-nil}
 use Rattle.std.specs.Io.KnownBytes.{Consumes}
@@ -30,25 +30,18 @@ HasRead-start f a old p first none = record {
   count = omega (arith, first, ap (length {A = ℕ}) none);
 }
 
--- a piece was read of a text
-HasRead-more : {A C : Type 0} (f : Fold A C) (a b d : A) (old mid new : ReaderState) (left : ℕ) (p q : Progress) (piece : List ℕ) (has : HasRead f a old mid left p b) → Consumes mid.coming new.coming piece → new.failures ≡ mid.failures → length piece ≤ left
-    → GoesOn f p b piece q d [] → HasRead f a old new (left - length piece) q d
-HasRead-more f a b d old mid new left p q piece has given failures fits goes = record {
-  bytes = has.bytes ++ piece;
-  gives = Gives-more old mid new has.bytes piece has.gives given failures;
-  room = omega (arith, has.room, length-append has.bytes piece);
-  same = λ end more. ap (with_bytes f end 1 a) (append_assoc has.bytes piece more) ∙ has.same end (piece ++ more) ∙ goes.same end more;
-  held = goes.held;
-  short = goes.short;
-  count = omega (arith, has.count, goes.count, length-append has.bytes piece);
-}
-
 -- the front of a chunk was read
 pub HasRead-chunk : {A C : Type 0} (f : Fold A C) (a b d : A) (old mid new : ReaderState) (left n : ℕ) (p q : Progress) (buf : List ℕ) (has : HasRead f a old mid left p b) → Consumes mid.coming new.coming (take n buf) → new.failures ≡ mid.failures → n ≤ left → n ≤ length buf
     → GoesOn f p b (take n buf) q d [] → HasRead f a old new (left - n) q d
-HasRead-chunk f a b d old mid new left n p q buf has given failures fits within goes =
-    let count : length (take n buf) ≡ n = omega (arith, length-take n buf) in
-    subst (λ (m : ℕ). HasRead f a old new (left - m) q d) count (HasRead-more f a b d old mid new left p q (take n buf) has given failures (omega arith) goes)
+HasRead-chunk f a b d old mid new left n p q buf has given failures fits within goes = record {
+  bytes = has.bytes ++ take n buf;
+  gives = Gives-more old mid new has.bytes (take n buf) has.gives given failures;
+  room = omega (arith, has.room, length-append has.bytes (take n buf), length-take n buf);
+  same = λ end more. ap (with_bytes f end 1 a) (append_assoc has.bytes (take n buf) more) ∙ has.same end (take n buf ++ more) ∙ goes.same end more;
+  held = goes.held;
+  short = goes.short;
+  count = omega (arith, has.count, goes.count, length-append has.bytes (take n buf));
+}
 
 -- a fault of the text, by its cause
 refused : {A C K : Type 0} (f : Fold A C) (fault_of : K → Option C) (possible : K → Type 0) (a : A) (old new : ReaderState) (line : ℕ) (cause : LineCause K) (bytes : List ℕ) → length bytes ≤ MAX_INPUT + 1 → Gives old new bytes → IsOfText possible cause
@@ -91,31 +84,26 @@ in_piece {A} {C} f fault_of possible a b old mid new left p piece fault has give
           (λ e m. ap (with_bytes f e 1 a) (append_assoc has.bytes piece m) ∙ has.same e (piece ++ m) ∙ faulty e m) end more;
     })) stop)
 
--- a piece with a byte too much
-in_large : {A C K : Type 0} (f : Fold A C) (fault_of : K → Option C) (possible : K → Type 0) (a b : A) (old mid new : ReaderState) (left : ℕ) (p : Progress) (front rest : List ℕ) (fault : LineFault K) (has : HasRead f a old mid left p b) → Consumes mid.coming new.coming (front ++ rest) → new.failures ≡ mid.failures → length front ≡ left → 0 < length rest → length rest ≤ 1
-    → MatchOption (fault_by f fault_of fault.cause) (Unit {0}) (λ c. remaining f (stops f.large) p b front ≡ fault_at fault.line c) → IsOfText possible fault.cause → StopsLines f fault_of possible a old new fault
-in_large f fault_of possible a b old mid new left p front rest fault has given failures fits some one stop mine =
-    let gives : Gives old new (has.bytes ++ (front ++ rest)) = Gives-more old mid new has.bytes (front ++ rest) has.gives given failures in
-    let full : length (has.bytes ++ front) ≡ MAX_INPUT = omega (arith, has.room, length-append has.bytes front) in
-    let whole : has.bytes ++ (front ++ rest) ≡ (has.bytes ++ front) ++ rest = sym (append_assoc has.bytes front rest) in
-    let within : length (has.bytes ++ (front ++ rest)) ≤ MAX_INPUT + 1 = omega (arith, has.room, length-append has.bytes (front ++ rest), length-append front rest) in
-    refused f fault_of possible a old new fault.line fault.cause (has.bytes ++ (front ++ rest)) within gives mine
-    (fault-change (fault_by f fault_of fault.cause) (λ c. remaining f (stops f.large) p b front ≡ fault_at fault.line c) (IsFaulty (with_text f a) old new fault.line)
-    (λ c faulty. inl (record {
-      bytes = has.bytes ++ (front ++ rest);
-      within = within;
-      gives = gives;
-      says = λ end more. ap (λ (xs : List ℕ). with_text f a end (xs ++ more)) whole
-          ∙ text-large f a (has.bytes ++ front) rest full some end more ∙ has.same (stops f.large) front ∙ faulty;
-    })) stop)
-
 -- the front of a chunk has a byte too much
 pub in_large_chunk : {A C K : Type 0} (f : Fold A C) (fault_of : K → Option C) (possible : K → Type 0) (a b : A) (old mid new : ReaderState) (left n : ℕ) (p : Progress) (buf : List ℕ) (fault : LineFault K) (has : HasRead f a old mid left p b) → Consumes mid.coming new.coming (take n buf) → new.failures ≡ mid.failures → left < n → n ≤ left + 1 → n ≤ length buf
     → MatchOption (fault_by f fault_of fault.cause) (Unit {0}) (λ c. remaining f (stops f.large) p b (take left buf) ≡ fault_at fault.line c) → IsOfText possible fault.cause → StopsLines f fault_of possible a old new fault
 in_large_chunk f fault_of possible a b old mid new left n p buf fault has given failures more one within stop mine =
-    let front : length (take left buf) ≡ left = omega (arith, length-take left buf) in
-    let count : length (take n buf) ≡ n = omega (arith, length-take n buf) in
-    in_large f fault_of possible a b old mid new left p (take left buf) (drop left (take n buf)) fault has (subst (λ (xs : List ℕ). Consumes mid.coming new.coming xs) (cut_chunk left n buf (omega arith)) given) failures front (omega (arith, length-drop left (take n buf))) (omega (arith, length-drop left (take n buf))) stop mine
+    let bytes = has.bytes ++ take n buf in
+    let front = take left buf in
+    let rest = drop left (take n buf) in
+    let full : length (has.bytes ++ front) ≡ MAX_INPUT = omega (arith, has.room, length-append has.bytes front, length-take left buf) in
+    let whole : bytes ≡ (has.bytes ++ front) ++ rest = ap (λ (xs : List ℕ). has.bytes ++ xs) (cut_chunk left n buf (omega arith)) ∙ sym (append_assoc has.bytes front rest) in
+    let some : 0 < length rest = omega (arith, length-drop left (take n buf), length-take n buf) in
+    let size : length bytes ≤ MAX_INPUT + 1 = omega (arith, has.room, length-append has.bytes (take n buf), length-take n buf) in
+    let gives : Gives old new bytes = Gives-more old mid new has.bytes (take n buf) has.gives given failures in
+    refused f fault_of possible a old new fault.line fault.cause bytes size gives mine
+    (fault-change (fault_by f fault_of fault.cause) (λ c. remaining f (stops f.large) p b front ≡ fault_at fault.line c) (IsFaulty (with_text f a) old new fault.line)
+    (λ c faulty. inl (record {
+      bytes = bytes;
+      within = size;
+      gives = gives;
+      says = λ end more. ap (λ (xs : List ℕ). with_text f a end (xs ++ more)) whole ∙ text-large f a (has.bytes ++ front) rest full some end more ∙ has.same (stops f.large) front ∙ faulty;
+    })) stop)
 
 -- a reader that fails
 pub at_failure : {A C : Type 0} (f : Fold A C) (a b : A) (old mid new : ReaderState) (left : ℕ) (p : Progress) (has : HasRead f a old mid left p b) → GivesAndFails old new has.bytes → FailsFirst (with_text f a) old new p.number f.failed

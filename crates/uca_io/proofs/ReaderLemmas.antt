@@ -22,9 +22,6 @@ pub Gives-fails : (old mid new : ReaderState) (bytes : List ℕ) → Gives old m
 Gives-fails old mid new bytes gives kept failures =
     record { given = Consumes-kept old.coming mid.coming new.coming bytes gives.given kept; failures = failures ∙ ap one_more gives.failures }
 
-take_front : (left n : ℕ) (buf : List ℕ) → left ≤ n → take left (take n buf) ≡ take left buf
-take_front left n buf low = take-take left n buf low
-
 -- the front of a chunk, in which some bytes are left
 pub cut_chunk : (left n : ℕ) (buf : List ℕ) → left ≤ n → take n buf ≡ take left buf ++ drop left (take n buf)
-cut_chunk left n buf low = sym (take-append-drop left (take n buf)) ∙ ap (λ (xs : List ℕ). xs ++ drop left (take n buf)) (take_front left n buf low)
+cut_chunk left n buf low = sym (take-append-drop left (take n buf)) ∙ ap (λ (xs : List ℕ). xs ++ drop left (take n buf)) (take-take left n buf low)

@@ -77,10 +77,6 @@ words-first xs n at within some =
           ap kept (split_none is_blank xs (omega arith)) ∙ kept-some xs [] (omega arith) ∙ ap₂ (λ (w : List ℕ) (r : List ℕ). w ∷ words r) (sym whole) (sym none)
     ]
 
-pub nil_from_empty : (xs : List ℕ) → length xs ≤ 0 → xs ≡ []
-nil_from_empty [] none = refl
-nil_from_empty (x ∷ xs) none = absurd (omega arith)
-
 pub length-skip : (xs : List ℕ) → length (skip_blanks xs) ≤ length xs
 length-skip [] = omega arith
 length-skip (b ∷ bs) =

@@ -1,18 +1,9 @@
 -- Steps of the loops that make a code of primary weights.
-use Rattle.std.proofs.Common.{◌≡◌, ℕ, zero, suc, ◌+◌, ◌-◌, ◌≤◌, ◌<◌, Bool, true, nat_le, nat_lt, List, [], ◌∷◌, ◌++◌, length, map, take, get_or, sym, ap, ◌∙◌, arith, append_assoc, append-nil}
-use Rattle.std.proofs.lemmas.Bool.{and_parts, leb-true, ltb-true}
-use Rattle.std.proofs.lemmas.List.{map-append}
-use Rattle.std.specs.List.{list_all, range_with_len}
-use Rattle.unicode_normalization.specs.Forms.{nfd}
+use Rattle.uca_key.proofs.Common.{◌≡◌, ℕ, zero, suc, ◌+◌, ◌-◌, ◌≤◌, ◌<◌, Bool, true, nat_le, nat_lt, List, [], ◌∷◌, ◌++◌, length, map, take, get_or, sym, ap, ◌∙◌, arith, append_assoc, append-nil, and_parts, leb-true, ltb-true, map-append, list_all, range_with_len, nfd, Element, ElementTable, elements, PrimaryCode, first_primary, points_of_ranges, primary_of, is_range, common_steps}
+use Rattle.uca_key.specs.PrimaryCode.{code_of}
 use Rattle.unicode_normalization.proofs.FormsLemmas.{normalize-nil}
-use Rattle.uca_weights.specs.declared.element.Element.{Element}
-use Rattle.uca_model.specs.Table.{ElementTable}
-use Rattle.uca_model.specs.CollationElements.{elements}
 use Rattle.uca_model.proofs.RewritingLemmas.{elements_nil}
-use Rattle.uca_key.specs.PrimaryCode.{PrimaryCode, code_of, first_primary, points_of_ranges, primary_of}
 use Rattle.uca_key.specs.declared.common_characters.TheConstants.{COMMON_RANGES, FIRST_LETTERS, SINGLE_CHARACTERS}
-use Rattle.uca_key.specs.WeightCodes.{is_range}
-use Rattle.std.proofs.lemmas.Grind.{common_steps}
 
 -- one number more
 range-more : (f : ℕ → ℕ) (a n : ℕ) → map f (range_with_len a (n + 1)) ≡ map f (range_with_len a n) ++ f (a + n) ∷ []
@@ -61,3 +52,6 @@ pub code-made : (t : ElementTable) (commons singles anchors : List ℕ) → comm
     → the_code commons singles anchors ≡ code_of t
 unfolding code_of
 code-made t commons singles anchors e f g = grind (arith, common_steps)
+
+-- what the functions that make a code need
+pub ruleset code_steps = (common_steps, range-step, ranges-step, is_range-ordered, is_range-scalars, all-at)

@@ -1,21 +1,5 @@
 -- The byte order of sort keys is the order of their levels, and what decides the order of the bytes of packed keys.
-use Rattle.std.proofs.Common.{◌⊎◌, ◌≡◌, ℕ, suc, zero, ◌+◌, ◌-◌, ◌≤◌, ◌<◌, List, [], ◌∷◌, ◌++◌, refl, ap, ap₂, subst, ◌∙◌, arith, inl, inr}
-use Rattle.std.proofs.lemmas.Bool.{cases_lt, cond-true, cond-false, lt-ltb, le-ltb}
-use Rattle.std.proofs.lemmas.Bool.Decides.{nat_tests}
-use Rattle.std.specs.declared.cmp.Ordering.{Ordering}
-use Rattle.std.specs.declared.cmp.Ordering.TheVariants.{Less, Equal, Greater}
-use Rattle.std.specs.Ordering.{nat_cmp, ordering_then}
-use Rattle.unicode_normalization.specs.Forms.{nfd}
-use Rattle.uca_weights.specs.declared.settings.Settings.{Settings}
-use Rattle.uca_weights.specs.Settings.{levels}
-use Rattle.uca_model.specs.Table.{ElementTable}
-use Rattle.uca_model.specs.DecidingLevel.{list_order, key_from, OrdersLevel}
-use Rattle.uca_model.specs.LevelWeights.{level_list}
-use Rattle.uca_model.specs.SortKey.{weight_bytes, key_order, sort_key}
-use Rattle.uca_model.proofs.LevelLemmas.{sort_key-levels, levels-within, weight_first, OrdersLevel-weights, OrdersLevel-points}
-use Rattle.uca_model.proofs.WeightLemmas.{HasWeights}
-use Rattle.uca_key.specs.PackedKey.{other_bytes}
-use Rattle.std.proofs.lemmas.Grind.{common_steps}
+use Rattle.uca_key.proofs.Common.{◌⊎◌, ◌≡◌, ℕ, suc, zero, ◌+◌, ◌-◌, ◌≤◌, ◌<◌, List, [], ◌∷◌, ◌++◌, refl, ap, sym, ap₂, subst, ◌∙◌, arith, inl, inr, cases_lt, cond-true, cond-false, lt-ltb, le-ltb, nat_tests, Ordering, Less, Equal, Greater, nat_cmp, ordering_then, nfd, Settings, levels, ElementTable, list_order, key_from, OrdersLevel, level_list, weight_bytes, key_order, sort_key, sort_key-levels, levels-within, weight_first, OrdersLevel-weights, OrdersLevel-points, HasWeights, other_bytes, common_steps}
 
 -- ---- bytes and weights
 
@@ -61,18 +45,26 @@ kind_of w c = elim (cases_lt w c) [ inl below ↦ inl below | inr h ↦ elim (ca
 pub heads_less : (a b r s : List ℕ) (la ha lb hb : ℕ) → Begins a la ha → Begins b lb hb → ha < lb → key_order (a ++ r) (b ++ s) ≡ Less
 heads_less a b r s la ha lb hb p q apart = grind (arith, common_steps, is_less)
 
-pub heads_greater : (a b r s : List ℕ) (la ha lb hb : ℕ) → Begins a la ha → Begins b lb hb → hb < la → key_order (a ++ r) (b ++ s) ≡ Greater
-heads_greater a b r s la ha lb hb p q apart = grind (arith, common_steps, is_greater)
-
--- the first weights differ
-pub lists_less : (x y : ℕ) (xs ys : List ℕ) (o : Ordering) → x < y → ordering_then (key_order (x ∷ xs) (y ∷ ys)) o ≡ Less
-lists_less x y xs ys o h = ap (λ p. ordering_then (ordering_then p (key_order xs ys)) o) (is_less x y h)
-
-pub lists_greater : (x y : ℕ) (xs ys : List ℕ) (o : Ordering) → y < x → ordering_then (key_order (x ∷ xs) (y ∷ ys)) o ≡ Greater
-lists_greater x y xs ys o h = ap (λ p. ordering_then (ordering_then p (key_order xs ys)) o) (is_greater x y h)
-
+-- the first weights are the same
 pub lists_same : (x y : ℕ) (xs ys : List ℕ) (o : Ordering) → x ≡ y → ordering_then (key_order (x ∷ xs) (y ∷ ys)) o ≡ ordering_then (key_order xs ys) o
 lists_same x y xs ys o h = ap (λ p. ordering_then (ordering_then p (key_order xs ys)) o) (is_equal x y h)
+
+-- ---- byte strings
+
+-- the first bytes are the same
+pub firsts_same : (h g : ℕ) (s t : List ℕ) → h ≡ g → key_order (h ∷ s) (g ∷ t) ≡ key_order s t
+firsts_same h g s t same = ap (λ o. ordering_then o (key_order s t)) (is_equal h g same)
+
+-- the other way round
+pub flipped : (a b : List ℕ) → key_order a b ≡ Less → key_order b a ≡ Greater
+flipped [] [] h = absurd (cc)
+flipped [] (y ∷ b) h = refl
+flipped (x ∷ a) [] h = absurd (cc)
+flipped (x ∷ a) (y ∷ b) h = elim (kind_of x y) [
+  | inl below ↦ ap (λ o. ordering_then o (key_order b a)) (is_greater y x below)
+  | inr (inl same) ↦ firsts_same y x b a (sym same) ∙ flipped a b (sym (firsts_same x y a b same) ∙ h)
+  | inr (inr above) ↦ let e : Greater ≡ Less = sym (ap (λ o. ordering_then o (key_order a b)) (is_greater x y above)) ∙ h in absurd (cc)
+]
 
 -- ---- keys
 

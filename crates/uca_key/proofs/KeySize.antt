@@ -1,29 +1,13 @@
 -- A key has few bytes for each byte of its text.
-use Rattle.std.proofs.Common.{◌≡◌, ℕ, zero, suc, ◌+◌, ◌-◌, ◌*◌, ◌^◌, ◌≤◌, ◌<◌, Bool, true, false, cond, List, [], ◌∷◌, ◌++◌, length, filter, flat_map, slice_index, unwrap_or, Option, Some, None, refl, ap, ◌∙◌, arith, length-append}
-use Rattle.std.proofs.lemmas.Bool.{cases_Bool, cond-true, cond-false}
-use Rattle.std.proofs.lemmas.List.{length-map}
-use Rattle.std.proofs.lemmas.Str.{encodes-chars}
+use Rattle.uca_key.proofs.Common.{◌≡◌, ℕ, zero, suc, ◌+◌, ◌-◌, ◌*◌, ◌^◌, ◌≤◌, ◌<◌, Bool, true, false, cond, List, [], ◌∷◌, ◌++◌, length, filter, flat_map, slice_index, unwrap_or, Option, Some, None, refl, ap, ◌∙◌, arith, length-append, cases_Bool, cond-true, cond-false, length-map, encodes-chars, Nfd, nfd, Element, Settings, Variable, levels, weighted_after, ElementTable, IsTable, elements_at, is_key, step, elements, elements_or_implicit, level_weights, level_list, bytes_at, key_from, sort_key, weight_bytes, code_point_bytes, sort_key-levels, levels-within, common_steps}
 use Rattle.std.specs.Str.{IsUtf8, chars}
 use Rattle.std.specs.Option.{option_map_or}
-use Rattle.unicode_normalization.specs.Forms.{Nfd, nfd}
 use Rattle.unicode_normalization.proofs.LengthLemmas.{length-normalize}
-use Rattle.uca_weights.specs.declared.element.Element.{Element}
 use Rattle.uca_weights.specs.declared.range.Ideographs.{Ideographs}
 use Rattle.uca_weights.specs.declared.range.Range.{Range}
-use Rattle.uca_weights.specs.declared.settings.Settings.{Settings}
-use Rattle.uca_weights.specs.declared.settings.Variable.{Variable}
-use Rattle.uca_weights.specs.Settings.{levels}
-use Rattle.uca_weights.specs.VariableWeighting.{weighted_after}
-use Rattle.uca_model.specs.Table.{ElementTable, IsTable, elements_at, is_key}
 use Rattle.uca_model.specs.ImplicitWeights.{implicit, implicit_over, in_range}
-use Rattle.uca_model.specs.CollationElements.{step, elements, elements_or_implicit}
-use Rattle.uca_model.specs.LevelWeights.{level_weights, level_list}
-use Rattle.uca_model.specs.DecidingLevel.{bytes_at, key_from}
-use Rattle.uca_model.specs.SortKey.{sort_key, weight_bytes, code_point_bytes}
-use Rattle.uca_model.proofs.LevelLemmas.{sort_key-levels, levels-within}
 use Rattle.uca_model.proofs.RewritingLemmas.{elements_nil, elements_step, step_shorter}
 use Rattle.uca_model.proofs.TableLemmas.{IsEntry-elements_at}
-use Rattle.std.proofs.lemmas.Grind.{common_steps}
 
 either_few : (b : Bool) (x y : List Element) → length x ≤ 64 → length y ≤ 64 → length (cond b x y) ≤ 64
 either_few true x y h k = h
@@ -78,20 +62,16 @@ weights_few level ws = grind (arith, common_steps, passed_few, slice_index, leng
 level_few : (t : ElementTable) (v : Variable) (text : List ℕ) (level : ℕ) → IsTable t → length (bytes_at level (level_list t v text level)) ≤ 192 * length (nfd text)
 level_few t v text level table = grind (arith, common_steps, cases_Bool, cond-true, bytes_few, point_few, cond-false, weight_few, weights_few, length-weighted_after, elements_few)
 
-key_few : (n level : ℕ) (lists : ℕ → List ℕ) → ((k : ℕ) → length (bytes_at k (lists k)) ≤ 2 ^ 80) → length (key_from n level lists) ≤ (n + 1) * (2 ^ 80 + 2)
-key_few zero level lists few = omega (arith, few level)
-key_few (suc n) level lists few = grind (arith, common_steps, length-append, key_few n (level + 1) lists few)
-
-short_key_few : (n level : ℕ) (lists : ℕ → List ℕ) → ((k : ℕ) → length (bytes_at k (lists k)) ≤ 2 ^ 40) → length (key_from n level lists) ≤ (n + 1) * (2 ^ 40 + 2)
-short_key_few zero level lists few = omega (arith, few level)
-short_key_few (suc n) level lists few = grind (arith, common_steps, length-append, short_key_few n (level + 1) lists few)
+key_few : (most n level : ℕ) (lists : ℕ → List ℕ) → ((k : ℕ) → length (bytes_at k (lists k)) ≤ most) → length (key_from n level lists) ≤ (n + 1) * (most + 2)
+key_few most zero level lists few = omega (arith, few level)
+key_few most (suc n) level lists few = omega (arith, length-append (bytes_at level (lists level)) (0 ∷ 0 ∷ key_from n (level + 1) lists), few level, key_few most n (level + 1) lists few)
 
 -- the bytes of a key can be counted
 pub length-sort_key : (t : ElementTable) (s : Settings) (bytes : List ℕ) → IsTable t → IsUtf8 bytes → length bytes < 2 ^ 64 → length (sort_key t s (chars bytes)) < 2 ^ 100
 length-sort_key t s bytes table utf8 few =
     let text : List ℕ = chars bytes in
     let short : length (nfd text) ≤ 2 ^ 70 = omega (arith, length-normalize Nfd text, ap length (encodes-chars bytes utf8)) in
-    omega (arith, ap length (sort_key-levels t s text), key_few (levels s.strength - 1) 1 (level_list t s.weighting text) (λ k. omega (arith, level_few t s.weighting text k table, short)), (levels-within s.strength).0, (levels-within s.strength).1)
+    omega (arith, ap length (sort_key-levels t s text), key_few (2 ^ 80) (levels s.strength - 1) 1 (level_list t s.weighting text) (λ k. omega (arith, level_few t s.weighting text k table, short)), (levels-within s.strength).0, (levels-within s.strength).1)
 
 pub short_text : (bytes : List ℕ) → IsUtf8 bytes → length bytes ≤ 65536 → length (nfd (chars bytes)) ≤ 2 ^ 24
 short_text bytes utf8 few = omega (arith, length-normalize Nfd (chars bytes), ap length (encodes-chars bytes utf8))
@@ -100,4 +80,4 @@ short_text bytes utf8 few = omega (arith, length-normalize Nfd (chars bytes), ap
 pub length-key_few : (t : ElementTable) (s : Settings) (bytes : List ℕ) → IsTable t → IsUtf8 bytes → length bytes ≤ 65536 → length (sort_key t s (chars bytes)) < 2 ^ 60
 length-key_few t s bytes table utf8 few =
     let text : List ℕ = chars bytes in
-    omega (arith, ap length (sort_key-levels t s text), short_key_few (levels s.strength - 1) 1 (level_list t s.weighting text) (λ k. omega (arith, level_few t s.weighting text k table, short_text bytes utf8 few)), (levels-within s.strength).0, (levels-within s.strength).1)
+    omega (arith, ap length (sort_key-levels t s text), key_few (2 ^ 40) (levels s.strength - 1) 1 (level_list t s.weighting text) (λ k. omega (arith, level_few t s.weighting text k table, short_text bytes utf8 few)), (levels-within s.strength).0, (levels-within s.strength).1)

@@ -1,3 +1,4 @@
+pub mod Common
 pub mod KeySize
 pub mod BoundLemmas
 pub mod KeyPieces
@@ -18,4 +19,3 @@ pub mod MaskLemmas
 pub mod PackedPieces
 pub mod PackedBounds
 pub mod PackedTexts
-pub mod PackedSize

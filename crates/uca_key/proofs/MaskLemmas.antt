@@ -1,44 +1,26 @@
 -- Masks of the elements that have another weight than the common one at a level.
-use Rattle.std.proofs.Common.{◌≡◌, ◌⊎◌, inl, inr, count_ones, slice_index, ℕ, suc, zero, ◌+◌, ◌*◌, ◌-◌, ◌/◌, ◌%◌, ◌^◌, ◌<◌, ◌≤◌, ◌==◌, Bool, true, false, cond, not, ◌&&◌, ◌||◌, if◌then◌else◌, List, [], ◌∷◌, ◌++◌, drop, take, get_or, length, map, min, refl, sym, ap, ap₂, ◌∙◌, arith, eqb→eq, T, subst}
-use Rattle.std.proofs.lemmas.List.{drop_more, get_or-drop, get_or-map, get_or-take, length-drop, length-map, length-take, map-append}
-use Rattle.std.proofs.lemmas.Nat.{mod-pow-add, mod_below, ones-le, ones_cat, pow-add, pow_pos}
-use Rattle.std.proofs.lemmas.Bool.{and_parts}
-use Rattle.std.proofs.lemmas.Bool.Decides.{nat_tests}
-use Rattle.std.proofs.lemmas.Nat.Bits.{bit_at-zero, bit_at-trailing_zeros}
-use Rattle.std.proofs.lemmas.Simd.{bit_mask_l, chunk-drop, length-chunk, mask_l-lt}
+use Rattle.uca_key.proofs.Common.{◌≡◌, ◌⊎◌, inl, inr, count_ones, slice_index, ℕ, suc, zero, ◌+◌, ◌*◌, ◌-◌, ◌/◌, ◌%◌, ◌^◌, ◌<◌, ◌≤◌, ◌==◌, Bool, true, false, cond, not, ◌&&◌, ◌||◌, if◌then◌else◌, List, [], ◌∷◌, ◌++◌, drop, take, get_or, length, map, min, refl, sym, ap, ap₂, ◌∙◌, arith, subst, drop_all, drop_more, get_or-drop, get_or-map, get_or-take, length-drop, length-map, length-take, map-append, mod-pow-add, mod_below, ones-le, ones_cat, pow-add, pow_pos, and_parts, cases_lt, nat_tests, bit_mask_l, chunk-drop, length-chunk, mask_l-lt, chunk, mask_l, Element, Variable, level_weights, AreMarked, is_blank, is_other, common_weight, runs_after, all_own, own_weights, common_steps}
+use Rattle.std.proofs.Math.Bool.{or-false}
+use Rattle.std.proofs.lemmas.Nat.Bits.{bit_at-lt, bit_at-zero, bit_at-trailing_zeros}
 use Rattle.std.proofs.Math.Nat.{div-div-eq-div-mul, mul_assoc}
 use Rattle.std.proofs.Math.Pow.{pow_mono}
 use Rattle.std.specs.Int.{bit_at, trailing_zeros, w64}
-use Rattle.std.specs.Simd.Lanes.{chunk, mask_l}
 use mir.Val.{bool_byte}
-use Rattle.uca_weights.specs.declared.element.Element.{Element}
-use Rattle.uca_weights.specs.declared.settings.Variable.{Variable}
-use Rattle.uca_model.specs.LevelWeights.{level_weights}
-use Rattle.uca_key.specs.Runs.{AreMarked, is_blank, is_other}
 use Rattle.uca_key.specs.declared.runs.Marked.{Marked}
-use Rattle.uca_key.specs.PackedKey.{common_weight, runs_after}
-use Rattle.uca_key.specs.Weighing.{all_own, own_weights}
+use Rattle.uca_key.proofs.PlacingLemmas.{IsPutting-more, IsPutting-start}
 use Rattle.uca_key.proofs.RunsLemmas.{blank-step, run-step}
-use Rattle.std.proofs.lemmas.Grind.{common_steps}
+use Rattle.uca_key.proofs.WeighingLemmas.{own-read}
 
 -- an element that stands for none
 pub blank : Element
 blank = record { starred = false; l1 = 0; l2 = 0; l3 = 0 }
-
-pub none-left : (es : List Element) → length es ≡ 0 → es ≡ []
-none-left [] none = refl
-none-left (e ∷ es) none = absurd (omega arith)
 
 -- the bits of a number that was shifted
 bit_at-shifted : (m n i : ℕ) → bit_at (m / 2 ^ n / 2) i ≡ bit_at m (n + 1 + i)
 bit_at-shifted m n i = grind (arith, common_steps, div-div-eq-div-mul, pow-add)
 
 bit-cases : (m n : ℕ) → (bit_at m n ≡ 0) ⊎ (bit_at m n ≡ 1)
-bit-cases m n = two (bit_at m n) (mod_below (m / 2 ^ n) 2 (omega arith)) where
-  two : (b : ℕ) → b < 2 → (b ≡ 0) ⊎ (b ≡ 1)
-  two zero h = inl refl
-  two (suc zero) h = inr refl
-  two (suc (suc b)) h = absurd (omega arith)
+bit-cases m n = elim (cases_lt (bit_at m n) 1) [ inl low ↦ inl (omega arith) | inr high ↦ inr (omega (arith, bit_at-lt m n)) ]
 
 -- the bits below the lowest 1 of a mask
 pub low-zeros : (m n i : ℕ) → m < 2 ^ 64 → n ≤ trailing_zeros w64 m → i < n → bit_at m i ≡ 0
@@ -153,12 +135,8 @@ pub nothing-asked : (weights : List ℕ) → 0 ≡ mask_l (map (λ (w : ℕ). fa
 nothing-asked [] = refl
 nothing-asked (w ∷ ws) = omega (arith, nothing-asked ws)
 
-is-equal : (b : Bool) → not b ≡ false → b ≡ true
-is-equal true e = refl
-is-equal false e = sym e
-
 is-common : (a b : ℕ) → not (a == b) ≡ false → a ≡ b
-is-common a b same = eqb→eq a b (subst T (sym (is-equal _ same)) tt)
+is-common a b same = grind (arith, nat_tests)
 
 -- the blank ones among one more of the first elements
 ones-more : (m n : ℕ) → count_ones (m % 2 ^ (n + 1)) ≡ bit_at m n + count_ones (m % 2 ^ n)
@@ -205,7 +183,7 @@ mask-append (x ∷ xs) ys = grind (arith, common_steps, pow-add, mul_assoc, mask
 
 -- the mask of no elements
 pub mask-none : (p : Element → Bool) (n : ℕ) (es : List Element) → length es ≤ n → 0 ≡ mask_l (map p (drop n es))
-mask-none p n es none = ap (λ l. mask_l (map p l)) (sym (none-left (drop n es) (omega (arith, length-drop n es))))
+mask-none p n es none = ap (λ l. mask_l (map p l)) (sym (drop_all n es none))
 
 -- a block before those whose mask is known
 pub mask-block : (p : Element → Bool) (i : ℕ) (es : List Element) (m b : ℕ) → i + 16 ≤ length es → m ≡ mask_l (map p (drop (i + 16) es)) → b ≡ mask_l (map p (chunk i 16 es)) → 65536 * m + b ≡ mask_l (map p (drop i es))
@@ -232,18 +210,14 @@ bit-is true = refl
 bit-is false = refl
 
 -- the mask of the first elements from one before those whose mask is known
-pub mask-before : (v : Variable) (level n : ℕ) (es : List Element) (d : Element) (m : ℕ) (other : Bool) → 0 < n → n ≤ length (take 64 es) → m ≡ mask_l (map (is_other v level) (drop n (take 64 es))) → other ≡ is_other v level (get_or es (n - 1) d)
+pub mask-before : (v : Variable) (level n : ℕ) (es : List Element) (d : Element) (m : ℕ) (other : Bool) → 0 < n → n ≤ min (length es) 64 → m ≡ mask_l (map (is_other v level) (drop n (take 64 es))) → other ≡ is_other v level (get_or es (n - 1) d)
     → 2 * m + bool_byte other ≡ mask_l (map (is_other v level) (drop (n - 1) (take 64 es)))
 mask-before v level n es d m other some within later is =
     let i : ℕ = n - 1 in let first : List Element = take 64 es in
     let next : n ≡ i + 1 = omega (arith, some) in
-    let below : i < length first = omega (arith, some) in
+    let below : i < length first = omega (arith, some, within, length-take 64 es) in
     let own : other ≡ is_other v level (get_or first i d) = is ∙ ap (is_other v level) (sym (get_or-take 64 es i d (omega (arith, below, length-take 64 es)))) in
     ap (λ (b : ℕ). 2 * m + b) (bit-is _ ∙ ap (λ b. cond {A = ℕ} b 1 0) own) ∙ mask-one (is_other v level) i first d m below (later ∙ ap (λ k. mask_l (map (is_other v level) (drop k first))) next)
-
-or-false : (b : Bool) → (b || false) ≡ b
-or-false true = refl
-or-false false = refl
 
 -- whether the weight at the fourth level is another one than the common one, where a variable element shows its first weight
 pub fourth-other : (starred ignorable : Bool) (first : ℕ) → ((starred && not (first == 65535)) || (not starred && ignorable)) ≡ not ((if starred then first else if ignorable then 0 else 65535) == 65535)
@@ -269,3 +243,14 @@ tests-of-weights weight f p same (e ∷ es) = ap₂ (λ a b. a ∷ b) (same e) (
 pub mask-lanes : (p : Element → Bool) (weight : Element → ℕ) (f : ℕ → Bool) → ((e : Element) → f (weight e) ≡ p e) → (n : ℕ) (es : List Element) (m b : ℕ) (lanes : List ℕ)
     → 16 ≤ n → n ≤ length es → m ≡ mask_l (map p (drop n es)) → lanes ≡ map weight (chunk (n - 16) 16 es) → b ≡ mask_l (map f lanes) → 65536 * m + b ≡ mask_l (map p (drop (n - 16) es))
 mask-lanes p weight f same n es m b lanes some within later read block = grind (arith, common_steps, tests-of-weights, mask-block, block)
+
+-- it has room for sixteen more bits
+pub mask-room : (p : Element → Bool) (n : ℕ) (es : List Element) (m : ℕ) → 16 ≤ n → length es ≤ 64 → m ≡ mask_l (map p (drop n es)) → 65536 * m < 2 ^ 64
+mask-room p n es m some few is = let small = mask-small p (drop n es) m 48 (omega (arith, length-drop n es)) is in omega (arith, small)
+
+pub mask-fits : (p : Element → Bool) (weight : Element → ℕ) (f : ℕ → Bool) → ((e : Element) → f (weight e) ≡ p e) → (n : ℕ) (es : List Element) (m b : ℕ) (lanes : List ℕ)
+    → 16 ≤ n → n ≤ length es → length es ≤ 64 → m ≡ mask_l (map p (drop n es)) → lanes ≡ map weight (chunk (n - 16) 16 es) → b ≡ mask_l (map f lanes) → 65536 * m + b < 2 ^ 64
+mask-fits p weight f same n es m b lanes some within few later read block = mask-small p (drop (n - 16) es) _ 64 (omega (arith, length-drop (n - 16) es)) (mask-lanes p weight f same n es m b lanes some within later read block)
+
+-- what the functions that put runs need
+pub ruleset run_steps = (common_steps, own-read, fourth-other, mask-none, IsPutting-start, IsPutting-more)

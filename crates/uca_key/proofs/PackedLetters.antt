@@ -1,18 +1,8 @@
 -- The code of primary weights is monotone and prefix-free.
-use Rattle.std.proofs.Common.{◌⊎◌, ◌≡◌, ℕ, ◌+◌, ◌-◌, ◌/◌, ◌%◌, ◌≤◌, ◌<◌, Bool, true, false, cond, ◌==◌, ◌&&◌, ◌||◌, List, [], ◌∷◌, ◌++◌, refl, sym, ap, ap₂, subst, ◌∙◌, arith, inl, inr, ne_eqb}
-use Rattle.std.proofs.lemmas.Bool.{cases_Bool, cases_lt, cond-true, cond-false, lt-ltb, le-ltb, le-leb}
-use Rattle.std.proofs.lemmas.Bool.Decides.{nat_tests}
-use Rattle.std.proofs.lemmas.List.Sums.{sum_by-cons}
-use Rattle.std.specs.declared.cmp.Ordering.TheVariants.{Less, Greater}
-use Rattle.std.specs.Ordering.{ordering_then}
-use Rattle.std.specs.List.{list_any, sum_by}
-use Rattle.uca_model.specs.SortKey.{key_order, weight_bytes}
-use Rattle.uca_model.proofs.LevelLemmas.{weight_first}
-use Rattle.uca_key.specs.PrimaryCode.{CodeState, PrimaryCode, after_lead, after_slot, has_page, lead, letter_bytes, page_of, past, primary_bytes, second_bytes, slot}
-use Rattle.uca_key.proofs.KeyOrder.{is_equal, is_greater, is_less, kind_of}
+use Rattle.uca_key.proofs.Common.{◌⊎◌, ◌≡◌, ℕ, ◌+◌, ◌-◌, ◌/◌, ◌%◌, ◌≤◌, ◌<◌, Bool, true, false, cond, ◌==◌, ◌||◌, List, [], ◌∷◌, ◌++◌, refl, sym, ap, ap₂, subst, ◌∙◌, arith, inl, inr, ne_eqb, cases_Bool, cases_lt, cond-true, cond-false, lt-ltb, le-ltb, nat_tests, sum_by-cons, Less, ordering_then, list_any, sum_by, key_order, weight_bytes, weight_first, CodeState, PrimaryCode, after_lead, after_slot, has_page, lead, letter_bytes, page_of, past, primary_bytes, second_bytes, slot, common_steps}
+use Rattle.uca_key.proofs.KeyOrder.{firsts_same, flipped, is_equal, is_greater, is_less, kind_of}
 use Rattle.uca_key.proofs.PackedLevels.{IsCode, IsSome}
 use Rattle.uca_key.proofs.PackedSlots.{one-slot, slot-grows, slot-lower}
-use Rattle.std.proofs.lemmas.Grind.{common_steps}
 
 -- ---- byte strings
 
@@ -20,23 +10,9 @@ use Rattle.std.proofs.lemmas.Grind.{common_steps}
 firsts_less : (h g : ℕ) (s t : List ℕ) → h < g → key_order (h ∷ s) (g ∷ t) ≡ Less
 firsts_less h g s t below = ap (λ o. ordering_then o (key_order s t)) (is_less h g below)
 
--- the first bytes are the same
-firsts_same : (h g : ℕ) (s t : List ℕ) → h ≡ g → key_order (h ∷ s) (g ∷ t) ≡ key_order s t
-firsts_same h g s t same = ap (λ o. ordering_then o (key_order s t)) (is_equal h g same)
-
 -- the first bytes are in order, and where they are the same the others decide
 firsts_or : (h g : ℕ) (s t : List ℕ) → h ≤ g → (h ≡ g → key_order s t ≡ Less) → key_order (h ∷ s) (g ∷ t) ≡ Less
 firsts_or h g s t within others = grind (arith, common_steps, kind_of, firsts_less, firsts_same)
-
-flipped : (a b : List ℕ) → key_order a b ≡ Less → key_order b a ≡ Greater
-flipped [] [] h = absurd (cc)
-flipped [] (y ∷ b) h = refl
-flipped (x ∷ a) [] h = absurd (cc)
-flipped (x ∷ a) (y ∷ b) h = elim (kind_of x y) [
-  | inl below ↦ ap (λ o. ordering_then o (key_order b a)) (is_greater y x below)
-  | inr (inl same) ↦ firsts_same y x b a (sym same) ∙ flipped a b (sym (firsts_same x y a b same) ∙ h)
-  | inr (inr above) ↦ let e : Greater ≡ Less = sym (ap (λ o. ordering_then o (key_order a b)) (is_greater x y above)) ∙ h in absurd (cc)
-]
 
 same_front : (front a b : List ℕ) → key_order (front ++ a) (front ++ b) ≡ key_order a b
 same_front [] a b = refl
@@ -110,24 +86,14 @@ Places k base w = (slot k w < slot k base) ⊎ (((slot k base ≤ slot k w) × (
 pub place_of : (k : PrimaryCode) (base w : ℕ) → Places k base w
 place_of k base w = grind (arith, common_steps, cases_lt)
 
-and-no-first : (a b : Bool) → a ≡ false → (a && b) ≡ false
-and-no-first a b e = ap (λ c. c && b) e
-
-and-no-second : (a b : Bool) → b ≡ false → (a && b) ≡ false
-and-no-second true b e = e
-and-no-second false b e = refl
-
-and-both : (a b : Bool) → a ≡ true → b ≡ true → (a && b) ≡ true
-and-both a b e f = ap (λ c. c && b) e ∙ f
-
 pub at_below : (k : PrimaryCode) (base w : ℕ) → slot k w < slot k base → letter_bytes k base w ≡ lead k w ∷ after_lead k w
-at_below k base w h = grind (arith, common_steps, cond-false, and-no-first, cond-true, lt-ltb)
+at_below k base w h = grind (arith, nat_tests)
 
 pub at_inside : (k : PrimaryCode) (base w : ℕ) → slot k base ≤ slot k w → slot k w < slot k base + 119 → letter_bytes k base w ≡ (lead k base + 1 + (slot k w - slot k base)) ∷ after_slot k w
-at_inside k base w from inside = cond-true _ _ _ (and-both _ _ (le-leb (slot k base) (slot k w) from) (lt-ltb (slot k w) (slot k base + 119) inside))
+at_inside k base w from inside = grind (arith, nat_tests)
 
 pub at_above : (k : PrimaryCode) (base w : ℕ) → slot k base + 119 ≤ slot k w → letter_bytes k base w ≡ (lead k w + 119 + 1) ∷ after_lead k w
-at_above k base w h = grind (arith, common_steps, cond-false, and-no-second, le-ltb)
+at_above k base w h = grind (arith, nat_tests)
 
 letter-less : (k : PrimaryCode) (base x y : ℕ) (a b : List ℕ) → x < y → y < 65536 → key_order (letter_bytes k base x ++ a) (letter_bytes k base y ++ b) ≡ Less
 letter-less k base x y a b h within =

@@ -1,13 +1,6 @@
 -- A level of packed keys under a code of primary weights that is monotone and prefix-free.
-use Rattle.std.proofs.Common.{arith, ◌≡◌, ℕ, ◌≤◌, ◌<◌, ◌^◌, List, [], ◌∷◌, ◌++◌, refl, sym, ap, ap₂, subst, ◌∙◌, inl, inr, append_assoc}
-use Rattle.std.specs.declared.cmp.Ordering.TheVariants.{Less, Greater}
-use Rattle.std.specs.Ordering.{nat_cmp, ordering_then}
-use Rattle.uca_model.specs.Laws.{AreWeights}
-use Rattle.uca_model.specs.SortKey.{key_order}
-use Rattle.uca_model.proofs.OrderLemmas.{then_assoc}
+use Rattle.uca_key.proofs.Common.{arith, ◌≡◌, ℕ, ◌≤◌, ◌<◌, ◌^◌, List, [], ◌∷◌, ◌++◌, refl, sym, ap, ap₂, subst, ◌∙◌, inl, inr, append_assoc, Less, Greater, nat_cmp, ordering_then, AreWeights, key_order, then_assoc, CodeState, PrimaryCode, primary_bytes, primary_front, primary_level, state_after, common_steps}
 use Rattle.uca_key.proofs.KeyOrder.{is_equal, is_greater, is_less, kind_of}
-use Rattle.uca_key.specs.PrimaryCode.{CodeState, PrimaryCode, primary_bytes, primary_front, primary_level, state_after}
-use Rattle.std.proofs.lemmas.Grind.{common_steps}
 
 -- the bytes of a weight begin with a byte that is not 0
 pub record IsSome (bytes : List ℕ) : Type 0 where

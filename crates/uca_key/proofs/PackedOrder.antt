@@ -1,33 +1,12 @@
 -- The byte order of packed keys is the order of their levels, as that of sort keys is.
-use Rattle.std.proofs.Common.{◌≡◌, ℕ, zero, suc, ◌-◌, ◌≤◌, ◌<◌, List, [], ◌∷◌, ◌++◌, flat_map, take, refl, sym, ap, ap₂, ◌∙◌, arith, append_assoc, append-nil}
+use Rattle.uca_key.proofs.Common.{◌≡◌, ℕ, zero, suc, ◌-◌, ◌≤◌, ◌<◌, List, [], ◌∷◌, ◌++◌, flat_map, take, refl, sym, ap, ap₂, ◌∙◌, arith, append_assoc, append-nil, Ordering, concat, ordering_then, nfd, Settings, Primary, Secondary, Tertiary, Quaternary, Identical, Variable, levels, weighted, ElementTable, elements, list_order, BeginsWith, level_list, code_point_bytes, key_order, OrdersLevel-points, then_equal, HasWeights, HasWeights-IsTable, PrimaryCode, code_of, primary_level, start, common_weight, runs_after, packed_levels, EquivalentTextsHaveOnePackedKey, PackedKeysFollowKeys, PackedKeysGrowByLevels, PackedKeysTellTextsApart, common_steps}
+use Rattle.uca_key.specs.PackedKey.{packed_key, packed_key_by}
 use Rattle.std.proofs.lemmas.Map.Lookups.{exact_bytes}
-use Rattle.std.specs.declared.cmp.Ordering.{Ordering}
-use Rattle.std.specs.List.{concat}
-use Rattle.std.specs.Ordering.{ordering_then}
-use Rattle.unicode_normalization.specs.Forms.{nfd}
-use Rattle.uca_weights.specs.declared.settings.Settings.{Settings}
 use Rattle.uca_weights.specs.declared.settings.Strength.{Strength}
-use Rattle.uca_weights.specs.declared.settings.Strength.TheVariants.{Primary, Secondary, Tertiary, Quaternary, Identical}
-use Rattle.uca_weights.specs.declared.settings.Variable.{Variable}
-use Rattle.uca_weights.specs.Settings.{levels}
-use Rattle.uca_weights.specs.VariableWeighting.{weighted}
-use Rattle.uca_model.specs.Table.{ElementTable}
-use Rattle.uca_model.specs.CollationElements.{elements}
-use Rattle.uca_model.specs.DecidingLevel.{list_order}
-use Rattle.uca_model.specs.Laws.{BeginsWith}
-use Rattle.uca_model.specs.LevelWeights.{level_list}
-use Rattle.uca_model.specs.SortKey.{code_point_bytes, key_order}
-use Rattle.uca_model.proofs.LevelLemmas.{OrdersLevel-points}
-use Rattle.uca_model.proofs.OrderLemmas.{then_equal}
-use Rattle.uca_model.proofs.WeightLemmas.{HasWeights, HasWeights-IsTable}
-use Rattle.uca_key.specs.PrimaryCode.{PrimaryCode, code_of, primary_level, start}
-use Rattle.uca_key.specs.PackedKey.{common_weight, runs_after, packed_key, packed_key_by, packed_levels}
-use Rattle.uca_key.specs.PackedLaws.{EquivalentTextsHaveOnePackedKey, PackedKeysFollowKeys, PackedKeysGrowByLevels, PackedKeysTellTextsApart}
 use Rattle.uca_key.proofs.KeyOrder.{ordered_from, same_order, sort_key-ordered}
 use Rattle.uca_key.proofs.PackedLetters.{is-code}
 use Rattle.uca_key.proofs.PackedLevels.{primary_order}
 use Rattle.uca_key.proofs.PackedRuns.{runs_order}
-use Rattle.std.proofs.lemmas.Grind.{common_steps}
 
 -- the order of a level
 abbrev decided : ElementTable → Variable → List ℕ → List ℕ → ℕ → Ordering
@@ -70,13 +49,13 @@ packed_key-ordered : (t : ElementTable) (s : Settings) (a b : List ℕ) → HasW
 unfolding packed_key packed_key_by
 packed_key-ordered t s a b p q = packed_levels-ordered (code_of t) t s a b p q s.strength
 
-pub packed-follow : PackedKeysFollowKeys
-packed-follow t s a b table of_a of_b =
+pub packed_follow : PackedKeysFollowKeys
+packed_follow t s a b table of_a of_b =
     let p = HasWeights-IsTable t s a table of_a in let q = HasWeights-IsTable t s b table of_b in
     packed_key-ordered t s a b p q ∙ sym (sort_key-ordered t s a b p q)
 
-pub packed-apart : PackedKeysTellTextsApart
-packed-apart t s a b table of_a of_b = grind (arith, common_steps, packed-follow, exact_bytes, same_order)
+pub packed_apart : PackedKeysTellTextsApart
+packed_apart t s a b table of_a of_b = grind (arith, common_steps, packed_follow, exact_bytes, same_order)
 
 -- the first pieces, one after the other, begin with fewer of them
 begins-take : (m n : ℕ) (ls : List (List ℕ)) → m ≤ n → BeginsWith (concat (take n ls)) (concat (take m ls))
@@ -85,10 +64,10 @@ begins-take (suc m) zero ls few = absurd (omega arith)
 begins-take (suc m) (suc n) [] few = record { rest = []; parts = refl }
 begins-take (suc m) (suc n) (x ∷ xs) few = grind (arith, common_steps, append_assoc, begins-take m n xs (omega arith))
 
-pub packed-grow : PackedKeysGrowByLevels
+pub packed_grow : PackedKeysGrowByLevels
 unfolding packed_key packed_key_by
-packed-grow t v low high text fewer = begins-take (levels low) (levels high) (packed_levels (code_of t) (weighted v (elements t (nfd text))) (nfd text)) fewer
+packed_grow t v low high text fewer = begins-take (levels low) (levels high) (packed_levels (code_of t) (weighted v (elements t (nfd text))) (nfd text)) fewer
 
-pub packed-equivalent : EquivalentTextsHaveOnePackedKey
+pub packed_equivalent : EquivalentTextsHaveOnePackedKey
 unfolding packed_key packed_key_by
-packed-equivalent t s a b same = ap (λ (xs : List ℕ). concat (take (levels s.strength) (packed_levels (code_of t) (weighted s.weighting (elements t xs)) xs))) same
+packed_equivalent t s a b same = ap (λ (xs : List ℕ). concat (take (levels s.strength) (packed_levels (code_of t) (weighted s.weighting (elements t xs)) xs))) same

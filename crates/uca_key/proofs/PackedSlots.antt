@@ -1,8 +1,6 @@
 -- Slots are in the order of the weights, and two weights of one slot are neither common nor have two high bytes.
-use Rattle.std.proofs.Common.{◌≡◌, ℕ, zero, suc, ◌+◌, ◌/◌, ◌≤◌, ◌<◌, Bool, true, false, cond, ◌||◌, refl, sym, ap, subst, ◌∙◌, arith, inl, inr}
-use Rattle.std.proofs.lemmas.Bool.{cases_lt, eqb-false}
-use Rattle.uca_key.specs.PrimaryCode.{PrimaryCode, begins_slot, is_common, slot}
-use Rattle.std.proofs.lemmas.Grind.{common_steps}
+use Rattle.uca_key.proofs.Common.{◌≡◌, ℕ, zero, suc, ◌+◌, ◌/◌, ◌≤◌, ◌<◌, Bool, true, false, cond, refl, sym, ap, subst, ◌∙◌, arith, inl, inr, cases_lt, eqb-false, or_parts, PrimaryCode, begins_slot, is_common, common_steps}
+use Rattle.uca_key.specs.PrimaryCode.{slot}
 
 pub slot-zero : (k : PrimaryCode) → slot k 0 ≡ 0
 unfolding slot
@@ -26,10 +24,6 @@ slot-grows k x (suc y) h = elim (cases_lt x (suc y)) [
 pub slot-lower : (k : PrimaryCode) (x y : ℕ) → slot k x < slot k y → x < y
 slot-lower k x y h = elim (cases_lt x y) [ inl lower ↦ lower | inr not_lower ↦ let grown = slot-grows k y x not_lower in absurd (omega arith) ]
 
-or-none : (a b : Bool) → (a || b) ≡ false → (a ≡ false) × (b ≡ false)
-or-none true b h = absurd (cc)
-or-none false b h = (refl, h)
-
 no-step : (b : Bool) (m n : ℕ) → m ≤ n → n + cond b 1 0 ≡ m → (b ≡ false) × (n ≡ m)
 no-step true m n h e = absurd (omega arith)
 no-step false m n h e = (refl, omega arith)
@@ -42,7 +36,7 @@ pub record InOneSlot (k : PrimaryCode) (x y : ℕ) : Type 0 where
 
 -- neighbours
 neighbours : (k : PrimaryCode) (y : ℕ) → begins_slot k y ≡ false → InOneSlot k y (suc y)
-neighbours k y h = grind (arith, common_steps, or-none, eqb-false)
+neighbours k y h = grind (arith, common_steps, or_parts, eqb-false)
 
 pub one-slot : (k : PrimaryCode) (x y : ℕ) → x < y → slot k x ≡ slot k y → InOneSlot k x y
 one-slot k x zero h e = absurd (omega arith)

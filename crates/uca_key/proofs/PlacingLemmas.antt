@@ -1,17 +1,5 @@
 -- Bytes that are put into a buffer one piece after the other.
-use Rattle.std.proofs.Common.{◌≡◌, ℕ, zero, suc, ◌+◌, ◌-◌, ◌^◌, ◌≤◌, ◌<◌, List, [], ◌∷◌, ◌++◌, length, take, drop, slice_set, get_or, refl, sym, ap, ap₂, subst, ◌∙◌, arith, append_assoc, append-nil, take-append-drop, length-append}
-use Rattle.std.proofs.lemmas.Bool.{cases_lt}
-use Rattle.std.proofs.lemmas.List.{drop-set-lt, length-drop, length-take-le, take_all}
-use Rattle.uca_key.specs.Placing.{with_bytes_at, PutsAt, IsPutting, StaysAfter, StaysBeyond}
-use Rattle.std.proofs.lemmas.Grind.{common_steps}
-
-take-nil : (n : ℕ) → take {A = ℕ} n [] ≡ []
-take-nil zero = refl
-take-nil (suc n) = refl
-
-drop-nil : (n : ℕ) → drop {A = ℕ} n [] ≡ []
-drop-nil zero = refl
-drop-nil (suc n) = refl
+use Rattle.uca_key.proofs.Common.{◌≡◌, ℕ, zero, suc, ◌+◌, ◌-◌, ◌^◌, ◌≤◌, ◌<◌, List, [], ◌∷◌, ◌++◌, length, take, drop, slice_set, get_or, refl, sym, ap, ap₂, subst, ◌∙◌, arith, append_assoc, append-nil, take-append-drop, length-append, cases_lt, drop-drop, drop-set-lt, drop_all, length-drop, length-take, length-take-le, take_all, take_more_set, drop-nil, take-append_seam, take-nil, with_bytes_at, PutsAt, IsPutting, StaysAfter, StaysBeyond, common_steps}
 
 -- no bytes change nothing
 with_bytes_at-none : (n : ℕ) (buffer : List ℕ) → with_bytes_at n [] buffer ≡ buffer
@@ -19,16 +7,12 @@ with_bytes_at-none n buffer = ap (λ front. take n buffer ++ (front ++ drop n bu
 
 -- nothing is put past the end of a buffer
 with_bytes_at-past : (n : ℕ) (bytes buffer : List ℕ) → length buffer ≤ n → with_bytes_at n bytes buffer ≡ buffer
-with_bytes_at-past zero bytes [] h = drop-nil (length bytes)
-with_bytes_at-past zero bytes (x ∷ xs) h = absurd (omega arith)
-with_bytes_at-past (suc n) bytes [] h = drop-nil (length bytes)
-with_bytes_at-past (suc n) bytes (x ∷ xs) h = ap (λ l. x ∷ l) (with_bytes_at-past n bytes xs (omega arith))
+with_bytes_at-past n bytes buffer past =
+    ap₂ (λ front rest. front ++ (take (length rest) bytes ++ drop (length bytes) rest)) (take_all n buffer past) (drop_all n buffer past)
+    ∙ ap (λ l. buffer ++ l) (drop-nil (length bytes)) ∙ append-nil buffer
 
 pub length-with_bytes_at : (n : ℕ) (bytes buffer : List ℕ) → length (with_bytes_at n bytes buffer) ≡ length buffer
-length-with_bytes_at n bytes [] = ap length (with_bytes_at-past n bytes [] (omega arith))
-length-with_bytes_at zero [] (x ∷ xs) = refl
-length-with_bytes_at zero (y ∷ ys) (x ∷ xs) = ap suc (length-with_bytes_at zero ys xs)
-length-with_bytes_at (suc n) bytes (x ∷ xs) = ap suc (length-with_bytes_at n bytes xs)
+length-with_bytes_at n bytes buffer = grind (arith, common_steps, length-append, length-take, length-drop)
 
 -- two pieces, one right after the other
 with_bytes_at-more : (n : ℕ) (a b buffer : List ℕ) → with_bytes_at (n + length a) b (with_bytes_at n a buffer) ≡ with_bytes_at n (a ++ b) buffer
@@ -40,18 +24,6 @@ with_bytes_at-more zero (y ∷ ys) b (x ∷ xs) =
 with_bytes_at-more (suc n) a b (x ∷ xs) =
     let next : suc n + length a ≡ suc (n + length a) = omega arith in
     ap (λ m. with_bytes_at m b (x ∷ with_bytes_at n a xs)) next ∙ ap (λ l. x ∷ l) (with_bytes_at-more n a b xs)
-
--- what is put is there, where it fits
-pub take-with_bytes_at : (n : ℕ) (bytes buffer : List ℕ) → n + length bytes ≤ length buffer → take (n + length bytes) (with_bytes_at n bytes buffer) ≡ take n buffer ++ bytes
-take-with_bytes_at zero [] buffer fits = refl
-take-with_bytes_at zero (y ∷ ys) [] fits = absurd (omega arith)
-take-with_bytes_at zero (y ∷ ys) (x ∷ xs) fits =
-    let next : zero + length (y ∷ ys) ≡ suc (zero + length ys) = omega arith in
-    ap (λ n. take n (y ∷ with_bytes_at zero ys xs)) next ∙ ap (λ l. y ∷ l) (take-with_bytes_at zero ys xs (omega arith))
-take-with_bytes_at (suc n) bytes [] fits = absurd (omega arith)
-take-with_bytes_at (suc n) bytes (x ∷ xs) fits =
-    let next : suc n + length bytes ≡ suc (n + length bytes) = omega arith in
-    ap (λ m. take m (x ∷ with_bytes_at n bytes xs)) next ∙ ap (λ l. x ∷ l) (take-with_bytes_at n bytes xs (omega arith))
 
 pub PutsAt-none : (at : ℕ) (buffer : List ℕ) → at < 2 ^ 64 → PutsAt at [] buffer buffer at
 PutsAt-none at buffer h = record { written = sym (with_bytes_at-none at buffer); counted = omega arith }
@@ -96,21 +68,22 @@ pub record FrontPut (bytes before after : List ℕ) (next : ℕ) : Type 0 where
   pub within : next ≤ length after
 
 pub front-put : (bytes before after : List ℕ) (next : ℕ) → PutsAt 0 bytes before after next → length bytes ≤ length before → length before < 2 ^ 64 → FrontPut bytes before after next
-front-put bytes before after next puts fits small = grind (arith, common_steps, length-with_bytes_at, take-with_bytes_at)
+front-put bytes before after next puts fits small =
+    let same : next ≡ length bytes = omega (arith, puts.counted, fits, small) in
+    let front : after ≡ bytes ++ drop (length bytes) before = puts.written ∙ ap (λ l. l ++ drop (length bytes) before) (take_all (length before) bytes fits) in
+    record {
+      is = ap₂ (λ (n : ℕ) (l : List ℕ). take n l) same front ∙ take-append_seam bytes (drop (length bytes) before);
+      size = same;
+      within = omega (arith, same, fits, ap length puts.written, length-with_bytes_at 0 bytes before);
+    }
 
 -- ---- bytes that fit, put one after the other
 
 -- what is the same from one place on is the same from a later one on
 drop-later : (m n : ℕ) (xs ys : List ℕ) → m ≤ n → drop m xs ≡ drop m ys → drop n xs ≡ drop n ys
-drop-later zero n xs ys h same = ap (drop n) same
-drop-later (suc m) zero xs ys h same = absurd (omega arith)
-drop-later (suc m) (suc n) [] [] h same = refl
-drop-later (suc m) (suc n) [] (y ∷ ys) h same = sym (drop-nil n) ∙ drop-later m n [] ys (omega arith) (drop-nil m ∙ same)
-drop-later (suc m) (suc n) (x ∷ xs) [] h same = drop-later m n xs [] (omega arith) (same ∙ sym (drop-nil m)) ∙ drop-nil n
-drop-later (suc m) (suc n) (x ∷ xs) (y ∷ ys) h same = drop-later m n xs ys (omega arith) same
-
-pub stays-set : (at byte : ℕ) (buffer : List ℕ) → StaysAfter at (at + 1) buffer (slice_set buffer at byte)
-stays-set at byte buffer = record { later = omega arith; rest = drop-set-lt (at + 1) buffer at byte (omega arith) }
+drop-later m n xs ys h same =
+    let next : n ≡ m + (n - m) = omega arith in
+    ap (λ k. drop k xs) next ∙ sym (drop-drop (n - m) m xs) ∙ ap (drop (n - m)) same ∙ drop-drop (n - m) m ys ∙ ap (λ k. drop k ys) (sym next)
 
 pub stays-beyond : (from to : ℕ) (before after : List ℕ) → StaysAfter from to before after → StaysBeyond from to before after
 stays-beyond from to before after h = record { later = h.later; rest = drop-later to (to + 1) after before (omega arith) h.rest }
@@ -118,26 +91,18 @@ stays-beyond from to before after h = record { later = h.later; rest = drop-late
 pub beyond-more : (from mid to : ℕ) (before then after : List ℕ) → StaysBeyond from mid before then → StaysBeyond mid to then after → StaysBeyond from to before after
 beyond-more from mid to before then after h k = let later = k.later in record { later = omega (arith, h.later, k.later); rest = k.rest ∙ drop-later (mid + 1) (to + 1) then before (omega arith) h.rest }
 
--- until that byte is put
-pub beyond-set : (from to byte : ℕ) (before after : List ℕ) → StaysBeyond from to before after → StaysAfter from (to + 1) before (slice_set after to byte)
-beyond-set from to byte before after h = record { later = omega (arith, h.later); rest = drop-set-lt (to + 1) after to byte (omega arith) ∙ h.rest }
-
--- bytes before a place that were put where they fit
-fitted : (from to : ℕ) (before after whole left : List ℕ) → length after ≡ length before → to ≤ length before → StaysAfter from to before after → take to after ++ left ≡ take from before ++ whole
-    → (after ≡ with_bytes_at from (drop from (take to after)) before) × (drop from (take to after) ++ left ≡ whole)
-fitted zero to before after whole left size within stays same = grind (arith, common_steps, length-take-le, take_all, take-append-drop)
-fitted (suc from) zero before after whole left size within stays same = let later = stays.later in absurd (omega arith)
-fitted (suc from) (suc to) [] after whole left size within stays same = absurd (omega arith)
-fitted (suc from) (suc to) (x ∷ xs) [] whole left size within stays same = absurd (omega arith)
-fitted (suc from) (suc to) (x ∷ xs) (y ∷ ys) whole left size within stays same =
+-- all bytes of a whole, the last of which is put by itself
+pub PutsAt-fitted : (from to byte : ℕ) (before after whole : List ℕ) → length after ≡ length before → length before < 2 ^ 64 → to < length before → StaysBeyond from to before after → take to after ++ byte ∷ [] ≡ take from before ++ whole
+    → PutsAt from whole before (slice_set after to byte) (to + 1)
+PutsAt-fitted from to byte before after whole size small within stays same =
     let later = stays.later in
-    let next = fitted from to xs ys whole left (omega arith) (omega arith) (record { later = omega arith; rest = stays.rest }) (ap (drop 1) same) in
-    (ap₂ (λ h t. h ∷ t) (ap (λ (l : List ℕ). get_or l 0 0) same) next.0, next.1)
-
-pub IsPutting-fitted : (from to : ℕ) (before after whole left : List ℕ) → length after ≡ length before → length before < 2 ^ 64 → to ≤ length before → StaysAfter from to before after → take to after ++ left ≡ take from before ++ whole
-    → IsPutting from before to after whole left
-IsPutting-fitted from to before after whole left size small within stays same =
-    let parts = fitted from to before after whole left size within stays same in
-    let later = stays.later in
-    let long : length (drop from (take to after)) ≡ to - from = length-drop from (take to after) ∙ ap (λ n. n - from) (length-take-le to after (omega arith)) in
-    record { put = drop from (take to after); puts = record { written = parts.0; counted = omega (arith, long) }; parts = parts.1 }
+    let long : to + 1 ≡ from + length whole = omega (arith, ap length same, length-append (take to after) (byte ∷ []), length-append (take from before) whole, length-take-le to after (omega arith), length-take-le from before (omega arith)) in
+    let fits : length whole ≤ length (drop from before) = omega (arith, length-drop from before) in
+    let rest : List ℕ = drop (length whole) (drop from before) in
+    record {
+      written =
+          sym (take-append-drop (to + 1) (slice_set after to byte))
+          ∙ ap₂ (λ a b. a ++ b) (take_more_set after to byte (omega arith) ∙ same) (drop-set-lt (to + 1) after to byte (omega arith) ∙ stays.rest ∙ ap (λ k. drop k before) long ∙ sym (drop-drop (length whole) from before))
+          ∙ append_assoc (take from before) whole rest ∙ ap (λ l. take from before ++ (l ++ rest)) (sym (take_all (length (drop from before)) whole fits));
+      counted = omega (arith, long);
+    }

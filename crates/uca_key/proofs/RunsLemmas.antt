@@ -1,14 +1,6 @@
 -- Common weights that are counted together.
-use Rattle.std.proofs.Common.{◌≡◌, ℕ, ◌+◌, ◌-◌, ◌<◌, ◌==◌, not, List, [], ◌∷◌, ◌++◌, drop, filter, get_or, length, slice_index, refl, sym, ◌∙◌, arith, append_assoc, eq-eqb, ne_eqb}
-use Rattle.std.proofs.lemmas.Bool.{cases_Bool, cond-true, cond-false}
-use Rattle.std.proofs.lemmas.List.{drop_more}
-use Rattle.uca_weights.specs.declared.element.Element.{Element}
-use Rattle.uca_weights.specs.declared.settings.Variable.{Variable}
-use Rattle.uca_model.specs.LevelWeights.{level_weights}
-use Rattle.uca_key.specs.PackedKey.{common_weight, runs_after}
-use Rattle.uca_key.specs.Weighing.{all_own, own_weights}
+use Rattle.uca_key.proofs.Common.{◌≡◌, ℕ, ◌+◌, ◌-◌, ◌<◌, ◌==◌, not, List, [], ◌∷◌, ◌++◌, drop, filter, get_or, length, slice_index, refl, sym, ◌∙◌, arith, append_assoc, eq-eqb, ne_eqb, cases_Bool, cond-true, cond-false, drop_more, Element, Variable, level_weights, common_weight, runs_after, all_own, own_weights, common_steps}
 use Rattle.uca_key.proofs.WeighingLemmas.{own_weights-both}
-use Rattle.std.proofs.lemmas.Grind.{common_steps}
 
 -- one more
 one-common : (common run : ℕ) (ws : List ℕ) → run + 1 < 62 → runs_after common (run + 1) ws ≡ runs_after common run (common ∷ ws)

@@ -1,21 +1,10 @@
 -- Elements that were weighed where they lie: their weights, and those of two lists, one after the other.
-use Rattle.std.proofs.Common.{◌≡◌, ℕ, ◌+◌, ◌*◌, ◌<◌, ◌≤◌, ◌==◌, not, List, [], ◌∷◌, ◌++◌, map, filter, flat_map, length, drop, get_or, slice_index, refl, ap, ◌∙◌, arith, append_assoc}
-use Rattle.std.proofs.lemmas.Grind.{flat_map-append}
-use Rattle.std.proofs.Math.Seq.{drop-cons}
-use Rattle.std.proofs.lemmas.List.{length-map, map-append}
+use Rattle.uca_key.proofs.Common.{◌≡◌, ℕ, ◌+◌, ◌*◌, ◌<◌, ◌≤◌, ◌==◌, not, List, [], ◌∷◌, ◌++◌, map, filter, flat_map, length, drop, get_or, slice_index, refl, ap, ◌∙◌, arith, append_assoc, flat_map-append, drop-cons, length-map, map-append, Element, Variable, NonIgnorable, weighted, WeigherState, after_element, weighted_from, level_weights, level_bytes, weight_bytes, all_own, own_weights, common_steps}
 use Rattle.std.proofs.lemmas.List.Elements.{filter-append}
-use Rattle.uca_weights.specs.declared.element.Element.{Element}
-use Rattle.uca_weights.specs.declared.settings.Variable.{Variable}
-use Rattle.uca_weights.specs.declared.settings.Variable.TheVariants.{NonIgnorable}
-use Rattle.uca_weights.specs.VariableWeighting.{weighted}
-use Rattle.uca_weights.specs.Weigher.{WeigherState, after_element, weighted_from}
-use Rattle.uca_model.specs.LevelWeights.{level_weights}
-use Rattle.uca_model.specs.SortKey.{level_bytes, weight_bytes}
 use Rattle.uca_levels.specs.Primaries.{primary_of}
 use Rattle.uca_levels.proofs.PrimarySteps.{primaries-are, primaries-both}
-use Rattle.uca_key.specs.Weighing.{all_own, own_weights}
 use Rattle.uca_key.proofs.KeySize.{passed_few}
-use Rattle.std.proofs.lemmas.Grind.{common_steps}
+use Rattle.uca_key.proofs.PlacingLemmas.{IsPutting-more, IsPutting-start, beyond-more, stays-beyond}
 
 -- all weights are kept where no element is variable
 unchanged-from : (w : WeigherState) (es : List Element) → w.weighting ≡ NonIgnorable → weighted_from w es ≡ all_own NonIgnorable es
@@ -74,3 +63,6 @@ weights-read u v level left rest piece split same = ap (level_weights level) (ow
 pub bytes-read : (u v : Variable) (level : ℕ) (left rest : List (List ℕ)) (piece : List Element) → left ≡ all_own u piece ++ rest → u ≡ v
     → level_bytes left level ≡ level_bytes (all_own v piece) level ++ level_bytes rest level
 bytes-read u v level left rest piece split same = ap (λ ws. level_bytes ws level) (own-read u v left rest piece split same) ∙ level_bytes-append level (all_own v piece) rest
+
+-- what the functions that put weights need
+pub ruleset weight_steps = (common_steps, primary-one, own_bytes-both, unchanged-both, weights-read, stays-beyond, beyond-more, IsPutting-start, IsPutting-more)

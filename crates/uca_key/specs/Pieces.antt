@@ -17,11 +17,11 @@ elements_of r = elements r.table.now (nfd (chars r.text.now))
 
 -- the four weights of each of them
 abbrev pub weights_of : TextReading → List (List ℕ)
-weights_of r = weighted r.weighting (elements_of r)
+weights_of r = weighted r.settings.weighting (elements_of r)
 
 -- the room has all elements of the text, weighed, where the reading says how many they are
 abbrev pub HoldsWeights : TextReading → List Element → Type 0
-HoldsWeights r room = ForSome r.held (λ n. (n ≤ length room) × (all_own r.weighting (take n room) ≡ weights_of r))
+HoldsWeights r room = ForSome r.held (λ n. (n ≤ length room) × (all_own r.settings.weighting (take n room) ≡ weights_of r))
 
 -- the weights of the elements that are left
 abbrev pub weights_left : WeighedElements → List (List ℕ)

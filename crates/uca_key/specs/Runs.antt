@@ -7,6 +7,7 @@ use Rattle.uca_model.specs.LevelWeights.{level_weights}
 use Rattle.uca_key.specs.PackedKey.{common_weight, runs_after}
 use Rattle.uca_key.specs.Weighing.{own_weights}
 use Rattle.uca_key.specs.declared.runs.Counted.{Counted}
+use Rattle.uca_key.specs.declared.runs.LaterMarks.{LaterMarks}
 use Rattle.uca_key.specs.declared.runs.Marked.{Marked}
 
 -- the bytes of a level that are left to put, where these weights of elements are left
@@ -26,3 +27,8 @@ is_blank asked e = asked && ((e.l2 == 0) && (e.l3 == 0))
 pub record AreMarked (v : Variable) (level : ℕ) (m : Marked) (es : List Element) : Type 0 where
   pub common : (i : ℕ) (d : Element) → i < length es → bit_at m.others i ≡ 0 → bit_at m.blanks i ≡ 0 → is_other v level (get_or es i d) ≡ false
   pub blank : (i : ℕ) (d : Element) → i < length es → bit_at m.blanks i ≡ 1 → slice_index (own_weights v (get_or es i d)) (level - 1) ≡ 0
+
+-- masks of elements at the levels 2 and 3, under each option
+pub record AreMarkedLater (m : LaterMarks) (es : List Element) : Type 0 where
+  pub second : (v : Variable) → AreMarked v 2 m.second es
+  pub third : (v : Variable) → AreMarked v 3 m.third es

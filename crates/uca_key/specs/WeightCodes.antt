@@ -11,17 +11,13 @@ use Rattle.uca_key.specs.declared.windows.Window.{Window}
 abbrev pub is_range : ℕ × ℕ → Bool
 is_range r = nat_le r.0 r.1 && nat_lt r.1 0xD800
 
--- flags say of each weight whether it is common
-abbrev pub AreCommons : PrimaryCode → List Bool → Type 0
-AreCommons k flags = (w : ℕ) → w < 65536 → get_or flags w false ≡ is_common k w
+-- the code names a weight: it has a byte of its own everywhere, or a window begins at it
+abbrev pub is_named : PrimaryCode → ℕ → Bool
+is_named k w = is_single k w || list_any (λ c. c == w) k.anchors
 
--- flags say of each weight whether the code names it
-abbrev pub AreNamed : PrimaryCode → List Bool → Type 0
-AreNamed k flags = (w : ℕ) → w < 65536 → get_or flags w false ≡ (is_single k w || list_any (λ c. c == w) k.anchors)
-
--- flags say of each weight whether it is common or the code names it
-abbrev pub AreAny : PrimaryCode → List Bool → Type 0
-AreAny k flags = (w : ℕ) → w < 65536 → get_or flags w false ≡ (is_single k w || list_any (λ c. c == w) k.anchors || is_common k w)
+-- flags say of each weight whether a test holds
+abbrev pub AreFlags : (ℕ → Bool) → List Bool → Type 0
+AreFlags test flags = (w : ℕ) → w < 65536 → get_or flags w false ≡ test w
 
 -- the greatest of some weights up to one, 0 where there is none
 abbrev pub greatest : List ℕ → ℕ → ℕ
@@ -68,11 +64,11 @@ pub record AreParts (p : Parts) : Type 0 where
 
 -- a code is made of them
 pub record IsMadeOf (k : PrimaryCode) (p : Parts) : Type 0 where
-  pub commons : AreCommons k p.commons.now
+  pub commons : AreFlags (is_common k) p.commons.now
   pub singles : k.singles ≡ p.singles.now
   pub anchors : k.anchors ≡ p.anchors.now
-  pub named : AreNamed k p.named.now
-  pub any : AreAny k p.any.now
+  pub named : AreFlags (is_named k) p.named.now
+  pub any : AreFlags (λ w. is_named k w || is_common k w) p.any.now
 
 -- a code of each weight
 pub record HoldsCodes (k : PrimaryCode) (codes : List WeightCode) : Type 0 where
@@ -88,25 +84,19 @@ coded_code =
 
 -- ---- windows
 
--- a byte is all that a weight takes where the window begins at another, and the window stays
-pub record IsShort (k : PrimaryCode) (base w byte : ℕ) : Type 0 where
+-- a byte is all that a weight takes where the window begins at another, and the window stays; and whether it begins an implicit pair
+pub record IsAlone (pair : Bool) (k : PrimaryCode) (base w byte : ℕ) : Type 0 where
   pub alone : letter_bytes k base w ≡ byte ∷ []
   pub stays : base_after k base w ≡ base
-  pub single : (w / 256 == 0xFB) ≡ false
-
--- a byte is all that the first weight of an implicit pair takes where the window begins at another, and the window stays
-pub record IsFirst (k : PrimaryCode) (base w byte : ℕ) : Type 0 where
-  pub alone : letter_bytes k base w ≡ byte ∷ []
-  pub stays : base_after k base w ≡ base
-  pub pair : (w / 256 == 0xFB) ≡ true
+  pub first : (w / 256 == 0xFB) ≡ pair
 
 -- a list has the byte of each such weight, from FB00 on; where it has zero it says nothing
 abbrev pub AreFirsts : PrimaryCode → ℕ → List ℕ → Type 0
-AreFirsts k base bytes = (w d : ℕ) → 0xFB00 ≤ w → w < 0xFC00 → 0 < get_or bytes (w - 0xFB00) d → IsFirst k base w (get_or bytes (w - 0xFB00) d)
+AreFirsts k base bytes = (w d : ℕ) → 0xFB00 ≤ w → w < 0xFC00 → 0 < get_or bytes (w - 0xFB00) d → IsAlone true k base w (get_or bytes (w - 0xFB00) d)
 
 -- a list has the byte of each weight that takes only one; where it has zero it says nothing, nor does it of the weight zero
 abbrev pub AreShort : PrimaryCode → ℕ → List ℕ → Type 0
-AreShort k base bytes = (w d : ℕ) → 0 < w → w < length bytes → 0 < get_or bytes w d → IsShort k base w (get_or bytes w d)
+AreShort k base bytes = (w d : ℕ) → 0 < w → w < length bytes → 0 < get_or bytes w d → IsAlone false k base w (get_or bytes w d)
 
 -- where a window lies by a code
 pub record IsPlaced (k : PrimaryCode) (window : Window) : Type 0 where
@@ -116,9 +106,7 @@ pub record IsPlaced (k : PrimaryCode) (window : Window) : Type 0 where
 
 -- what a code has of a window
 pub record IsWindow (k : PrimaryCode) (window : Window) : Type 0 where
-  pub slot : window.slot ≡ slot k window.base
-  pub lead : window.lead ≡ lead k window.base
-  pub most : window.lead ≤ 135
+  pub placed : IsPlaced k window
   pub short : AreShort k window.base window.bytes.items
   pub firsts : AreFirsts k window.base window.first_bytes
 

@@ -62,7 +62,7 @@ pub fn prefix_bounds(
 }
 
 // The first byte string after all that begin with these bytes.
-#[tactic(auto, using(crate::proofs::BoundLemmas::end_nothing))]
+#[tactic(auto, using(std::proofs::lemmas::Grind::common_steps, crate::proofs::BoundLemmas::end_nothing, crate::proofs::BoundLemmas::end_past))]
 pub(crate) fn end_of_prefix(alloc: Global, bytes: &[u8]) -> Result<Option<Vec<u8>>, AllocError>
     ensures { IfOk result (λ end. option_map (λ (v : _). v.items) end ≡ end_of_prefix bytes.now) }
 {

@@ -25,8 +25,8 @@ pub(crate) enum Form<'c> {
 
 // How many bytes the key of a text has at most, if its elements are held and it is plain and without the fifth level. Others may have
 // more, which few texts have: packed keys of letters with many marks, and those of texts with more elements than bytes.
-fn expected_bytes(form: Form, s: Settings, reading: &TextReading) -> usize {
-    let levels = s.levels() as usize;
+fn expected_bytes(form: Form, reading: &TextReading) -> usize {
+    let levels = reading.settings.levels() as usize;
     let bytes = reading.text.len();
     let elements = reading.held.unwrap_or(bytes);
     let points = if levels == 5 {
@@ -45,25 +45,16 @@ fn expected_bytes(form: Form, s: Settings, reading: &TextReading) -> usize {
 }
 
 // Puts the key of a text that was read into room at a place of a buffer.
-fn put(
-    form: Form,
-    reading: &TextReading,
-    s: Settings,
-    room: &mut [Element],
-    at: usize,
-    out: &mut [u8],
-) -> usize
+fn put(form: Form, reading: &TextReading, room: &mut [Element], at: usize, out: &mut [u8]) -> usize
     requires some { 0 < length room.old }
-    requires option { s.weighting ≡ reading.now.weighting }
     requires holds { HoldsWeights reading.now room.old }
     requires size { length out.old < 2 ^ 64 }
-    ensures bytes { PutsAt at (key_in form.entry reading.now.table.now s (chars reading.now.text.now)) out.old out.new result }
+    ensures bytes { PutsAt at (key_in form.entry reading.now.table.now reading.now.settings (chars reading.now.text.now)) out.old out.new result }
     ensures holds { HoldsWeights reading.now room.new }
-    ensures room { length room.new ≡ length room.old }
 {
     match form {
-        Form::Plain => put_levels(reading, s, room, at, out),
-        Form::Packed(code) => put_packed_levels(code, reading, s, room, at, out),
+        Form::Plain => put_levels(reading, room, at, out),
+        Form::Packed(code) => put_packed_levels(code, reading, room, at, out),
     }
 }
 
@@ -71,26 +62,23 @@ fn put(
 fn put_into(
     form: Form,
     reading: &TextReading,
-    s: Settings,
     room: &mut [Element],
     at: usize,
     size: usize,
     keys: &mut Vec<u8>,
 ) -> Result<usize, AllocError>
     requires some { 0 < length room.old }
-    requires option { s.weighting ≡ reading.now.weighting }
     requires holds { HoldsWeights reading.now room.old }
     requires place { at ≤ length keys.old.items }
     requires size { at ≤ size }
-    ensures end { IfOk result (λ end. end ≡ min (at + length (key_in form.entry reading.now.table.now s (chars reading.now.text.now))) (2 ^ 64 - 1)) }
-    ensures key { IfOk result (λ end. end ≤ length keys.new.items → take end keys.new.items ≡ take at keys.old.items ++ key_in form.entry reading.now.table.now s (chars reading.now.text.now)) }
+    ensures end { IfOk result (λ end. end ≡ min (at + length (key_in form.entry reading.now.table.now reading.now.settings (chars reading.now.text.now))) (2 ^ 64 - 1)) }
+    ensures key { IfOk result (λ end. end ≤ length keys.new.items → take end keys.new.items ≡ take at keys.old.items ++ key_in form.entry reading.now.table.now reading.now.settings (chars reading.now.text.now)) }
     ensures front { OnOk result (take at keys.new.items ≡ take at keys.old.items) }
     ensures size { OnOk result (length keys.new.items ≡ size) }
     ensures holds { HoldsWeights reading.now room.new }
-    ensures room { length room.new ≡ length room.old }
 {
     keys.resize(size, 0)?;
-    Ok(put(form, reading, s, room, at, keys.as_mut_slice()))
+    Ok(put(form, reading, room, at, keys.as_mut_slice()))
 }
 
 /// Appends the key of a text to others, and returns whether the room held all its elements.
@@ -105,13 +93,13 @@ pub(crate) fn push(
     requires { 0 < length room.old }
     ensures { OnOk result (keys.new.items ≡ keys.old.items ++ key_in form.entry t.now s (text_of p.now)) }
 {
-    let reading = TextReading::new(t, s.weighting, p.as_str(), room);
+    let reading = TextReading::new(t, s, p.as_str(), room);
     let held = reading.held.is_some();
     let start = keys.len();
-    let size = start.saturating_add(expected_bytes(form, s, &reading));
-    let end = put_into(form, &reading, s, room, start, size, keys)?;
+    let size = start.saturating_add(expected_bytes(form, &reading));
+    let end = put_into(form, &reading, room, start, size, keys)?;
     if end > size {
-        let _same = put_into(form, &reading, s, room, start, end, keys)?;
+        let _same = put_into(form, &reading, room, start, end, keys)?;
     }
     keys.truncate(end);
     Ok(held)

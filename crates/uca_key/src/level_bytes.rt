@@ -1,3 +1,5 @@
+#![tactic(auto, using(crate::proofs::WeighingLemmas::weight_steps))]
+
 ghost use Rattle.std.specs.Prelude.{◌≡◌, ◌+◌, ◌*◌, ◌==◌, ◌≤◌, ◌<◌, ◌^◌, ◌∷◌, [], not, length, filter, flat_map, get_or};
 ghost use Rattle.std.specs.Int.{to_be_bytes, w16};
 ghost use Rattle.uca_model.specs.SortKey.{weight_bytes, level_bytes};

@@ -1,4 +1,6 @@
 //! Packed sort keys: for indexes, as short as those of ICU.
+#![tactic(auto, using(crate::proofs::PackedBytes::key_steps))]
+
 ghost use Rattle.std.specs.Prelude.{◌≡◌, ◌↔◌, ◌-◌, ◌^◌, ◌≤◌, ◌<◌, ◌++◌, ℕ, List, true, All, length, min, IfOk};
 ghost use Rattle.std.specs.Char.{IsScalar};
 ghost use Rattle.std.specs.Option.{option_map};
@@ -122,8 +124,8 @@ fn put_by(
     requires size { length out.old < 2 ^ 64 }
     ensures { PutsAt 0 (packed_key t.now s (text_of p.now)) out.old out.new result }
 {
-    let reading = TextReading::new(t, s.weighting, p.as_str(), room);
-    put_packed_levels(code, &reading, s, room, 0, out)
+    let reading = TextReading::new(t, s, p.as_str(), room);
+    put_packed_levels(code, &reading, room, 0, out)
 }
 
 /// Puts the packed sort key of a text into the front of a buffer, as [`PackedKeys::put_key`] does, by the code of its table.

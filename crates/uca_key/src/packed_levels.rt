@@ -1,11 +1,13 @@
 // Packed sort keys that are put into a buffer, level after level.
+#![tactic(auto, using(crate::proofs::PackedPieces::level_steps))]
+
 ghost use Rattle.std.specs.Prelude.{◌≡◌, ◌-◌, ◌<◌, ◌≤◌, ◌^◌, chars, length, take};
 ghost use Rattle.unicode_normalization.specs.Forms.{nfd};
 ghost use Rattle.uca_weights.specs.VariableWeighting.{weighted};
 ghost use Rattle.uca_key.specs.Pieces.{HoldsWeights, elements_of, weights_of};
 ghost use Rattle.uca_key.specs.Placing.{PutsAt};
 ghost use Rattle.uca_key.specs.PackedKey.{later_levels, packed_key_by, packed_later};
-ghost use Rattle.uca_key.specs.Runs.{AreMarked};
+ghost use Rattle.uca_key.specs.Runs.{AreMarkedLater};
 ghost use Rattle.uca_key.specs.Weighing.{all_own};
 
 use crate::packed_code::PackedCode;
@@ -13,7 +15,7 @@ use crate::pieces::TextReading;
 use crate::placing::put_text;
 use crate::runs::LaterMarks;
 use crate::{runs, weight_bytes};
-use uca_weights::{Element, Settings};
+use uca_weights::Element;
 
 // Puts a later level, from 2 to 5, of a text whose elements are held. The masks say which of the first have another weight than the
 // common one, or none.
@@ -28,18 +30,23 @@ fn put_later(
 ) -> usize
     requires first { 2 ≤ level }
     requires last { level ≤ 5 }
-    requires second { AreMarked reading.now.weighting 2 marks.second (take 64 elements.now) }
-    requires third { AreMarked reading.now.weighting 3 marks.third (take 64 elements.now) }
-    requires elements { all_own reading.now.weighting elements.now ≡ weighted reading.now.weighting (elements_of reading.now) }
+    requires marks { AreMarkedLater marks (take 64 elements.now) }
+    requires elements { all_own reading.now.settings.weighting elements.now ≡ weighted reading.now.settings.weighting (elements_of reading.now) }
     requires size { length out.old < 2 ^ 64 }
     ensures { PutsAt at (packed_later (weights_of reading.now) (nfd (chars reading.now.text.now)) level) out.old out.new result }
 {
-    let v = reading.weighting;
+    let v = reading.settings.weighting;
     match level {
         2 => runs::put_whole(v, 2, marks.second, elements, at, out),
         3 => runs::put_whole(v, 3, marks.third, elements, at, out),
         4 => runs::put_whole(v, 4, runs::marked_by_one(v, 4, elements), elements, at, out),
-        _ => put_text(reading.table, reading.weighting, reading.text, at, out),
+        _ => put_text(
+            reading.table,
+            reading.settings.weighting,
+            reading.text,
+            at,
+            out,
+        ),
     }
 }
 
@@ -57,7 +64,7 @@ fn put_blank_levels(
     requires from { 1 ≤ last }
     requires to { last ≤ 5 }
     requires within { held ≤ length room.now }
-    requires elements { all_own reading.now.weighting (take held room.now) ≡ weighted reading.now.weighting (elements_of reading.now) }
+    requires elements { all_own reading.now.settings.weighting (take held room.now) ≡ weighted reading.now.settings.weighting (elements_of reading.now) }
     requires size { length out.old < 2 ^ 64 }
     ensures { PutsAt at (later_levels (last - 1) 2 (weights_of reading.now) (nfd (chars reading.now.text.now))) out.old out.new result }
 {
@@ -72,33 +79,26 @@ fn put_blank_levels(
     next
 }
 
-// Puts the packed sort key of a text whose elements are held. Each level has code of its own, which asks for no level.
-fn put_held(
-    code: &PackedCode,
+// The same of a text of whose elements none is known to have no weight. Each level has code of its own, which asks for no level.
+#[inline(always)]
+fn put_other_levels(
     reading: &TextReading,
-    s: Settings,
+    last: u8,
     room: &[Element],
     held: usize,
     at: usize,
     out: &mut [u8],
 ) -> usize
-    requires option { s.weighting ≡ reading.now.weighting }
+    requires from { 2 ≤ last }
+    requires to { last ≤ 5 }
     requires within { held ≤ length room.now }
-    requires elements { all_own reading.now.weighting (take held room.now) ≡ weighted reading.now.weighting (elements_of reading.now) }
+    requires elements { all_own reading.now.settings.weighting (take held room.now) ≡ weighted reading.now.settings.weighting (elements_of reading.now) }
     requires size { length out.old < 2 ^ 64 }
-    ensures { PutsAt at (packed_key_by code.now reading.now.table.now s (chars reading.now.text.now)) out.old out.new result }
+    ensures { PutsAt at (later_levels (last - 1) 2 (weights_of reading.now) (nfd (chars reading.now.text.now))) out.old out.new result }
 {
-    let last = s.levels();
-    let elements = &room[..held];
-    let first = weight_bytes::put_whole(code, reading.weighting, elements, at, out);
-    if last == 1 {
-        return first.at;
-    }
-    if first.pairs {
-        return put_blank_levels(reading, last, room, held, first.at, out);
-    }
     let marks = runs::first_marks(room, held, false);
-    let next = put_later(reading, 2, marks, elements, first.at, out);
+    let elements = &room[..held];
+    let next = put_later(reading, 2, marks, elements, at, out);
     if last == 2 {
         return next;
     }
@@ -113,27 +113,50 @@ fn put_held(
     put_later(reading, 5, marks, elements, next, out)
 }
 
+// Puts the packed sort key of a text whose elements are held.
+fn put_held(
+    code: &PackedCode,
+    reading: &TextReading,
+    room: &[Element],
+    held: usize,
+    at: usize,
+    out: &mut [u8],
+) -> usize
+    requires within { held ≤ length room.now }
+    requires elements { all_own reading.now.settings.weighting (take held room.now) ≡ weighted reading.now.settings.weighting (elements_of reading.now) }
+    requires size { length out.old < 2 ^ 64 }
+    ensures { PutsAt at (packed_key_by code.now reading.now.table.now reading.now.settings (chars reading.now.text.now)) out.old out.new result }
+{
+    let last = reading.settings.levels();
+    let elements = &room[..held];
+    let first = weight_bytes::put_whole(code, reading.settings.weighting, elements, at, out);
+    if last == 1 {
+        return first.at;
+    }
+    if first.pairs {
+        return put_blank_levels(reading, last, room, held, first.at, out);
+    }
+    put_other_levels(reading, last, room, held, first.at, out)
+}
+
 /// Puts the packed sort key of a text that was read into room, by a code of primary weights, at a place of a buffer, level after level.
 pub(crate) fn put_packed_levels(
     code: &PackedCode,
     reading: &TextReading,
-    s: Settings,
     room: &mut [Element],
     at: usize,
     out: &mut [u8],
 ) -> usize
     requires some { 0 < length room.old }
-    requires option { s.weighting ≡ reading.now.weighting }
     requires holds { HoldsWeights reading.now room.old }
     requires size { length out.old < 2 ^ 64 }
-    ensures bytes { PutsAt at (packed_key_by code.now reading.now.table.now s (chars reading.now.text.now)) out.old out.new result }
+    ensures bytes { PutsAt at (packed_key_by code.now reading.now.table.now reading.now.settings (chars reading.now.text.now)) out.old out.new result }
     ensures holds { HoldsWeights reading.now room.new }
-    ensures room { length room.new ≡ length room.old }
 {
     if let Some(held) = reading.held {
-        return put_held(code, reading, s, room, held, at, out);
+        return put_held(code, reading, room, held, at, out);
     }
-    let last = s.levels();
+    let last = reading.settings.levels();
     let mut next = weight_bytes::put_again(code, reading, room, at, out);
     let mut level = 1;
     'each: while level < last {

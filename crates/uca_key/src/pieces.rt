@@ -10,7 +10,7 @@ ghost use Rattle.uca_key.specs.Weighing.{all_own};
 use crate::weighing::weigh_all;
 use uca_match::{TextElements, read_text};
 use uca_table::Table;
-use uca_weights::{Element, Variable, Weigher};
+use uca_weights::{Element, Settings, Variable, Weigher};
 
 /// The most elements that are packed or sent together.
 pub(crate) const PIECE: usize = 64;
@@ -20,8 +20,8 @@ pub(crate) const PIECE: usize = 64;
 pub(crate) struct TextReading<'t> {
     pub(crate) table: &'t Table,
     pub(crate) text: &'t str,
-    /// The option by which they are weighed.
-    pub(crate) weighting: Variable,
+    /// The option by which they are weighed, and how many levels are asked for.
+    pub(crate) settings: Settings,
     /// How many elements the text has, where the room holds them all.
     pub(crate) held: Option<usize>,
     ghost safe: { IsSafe (chars text.now) },
@@ -31,8 +31,7 @@ pub(crate) struct TextReading<'t> {
 #[inline(always)]
 fn read_and_weigh(t: &Table, v: Variable, text: &str, room: &mut [Element]) -> Option<usize>
     requires { IsSafe (chars text.now) }
-    ensures holds { ForSome result (λ n. (n ≤ length room.new) × (all_own v (take n room.new) ≡ weighted v (elements t.now (nfd (chars text.now))))) }
-    ensures size { length room.new ≡ length room.old }
+    ensures { ForSome result (λ n. (n ≤ length room.new) × (all_own v (take n room.new) ≡ weighted v (elements t.now (nfd (chars text.now))))) }
 {
     let (read, rest) = read_text(t, text, room);
     if !rest.is_empty() {
@@ -49,22 +48,21 @@ impl<'t> TextReading<'t> {
     #[inline(always)]
     pub(crate) fn new(
         t: &'t Table,
-        v: Variable,
+        s: Settings,
         text: &'t str,
         room: &mut [Element],
     ) -> TextReading<'t>
         requires { IsSafe (chars text.now) }
         ensures table { result.table.now ≡ t.now }
         ensures text { result.text.now ≡ text.now }
-        ensures weighting { result.weighting ≡ v }
+        ensures settings { result.settings ≡ s }
         ensures holds { HoldsWeights result room.new }
-        ensures size { length room.new ≡ length room.old }
     {
-        let held = read_and_weigh(t, v, text, room);
+        let held = read_and_weigh(t, s.weighting, text, room);
         TextReading {
             table: t,
             text,
-            weighting: v,
+            settings: s,
             held,
         }
     }
@@ -72,12 +70,12 @@ impl<'t> TextReading<'t> {
     /// Reads the text once more.
     pub(crate) fn again(&self) -> WeighedElements<'t>
         ensures left { weights_left result ≡ weights_of self.now }
-        ensures weighting { result.weighting ≡ self.now.weighting }
+        ensures weighting { result.weighting ≡ self.now.settings.weighting }
     {
         WeighedElements {
             elements: TextElements::new(self.table, self.text),
-            weighting: self.weighting,
-            weigher: Weigher::new(self.weighting),
+            weighting: self.settings.weighting,
+            weigher: Weigher::new(self.settings.weighting),
         }
     }
 }
@@ -101,7 +99,6 @@ impl<'t> WeighedElements<'t> {
         ensures weighting { self.new.weighting ≡ self.old.weighting }
         ensures within { result ≤ length room.old }
         ensures end { result ≡ 0 → weights_left self.old ≡ [] }
-        ensures size { length room.new ≡ length room.old }
     {
         let n = self.elements.read(room);
         weigh_all(self.weighting, &mut self.weigher, &mut room[..n]);

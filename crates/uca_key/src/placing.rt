@@ -1,4 +1,6 @@
 // Keys that are put into a buffer piece by piece, level after level.
+#![tactic(auto, using(crate::proofs::KeyPieces::key_steps))]
+
 ghost use Rattle.std.specs.Prelude.{◌≡◌, ◌<◌, ◌≤◌, ◌+◌, ◌-◌, ◌*◌, ◌^◌, IsTrue, chars, length, min};
 ghost use Rattle.uca_model.specs.DecidingLevel.{bytes_at};
 ghost use Rattle.uca_model.specs.LevelWeights.{level_list};
@@ -82,8 +84,7 @@ fn put_weights_again(
     requires last { level ≤ 4 }
     requires some { 0 < length room.old }
     requires size { length out.old < 2 ^ 64 }
-    ensures bytes { PutsAt at (level_bytes (weights_of reading.now) level) out.old out.new result }
-    ensures room { length room.new ≡ length room.old }
+    ensures { PutsAt at (level_bytes (weights_of reading.now) level) out.old out.new result }
 {
     let mut left = reading.again();
     let mut next = at;
@@ -92,7 +93,7 @@ fn put_weights_again(
         if n == 0 {
             return next;
         }
-        next = put_level(reading.weighting, &room[..n], level, next, out);
+        next = put_level(reading.settings.weighting, &room[..n], level, next, out);
     }
 }
 
@@ -111,10 +112,9 @@ fn put_weights(
     requires size { length out.old < 2 ^ 64 }
     ensures bytes { PutsAt at (level_bytes (weights_of reading.now) level) out.old out.new result }
     ensures holds { HoldsWeights reading.now room.new }
-    ensures room { length room.new ≡ length room.old }
 {
     if let Some(held) = reading.held {
-        return put_level(reading.weighting, &room[..held], level, at, out);
+        return put_level(reading.settings.weighting, &room[..held], level, at, out);
     }
     put_weights_again(level, reading, room, at, out)
 }
@@ -157,12 +157,17 @@ fn put_level_of(
     requires some { 0 < length room.old }
     requires holds { HoldsWeights reading.now room.old }
     requires size { length out.old < 2 ^ 64 }
-    ensures bytes { PutsAt at (bytes_at level (level_list reading.now.table.now reading.now.weighting (chars reading.now.text.now) level)) out.old out.new result }
+    ensures bytes { PutsAt at (bytes_at level (level_list reading.now.table.now reading.now.settings.weighting (chars reading.now.text.now) level)) out.old out.new result }
     ensures holds { HoldsWeights reading.now room.new }
-    ensures room { length room.new ≡ length room.old }
 {
     if level == 5 {
-        return put_text(reading.table, reading.weighting, reading.text, at, out);
+        return put_text(
+            reading.table,
+            reading.settings.weighting,
+            reading.text,
+            at,
+            out,
+        );
     }
     put_weights(level, reading, room, at, out)
 }
@@ -170,20 +175,17 @@ fn put_level_of(
 /// Puts the sort key of a text that was read into room at a place of a buffer, level after level.
 pub(crate) fn put_levels(
     reading: &TextReading,
-    s: Settings,
     room: &mut [Element],
     at: usize,
     out: &mut [u8],
 ) -> usize
     requires some { 0 < length room.old }
-    requires option { s.weighting ≡ reading.now.weighting }
     requires holds { HoldsWeights reading.now room.old }
     requires size { length out.old < 2 ^ 64 }
-    ensures bytes { PutsAt at (sort_key reading.now.table.now s (chars reading.now.text.now)) out.old out.new result }
+    ensures bytes { PutsAt at (sort_key reading.now.table.now reading.now.settings (chars reading.now.text.now)) out.old out.new result }
     ensures holds { HoldsWeights reading.now room.new }
-    ensures room { length room.new ≡ length room.old }
 {
-    let last = s.levels();
+    let last = reading.settings.levels();
     let mut level = 1;
     let mut next = at;
     'each: loop {
@@ -203,8 +205,8 @@ fn put_by(t: &Table, s: Settings, p: &Passage, room: &mut [Element], out: &mut [
     requires size { length out.old < 2 ^ 64 }
     ensures { PutsAt 0 (sort_key t.now s (text_of p.now)) out.old out.new result }
 {
-    let reading = TextReading::new(t, s.weighting, p.as_str(), room);
-    put_levels(&reading, s, room, 0, out)
+    let reading = TextReading::new(t, s, p.as_str(), room);
+    put_levels(&reading, room, 0, out)
 }
 
 /// Puts the sort key of a text into the front of a buffer, or as many of its bytes as fit, and returns how many it has, or

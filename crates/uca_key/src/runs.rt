@@ -1,4 +1,6 @@
 // The later levels of a packed key, with runs of common weights, put into a buffer piece by piece.
+#![tactic(auto, using(crate::proofs::MaskLemmas::run_steps))]
+
 ghost use Rattle.std.specs.Prelude.{◌≡◌, ◌&&◌, IsTrue, count_ones, ◌≢◌, ◌==◌, ◌+◌, ◌*◌, ◌-◌, ◌^◌, ◌<◌, ◌≤◌, ◌++◌, ◌∷◌, [], ℕ, List, not, chars, drop, filter, length, map, min, take, ◌/◌, ◌%◌};
 ghost use Rattle.std.specs.Int.{bit_at};
 ghost use Rattle.std.specs.Simd.Lanes.{chunk, mask_l};
@@ -7,7 +9,7 @@ ghost use Rattle.uca_weights.specs.declared.settings.Variable.{Variable};
 ghost use Rattle.uca_model.specs.LevelWeights.{level_weights};
 ghost use Rattle.uca_model.specs.SafeText.{IsSafe};
 ghost use Rattle.uca_key.specs.PackedKey.{common_weight, other_bytes, runs_after, packed_later, packed_level};
-ghost use Rattle.uca_key.specs.Runs.{AreMarked, bytes_left, is_blank, is_other};
+ghost use Rattle.uca_key.specs.Runs.{AreMarked, AreMarkedLater, bytes_left, is_blank, is_other};
 ghost use Rattle.uca_key.specs.Pieces.{weights_of};
 ghost use Rattle.uca_key.specs.Placing.{IsPutting, PutsAt, StaysAfter, StaysBeyond};
 ghost use Rattle.uca_key.specs.Weighing.{all_own};
@@ -58,7 +60,6 @@ fn put_other(key: &mut [u8], at: usize, weight: u16) -> usize
     ensures bytes { take result key.new ≡ take at key.old ++ other_bytes weight }
     ensures within { result ≤ at + 3 }
     ensures stays { StaysAfter at result key.old key.new }
-    ensures size { length key.new ≡ length key.old }
 {
     if weight < 0xFE {
         key[at] = weight as u8;
@@ -114,7 +115,6 @@ fn put_near(key: &mut [u8], before: Counted, common: u16, weight: u16) -> usize
     ensures bytes { (ws : List ℕ) → take result key.new ++ runs_after common 0 ws ≡ take before.at key.old ++ runs_after common before.run (weight ∷ ws) }
     ensures within { result ≤ before.at + 2 }
     ensures stays { StaysBeyond before.at result key.old key.new }
-    ensures size { length key.new ≡ length key.old }
 {
     key[before.at] = near_byte(before.run, weight - common);
     key[before.at + 1] = weight as u8;
@@ -131,7 +131,6 @@ fn put_after_run(key: &mut [u8], before: Counted, common: u16, weight: u16) -> C
     ensures few { result.run < 62 }
     ensures within { result.at ≤ before.at + 4 }
     ensures stays { StaysBeyond before.at result.at key.old key.new }
-    ensures size { length key.new ≡ length key.old }
 {
     key[before.at] = run_end(before.run, common, weight);
     Counted {
@@ -151,7 +150,6 @@ fn pack_weight(key: &mut [u8], before: Counted, common: u16, weight: u16) -> Cou
     ensures few { result.run < 62 }
     ensures within { result.at ≤ before.at + 4 }
     ensures stays { StaysBeyond before.at result.at key.old key.new }
-    ensures size { length key.new ≡ length key.old }
 {
     if weight > common && weight - common < 35 {
         return Counted {
@@ -242,7 +240,6 @@ fn pack_row(key: &mut [u8], before: Counted, v: Variable, elements: &[Element], 
     ensures some { result.elements ≤ length elements.now }
     ensures within { result.packed.at ≤ before.at + 4 * result.elements }
     ensures stays { StaysBeyond before.at result.packed.at key.old key.new }
-    ensures size { length key.new ≡ length key.old }
 {
     if level != 3 {
         return Row {
@@ -291,7 +288,6 @@ fn pack_masked(
     ensures few { result.run < 62 }
     ensures within { result.at ≤ before.at + 4 * length elements.now }
     ensures stays { StaysBeyond before.at result.at key.old key.new }
-    ensures size { length key.new ≡ length key.old }
 {
     let common = common_weight(level);
     let mut packed = before;
@@ -387,7 +383,6 @@ fn pack_whole(
     ensures few { result.run < 62 }
     ensures within { result.at ≤ before.at + 4 * length elements.now }
     ensures stays { StaysBeyond before.at result.at key.old key.new }
-    ensures size { length key.new ≡ length key.old }
 {
     let mut packed = before;
     let mut mask = marked;
@@ -413,7 +408,6 @@ fn pack(key: &mut [u8], before: Counted, v: Variable, elements: &[Element], leve
     ensures few { result.run < 62 }
     ensures within { result.at ≤ before.at + 4 * length elements.now }
     ensures stays { StaysBeyond before.at result.at key.old key.new }
-    ensures size { length key.new ≡ length key.old }
 {
     match level {
         2 => pack_whole(key, before, v, elements, 2, marked_by_one(v, 2, elements)),
@@ -539,8 +533,7 @@ fn later_masks(elements: &[Element], asked: bool) -> LaterMasks
 fn later_marks(elements: &[Element], asked: bool) -> LaterMarks
     requires whole { length elements.now % 16 ≡ 0 }
     requires few { length elements.now ≤ 64 }
-    ensures second { (v : Variable) → AreMarked v 2 result.second elements.now }
-    ensures third { (v : Variable) → AreMarked v 3 result.third elements.now }
+    ensures { AreMarkedLater result elements.now }
 {
     let LaterMasks {
         second,
@@ -565,8 +558,7 @@ fn later_marks(elements: &[Element], asked: bool) -> LaterMarks
 #[inline(always)]
 pub(crate) fn first_marks(room: &[Element], held: usize, asked: bool) -> LaterMarks
     requires { held ≤ length room.now }
-    ensures second { (v : Variable) → AreMarked v 2 result.second (take 64 (take held room.now)) }
-    ensures third { (v : Variable) → AreMarked v 3 result.third (take 64 (take held room.now)) }
+    ensures { AreMarkedLater result (take 64 (take held room.now)) }
 {
     let first = held.min(MASKED);
     let whole = first + (LANES - 1) - (first + (LANES - 1)) % LANES;
@@ -595,7 +587,6 @@ fn put_elements(
     requires size { length out.old < 2 ^ 64 }
     ensures bytes { (at : ℕ) (front whole : List ℕ) (ws : List (List ℕ)) → IsPutting at front before.at out.old whole (bytes_left level before (all_own v elements.now ++ ws)) → IsPutting at front result.at out.new whole (bytes_left level result ws) }
     ensures few { result.run < 62 }
-    ensures size { length out.new ≡ length out.old }
 {
     let mut state = before;
     let mut left = elements;
@@ -675,8 +666,7 @@ fn put_level_again(
     requires last { level ≤ 4 }
     requires some { 0 < length room.old }
     requires size { length out.old < 2 ^ 64 }
-    ensures bytes { PutsAt at (packed_level (weights_of reading.now) level) out.old out.new result }
-    ensures room { length room.new ≡ length room.old }
+    ensures { PutsAt at (packed_level (weights_of reading.now) level) out.old out.new result }
 {
     let mut state = Counted { at, run: 0 };
     let mut left = reading.again();
@@ -685,7 +675,7 @@ fn put_level_again(
         if n == 0 {
             return put_end(state, out);
         }
-        state = put_elements(reading.weighting, level, state, &room[..n], out);
+        state = put_elements(reading.settings.weighting, level, state, &room[..n], out);
     }
 }
 
@@ -701,11 +691,16 @@ pub(crate) fn put_again(
     requires last { level ≤ 5 }
     requires some { 0 < length room.old }
     requires size { length out.old < 2 ^ 64 }
-    ensures bytes { PutsAt at (packed_later (weights_of reading.now) (nfd (chars reading.now.text.now)) level) out.old out.new result }
-    ensures room { length room.new ≡ length room.old }
+    ensures { PutsAt at (packed_later (weights_of reading.now) (nfd (chars reading.now.text.now)) level) out.old out.new result }
 {
     if level == 5 {
-        return put_text(reading.table, reading.weighting, reading.text, at, out);
+        return put_text(
+            reading.table,
+            reading.settings.weighting,
+            reading.text,
+            at,
+            out,
+        );
     }
     put_level_again(level, reading, room, at, out)
 }

@@ -1,5 +1,7 @@
+#![tactic(auto, using(crate::proofs::KeyPieces::key_steps))]
+
 ghost use Rattle.std.specs.Prelude.{◌≡◌, ◌+◌, ◌<◌, ◌≤◌, ◌^◌, [], ◌∷◌, chars, length, MatchResult};
-ghost use Rattle.uca_io.specs.OutputBuffer.{accepted, Accepts, FailsPartway};
+ghost use Rattle.uca_io.specs.OutputBuffer.{accepted};
 ghost use Rattle.uca_io.specs.Writer.{WritesAll, WritesFront};
 ghost use Rattle.uca_model.specs.LevelWeights.{level_list};
 ghost use Rattle.uca_model.specs.DecidingLevel.{bytes_at};
@@ -7,7 +9,7 @@ ghost use Rattle.uca_model.specs.SafeText.{IsSafe};
 ghost use Rattle.uca_model.specs.SortKey.{code_point_bytes, level_bytes, sort_key};
 ghost use Rattle.uca_model.specs.Source.{unread};
 ghost use Rattle.uca_window.specs.Passage.{text_of};
-ghost use Rattle.uca_key.specs.Faults.{write_fault};
+ghost use Rattle.uca_key.specs.Faults.{Sends, write_fault};
 ghost use Rattle.uca_key.specs.Pieces.{HoldsWeights, weights_of};
 ghost use Rattle.uca_key.specs.Weighing.{all_own};
 
@@ -52,9 +54,7 @@ fn stopped(fault: WriteFault) -> KeyFault
 // Has a code point go out.
 fn send_point<W: Writer>(w: &mut W, out: &mut OutputBuffer, point: char) -> Result<(), WriteFault>
     requires { accepted out.old + 3 < 2 ^ 128 }
-    ensures { MatchResult result
-        (λ _. Accepts (W.state w.old) out.old (W.state w.new) out.new (code_point_bytes point))
-        (λ f. FailsPartway (W.state w.old) out.old (W.state w.new) (code_point_bytes point) f) }
+    ensures { Sends (W.state w.old) out.old (W.state w.new) out.new (code_point_bytes point) result }
 {
     out.write(w, &(point as u32).to_be_bytes()[1..])
 }
@@ -62,9 +62,7 @@ fn send_point<W: Writer>(w: &mut W, out: &mut OutputBuffer, point: char) -> Resu
 // Has the separator of levels go out.
 fn send_separator<W: Writer>(w: &mut W, out: &mut OutputBuffer) -> Result<(), WriteFault>
     requires { accepted out.old + 2 < 2 ^ 128 }
-    ensures { MatchResult result
-        (λ _. Accepts (W.state w.old) out.old (W.state w.new) out.new (0 ∷ 0 ∷ []))
-        (λ f. FailsPartway (W.state w.old) out.old (W.state w.new) (0 ∷ 0 ∷ []) f) }
+    ensures { Sends (W.state w.old) out.old (W.state w.new) out.new (0 ∷ 0 ∷ []) result }
 {
     out.write(w, &[0, 0])
 }
@@ -80,19 +78,14 @@ fn send_elements<W: Writer>(
     requires first { 1 ≤ level }
     requires last { level ≤ 4 }
     requires count { accepted out.old + length (level_bytes (all_own v elements.now) level) < 2 ^ 128 }
-    ensures { MatchResult result
-        (λ _. Accepts (W.state w.old) out.old (W.state w.new) out.new (level_bytes (all_own v elements.now) level))
-        (λ f. FailsPartway (W.state w.old) out.old (W.state w.new) (level_bytes (all_own v elements.now) level) f) }
+    ensures { Sends (W.state w.old) out.old (W.state w.new) out.new (level_bytes (all_own v elements.now) level) result }
 {
     let mut bytes = [0; 2 * PIECE];
     let mut left = elements;
     'pieces: while !left.is_empty() {
         let (piece, rest) = left.split_at(left.len().min(PIECE));
         let size = put_level(v, piece, level, 0, &mut bytes);
-        match out.write(w, &bytes[..size]) {
-            Ok(()) => {}
-            Err(fault) => return Err(fault),
-        }
+        out.write(w, &bytes[..size])?;
         left = rest;
     }
     Ok(())
@@ -111,10 +104,7 @@ fn send_weights_again<W: Writer>(
     requires last { level ≤ 4 }
     requires some { 0 < length room.old }
     requires count { accepted out.old + length (level_bytes (weights_of reading.now) level) < 2 ^ 128 }
-    ensures bytes { MatchResult result
-        (λ _. Accepts (W.state w.old) out.old (W.state w.new) out.new (level_bytes (weights_of reading.now) level))
-        (λ f. FailsPartway (W.state w.old) out.old (W.state w.new) (level_bytes (weights_of reading.now) level) f) }
-    ensures room { length room.new ≡ length room.old }
+    ensures { Sends (W.state w.old) out.old (W.state w.new) out.new (level_bytes (weights_of reading.now) level) result }
 {
     let mut left = reading.again();
     'each: loop {
@@ -122,10 +112,7 @@ fn send_weights_again<W: Writer>(
         if n == 0 {
             return Ok(());
         }
-        match send_elements(w, out, reading.weighting, level, &room[..n]) {
-            Ok(()) => {}
-            Err(fault) => return Err(fault),
-        }
+        send_elements(w, out, reading.settings.weighting, level, &room[..n])?;
     }
 }
 
@@ -142,14 +129,11 @@ fn send_weights<W: Writer>(
     requires some { 0 < length room.old }
     requires holds { HoldsWeights reading.now room.old }
     requires count { accepted out.old + length (level_bytes (weights_of reading.now) level) < 2 ^ 128 }
-    ensures bytes { MatchResult result
-        (λ _. Accepts (W.state w.old) out.old (W.state w.new) out.new (level_bytes (weights_of reading.now) level))
-        (λ f. FailsPartway (W.state w.old) out.old (W.state w.new) (level_bytes (weights_of reading.now) level) f) }
+    ensures bytes { Sends (W.state w.old) out.old (W.state w.new) out.new (level_bytes (weights_of reading.now) level) result }
     ensures holds { HoldsWeights reading.now room.new }
-    ensures room { length room.new ≡ length room.old }
 {
     if let Some(held) = reading.held {
-        return send_elements(w, out, reading.weighting, level, &room[..held]);
+        return send_elements(w, out, reading.settings.weighting, level, &room[..held]);
     }
     send_weights_again(w, out, level, reading, room)
 }
@@ -164,17 +148,12 @@ fn send_points<W: Writer, S: Source>(
 ) -> Result<(), WriteFault>
     requires safe { IsSafe (unread (S.state source.old)) }
     requires room { accepted out.old + length (bytes_at 5 (level_list t.now v (unread (S.state source.old)) 5)) < 2 ^ 128 }
-    ensures bytes { MatchResult result
-        (λ _. Accepts (W.state w.old) out.old (W.state w.new) out.new (bytes_at 5 (level_list t.now v (unread (S.state source.old)) 5)))
-        (λ f. FailsPartway (W.state w.old) out.old (W.state w.new) (bytes_at 5 (level_list t.now v (unread (S.state source.old)) 5)) f) }
+    ensures bytes { Sends (W.state w.old) out.old (W.state w.new) out.new (bytes_at 5 (level_list t.now v (unread (S.state source.old)) 5)) result }
     ensures text { (S.state source.new).text ≡ (S.state source.old).text }
 {
     let mut points = Points::new();
     'each: while let Some(point) = points.next(source) {
-        match send_point(w, out, point) {
-            Ok(()) => {}
-            Err(fault) => return Err(fault),
-        }
+        send_point(w, out, point)?;
     }
     Ok(())
 }
@@ -191,50 +170,43 @@ fn send_level<W: Writer>(
     requires last { level ≤ 5 }
     requires some { 0 < length room.old }
     requires holds { HoldsWeights reading.now room.old }
-    requires count { accepted out.old + length (bytes_at level (level_list reading.now.table.now reading.now.weighting (chars reading.now.text.now) level)) < 2 ^ 128 }
-    ensures bytes { MatchResult result
-        (λ _. Accepts (W.state w.old) out.old (W.state w.new) out.new (bytes_at level (level_list reading.now.table.now reading.now.weighting (chars reading.now.text.now) level)))
-        (λ f. FailsPartway (W.state w.old) out.old (W.state w.new) (bytes_at level (level_list reading.now.table.now reading.now.weighting (chars reading.now.text.now) level)) f) }
+    requires count { accepted out.old + length (bytes_at level (level_list reading.now.table.now reading.now.settings.weighting (chars reading.now.text.now) level)) < 2 ^ 128 }
+    ensures bytes { Sends (W.state w.old) out.old (W.state w.new) out.new (bytes_at level (level_list reading.now.table.now reading.now.settings.weighting (chars reading.now.text.now) level)) result }
     ensures holds { HoldsWeights reading.now room.new }
-    ensures room { length room.new ≡ length room.old }
 {
     if level == 5 {
         let mut source = PassageSource::new(&Passage::of_safe(reading.text));
-        return send_points(w, out, reading.table, reading.weighting, &mut source);
+        return send_points(
+            w,
+            out,
+            reading.table,
+            reading.settings.weighting,
+            &mut source,
+        );
     }
     send_weights(w, out, level, reading, room)
 }
 
-// Has the sort key of a text go out, level after level.
+// Has the sort key of a text that was read into room go out, level after level.
 fn send_key<W: Writer>(
     w: &mut W,
     out: &mut OutputBuffer,
-    t: &Table,
-    s: Settings,
-    text: &str,
+    reading: &TextReading,
+    room: &mut [Element],
 ) -> Result<(), WriteFault>
-    requires safe { IsSafe (chars text.now) }
-    requires room { accepted out.old + length (sort_key t.now s (chars text.now)) < 2 ^ 128 }
-    ensures { MatchResult result
-        (λ _. Accepts (W.state w.old) out.old (W.state w.new) out.new (sort_key t.now s (chars text.now)))
-        (λ f. FailsPartway (W.state w.old) out.old (W.state w.new) (sort_key t.now s (chars text.now)) f) }
+    requires some { 0 < length room.old }
+    requires holds { HoldsWeights reading.now room.old }
+    requires count { accepted out.old + length (sort_key reading.now.table.now reading.now.settings (chars reading.now.text.now)) < 2 ^ 128 }
+    ensures { Sends (W.state w.old) out.old (W.state w.new) out.new (sort_key reading.now.table.now reading.now.settings (chars reading.now.text.now)) result }
 {
-    let last = s.levels();
-    let mut room = [Element::default(); ROOM];
-    let reading = TextReading::new(t, s.weighting, text, &mut room);
+    let last = reading.settings.levels();
     let mut level = 1;
     'each: loop {
-        match send_level(w, out, &reading, level, &mut room) {
-            Ok(()) => {}
-            Err(fault) => return Err(fault),
-        }
+        send_level(w, out, reading, level, room)?;
         if level == last {
             return Ok(());
         }
-        match send_separator(w, out) {
-            Ok(()) => {}
-            Err(fault) => return Err(fault),
-        }
+        send_separator(w, out)?;
         level += 1;
     }
 }
@@ -271,8 +243,10 @@ pub fn write_key<W: Writer>(
         (λ f. WritesFront (W.state w.old) (W.state w.new) (sort_key t.now s (text_of p.now)) (write_fault f)) }
 {
     show_room(t, s, p);
+    let mut room = [Element::default(); ROOM];
+    let reading = TextReading::new(t, s, p.as_str(), &mut room);
     let mut out = OutputBuffer::new();
-    match send_key(w, &mut out, t, s, p.as_str()) {
+    match send_key(w, &mut out, &reading, &mut room) {
         Ok(()) => {}
         Err(fault) => return Err(stopped(fault)),
     }

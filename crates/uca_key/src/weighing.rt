@@ -1,4 +1,6 @@
 // Variable weighting that is carried out on elements where they lie, so that each says its weights without those before it.
+#![tactic(auto, using(crate::proofs::WeighingLemmas::weight_steps))]
+
 ghost use Rattle.std.specs.Prelude.{◌≡◌, ◌≤◌, ◌-◌, ◌++◌, List, length, slice_index};
 ghost use Rattle.uca_weights.specs.declared.element.Element.{Element};
 ghost use Rattle.uca_weights.specs.VariableWeighting.{weights};
@@ -28,7 +30,6 @@ fn weighed(weigher: &mut Weigher, e: Element) -> Element
 fn weigh_each(weigher: &mut Weigher, elements: &mut [Element])
     ensures weights { (es : List Element) → weighted_from weigher.old (elements.old ++ es) ≡ all_own weigher.old.weighting elements.new ++ weighted_from weigher.new es }
     ensures option { weigher.new.weighting ≡ weigher.old.weighting }
-    ensures size { length elements.new ≡ length elements.old }
 {
     // In the loop it is a local, since an element could otherwise be a part of it.
     let mut seen = replace(weigher, Weigher::new(Variable::NonIgnorable));
@@ -44,7 +45,6 @@ pub(crate) fn weigh_all(v: Variable, weigher: &mut Weigher, elements: &mut [Elem
     requires { weigher.old.weighting ≡ v }
     ensures weights { (es : List Element) → weighted_from weigher.old (elements.old ++ es) ≡ all_own v elements.new ++ weighted_from weigher.new es }
     ensures option { weigher.new.weighting ≡ v }
-    ensures size { length elements.new ≡ length elements.old }
 {
     match v {
         Variable::NonIgnorable => {}

@@ -1,4 +1,6 @@
 // The first level of a packed key, put into a buffer.
+#![tactic(auto, using(crate::proofs::WeighingLemmas::weight_steps))]
+
 ghost use Rattle.std.specs.Prelude.{◌≡◌, ◌↔◌, ◌==◌, ◌≤◌, ◌<◌, ◌+◌, ◌*◌, ◌-◌, ◌^◌, ◌/◌, ◌%◌, ◌++◌, ◌∷◌, [], ℕ, List, if◌then◌else◌, nat_lt, not, filter, length, take, drop, true, false, IfSome, IfNone, IsSome};
 ghost use Rattle.uca_weights.specs.VariableWeighting.{weighted};
 ghost use Rattle.uca_model.specs.LevelWeights.{level_weights};
@@ -7,7 +9,7 @@ ghost use Rattle.uca_key.specs.Reach.{first_left, state_of};
 ghost use Rattle.uca_key.specs.Pieces.{weights_of};
 ghost use Rattle.uca_key.specs.Placing.{IsPutting, PutsAt, StaysAfter, StaysBeyond};
 ghost use Rattle.uca_key.specs.PrimaryCode.{PrimaryCode, after_slot, base_after, has_page, is_common, is_in_window, is_single, lead, letter_bytes, primary_bytes, primary_level, second_bytes, slot, start, state_after};
-ghost use Rattle.uca_key.specs.WeightCodes.{AreShort, IsFirst, IsShort, IsWindow};
+ghost use Rattle.uca_key.specs.WeightCodes.{AreShort, IsAlone, IsWindow};
 ghost use Rattle.uca_key.specs.Weighing.{all_own};
 
 use crate::packed_code::PackedCode;
@@ -30,7 +32,6 @@ fn put_low(w: u16, key: &mut [u8], at: usize) -> usize
     ensures bytes { take result key.new ≡ take at key.old ++ (w % 256) ∷ [] }
     ensures within { result ≤ at + 1 }
     ensures stays { StaysAfter at result key.old key.new }
-    ensures size { length key.new ≡ length key.old }
 {
     key[at] = (w % 256) as u8;
     at + 1
@@ -42,7 +43,6 @@ fn put_pair(w: u16, key: &mut [u8], at: usize) -> usize
     ensures bytes { take result key.new ≡ take at key.old ++ weight_bytes w }
     ensures within { result ≤ at + 2 }
     ensures stays { StaysAfter at result key.old key.new }
-    ensures size { length key.new ≡ length key.old }
 {
     let [high, low] = w.to_be_bytes();
     key[at] = high;
@@ -57,7 +57,6 @@ fn put_after_lead(w: u16, key: &mut [u8], at: usize) -> usize
     ensures bytes { take result key.new ≡ take at key.old ++ (if has_page w then (w % 256) ∷ [] else weight_bytes w) }
     ensures within { result ≤ at + 2 }
     ensures stays { StaysAfter at result key.old key.new }
-    ensures size { length key.new ≡ length key.old }
 {
     if w < 0x6C00 {
         return put_low(w, key, at);
@@ -86,7 +85,6 @@ fn put_inside(code: &PackedCode, window: &Window, w: u16, key: &mut [u8], at: us
     ensures bytes { take result key.new ≡ take at key.old ++ letter_bytes code.now window.now.base w }
     ensures within { result ≤ at + 2 }
     ensures stays { StaysAfter at result key.old key.new }
-    ensures size { length key.new ≡ length key.old }
 {
     let own = code.of(w);
     key[at] = window.slot_byte(own.slot);
@@ -105,7 +103,6 @@ fn put_outside(code: &PackedCode, window: &Window, w: u16, key: &mut [u8], at: u
     ensures bytes { take result key.new ≡ take at key.old ++ letter_bytes code.now window.now.base w }
     ensures within { result ≤ at + 3 }
     ensures stays { StaysAfter at result key.old key.new }
-    ensures size { length key.new ≡ length key.old }
 {
     let own = code.of(w);
     key[at] = window.lead_byte(own.slot, own.lead);
@@ -121,7 +118,6 @@ fn put_second(w: u16, key: &mut [u8], at: usize) -> usize
     ensures bytes { take result key.new ≡ take at key.old ++ second_bytes w }
     ensures within { result ≤ at + 3 }
     ensures stays { StaysAfter at result key.old key.new }
-    ensures size { length key.new ≡ length key.old }
 {
     if w < 0x8000 {
         key[at] = 1;
@@ -177,7 +173,6 @@ fn put_weight<'c>(code: &'c PackedCode, before: Placed<'c>, w: u16, key: &mut [u
     ensures window { IsWindow code.now result.reach.window.now }
     ensures within { result.at ≤ before.entry.at + 3 }
     ensures stays { StaysAfter before.entry.at result.at key.old key.new }
-    ensures size { length key.new ≡ length key.old }
 {
     let window = before.reach.window;
     if before.reach.due > 0 {
@@ -211,7 +206,6 @@ fn put_some<'c>(code: &'c PackedCode, before: Placed<'c>, w: u16, key: &mut [u8]
     ensures window { IsWindow code.now result.reach.window.now }
     ensures within { result.at ≤ before.entry.at + 3 }
     ensures stays { StaysAfter before.entry.at result.at key.old key.new }
-    ensures size { length key.new ≡ length key.old }
 {
     if w == 0 {
         return before;
@@ -235,7 +229,6 @@ fn put_letter<'c>(
     ensures within { IfSome result (λ p. p.at ≤ before.entry.at + 3) }
     ensures stays { IfSome result (λ p. StaysAfter before.entry.at p.at key.old key.new) }
     ensures none { IfNone result (key.new ≡ key.old) }
-    ensures size { length key.new ≡ length key.old }
 {
     let Reach { window, due } = before.reach;
     if w == 0 || w >= 0x6C00 || due > 0 || is_in_window(code, window, w) {
@@ -256,7 +249,7 @@ fn put_letter<'c>(
 // The byte of a weight, if it takes only one in a window, or if it is zero.
 #[inline(always)]
 fn short_byte(bytes: &[u8], w: u16) -> Option<u8>
-    ensures { (k : PrimaryCode) (base : ℕ) → AreShort k base bytes.now → 0 < w → IfSome result (IsShort k base w) }
+    ensures { (k : PrimaryCode) (base : ℕ) → AreShort k base bytes.now → 0 < w → IfSome result (IsAlone false k base w) }
 {
     if w as usize >= bytes.len() {
         return None;
@@ -270,12 +263,11 @@ fn short_byte(bytes: &[u8], w: u16) -> Option<u8>
 #[inline(always)]
 fn put_short(code: &PackedCode, reach: Reach, w: u16, byte: u8, key: &mut [u8], at: usize) -> usize
     requires first { reach.due ≡ 0 }
-    requires short { 0 < w → IsShort code.now reach.window.now.base w byte }
+    requires short { 0 < w → IsAlone false code.now reach.window.now.base w byte }
     requires room { at + 1 ≤ length key.old }
     ensures bytes { (ws : List ℕ) → take result key.new ++ primary_level code.now (state_of reach.entry) ws ≡ take at key.old ++ primary_level code.now (state_of reach.entry) (filter (λ x. not (x == 0)) (w ∷ []) ++ ws) }
     ensures within { result ≤ at + 1 }
     ensures stays { StaysBeyond at result key.old key.new }
-    ensures size { length key.new ≡ length key.old }
 {
     key[at] = byte;
     at + (w != 0) as usize
@@ -293,13 +285,12 @@ fn put_implicit(
     at: usize,
 ) -> usize
     requires first { reach.due ≡ 0 }
-    requires byte { IsFirst code.now reach.window.now.base w byte }
+    requires byte { IsAlone true code.now reach.window.now.base w byte }
     requires next { 0x8000 ≤ second }
     requires room { at + 3 ≤ length key.old }
     ensures bytes { (ws : List ℕ) → take result key.new ++ primary_level code.now (state_of reach.entry) ws ≡ take at key.old ++ primary_level code.now (state_of reach.entry) (filter (λ x. not (x == 0)) (w ∷ []) ++ (filter (λ x. not (x == 0)) (second ∷ []) ++ ws)) }
     ensures within { result ≤ at + 3 }
     ensures stays { StaysAfter at result key.old key.new }
-    ensures size { length key.new ≡ length key.old }
 {
     key[at] = byte;
     put_pair(second, key, at + 1)
@@ -331,7 +322,6 @@ fn put_shorts(
     ensures more { from ≤ result.elements }
     ensures some { result.elements ≤ length elements.now }
     ensures stays { StaysBeyond before.entry.at result.at key.old key.new }
-    ensures size { length key.new ≡ length key.old }
 {
     let reach = before.reach;
     let bytes = reach.window.bytes();
@@ -371,7 +361,6 @@ fn put_pair_of(
     ensures some { IfSome result (λ p. p.elements ≤ length elements.now) }
     ensures stays { IfSome result (λ p. StaysAfter before.entry.at p.at key.old key.new) }
     ensures none { IfNone result (key.new ≡ key.old) }
-    ensures size { length key.new ≡ length key.old }
 {
     let reach = before.reach;
     if elements.len() - from < 2 || reach.due > 0 {
@@ -414,7 +403,6 @@ fn put_kept(
     ensures more { from ≤ result.progress.elements }
     ensures some { result.progress.elements ≤ length elements.now }
     ensures stays { StaysBeyond before.entry.at result.progress.at key.old key.new }
-    ensures size { length key.new ≡ length key.old }
 {
     let reach = before.reach;
     let mut at = before.at;
@@ -458,7 +446,6 @@ fn put_one<'c>(
     ensures within { IfSome result (λ p. p.at ≤ before.entry.at + 3) }
     ensures stays { IfSome result (λ p. StaysAfter before.entry.at p.at key.old key.new) }
     ensures none { IfNone result (key.new ≡ key.old) }
-    ensures size { length key.new ≡ length key.old }
 {
     if n >= elements.len() {
         return None;
@@ -494,7 +481,6 @@ fn put_start<'c>(
     ensures within { result.placed.at ≤ before.entry.at + 3 * result.elements }
     ensures some { result.elements ≤ length elements.now }
     ensures stays { StaysAfter before.entry.at result.placed.at key.old key.new }
-    ensures size { length key.new ≡ length key.old }
 {
     if elements.len() > 0 {
         if let Some(placed) = put_letter(code, before, primary_weight(v, &elements[0]), key) {
@@ -532,7 +518,6 @@ fn put_each<'c>(
     ensures window { IsWindow code.now result.placed.reach.window.now }
     ensures within { result.placed.at ≤ before.entry.at + 3 * length elements.now }
     ensures stays { StaysBeyond before.entry.at result.placed.at key.old key.new }
-    ensures size { length key.new ≡ length key.old }
 {
     let mut step = put_start(code, v, before, elements, key);
     let mut pairs = false;
@@ -569,7 +554,6 @@ fn put_weights<'c>(
     ensures window { IsWindow code.now result.placed.reach.window.now }
     ensures within { result.placed.at ≤ before.entry.at + 3 * length elements.now }
     ensures stays { StaysBeyond before.entry.at result.placed.at key.old key.new }
-    ensures size { length key.new ≡ length key.old }
 {
     match v {
         Variable::NonIgnorable => put_each(code, Variable::NonIgnorable, before, elements, key),
@@ -601,7 +585,6 @@ fn put_elements<'c>(
     requires size { length out.old < 2 ^ 64 }
     ensures bytes { (at : ℕ) (front whole ws : List ℕ) → IsPutting at front before.entry.at out.old whole (first_left code.now before.entry (level_weights 1 (all_own v elements.now) ++ ws)) → IsPutting at front result.at out.new whole (first_left code.now result ws) }
     ensures window { IsWindow code.now result.reach.window.now }
-    ensures size { length out.new ≡ length out.old }
 {
     let mut bytes = [0; LETTER * PIECE];
     let mut state = before;
@@ -690,8 +673,7 @@ pub(crate) fn put_again(
 ) -> usize
     requires some { 0 < length room.old }
     requires size { length out.old < 2 ^ 64 }
-    ensures bytes { PutsAt at (primary_level code.now (start code.now) (level_weights 1 (weights_of reading.now))) out.old out.new result }
-    ensures room { length room.new ≡ length room.old }
+    ensures { PutsAt at (primary_level code.now (start code.now) (level_weights 1 (weights_of reading.now))) out.old out.new result }
 {
     let mut state = Placed {
         at,
@@ -703,6 +685,6 @@ pub(crate) fn put_again(
         if n == 0 {
             return put_bytes(&[0], state.at, out);
         }
-        state = put_elements(code, reading.weighting, state, &room[..n], out);
+        state = put_elements(code, reading.settings.weighting, state, &room[..n], out);
     }
 }

@@ -1,4 +1,6 @@
 //! What the code of primary weights in packed keys has of each weight, by what a table says of common characters.
+#![tactic(auto, using(crate::proofs::CodeSteps::code_steps))]
+
 ghost use Rattle.std.specs.Prelude.{◌≡◌, ◌<◌, ◌≤◌, ◌+◌, ◌-◌, ◌*◌, ◌/◌, ◌%◌, ◌++◌, ◌==◌, ◌||◌, ℕ, false, get_or, length, map, IsTrue, sum_by, OnOk, IfOk};
 ghost use Rattle.std.specs.List.{list_all, list_any, range_with_len};
 ghost use Rattle.uca_key.specs.PrimaryCode.{PrimaryCode, code_of, first_primary, page_of, past, points_of_ranges, primary_of, slot};
@@ -120,28 +122,8 @@ fn set_flags(flags: &mut [bool], weights: &[u16])
     }
 }
 
-// Of each weight whether it is one of these.
-fn flags_of(alloc: Global, weights: &[u16]) -> Result<Vec<bool>, AllocError>
-    ensures size { IfOk result (λ v. length v.items ≡ 65536) }
-    ensures flags { IfOk result (λ v. (w : ℕ) → w < 65536 → get_or v.items w false ≡ list_any (λ c. c == w) weights.now) }
-{
-    let mut flags = unset(alloc, WEIGHTS)?;
-    set_flags(flags.as_mut_slice(), weights);
-    Ok(flags)
-}
-
-// Of each weight whether it is one of two lists.
-fn flags_of_both(alloc: Global, some: &[u16], others: &[u16]) -> Result<Vec<bool>, AllocError>
-    ensures size { IfOk result (λ v. length v.items ≡ 65536) }
-    ensures flags { IfOk result (λ v. (w : ℕ) → w < 65536 → get_or v.items w false ≡ (list_any (λ c. c == w) some.now || list_any (λ c. c == w) others.now)) }
-{
-    let mut flags = flags_of(alloc, some)?;
-    set_flags(flags.as_mut_slice(), others);
-    Ok(flags)
-}
-
 // Of each weight whether it is one of three lists.
-fn flags_of_all(
+fn flags_of(
     alloc: Global,
     some: &[u16],
     others: &[u16],
@@ -150,7 +132,9 @@ fn flags_of_all(
     ensures size { IfOk result (λ v. length v.items ≡ 65536) }
     ensures flags { IfOk result (λ v. (w : ℕ) → w < 65536 → get_or v.items w false ≡ (list_any (λ c. c == w) some.now || list_any (λ c. c == w) others.now || list_any (λ c. c == w) more.now)) }
 {
-    let mut flags = flags_of_both(alloc, some, others)?;
+    let mut flags = unset(alloc, WEIGHTS)?;
+    set_flags(flags.as_mut_slice(), some);
+    set_flags(flags.as_mut_slice(), others);
     set_flags(flags.as_mut_slice(), more);
     Ok(flags)
 }
@@ -356,13 +340,13 @@ impl WeightCodes {
         ensures { IfOk result (λ k. k ≡ code_of t.now) }
     {
         let commons = weights_of_ranges(alloc, t, &COMMON_RANGES)?;
-        let flags = flags_of(alloc, &commons)?;
+        let flags = flags_of(alloc, &commons, &[], &[])?;
         let mut singles = [0; SINGLES];
         singles.copy_from_slice(weights_of(alloc, t, &SINGLE_CHARACTERS)?.as_slice());
         let mut anchors = [0; ANCHORS];
         anchors.copy_from_slice(weights_of(alloc, t, &FIRST_LETTERS)?.as_slice());
-        let named = flags_of_both(alloc, &singles, &anchors)?;
-        let any = flags_of_all(alloc, &singles, &anchors, &commons)?;
+        let named = flags_of(alloc, &singles, &anchors, &[])?;
+        let any = flags_of(alloc, &singles, &anchors, &commons)?;
         let parts = Parts {
             commons: &flags,
             singles: &singles,

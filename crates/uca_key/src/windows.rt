@@ -1,7 +1,7 @@
 // The windows of a code of primary weights, with the bytes of weights that take one byte there.
-ghost use Rattle.std.specs.Prelude.{◌≡◌, ◌<◌, ◌≤◌, ◌+◌, ◌-◌, ◌&&◌, ℕ, nat_le, nat_lt, IfOk, IfSome, length, if◌then◌else◌};
+ghost use Rattle.std.specs.Prelude.{◌≡◌, ◌<◌, ◌≤◌, ◌+◌, ◌-◌, ◌&&◌, ℕ, nat_le, nat_lt, true, false, IfOk, IfSome, length, if◌then◌else◌};
 ghost use Rattle.uca_key.specs.PrimaryCode.{PrimaryCode};
-ghost use Rattle.uca_key.specs.WeightCodes.{AreFirsts, AreShort, AreWindows, IsFirst, IsPlaced, IsShort, IsWindow};
+ghost use Rattle.uca_key.specs.WeightCodes.{AreFirsts, AreShort, AreWindows, IsAlone, IsPlaced, IsWindow};
 
 use crate::weight_codes::WeightCodes;
 use std::alloc::{AllocError, Global};
@@ -39,7 +39,7 @@ impl Window {
     /// The byte of a weight that begins an implicit pair, if it has one of its own outside the window.
     #[inline(always)]
     pub(crate) fn first_byte(&self, w: u16) -> Option<u8>
-        ensures { (k : PrimaryCode) → IsWindow k self.now → IfSome result (IsFirst k self.now.base w) }
+        ensures { (k : PrimaryCode) → IsWindow k self.now → IfSome result (IsAlone true k self.now.base w) }
     {
         if w < 0xFB00 || w > 0xFBFF {
             return None;
@@ -85,7 +85,7 @@ impl Window {
 // The byte that is all a weight takes in a window, if it also leaves the window as it is, or zero.
 fn own_byte(codes: &WeightCodes, window: &Window, w: u16) -> u8
     requires { IsPlaced codes.now window.now }
-    ensures { 0 < result → IsShort codes.now window.now.base w result }
+    ensures { 0 < result → IsAlone false codes.now window.now.base w result }
 {
     if w / 256 == 0xFB {
         return 0;
@@ -108,8 +108,7 @@ fn own_byte(codes: &WeightCodes, window: &Window, w: u16) -> u8
 fn put_own_bytes(codes: &WeightCodes, window: &Window, weights: &[u16], bytes: &mut [u8])
     requires window { IsPlaced codes.now window.now }
     requires short { AreShort codes.now window.now.base bytes.old }
-    ensures short { AreShort codes.now window.now.base bytes.new }
-    ensures size { length bytes.new ≡ length bytes.old }
+    ensures { AreShort codes.now window.now.base bytes.new }
 {
     for weight in weights {
         let place = *weight as usize;
@@ -122,7 +121,7 @@ fn put_own_bytes(codes: &WeightCodes, window: &Window, weights: &[u16], bytes: &
 // The byte of a weight that begins an implicit pair, if it has one of its own outside the window, or zero.
 fn own_first_byte(codes: &WeightCodes, window: &Window, w: u16) -> u8
     requires { IsPlaced codes.now window.now }
-    ensures { 0 < result → IsFirst codes.now window.now.base w result }
+    ensures { 0 < result → IsAlone true codes.now window.now.base w result }
 {
     let code = codes.of(w);
     if w / 256 != 0xFB || !code.single || window.has_slot(code.slot) {
@@ -156,8 +155,7 @@ fn put_all(codes: &WeightCodes, window: &Window, bytes: &mut [u8])
     requires window { IsPlaced codes.now window.now }
     requires some { 0 < length bytes.old }
     requires short { AreShort codes.now window.now.base bytes.old }
-    ensures short { AreShort codes.now window.now.base bytes.new }
-    ensures size { length bytes.new ≡ length bytes.old }
+    ensures { AreShort codes.now window.now.base bytes.new }
 {
     put_own_bytes(codes, window, codes.commons(), bytes);
     put_own_bytes(codes, window, codes.singles(), bytes);

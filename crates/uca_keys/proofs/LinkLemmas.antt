@@ -1,160 +1,40 @@
 -- How the children of all nodes are found from the last node back.
-use Rattle.std.proofs.Common.{◌≡◌, ℕ, zero, suc, ◌+◌, ◌-◌, ◌≤◌, ◌<◌, true, false, cond, nat_lt, List, [], ◌∷◌, ◌++◌, length, take, drop, get_or, refl, sym, ap, ap₂, subst, ◌∙◌, arith, inl, inr, eq-eqb, ne_eqb, ltb-true, ltb-false, lt-ltb, le-ltb, length-append, length-drop, get_or-drop}
-use Rattle.std.proofs.lemmas.Bool.{cases_Bool, cases_lt}
-use Rattle.std.proofs.lemmas.List.{get_or_push, length_push, take-append-le, drop-append-le, drop-drop, drop_all}
-use Rattle.uca_weights.specs.declared.element.Element.{Element}
-use Rattle.uca_keys.specs.declared.node.Node.{Node}
-use Rattle.uca_keys.specs.declared.trie.Child.{Child}
-use Rattle.uca_keys.specs.Links.{child_of, depth_below, kids_from, kids_of, span_len, EndsAt, IsListed, AreLinked, AreStacked}
-use Rattle.uca_keys.specs.Nodes.{path_after, AreNext}
-use Rattle.uca_keys.proofs.ChildLemmas.{kids_stop, kids_here, kids_deeper}
+use Rattle.uca_keys.proofs.Common.{◌≡◌, ℕ, zero, suc, ◌+◌, ◌-◌, ◌≤◌, ◌<◌, nat_lt, List, [], ◌∷◌, ◌++◌, length, take, drop, get_or, refl, sym, ap, ap₂, subst, ◌∙◌, arith, inl, inr, ne_eqb, ltb-true, ltb-false, le-ltb, length-append, length-drop, cases_Bool, cases_lt, cases_eq, cond_both, get_or_append_left, get_or_push, length_push, take-append-le, drop-append-le, drop-drop, drop_all, drop_more, Element, Node, Child, child_of, depth_below, end_of, kids_back, kids_from, kids_of, span_len, AreEnds, AreLinked, AreValues, first_depth, path_after, AreNext, common_steps}
 use Rattle.uca_keys.proofs.NodeLemmas.{path_long}
-use Rattle.uca_keys.proofs.PushLemmas.{drop_at}
-use Rattle.std.proofs.lemmas.Grind.{common_steps}
-
-pub span_stop : (d : ℕ) (n : Node) (ns : List Node) → nat_lt n.depth d ≡ true → span_len d (n ∷ ns) ≡ 0
-span_stop d n ns fewer = ap (λ b. cond b 0 (suc (span_len d ns))) fewer
-
-pub span_on : (d : ℕ) (n : Node) (ns : List Node) → nat_lt n.depth d ≡ false → span_len d (n ∷ ns) ≡ suc (span_len d ns)
-span_on d n ns enough = ap (λ b. cond b 0 (suc (span_len d ns))) enough
 
 pub span_within : (d : ℕ) (ns : List Node) → span_len d ns ≤ length ns
 span_within d [] = omega arith
-span_within d (n ∷ ns) = grind (arith, common_steps, cases_Bool, span_stop, span_on, span_within d ns)
+span_within d (n ∷ ns) = cond_both (nat_lt n.depth d) 0 (suc (span_len d ns)) (λ k. k ≤ suc (length ns)) (λ _. omega arith) (λ _. omega (arith, span_within d ns))
 
 -- what is deeper belongs to the child before it
-pub kids_skip : (d i : ℕ) (ns : List Node) → kids_from d i ns ≡ kids_from d (i + span_len (d + 1) ns) (drop (span_len (d + 1) ns) ns)
+kids_skip : (d i : ℕ) (ns : List Node) → kids_from d i ns ≡ kids_from d (i + span_len (d + 1) ns) (drop (span_len (d + 1) ns) ns)
 kids_skip d i [] = refl
-kids_skip d i (n ∷ ns) = grind (arith, common_steps, cases_Bool, span_stop, ltb-false, span_on, kids_deeper, le-ltb, ne_eqb, kids_skip d (i + 1) ns)
+kids_skip d i (n ∷ ns) = grind (arith, common_steps, cases_Bool, ltb-false, le-ltb, ne_eqb, kids_skip d (i + 1) ns)
 
-pub span_skip : (d : ℕ) (ns : List Node) → span_len d ns ≡ span_len (d + 1) ns + span_len d (drop (span_len (d + 1) ns) ns)
+span_skip : (d : ℕ) (ns : List Node) → span_len d ns ≡ span_len (d + 1) ns + span_len d (drop (span_len (d + 1) ns) ns)
 span_skip d [] = refl
-span_skip d (n ∷ ns) = grind (arith, common_steps, cases_Bool, span_stop, ltb-false, span_on, le-ltb, span_skip d ns)
+span_skip d (n ∷ ns) = grind (arith, common_steps, cases_Bool, ltb-false, le-ltb, span_skip d ns)
 
 -- after what is deeper comes a node that is not
-pub span_top : (d : ℕ) (ns : List Node) (e : Node) → span_len (d + 1) ns < length ns → (get_or ns (span_len (d + 1) ns) e).depth ≤ d
-span_top d [] e within = absurd (omega arith)
-span_top d (n ∷ ns) e within = elim (cases_Bool (nat_lt n.depth (d + 1))) [
-  | inl fewer ↦
-      let less : n.depth < d + 1 = ltb-true n.depth (d + 1) fewer in
-      subst (λ k. (get_or (n ∷ ns) k e).depth ≤ d) (sym (span_stop (d + 1) n ns fewer)) (omega arith)
-  | inr enough ↦
-      let on = span_on (d + 1) n ns enough in
-      subst (λ k. (get_or (n ∷ ns) k e).depth ≤ d) (sym on) (span_top d ns e (omega (arith, on)))
-]
+span_top : (d : ℕ) (ns : List Node) → first_depth (drop (span_len (d + 1) ns) ns) ≤ d
+span_top d [] = omega arith
+span_top d (n ∷ ns) = cond_both (nat_lt n.depth (d + 1)) 0 (suc (span_len (d + 1) ns)) (λ k. first_depth (drop k (n ∷ ns)) ≤ d) (λ less. let h : n.depth < d + 1 = ltb-true n.depth (d + 1) less in omega arith) (λ _. span_top d ns)
 
--- the nodes of keys are stacked
-stacked : (es : List Element) (p : List ℕ) (ns : List Node) (i : ℕ) (d : Node) → AreNext es p ns → suc i < length ns → (get_or ns (suc i) d).depth ≤ (get_or ns i d).depth + 1
-stacked es p [] i d next within = absurd (omega arith)
-stacked es p (n ∷ []) i d next within = absurd (omega arith)
-stacked es p (n ∷ m ∷ ns) zero d next within = let size = path_long p n next.0.from in omega (arith, next.1.0.from)
-stacked es p (n ∷ m ∷ ns) (suc i) d next within = stacked es (path_after p n) (m ∷ ns) i d next.1 (omega arith)
+-- no node has more code points before it than the one in front of it leads to
+pub depth_within : (es : List Element) (p : List ℕ) (ns : List Node) → AreNext es p ns → (i : ℕ) → first_depth (drop i ns) ≤ depth_below (length p) ns i
+depth_within es p [] next zero = omega arith
+depth_within es p [] next (suc i) = omega arith
+depth_within es p (n ∷ ns) next zero = next.0.from
+depth_within es p (n ∷ ns) next (suc i) = subst (λ d. first_depth (drop i ns) ≤ depth_below d ns i) (path_long p n next.0.from) (depth_within es (path_after p n) ns next.1 i)
 
-pub depth_below-is : (ns : List Node) (i : ℕ) (d : Node) → i < length ns → depth_below ns (suc i) ≡ (get_or ns i d).depth + 1
-depth_below-is [] i d within = absurd (omega arith)
-depth_below-is (n ∷ ns) zero d within = refl
-depth_below-is (n ∷ ns) (suc i) d within = depth_below-is ns i d (omega arith)
+depth_below-suc : (depth : ℕ) (ns : List Node) (i : ℕ) (d : Node) → i < length ns → depth_below depth ns (suc i) ≡ (get_or ns i d).depth + 1
+depth_below-suc depth [] i d within = absurd (omega arith)
+depth_below-suc depth (n ∷ ns) zero d within = refl
+depth_below-suc depth (n ∷ ns) (suc i) d within = depth_below-suc (n.depth + 1) ns i d (omega arith)
 
-stacked_at : (es : List Element) (ns : List Node) → AreNext es [] ns → (number : ℕ) (d : Node) → number < length ns → (get_or ns number d).depth ≤ depth_below ns number
-stacked_at es [] next number d within = absurd (omega arith)
-stacked_at es (n ∷ ns) next zero d within = next.0.from
-stacked_at es (n ∷ ns) next (suc i) d within = grind (arith, common_steps, depth_below-is, stacked)
-
-pub AreStacked-next : (es : List Element) (ns : List Node) → AreNext es [] ns → AreStacked ns
-AreStacked-next es ns next = record { top = stacked_at es ns next }
-
-pub before_push : {A : Type 0} (xs : List A) (x : A) (j : ℕ) (d : A) → j < length xs → get_or (xs ++ x ∷ []) j d ≡ get_or xs j d
-before_push [] x j d h = absurd (omega arith)
-before_push (y ∷ xs) x zero d h = refl
-before_push (y ∷ xs) x (suc j) d h = before_push xs x j d (omega arith)
-
--- the children of the numbers above one, which lie before what was added last
-pub record AreSoFar (ns : List Node) (cs : List Child) (starts back : List ℕ) (number : ℕ) : Type 0 where
-  pub within : number ≤ length ns
-  pub starts_len : length starts ≡ length ns - number
-  pub ends_len : length back ≡ length ns - number
-  pub ends : (j : ℕ) → number ≤ j → j < length ns → EndsAt ns back j
-  pub each : (m : ℕ) → number < m → m ≤ length ns → IsListed ns cs (starts ++ length cs ∷ []) m
-
--- what is added later changes nothing of what is listed
-listed_on : (ns : List Node) (cs more : List Child) (starts : List ℕ) (x m : ℕ) → m ≤ length ns → length ns - m + 1 < length (starts ++ length cs ∷ []) → IsListed ns cs (starts ++ length cs ∷ []) m → IsListed ns (cs ++ more) ((starts ++ length cs ∷ []) ++ x ∷ []) m
-listed_on ns cs more starts x m upto within listed =
-    let here : (d : ℕ) → get_or (_ ++ x ∷ []) (length ns - m) d ≡ get_or _ (length ns - m) d = λ d. before_push _ x (length ns - m) d (omega arith) in
-    let next : (d : ℕ) → get_or (_ ++ x ∷ []) (length ns - m + 1) d ≡ get_or _ (length ns - m + 1) d = λ d. before_push _ x (length ns - m + 1) d within in
-    let size : length (cs ++ more) ≡ length cs + length more = length-append cs more in
-    record {
-      next = λ d. ap (λ k. k + length (kids_of ns m)) (here d) ∙ listed.next d ∙ sym (next d);
-      within = λ d. omega (arith, next d, listed.within d);
-      kids = λ d.
-          let start : ℕ = get_or _ (length ns - m) d in
-          let left : length (drop start cs) ≡ length cs - start = length-drop start cs in
-          ap (λ k. take (length (kids_of ns m)) (drop k (cs ++ more))) (here d)
-          ∙ ap (take (length (kids_of ns m))) (drop-append-le start cs more (omega (arith, listed.next d, listed.within d)))
-          ∙ take-append-le (length (kids_of ns m)) (drop start cs) more (omega (arith, listed.next d, listed.within d)) ∙ listed.kids d;
-    }
-
-drop_whole : {A : Type 0} (xs ys : List A) → drop (length xs) (xs ++ ys) ≡ ys
-drop_whole [] ys = refl
-drop_whole (x ∷ xs) ys = drop_whole xs ys
-
-take_whole : {A : Type 0} (xs : List A) → take (length xs) xs ≡ xs
-take_whole [] = refl
-take_whole (x ∷ xs) = ap (λ l. x ∷ l) (take_whole xs)
-
--- the children of the next number lie behind
-listed_new : (ns : List Node) (cs : List Child) (starts : List ℕ) (m : ℕ) → m ≤ length ns → length starts ≡ length ns - m → IsListed ns (cs ++ kids_of ns m) ((starts ++ length cs ∷ []) ++ length (cs ++ kids_of ns m) ∷ []) m
-listed_new ns cs starts m upto size = grind (arith, common_steps, length_push, before_push, get_or_push, length-append, drop_whole, take_whole)
-
-ends_on : (ns : List Node) (ends : List ℕ) (x j : ℕ) → EndsAt ns ends j → EndsAt ns (ends ++ x ∷ []) j
-ends_on ns ends x j at = grind (arith, common_steps, length_push, before_push)
-
--- one number more
-pub AreSoFar-more : (ns : List Node) (cs : List Child) (starts ends : List ℕ) (number end : ℕ) → 0 < number → AreSoFar ns cs starts ends number → end ≡ number + span_len (depth_below ns number) (drop number ns)
-    → AreSoFar ns (cs ++ kids_of ns number) (starts ++ length cs ∷ []) (ends ++ end ∷ []) (number - 1)
-AreSoFar-more ns cs starts ends number end some so is =
-    let size : length (starts ++ length cs ∷ []) ≡ length starts + 1 = length_push starts (length cs) in
-    record {
-      within = omega (arith, so.within);
-      starts_len = omega (arith, so.within, so.starts_len);
-      ends_len = omega (arith, so.within, so.ends_len, length_push ends end);
-      ends = λ j from within. elim (cases_lt j number) [
-        | inr old ↦ ends_on ns ends end j (so.ends j old within)
-        | inl new ↦
-            let same : suc j ≡ number = omega arith in
-            record {
-              some = omega (arith, so.within, so.ends_len, length_push ends end);
-              end = λ d n.
-                  let below : depth_below ns number ≡ (get_or ns j n).depth + 1 = ap (depth_below ns) (sym same) ∙ depth_below-is ns j n within in
-                  let place : length ends ≡ length ns - 1 - j = omega (arith, so.ends_len) in
-                  let up : number ≡ j + 1 = omega arith in
-                  get_or_push ends end d (length ns - 1 - j) place ∙ is ∙ ap₂ (λ m k. m + span_len k (drop m ns)) up below;
-            }
-      ];
-      each = λ m above upto. elim (cases_lt number m) [
-        | inl old ↦ listed_on ns cs (kids_of ns number) starts (length (cs ++ kids_of ns number)) m upto (omega (arith, so.starts_len)) (so.each m old upto)
-        | inr here ↦
-            let same : number ≡ m = omega arith in
-            subst (λ k. IsListed ns (cs ++ kids_of ns number) ((starts ++ length cs ∷ []) ++ length (cs ++ kids_of ns number) ∷ []) k) same (listed_new ns cs starts number so.within so.starts_len)
-      ];
-    }
-
--- and those of the root
-pub AreLinked-all : (ns : List Node) (cs : List Child) (starts ends : List ℕ) → AreSoFar ns cs starts ends 0 → AreLinked ns (cs ++ kids_of ns 0) ((starts ++ length cs ∷ []) ++ length (cs ++ kids_of ns 0) ∷ [])
-AreLinked-all ns cs starts ends so =
-    let ss : List ℕ = starts ++ length cs ∷ [] in
-    record {
-      size = omega (arith, length_push ss (length (cs ++ kids_of ns 0)), length_push starts (length cs), so.starts_len);
-      each = λ m upto. elim (cases_lt 0 m) [
-        | inl old ↦ listed_on ns cs (kids_of ns 0) starts (length (cs ++ kids_of ns 0)) m upto (omega (arith, so.starts_len, length_push starts (length cs))) (so.each m old upto)
-        | inr here ↦
-            let same : 0 ≡ m = omega arith in
-            subst (λ k. IsListed ns (cs ++ kids_of ns 0) (ss ++ length (cs ++ kids_of ns 0) ∷ []) k) same (listed_new ns cs starts 0 (omega arith) so.starts_len)
-      ];
-    }
-
-pub depth_below-next : (ns : List Node) (number : ℕ) (d : Node) → (number ≡ 0 → ⊥) → number ≤ length ns → depth_below ns number ≡ (get_or ns (number - 1) d).depth + 1
-depth_below-next ns zero d some within = absurd (some refl)
-depth_below-next ns (suc i) d some within = let back : suc i - 1 ≡ i = omega arith in depth_below-is ns i d (omega arith) ∙ ap (λ k. (get_or ns k d).depth + 1) (sym back)
+pub depth_after : (ns : List Node) (number : ℕ) (d : Node) → (number ≡ 0 → ⊥) → number ≤ length ns → depth_below 0 ns number ≡ (get_or ns (number - 1) d).depth + 1
+depth_after ns zero d some within = absurd (some refl)
+depth_after ns (suc i) d some within = let back : suc i - 1 ≡ i = omega arith in depth_below-suc 0 ns i d (omega arith) ∙ ap (λ k. (get_or ns k d).depth + 1) (sym back)
 
 -- one child, and all that begins as it does
 pub record IsStep (ns : List Node) (depth at end : ℕ) (n : Node) : Type 0 where
@@ -162,37 +42,100 @@ pub record IsStep (ns : List Node) (depth at end : ℕ) (n : Node) : Type 0 wher
   pub span : at + span_len depth (drop at ns) ≡ end + span_len depth (drop end ns)
   pub more : at < end
   pub within : end ≤ length ns
-  pub top : (d : Node) → end < length ns → (get_or ns end d).depth ≤ depth
+  pub top : first_depth (drop end ns) ≤ depth
 
-pub step_over : (ns : List Node) (depth at end : ℕ) (e : Node) → at < length ns → depth ≤ (get_or ns at e).depth → (get_or ns at e).depth ≤ depth → end ≡ at + 1 + span_len ((get_or ns at e).depth + 1) (drop (at + 1) ns) → IsStep ns depth at end (get_or ns at e)
-step_over ns depth at end e inside least most ends =
-    let n : Node = get_or ns at e in
-    let rest : List Node = drop (at + 1) ns in
-    let here : n.depth ≡ depth = omega arith in
-    let front : drop at ns ≡ n ∷ rest = drop_at ns at e inside in
-    let enough : nat_lt n.depth depth ≡ false = le-ltb n.depth depth least in
-    let skip : ℕ = span_len (depth + 1) rest in
-    let place : end ≡ at + 1 + skip = ends ∙ ap (λ d. at + 1 + span_len (d + 1) rest) here in
+pub step_over : (ns : List Node) (ends : List ℕ) (depth at : ℕ) (e : Node) → at < length ns → depth ≤ (get_or ns at e).depth → first_depth (drop at ns) ≤ depth → AreEnds ns ends → length ns ≤ length ends + at → IsStep ns depth at (get_or ends (length ns - 1 - at) 0) (get_or ns at e)
+step_over ns ends depth at e inside least top are all =
+    let n : Node = get_or ns at e in let end : ℕ = get_or ends (length ns - 1 - at) 0 in
+    let rest : List Node = drop (at + 1) ns in let skip : ℕ = span_len (depth + 1) rest in
+    let front : drop at ns ≡ n ∷ rest = drop_more ns at e inside in
+    let here : n.depth ≡ depth = omega (arith, ap first_depth front) in
+    let number : length ns - (length ns - 1 - at) ≡ at + 1 = omega arith in
+    let below : depth_below 0 ns (at + 1) ≡ depth + 1 = grind (arith, depth_below-suc 0 ns at e inside) in
+    let place : end ≡ at + 1 + skip = are.each (length ns - 1 - at) (omega arith) ∙ ap (end_of ns) number ∙ ap (λ d. at + 1 + span_len d rest) below in
     let left : drop skip rest ≡ drop end ns = drop-drop skip (at + 1) ns ∙ ap (λ k. drop k ns) (sym place) in
-    let size : length rest ≡ length ns - (at + 1) = length-drop (at + 1) ns in
-    let number : at + 1 + 1 + skip ≡ end + 1 = omega (arith, place) in
     record {
-      kids =
-          ap (kids_from depth (at + 1)) front ∙ kids_here depth (at + 1) n rest enough (eq-eqb n.depth depth here)
-          ∙ ap (λ l. child_of n (at + 1) ∷ l) (kids_skip depth (at + 1 + 1) rest ∙ ap₂ (kids_from depth) number left);
-      span =
-          let whole : span_len depth (drop at ns) ≡ suc (span_len depth rest) = ap (span_len depth) front ∙ span_on depth n rest enough in
-          let parts : span_len depth rest ≡ skip + span_len depth (drop end ns) = span_skip depth rest ∙ ap (λ l. skip + span_len depth l) left in
-          omega (arith, whole, parts, place);
+      kids = grind (arith, common_steps, front, here, kids_skip depth (at + 1 + 1) rest, left, place);
+      span = grind (arith, common_steps, front, here, span_skip depth rest, left, place);
       more = omega (arith, place);
-      within = omega (arith, place, span_within (depth + 1) rest);
-      top = λ d more.
-          let there : get_or rest skip d ≡ get_or ns end d = get_or-drop (at + 1) ns skip d ∙ ap (λ k. get_or ns k d) (sym place) in
-          subst (λ (m : Node). m.depth ≤ depth) there (span_top depth rest d (omega (arith, place)));
+      within = omega (arith, place, span_within (depth + 1) rest, length-drop (at + 1) ns);
+      top = subst (λ l. first_depth l ≤ depth) left (span_top depth rest);
     }
 
-pub stops_at : (ns : List Node) (depth at : ℕ) (e : Node) → at < length ns → (get_or ns at e).depth < depth → (kids_from depth (at + 1) (drop at ns) ≡ []) × (span_len depth (drop at ns) ≡ 0)
-stops_at ns depth at e inside less = grind (arith, common_steps, drop_at, lt-ltb, kids_stop, span_stop)
+values_push : (f : ℕ → ℕ) (xs : List ℕ) (x : ℕ) → AreValues f xs → x ≡ f (length xs) → AreValues f (xs ++ x ∷ [])
+values_push f xs x are is = record { each = λ i inside. grind (arith, common_steps, cases_lt i (length xs), are.each i, get_or_append_left, get_or_push, length_push) }
 
-pub ends_with : (ns : List Node) (depth at : ℕ) → length ns ≤ at → (kids_from depth (at + 1) (drop at ns) ≡ []) × (span_len depth (drop at ns) ≡ 0)
-ends_with ns depth at past = (ap (kids_from depth (at + 1)) (drop_all at ns past), ap (span_len depth) (drop_all at ns past))
+-- the children of a number and of those after it
+pub record AreSoFar (ns : List Node) (cs : List Child) (starts ends : List ℕ) (end number : ℕ) : Type 0 where
+  pub kids : cs ≡ kids_back ns (suc (length ends))
+  pub begun : AreValues (λ i. length (kids_back ns i)) starts
+  pub size : length starts ≡ length ends + 2
+  pub ended : AreEnds ns ends
+  pub all : length ends + number ≡ length ns
+  pub is : end ≡ end_of ns number
+  pub within : end ≤ length ns
+
+pub so_far_last : (ns : List Node) (cs : List Child) (starts ends : List ℕ) → cs ≡ [] → starts ≡ 0 ∷ 0 ∷ [] → ends ≡ [] → AreSoFar ns cs starts ends (length ns) (length ns)
+so_far_last ns cs starts ends no_kids zeros no_ends =
+    let kids : [] ≡ kids_of ns (length ns - 0) = grind (arith, common_steps, drop_all) in
+    let end : length ns ≡ end_of ns (length ns) = grind (arith, common_steps, drop_all) in
+    record {
+      kids = no_kids ∙ kids ∙ ap (λ l. kids_back ns (suc (length l))) (sym no_ends);
+      begun = subst (AreValues _) (sym zeros) (values_push _ (0 ∷ []) 0 (values_push _ [] 0 (record { each = λ i inside. absurd (omega arith) }) refl) (ap length kids));
+      size = omega (arith, ap length zeros, ap length no_ends);
+      ended = subst (AreEnds ns) (sym no_ends) (record { each = λ i inside. absurd (omega arith) });
+      all = omega (arith, ap length no_ends);
+      is = end;
+      within = omega arith;
+    }
+
+pub so_far_more : (ns : List Node) (cs new_cs : List Child) (starts new_starts ends new_ends : List ℕ) (end next number depth count : ℕ) → 0 < number → AreSoFar ns cs starts ends end number
+    → depth ≡ depth_below 0 ns (number - 1) → new_cs ≡ cs ++ kids_from depth (number - 1 + 1) (drop (number - 1) ns) → next ≡ number - 1 + span_len depth (drop (number - 1) ns)
+    → new_ends ≡ ends ++ end ∷ [] → count ≡ length new_cs → new_starts ≡ starts ++ count ∷ [] → AreSoFar ns new_cs new_starts new_ends next (number - 1)
+so_far_more ns cs new_cs starts new_starts ends new_ends end next number depth count some so below added is ends_on counted starts_on =
+    let size : length new_ends ≡ suc (length ends) = omega (arith, ap length ends_on, length_push ends end) in
+    let here : number - 1 ≡ length ns - suc (length ends) = omega (arith, so.all) in
+    let place : number ≡ length ns - length ends = omega (arith, so.all) in
+    let groups : suc (suc (length ends)) ≡ length starts = omega (arith, so.size) in
+    let kids : new_cs ≡ kids_back ns (suc (suc (length ends))) = added ∙ ap₂ (λ l d. l ++ kids_from d (number - 1 + 1) (drop (number - 1) ns)) so.kids below ∙ ap (λ m. kids_back ns (suc (length ends)) ++ kids_of ns m) here in
+    let end_is : next ≡ end_of ns (number - 1) = is ∙ ap (λ d. number - 1 + span_len d (drop (number - 1) ns)) below in
+    record {
+      kids = kids ∙ ap (λ k. kids_back ns (suc k)) (sym size);
+      begun = subst (AreValues (λ i. length (kids_back ns i))) (sym starts_on) (values_push _ starts count so.begun (counted ∙ ap length kids ∙ ap (λ k. length (kids_back ns k)) groups));
+      size = omega (arith, size, so.size, ap length starts_on, length_push starts count);
+      ended = subst (AreEnds ns) (sym ends_on) (values_push _ ends end so.ended (so.is ∙ ap (end_of ns) place));
+      all = omega (arith, size, so.all);
+      is = end_is;
+      within = omega (arith, end_is, so.all, span_within (depth_below 0 ns (number - 1)) (drop (number - 1) ns), length-drop (number - 1) ns);
+    }
+
+pub so_far_all : (ns : List Node) (cs : List Child) (starts ends : List ℕ) (end number : ℕ) → AreSoFar ns cs starts ends end number → number ≤ 0 → AreLinked ns cs starts
+so_far_all ns cs starts ends end number so none =
+    let whole : length ends ≡ length ns = omega (arith, so.all) in
+    record { kids = so.kids ∙ ap (λ k. kids_back ns (suc k)) whole; size = omega (arith, so.size); begun = so.begun }
+
+listed : (ns : List Node) (i m : ℕ) → i < m → (length (kids_back ns (suc i)) ≤ length (kids_back ns m)) × (take (length (kids_of ns (length ns - i))) (drop (length (kids_back ns i)) (kids_back ns m)) ≡ kids_of ns (length ns - i))
+listed ns i zero less = absurd (omega arith)
+listed ns i (suc m) less = elim (cases_eq i m) [
+  | inl here ↦ grind (arith, common_steps)
+  | inr other ↦ let rest = listed ns i m (omega arith) in grind (arith, common_steps, rest.0, rest.1, length-append, length-drop, take-append-le, drop-append-le)
+]
+
+-- the children of a number among those of all
+pub record IsRange (ns : List Node) (cs : List Child) (number from to : ℕ) : Type 0 where
+  pub ordered : from ≤ to
+  pub within : to ≤ length cs
+  pub kids : take (to - from) (drop from cs) ≡ kids_of ns number
+
+pub linked_range : (ns : List Node) (cs : List Child) (starts : List ℕ) (number : ℕ) → AreLinked ns cs starts → number ≤ length ns → IsRange ns cs number (get_or starts (length ns - number) 0) (get_or starts (length ns - number + 1) 0)
+linked_range ns cs starts number linked upto =
+    let i : ℕ = length ns - number in
+    let kids = listed ns i (suc (length ns)) (omega arith) in
+    let begin = linked.begun.each i (omega (arith, linked.size)) in
+    let end = linked.begun.each (i + 1) (omega (arith, linked.size)) in
+    let parts = length-append (kids_back ns i) (kids_of ns (length ns - i)) in
+    record {
+      ordered = grind (arith, begin, end, parts);
+      within = grind (arith, end, kids.0, linked.kids);
+      kids = grind (arith, begin, end, parts, kids.1, linked.kids);
+    }

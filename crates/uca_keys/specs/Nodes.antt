@@ -1,5 +1,5 @@
 -- Keys in their order, each of which adds nodes to those of the one before it.
-use Rattle.std.specs.Prelude.{◌≡◌, ℕ, ◌+◌, ◌==◌, ◌<◌, ◌≤◌, List, [], ◌∷◌, ◌++◌, length, take, drop, cond}
+use Rattle.std.specs.Prelude.{◌≡◌, ℕ, ◌+◌, ◌==◌, ◌<◌, ◌≤◌, List, [], ◌∷◌, ◌++◌, length, take, drop, cond, Option, Some, None}
 use Rattle.std.specs.declared.cmp.Ordering.TheVariants.{Less}
 use Rattle.uca_weights.specs.declared.element.Element.{Element}
 use Rattle.uca_weights.specs.declared.limits.TheConstants.{MAX_KEY, MAX_ELEMENTS}
@@ -24,6 +24,10 @@ last_path p (n ∷ ns) = last_path (path_after p n) ns
 abbrev pub elements_in : List Element → Node → List Element
 elements_in es n = take n.count (drop n.start es)
 
+-- the same, and nothing where no key ends
+abbrev pub own_of : List Element → Node → Option (List Element)
+own_of es n = cond (n.count == 0) None (Some (elements_in es n))
+
 -- an entry for each node at which a key ends
 abbrev pub entries_after : List Element → List ℕ → List Node → List (List ℕ × List Element)
 entries_after es p [] = []
@@ -42,11 +46,15 @@ abbrev pub AreNext : List Element → List ℕ → List Node → Type 0
 AreNext es p [] = Unit {0}
 AreNext es p (n ∷ ns) = IsNext es p n × AreNext es (path_after p n) ns
 
+-- how many code points come before the first node
+abbrev pub first_depth : List Node → ℕ
+first_depth [] = 0
+first_depth (n ∷ ns) = n.depth
+
 -- a key ends at each node, or the next one goes on from it
 abbrev pub AreFull : List Node → Type 0
 AreFull [] = Unit {0}
-AreFull (n ∷ []) = 0 < n.count
-AreFull (n ∷ m ∷ ns) = (n.count ≡ 0 → m.depth ≡ n.depth + 1) × AreFull (m ∷ ns)
+AreFull (n ∷ ns) = (n.count ≡ 0 → first_depth ns ≡ n.depth + 1) × AreFull ns
 
 -- the nodes of a key from a place on, the last of which has its elements
 abbrev pub nodes_of : List ℕ → ℕ → ℕ → ℕ → List Node

@@ -1,5 +1,7 @@
-ghost use Rattle.std.specs.Prelude.{◌≡◌, ◌∷◌, ◌≤◌, [], length, MatchOption};
+ghost use Rattle.std.specs.Prelude.{◌≡◌, ◌∷◌, ◌≤◌, [], length, MatchOption, take};
 ghost use Rattle.uca_weights.specs.declared.limits.TheConstants.{MAX_KEY};
+ghost use Rattle.uca_keys.specs.Cursor.{CursorState};
+ghost use Rattle.uca_keys.specs.Nodes.{AreFull, AreNext, entries_after};
 
 use crate::node::Node;
 use std::marker::Model;
@@ -16,11 +18,6 @@ pub struct Cursor<'t> {
 }
 
 impl<'t> Model for Cursor<'t> {
-    ghost use Rattle.std.specs.Prelude.{◌≤◌, take};
-    ghost use Rattle.uca_weights.specs.declared.limits.TheConstants.{MAX_KEY};
-    ghost use Rattle.uca_keys.specs.Cursor.{CursorState};
-    ghost use Rattle.uca_keys.specs.Nodes.{AreFull, AreNext, entries_after};
-
     ghost Value = { CursorState };
 
     ghost view = { λ c. record { key = take c.len c.path; coming = entries_after c.elements.now (take c.len c.path) c.nodes.now } };
@@ -29,8 +26,6 @@ impl<'t> Model for Cursor<'t> {
 }
 
 impl<'t> Cursor<'t> {
-    ghost use Rattle.uca_keys.specs.Nodes.{AreFull, AreNext, entries_after};
-
     /// Before the first entry of the nodes of keys.
     pub(crate) fn new(nodes: &'t [Node], elements: &'t [Element]) -> Cursor<'t>
         requires next { AreNext elements.now [] nodes.now }

@@ -1,5 +1,9 @@
-ghost use Rattle.std.specs.Prelude.{◌≡◌, ◌≤◌, [], length};
+ghost use Rattle.std.specs.Prelude.{◌≡◌, ◌≤◌, [], length, ℕ, List};
 ghost use Rattle.uca_weights.specs.declared.limits.TheConstants.{MAX_KEY};
+ghost use Rattle.uca_weights.specs.declared.element.Element.{Element};
+ghost use Rattle.uca_keys.specs.Coded.{coded_entries, key_and_elements};
+ghost use Rattle.uca_keys.specs.Nodes.{AreFull, AreNext, entries_after};
+ghost use Rattle.std.specs.Iterator.{YieldsFirstBy, item_count};
 
 use crate::cursor::Cursor;
 use crate::node::Node;
@@ -15,10 +19,6 @@ pub struct Entries<'t> {
 }
 
 impl<'t> Model for Entries<'t> {
-    ghost use Rattle.std.specs.Prelude.{ℕ, List};
-    ghost use Rattle.uca_weights.specs.declared.element.Element.{Element};
-    ghost use Rattle.uca_keys.specs.Coded.{coded_entries};
-
     ghost Value = { List (List ℕ × List Element) };
 
     ghost coded = { coded_entries };
@@ -27,8 +27,6 @@ impl<'t> Model for Entries<'t> {
 }
 
 impl<'t> Entries<'t> {
-    ghost use Rattle.uca_keys.specs.Nodes.{AreFull, AreNext, entries_after};
-
     /// Those of all nodes of keys.
     pub(crate) fn new(nodes: &'t [Node], elements: &'t [Element]) -> Entries<'t>
         requires next { AreNext elements.now [] nodes.now }
@@ -42,9 +40,6 @@ impl<'t> Entries<'t> {
 }
 
 impl<'t> Iterator for Entries<'t> {
-    ghost use Rattle.std.specs.Iterator.{YieldsFirstBy, item_count};
-    ghost use Rattle.uca_keys.specs.Coded.{key_and_elements};
-
     type Item = (ArrayVec<char, MAX_KEY>, &'t [Element]);
 
     ghost next_gives = { YieldsFirstBy key_and_elements (λ s. s) };

@@ -1,7 +1,13 @@
-ghost use Rattle.std.specs.Prelude.{◌≡◌, ℕ, ◌+◌, ◌-◌, ◌<◌, ◌≤◌, ◌++◌, ◌∷◌, [], length, take, drop, get_or, vec_len, vec_capacity, IfOk, IfSome, OnOk, OnErr};
+ghost use Rattle.std.specs.Prelude.{◌≡◌, ℕ, ◌+◌, ◌-◌, ◌<◌, ◌≤◌, ◌++◌, ◌∷◌, [], length, take, drop, get_or, vec_len, vec_capacity, IfOk, IfSome, OnOk, OnErr, List};
 ghost use Rattle.arrayvec.specs.ArrayVec.{array_vec_len};
 ghost use Rattle.uca_weights.specs.declared.limits.TheConstants.{MAX_KEY, MAX_ELEMENTS};
-ghost use Rattle.uca_keys.specs.Nodes.{nodes_of};
+ghost use Rattle.uca_keys.specs.Nodes.{nodes_of, AreFull, AreNext, entries_after, last_path};
+ghost use Rattle.uca_weights.specs.declared.element.Element.{Element};
+ghost use Rattle.uca_keys.specs.Coded.{coded_entries};
+ghost use Rattle.uca_keys.specs.Fronts.{last_key};
+ghost use Rattle.std.specs.declared.cmp.Ordering.TheVariants.{Less};
+ghost use Rattle.uca_model.specs.Table.{key_cmp};
+ghost use Rattle.uca_keys.specs.Paths.{entries_of};
 
 use crate::entries::Entries;
 use crate::node::Node;
@@ -20,18 +26,14 @@ pub struct Nodes {
 }
 
 impl Model for Nodes {
-    ghost use Rattle.std.specs.Prelude.{◌≡◌, ℕ, List, []};
-    ghost use Rattle.uca_weights.specs.declared.element.Element.{Element};
-    ghost use Rattle.uca_keys.specs.Nodes.{AreFull, AreNext, entries_after, last_path};
-    ghost use Rattle.uca_keys.specs.Coded.{coded_entries};
-
     ghost Value = { List (List ℕ × List Element) };
 
     ghost coded = { coded_entries };
 
     ghost view = { λ n. entries_after n.elements.items [] n.nodes.items };
 
-    ghost invariant = { λ n. AreNext n.elements.items [] n.nodes.items × AreFull n.nodes.items × (n.last.items ≡ last_path [] n.nodes.items) };
+    ghost invariant = { λ n. AreNext n.elements.items [] n.nodes.items × AreFull n.nodes.items × (n.last.items ≡ last_path [] n.nodes.items)
+        × (n.last.items ≡ last_key (entries_after n.elements.items [] n.nodes.items)) };
 }
 
 /// The length of the longest common prefix of two keys.
@@ -42,10 +44,7 @@ fn common_len(a: &[char], b: &[char]) -> usize
     ensures differ { (d : ℕ) → result < length a.now → result < length b.now → get_or a.now result d ≡ get_or b.now result d → ⊥ }
 {
     let mut at = 0;
-    while at < a.len() && at < b.len() {
-        if a[at] != b[at] {
-            return at;
-        }
+    while at < a.len() && at < b.len() && a[at] == b[at] {
         at += 1;
     }
     at
@@ -55,10 +54,7 @@ fn common_len(a: &[char], b: &[char]) -> usize
 pub(crate) fn numbered(n: usize) -> Result<u32, AllocError>
     ensures { IfOk result (λ m. m ≡ n) }
 {
-    match u32::try_from(n) {
-        Ok(m) => Ok(m),
-        Err(_) => Err(AllocError),
-    }
+    u32::try_from(n).map_err(|_| AllocError)
 }
 
 /// Appends the nodes of a key from a place on, for which there is capacity. Its elements are those of the last one.
@@ -99,11 +95,6 @@ fn append(key: &mut ArrayVec<char, MAX_KEY>, rest: &[char])
 }
 
 impl Nodes {
-    ghost use Rattle.std.specs.declared.cmp.Ordering.TheVariants.{Less};
-    ghost use Rattle.uca_model.specs.Table.{key_cmp};
-    ghost use Rattle.uca_keys.specs.Fronts.{last_key};
-    ghost use Rattle.uca_keys.specs.Paths.{entries_of};
-
     /// No keys.
     pub fn new(alloc: Global) -> Nodes
         ensures { result ≡ [] }
@@ -119,17 +110,14 @@ impl Nodes {
     pub fn with_capacity(alloc: Global, nodes: usize, elements: usize) -> Result<Nodes, AllocError>
         ensures { IfOk result (λ n. n ≡ []) }
     {
-        let nodes = Vec::with_capacity(alloc, nodes)?;
-        let elements = Vec::with_capacity(alloc, elements)?;
         Ok(Nodes {
-            nodes,
-            elements,
+            nodes: Vec::with_capacity(alloc, nodes)?,
+            elements: Vec::with_capacity(alloc, elements)?,
             last: ArrayVec::new(),
         })
     }
 
     /// The last key. It is empty where there is no key.
-    #[tactic(auto, using(crate::proofs::PushLemmas::last_is))]
     pub fn last(&self) -> &[char]
         ensures { result.now ≡ last_key self.now }
     {
@@ -164,6 +152,7 @@ impl Nodes {
     }
 
     /// Makes these keys ready for look-ups.
+    #[tactic(auto, using(crate::proofs::LinkLemmas::depth_within))]
     pub fn finish(self, alloc: Global) -> Result<Trie, AllocError>
         ensures { IfOk result (λ t. entries_of t ≡ self) }
     {

@@ -2,8 +2,9 @@ ghost use Rattle.std.specs.Prelude.{◌≡◌, ℕ, ◌+◌, ◌-◌, ◌<◌, �
 ghost use Rattle.std.specs.FinMap.{find};
 ghost use Rattle.uca_model.specs.Table.{key_cmp};
 ghost use Rattle.uca_keys.specs.Fronts.{begins_entry};
-ghost use Rattle.uca_keys.specs.Links.{AreLinked, AreStacked, EndsAt, depth_below, kids_from, kids_of, span_len};
-ghost use Rattle.uca_keys.specs.Paths.{entries_of, path_at};
+ghost use Rattle.uca_keys.specs.Links.{AreEnds, AreKids, AreLinked, LeadsTo, depth_below, kids_from, kids_of, span_len};
+ghost use Rattle.uca_keys.specs.Nodes.{first_depth, AreFull, AreNext};
+ghost use Rattle.uca_keys.specs.Paths.{entries_of, path_at, TrieState};
 
 use crate::cursor::Cursor;
 use crate::entries::Entries;
@@ -44,11 +45,6 @@ pub struct Trie {
 const BLOCK: usize = 128;
 
 impl Model for Trie {
-    ghost use Rattle.std.specs.Prelude.{[]};
-    ghost use Rattle.uca_keys.specs.Nodes.{AreFull, AreNext};
-    ghost use Rattle.uca_keys.specs.Links.{AreLinked};
-    ghost use Rattle.uca_keys.specs.Paths.{TrieState};
-
     ghost Value = { TrieState };
 
     ghost view = { λ t. record { nodes = t.nodes.items; elements = t.elements.items } };
@@ -57,7 +53,7 @@ impl Model for Trie {
 }
 
 /// Appends the nodes from a place on that this many code points lead to, up to the first with fewer. Returns the place of that
-/// one. `ends` says, from the last node back, where the nodes end that begin as it does.
+/// one. `ends` says, from the last node back to the first of these, where the nodes end that begin as it does.
 fn push_children(
     children: &mut Vec<Child>,
     nodes: &[Node],
@@ -66,9 +62,9 @@ fn push_children(
     depth: usize,
 ) -> Result<usize, AllocError>
     requires few { length nodes.now < 2 ^ 32 }
-    requires within { first ≤ length nodes.now }
-    requires top { (d : _) → first < length nodes.now → (get_or nodes.now first d).depth ≤ depth }
-    requires ends { (j : ℕ) → first ≤ j → j < length nodes.now → EndsAt nodes.now ends.now j }
+    requires top { first_depth (drop first nodes.now) ≤ depth }
+    requires ends { AreEnds nodes.now ends.now }
+    requires all { length ends.now + first ≡ length nodes.now }
     ensures children { OnOk result (children.new.items ≡ children.old.items ++ kids_from depth (first + 1) (drop first nodes.now)) }
     ensures end { IfOk result (λ at. at ≡ first + span_len depth (drop first nodes.now)) }
 {
@@ -90,9 +86,10 @@ fn push_children(
 }
 
 /// How many code points come before those of the children of a number.
+#[tactic(auto, using(crate::proofs::LinkLemmas::depth_after))]
 fn depth_below(nodes: &[Node], number: usize) -> usize
     requires { number ≤ length nodes.now }
-    ensures { result ≡ depth_below nodes.now number }
+    ensures { result ≡ depth_below 0 nodes.now number }
 {
     if number == 0 {
         0
@@ -101,57 +98,48 @@ fn depth_below(nodes: &[Node], number: usize) -> usize
     }
 }
 
-/// Adds the children of a number after those of all higher ones. Returns the place of the first node that does not begin as
-/// the one of that number.
-fn link(
-    children: &mut Vec<Child>,
-    starts: &mut Vec<u32>,
-    nodes: &[Node],
-    ends: &[u32],
-    number: usize,
-) -> Result<usize, AllocError>
-    requires few { length nodes.now < 2 ^ 32 }
-    requires within { number ≤ length nodes.now }
-    requires top { (d : _) → number < length nodes.now → (get_or nodes.now number d).depth ≤ depth_below nodes.now number }
-    requires ends { (j : ℕ) → number ≤ j → j < length nodes.now → EndsAt nodes.now ends.now j }
-    ensures start { OnOk result (starts.new.items ≡ starts.old.items ++ length children.old.items ∷ []) }
-    ensures children { OnOk result (children.new.items ≡ children.old.items ++ kids_of nodes.now number) }
-    ensures end { IfOk result (λ at. at ≡ number + span_len (depth_below nodes.now number) (drop number nodes.now)) }
-{
-    starts.push(numbered(children.len())?)?;
-    push_children(children, nodes, ends, number, depth_below(nodes, number))
-}
-
 /// The children of all nodes, and where those of each begin.
 pub(crate) fn links(alloc: Global, nodes: &[Node]) -> Result<(Vec<Child>, Vec<u32>), AllocError>
-    requires { AreStacked nodes.now }
+    requires { (number : ℕ) → first_depth (drop number nodes.now) ≤ depth_below 0 nodes.now number }
     ensures { IfOk result (λ made. AreLinked nodes.now made.0.items made.1.items) }
 {
     let _few = numbered(nodes.len())?;
     let mut children = Vec::with_capacity(alloc, nodes.len())?;
     let mut starts = Vec::with_capacity(alloc, nodes.len() + 2)?;
     let mut ends: Vec<u32> = Vec::with_capacity(alloc, nodes.len())?;
+    // The last node has no children.
+    starts.push(0)?;
+    starts.push(0)?;
+    let mut end = nodes.len();
     let mut number = nodes.len();
     while number > 0 {
-        let end = link(&mut children, &mut starts, nodes, &ends, number)?;
         ends.push(end as u32)?;
         number -= 1;
+        let depth = depth_below(nodes, number);
+        end = push_children(&mut children, nodes, &ends, number, depth)?;
+        starts.push(numbered(children.len())?)?;
     }
-    link(&mut children, &mut starts, nodes, &ends, 0)?;
-    starts.push(numbered(children.len())?)?;
     Ok((children, starts))
+}
+
+/// The children of a number among those of all.
+fn listed<'t>(nodes: &[Node], children: &'t [Child], starts: &[u32], number: usize) -> &'t [Child]
+    requires linked { AreLinked nodes.now children.now starts.now }
+    requires within { number ≤ length nodes.now }
+    ensures { result.now ≡ kids_of nodes.now number }
+{
+    let at = nodes.len() - number;
+    &children[starts[at] as usize..starts[at + 1] as usize]
 }
 
 /// The place from `near` on of the first child whose code point is not below another, or some place past the last child.
 fn first_from(children: &[Child], point: char, near: usize) -> usize {
-    let mut at = near;
-    'children: while at < children.len() {
+    for at in near..children.len() {
         if children[at].point >= point {
             return at;
         }
-        at += 1;
     }
-    at
+    near.max(children.len())
 }
 
 /// For each block of code points up to that of the last child, where the children begin that are in it or after it.
@@ -178,15 +166,12 @@ fn place_if_dense(children: &[Child], point: char) -> usize {
 /// Where a code point is among children, if one has it.
 fn place_of(children: &[Child], point: char) -> usize {
     let at = place_if_dense(children, point);
-    if let Some(child) = children.get(at) {
-        if child.point == point {
-            return at;
-        }
+    if at < children.len() && children[at].point == point {
+        return at;
     }
-    match children.binary_search_by_key(&point, |child| child.point) {
-        Ok(at) => at,
-        Err(at) => at,
-    }
+    children
+        .binary_search_by_key(&point, |child| child.point)
+        .unwrap_or_else(|at| at)
 }
 
 /// The node that no code point leads to.
@@ -220,11 +205,10 @@ impl Trie {
     /// The children of a node.
     fn children_of(&self, node: NodeNumber) -> &[Child]
         requires { node.number ≤ length self.now.nodes }
-        ensures { result.now ≡ kids_of self.now.nodes node.number }
+        ensures { AreKids self.now node.number result.now }
     {
-        let nodes = self.nodes.as_slice();
-        let at = nodes.len() - node.number as usize;
-        &self.children[self.starts[at] as usize..self.starts[at + 1] as usize]
+        let number = node.number as usize;
+        listed(&self.nodes, &self.children, &self.starts, number)
     }
 
     /// Makes what searches among the children of the root begin with.
@@ -236,40 +220,30 @@ impl Trie {
     }
 
     // Where a code point is among the children of the root, if one of them has it.
-    fn place_below_root(&self, point: char) -> usize {
+    fn place_below_root(&self, point: char) -> Option<usize> {
         let block = point as usize / BLOCK;
-        let Some(start) = self.blocks.get(block) else {
-            return usize::MAX;
-        };
-        let start = *start as usize;
+        let start = *self.blocks.get(block)? as usize;
         let children = self.children_of(ROOT);
         let end = match self.blocks.get(block + 1) {
             Some(end) => *end as usize,
             None => children.len(),
         };
-        match children.get(start..end) {
-            Some(of_block) => start.saturating_add(place_of(of_block, point)),
-            None => usize::MAX,
-        }
+        let of_block = children.get(start..end)?;
+        Some(start.saturating_add(place_of(of_block, point)))
     }
 
-    // The child at a place, if the code point leads to it.
+    // The same as [`Trie::child`], which looks at one place before it searches among all children.
+    #[tactic(auto, using(crate::proofs::FindLemmas::leads_at))]
     #[inline(always)]
     fn child_at(&self, node: NodeNumber, point: char, at: usize) -> Option<NodeNumber>
         requires { node.number ≤ length self.now.nodes }
-        ensures within { IfSome result (λ child. child.number ≤ length self.now.nodes) }
-        ensures path { IfSome result (λ child. path_at self.now child.number ≡ path_at self.now node.number ++ point ∷ []) }
-        ensures some { IfSome result (λ child. begins_entry (entries_of self.now) (path_at self.now node.number ++ point ∷ []) ≡ true) }
+        ensures { LeadsTo self.now node.number point result }
     {
-        let _known = &self.nodes;
         let children = self.children_of(node);
-        if at >= children.len() {
-            return None;
+        if at < children.len() && children[at].point == point {
+            return Some(children[at].node);
         }
-        if children[at].point != point {
-            return None;
-        }
-        Some(children[at].node)
+        self.search(node, point)
     }
 
     /// The node that a code point leads to from another node. `None`: no key goes on with it.
@@ -281,25 +255,18 @@ impl Trie {
         ensures none { IfNone result (begins_entry (entries_of self.now) (path_at self.now node.number ++ point ∷ []) ≡ false) }
     {
         let at = if node.number == 0 {
-            self.place_below_root(point)
+            self.place_below_root(point).unwrap_or(usize::MAX)
         } else {
             place_if_dense(self.children_of(node), point)
         };
-        match self.child_at(node, point, at) {
-            Some(child) => Some(child),
-            None => self.search(node, point),
-        }
+        self.child_at(node, point, at)
     }
 
     // The same as [`Trie::child`], by a search among all children.
     fn search(&self, node: NodeNumber, point: char) -> Option<NodeNumber>
         requires { node.number ≤ length self.now.nodes }
-        ensures within { IfSome result (λ child. child.number ≤ length self.now.nodes) }
-        ensures path { IfSome result (λ child. path_at self.now child.number ≡ path_at self.now node.number ++ point ∷ []) }
-        ensures some { IfSome result (λ child. begins_entry (entries_of self.now) (path_at self.now node.number ++ point ∷ []) ≡ true) }
-        ensures none { IfNone result (begins_entry (entries_of self.now) (path_at self.now node.number ++ point ∷ []) ≡ false) }
+        ensures { LeadsTo self.now node.number point result }
     {
-        let _known = &self.nodes;
         let children = self.children_of(node);
         match children.binary_search_by_key(&point, |child| child.point) {
             Ok(at) => Some(children[at].node),
@@ -312,7 +279,6 @@ impl Trie {
         requires { node.number ≤ length self.now.nodes }
         ensures { IsTrue result → (point : ℕ) → begins_entry (entries_of self.now) (path_at self.now node.number ++ point ∷ []) ≡ false }
     {
-        let _known = &self.nodes;
         self.children_of(node).is_empty()
     }
 
@@ -325,16 +291,12 @@ impl Trie {
         ensures some { IfSome result (λ child. begins_entry (entries_of self.now) (path_at self.now node.number ++ point ∷ []) ≡ true) }
         ensures none { IfNone result (begins_entry (entries_of self.now) (path_at self.now node.number ++ point ∷ []) ≡ false) }
     {
-        let _known = &self.nodes;
-        let children = self.children_of(node);
-        *near = first_from(children, point, *near);
-        match self.child_at(node, point, *near) {
-            Some(child) => Some(child),
-            None => self.search(node, point),
-        }
+        *near = first_from(self.children_of(node), point, *near);
+        self.child_at(node, point, *near)
     }
 
     /// The elements of the key that leads to a node. `None`: it is no key.
+    #[tactic(auto, using(crate::proofs::FindLemmas::find_root, crate::proofs::FindLemmas::node_is))]
     pub fn elements(&self, node: NodeNumber) -> Option<&[Element]>
         requires { node.number ≤ length self.now.nodes }
         ensures { option_copied result ≡ find key_cmp (path_at self.now node.number) (entries_of self.now) }
@@ -352,7 +314,7 @@ impl Trie {
     }
 
     /// The elements of a key. `None`: it is no key.
-    #[tactic(auto, using(crate::proofs::PushLemmas::take_more, crate::proofs::FindLemmas::find_without, crate::proofs::ChildLemmas::taken_front))]
+    #[tactic(auto, using(std::proofs::lemmas::List::take_more, crate::proofs::FindLemmas::find_without, crate::proofs::ChildLemmas::taken_front))]
     pub fn get(&self, key: &[char]) -> Option<&[Element]>
         ensures { option_copied result ≡ find key_cmp key.now (entries_of self.now) }
     {

@@ -1,6 +1,7 @@
 -- The bytes that two texts have in common, block by block.
-use Rattle.std.proofs.Common.{◌≡◌, ℕ, suc, ◌+◌, ◌-◌, ◌%◌, ◌^◌, ◌≤◌, Bool, true, false, not, cond, eqb, List, [], ◌∷◌, ◌++◌, map, length, length-append, take, drop, w8, refl, sym, ap, ap₂, subst, ◌∙◌, arith, inl, inr, take-add}
+use Rattle.std.proofs.Common.{◌≡◌, ℕ, suc, ◌+◌, ◌-◌, ◌%◌, ◌^◌, ◌≤◌, Bool, not, cond, eqb, List, [], ◌∷◌, ◌++◌, map, length, length-append, take, drop, w8, refl, sym, ap, ap₂, subst, ◌∙◌, arith, inl, inr, take-add}
 use Rattle.std.proofs.lemmas.List.{append_cancel_left, take-append-le, take_all}
+use Rattle.std.proofs.lemmas.List.Sums.{prefix_len-le-length}
 use Rattle.std.proofs.Math.Seq.{take-append-add}
 use Rattle.std.proofs.lemmas.Bool.{cases_Bool, eqb-true}
 use Rattle.std.proofs.lemmas.Simd.{tops_compared, first_set_mask_l, length-chunk, length-zip2, mask_l-mod}
@@ -29,24 +30,17 @@ same-front (x ∷ xs) (y ∷ ys) e = elim (cases_Bool (eqb x y)) [
   | inr other ↦ rw other refl
 ]
 
-within-front : (ms : List Bool) → prefix_len (λ m. not m) ms ≤ length ms
-within-front [] = omega arith
-within-front (true ∷ ms) = omega arith
-within-front (false ∷ ms) = let h : prefix_len (λ m. not m) ms ≤ length ms = within-front ms in omega arith
-
 -- how many lanes come before the first that differs, by the mask of those that do
-pub in-block : (n : ℕ) (xs ys : List ℕ) (mask : ℕ) → n ≤ 64 → length xs ≡ n → length ys ≡ n → mask ≡ mask_l (map (top 7) (zip2 (λ a b. cond (differ a b) 255 0) xs ys)) % 2 ^ 64
-    → (cond (eqb mask 0) n (count_trailing_zeros 64 mask) ≤ n) × (take (cond (eqb mask 0) n (count_trailing_zeros 64 mask)) xs ≡ take (cond (eqb mask 0) n (count_trailing_zeros 64 mask)) ys)
-in-block n xs ys mask few long_x long_y is =
-    let ms = zip2 differ xs ys in
-    let long : length ms ≡ n = length-zip2 differ xs ys (long_x ∙ sym long_y) ∙ long_x in
+pub in-block : (n : ℕ) (xs ys us ws : List ℕ) (mask k : ℕ) → n ≤ 64 → xs ≡ us → ys ≡ ws → length us ≡ n → length ws ≡ n
+    → mask ≡ mask_l (map (top 7) (zip2 (λ a b. cond (differ a b) 255 0) xs ys)) % 2 ^ 64 → k ≡ cond (eqb mask 0) n (count_trailing_zeros 64 mask) → (k ≤ n) × (take k us ≡ take k ws)
+in-block n xs ys us ws mask k few are_a are_b long_a long_b is k_is =
+    let ms = zip2 differ us ws in
+    let long : length ms ≡ n = length-zip2 differ us ws (long_a ∙ sym long_b) ∙ long_a in
     let mask_is : mask ≡ mask_l (map (λ m. m) ms) =
-    is ∙ ap (λ l. mask_l l % 2 ^ 64) (tops_compared w8 differ xs ys) ∙ mask_l-mod ms 64 (omega (arith, long, few)) ∙ ap mask_l (sym (map-itself ms)) in
-    let counted : cond (eqb mask 0) n (count_trailing_zeros 64 mask) ≡ prefix_len (λ m. not m) ms =
-    ap (λ k. cond (eqb k 0) n (count_trailing_zeros 64 k)) mask_is ∙ first_set_mask_l (λ m. m) ms n long few in (
-      omega (arith, counted, within-front ms, long),
-      subst (λ k. take k xs ≡ take k ys) (sym counted) (same-front xs ys (long_x ∙ sym long_y)),
-    )
+    is ∙ ap₂ (λ a b. mask_l (map (top 7) (zip2 (λ a b. cond (differ a b) 255 0) a b)) % 2 ^ 64) are_a are_b ∙ ap (λ l. mask_l l % 2 ^ 64) (tops_compared w8 differ us ws) ∙ mask_l-mod ms 64 (omega (arith, long, few)) ∙ ap mask_l (sym (map-itself ms)) in
+    let counted : k ≡ prefix_len (λ m. not m) ms =
+    k_is ∙ ap (λ k. cond (eqb k 0) n (count_trailing_zeros 64 k)) mask_is ∙ first_set_mask_l (λ m. m) ms n long few in
+    (omega (arith, counted, prefix_len-le-length (λ m. not m) ms, long), rw counted (same-front us ws (long_a ∙ sym long_b)))
 
 pub length-blocks : (n first second : ℕ) (l : List ℕ) → first + n ≤ length l → second + n ≤ length l → length (chunk first n l ++ chunk second n l) ≡ n + n
 length-blocks n first second l in_first in_second = grind (arith, common_steps, length-append, length-chunk)

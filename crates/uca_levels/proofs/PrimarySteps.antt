@@ -1,20 +1,25 @@
 -- The primary weights of a text, character after character.
-use Rattle.std.proofs.Common.{◌≡◌, ℕ, Bool, true, false, cond, not, ◌==◌, List, [], ◌∷◌, ◌++◌, drop, map, filter, ne_eqb, refl, sym, ap, ap₂, ◌∙◌}
+use Rattle.std.proofs.Common.{◌≡◌, ℕ, Bool, true, false, cond, not, ◌==◌, List, [], ◌∷◌, ◌++◌, drop, encode_utf8, map, filter, ne_eqb, refl, sym, ap, ap₂, ◌∙◌, arith}
 use Rattle.std.specs.List.{list_all}
-use Rattle.std.proofs.lemmas.Bool.{and_parts, cond-true, cond-false}
+use Rattle.std.proofs.lemmas.Bool.{cond-true, cond-false}
+use Rattle.std.proofs.lemmas.List.{nil_from_length}
+use Rattle.std.proofs.lemmas.Str.{chars-nil, chars_past_char}
 use Rattle.unicode_normalization.specs.Forms.{nfd}
 use Rattle.uca_weights.specs.declared.element.Element.{Element}
 use Rattle.uca_weights.specs.declared.settings.Variable.{Variable}
 use Rattle.uca_weights.specs.declared.settings.Variable.TheVariants.{NonIgnorable, Blanked, Shifted}
-use Rattle.uca_weights.specs.Element.{is_variable}
 use Rattle.uca_weights.specs.VariableWeighting.{weighted}
 use Rattle.uca_model.specs.CollationElements.{elements}
 use Rattle.uca_model.specs.LevelWeights.{level_list, level_weights}
 use Rattle.uca_model.specs.Table.{ElementTable}
 use Rattle.uca_model.proofs.PrefixLemmas.{first_level-is, first_level-append}
+use Rattle.uca_model.proofs.StandAloneLemmas.{elements_none}
+use Rattle.uca_model.specs.SafeText.{IsSafe}
+use Rattle.uca_match.proofs.TextLemmas.{IsSafe-rest}
 use Rattle.uca_table.specs.Lead.{IsLead}
 use Rattle.uca_levels.specs.Primaries.{primary_of}
 use Rattle.uca_levels.specs.Streams.{weight_before}
+use Rattle.std.proofs.lemmas.Grind.{common_steps}
 
 -- the primary weights of elements that are not zero
 abbrev pub primaries : Variable → List Element → List ℕ
@@ -42,21 +47,12 @@ module _ (t : ElementTable) (v : Variable) (c w : ℕ) (rest : List ℕ) (es : L
 
 -- ---- elements of which only the first may have a primary weight
 
--- a weight that is zero stays so where a variable element loses its own
-zero-if : (b : Bool) (w : ℕ) → (w == 0) ≡ true → (cond b 0 w == 0) ≡ true
-zero-if true w h = refl
-zero-if false w h = h
-
 zero-primary : (v : Variable) (d : Element) → (d.l1 == 0) ≡ true → (primary_of v d == 0) ≡ true
-zero-primary NonIgnorable d h = h
-zero-primary Blanked d h = zero-if (is_variable d) d.l1 h
-zero-primary Shifted d h = zero-if (is_variable d) d.l1 h
+zero-primary v d h = grind (arith, common_steps)
 
 none-left : (v : Variable) (ds : List Element) → list_all (λ x. x.l1 == 0) ds ≡ true → primaries v ds ≡ []
 none-left v [] h = refl
-none-left v (d ∷ ds) h =
-    let parts = and_parts (d.l1 == 0) (list_all (λ x. x.l1 == 0) ds) h in
-    cond-false (not (primary_of v d == 0)) _ _ (ap not (zero-primary v d parts.0)) ∙ none-left v ds parts.1
+none-left v (d ∷ ds) h = grind (arith, common_steps, zero-primary, none-left v ds)
 
 pub lead-weight : (v : Variable) (e : Element) (es : List Element) {w : ℕ} → IsLead e es → w ≡ primary_of v e → level_weights 1 (weighted v es) ≡ weight_before w []
 lead-weight v e es lead is =
@@ -64,3 +60,11 @@ lead-weight v e es lead is =
     ∙ ap (primaries v) lead.first
     ∙ ap (λ l. cond (not (primary_of v e == 0)) (primary_of v e ∷ l) l) (none-left v (drop 1 es) lead.none)
     ∙ ap (λ w. weight_before w []) (sym is)
+
+-- ---- the first character of a text
+
+pub safe-next : (c : ℕ) (cs : List ℕ) → IsSafe (c ∷ cs) → IsSafe cs
+safe-next c cs safe = IsSafe-rest (c ∷ []) cs safe
+
+-- what is read of a text character by character uses
+pub ruleset characters = (common_steps, nil_from_length, chars-nil, elements_none, encode_utf8, chars_past_char, safe-next, first-weight, no-weight)

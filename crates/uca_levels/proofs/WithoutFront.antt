@@ -1,9 +1,9 @@
 -- Two texts without a common front have the order of the whole texts.
-use Rattle.std.proofs.Common.{◌≡◌, ℕ, zero, suc, ◌+◌, ◌≤◌, Bool, ◌&&◌, List, [], ◌∷◌, ◌++◌, All, length, take, drop, chars, IsUtf8, refl, sym, ap, ap₂, subst, ◌∙◌, arith, inl, inr, append-nil}
+use Rattle.std.proofs.Common.{◌≡◌, ℕ, zero, suc, ◌+◌, ◌≤◌, Bool, ◌&&◌, List, [], ◌∷◌, ◌++◌, All, length, take, drop, chars, encode_utf8, IsUtf8, refl, sym, ap, ap₂, subst, ◌∙◌, arith, inl, inr, append-nil}
 use Rattle.std.proofs.lemmas.Bool.{cases_Bool, cond-true, cond-false}
 use Rattle.std.proofs.lemmas.List.Sums.{AllPass-from_list_all}
-use Rattle.std.proofs.lemmas.List.{length-take}
-use Rattle.std.proofs.lemmas.Str.{IsCharBoundary-from_take, IsUtf8-take, scalars-chars}
+use Rattle.std.proofs.lemmas.List.{length-take, nil_from_length, take-append-drop, take_all}
+use Rattle.std.proofs.lemmas.Str.{IsCharBoundary-from_take, IsCharBoundary-start, IsUtf8-take, chars-nil, chars_past_char, scalars-chars}
 use Rattle.std.proofs.lemmas.List.Elements.{All-drop}
 use Rattle.std.proofs.Math.Seq.{drop-append_seam}
 use Rattle.std.specs.Char.{IsScalar}
@@ -12,22 +12,30 @@ use Rattle.std.specs.Str.{IsCharBoundary}
 use Rattle.std.specs.declared.cmp.Ordering.{Ordering}
 use Rattle.std.specs.declared.cmp.Ordering.TheVariants.{Equal}
 use lib.Utf8.{scalar, scalars}
+use Rattle.unicode_normalization.specs.Forms.{nfd}
 use Rattle.unicode_normalization.proofs.OrderLemmas.{canonical_order-nil}
 use Rattle.uca_weights.specs.declared.settings.Settings.{Settings}
 use Rattle.uca_weights.specs.declared.settings.Variable.{Variable}
 use Rattle.uca_weights.specs.Settings.{levels}
 use Rattle.uca_model.specs.Table.{ElementTable, IsTable}
-use Rattle.uca_model.specs.LevelWeights.{level_list}
+use Rattle.uca_weights.specs.VariableWeighting.{weighted}
+use Rattle.uca_model.specs.CollationElements.{elements}
+use Rattle.uca_model.specs.LevelWeights.{level_list, level_weights}
 use Rattle.uca_model.specs.DecidingLevel.{OrdersLevel, key_from, list_order}
 use Rattle.uca_model.specs.SafeText.{IsSafe}
 use Rattle.uca_model.specs.SortKey.{key_order, sort_key}
-use Rattle.uca_model.proofs.LevelLemmas.{OrdersLevel-front, levels-within, sort_key-levels}
+use Rattle.uca_model.proofs.LevelLemmas.{levels-within, sort_key-levels}
 use Rattle.uca_model.proofs.EquivalenceLemmas.{level-orders, order-itself}
-use Rattle.uca_model.proofs.SafeLemmas.{nfd-is, safe_none}
+use Rattle.uca_model.proofs.SafeLemmas.{nfd-is}
 use Rattle.uca_model.proofs.StandAloneLemmas.{elements_none}
-use Rattle.uca_model.proofs.SafeCutLemmas.{IsCut-from, level_list-cut, IsSafe-back}
-use Rattle.uca_match.proofs.TextLemmas.{parts-at}
-use Rattle.uca_levels.specs.WithoutFront.{MayFollow, AreLeft, AreWithoutFront}
+use Rattle.uca_model.proofs.SafeCutLemmas.{IsCut-from, level_list-cut}
+use Rattle.uca_match.specs.JoinsNothing.{JoinsNothing}
+use Rattle.uca_match.proofs.TextLemmas.{IsSafe-rest, elements-after, elements-apart, parts-at}
+use Rattle.uca_levels.specs.Reads.{InStep}
+use Rattle.uca_levels.specs.WithoutFront.{MayFollow, IsApart, AreLeft, AreWithoutFront, AreApart}
+use Rattle.uca_levels.proofs.CommonFront.{common-fewer}
+use Rattle.uca_levels.proofs.PrimarySteps.{primaries-both}
+use Rattle.uca_levels.proofs.ReadsLemmas.{InStep-orders}
 use Rattle.std.proofs.lemmas.Grind.{common_steps}
 
 -- ---- level lists
@@ -36,25 +44,29 @@ pub no_list : (t : ElementTable) (v : Variable) (level : ℕ) → level_list t v
 no_list t v level = grind (arith, common_steps, cases_Bool, cond-true, nfd-is, canonical_order-nil, cond-false, elements_none)
 
 lists-follow : (t : ElementTable) (v : Variable) (front left : List ℕ) (level : ℕ) → IsTable t → MayFollow t left → level_list t v (front ++ left) level ≡ level_list t v front level ++ level_list t v left level
-lists-follow t v front left level valid may = grind (arith, common_steps, append-nil, no_list, level_list-cut, IsCut-from)
+lists-follow t v front [] level valid may = grind (arith, common_steps, append-nil, no_list)
+lists-follow t v front (c ∷ later) level valid may = level_list-cut t v front later c valid (IsCut-from t c may) level
+
+lists-apart : (t : ElementTable) (v : Variable) (front left : List ℕ) → IsApart t front left → level_list t v (front ++ left) 1 ≡ level_list t v front 1 ++ level_list t v left 1
+lists-apart t v front left apart = ap (λ l. level_weights 1 (weighted v l)) apart ∙ primaries-both v (elements t (nfd front)) (elements t (nfd left))
+
+-- where the lists are in two parts there, those of the front are the same in both texts
+in-step : (Follows : List ℕ → List ℕ → Type 0) (t : ElementTable) (v : Variable) (a b x y : List ℕ) (level : ℕ) → ((front left : List ℕ) → Follows front left → level_list t v (front ++ left) level ≡ level_list t v front level ++ level_list t v left level)
+    → AreLeft Follows a b x y → InStep (level_list t v a level) (level_list t v b level) (level_list t v x level) (level_list t v y level)
+in-step Follows t v a b x y level parts h =
+    elim h.follow [
+      | inl none ↦ record { front = []; first = rw h.first (rw none refl); second = rw h.second (rw none refl) }
+      | inr both ↦ record { front = level_list t v h.front level; first = rw h.first (parts h.front x both.0); second = rw h.second (parts h.front y both.1) }
+    ]
+
+pub in-step-apart : (t : ElementTable) (v : Variable) (a b x y : List ℕ) → AreApart t a b x y → InStep (level_list t v a 1) (level_list t v b 1) (level_list t v x 1) (level_list t v y 1)
+in-step-apart t v a b x y h = in-step (IsApart t) t v a b x y 1 (lists-apart t v) h
 
 -- what is left of the texts decides
 pub orders-left : (t : ElementTable) (v : Variable) (a b x y : List ℕ) (level : ℕ) (o : Ordering) → IsTable t → AreWithoutFront t a b x y
     → OrdersLevel level (level_list t v x level) (level_list t v y level) o → OrdersLevel level (level_list t v a level) (level_list t v b level) o
 orders-left t v a b x y level o valid h orders =
-    elim h.follow [
-      | inl none ↦
-          let of_a : x ≡ a = sym (h.first ∙ ap (λ f. f ++ x) none) in
-          let of_b : y ≡ b = sym (h.second ∙ ap (λ f. f ++ y) none) in
-          subst (λ u. OrdersLevel level (level_list t v u level) (level_list t v b level) o) of_a (subst (λ u. OrdersLevel level (level_list t v x level) (level_list t v u level) o) of_b orders)
-      | inr both ↦
-          let f = level_list t v h.front level in
-          let of_a : level_list t v a level ≡ f ++ level_list t v x level = ap (λ l. level_list t v l level) h.first ∙ lists-follow t v h.front x level valid both.0 in
-          let of_b : level_list t v b level ≡ f ++ level_list t v y level = ap (λ l. level_list t v l level) h.second ∙ lists-follow t v h.front y level valid both.1 in
-          subst (λ l. OrdersLevel level l (level_list t v b level) o) (sym of_a)
-          (subst (λ l. OrdersLevel level (f ++ level_list t v x level) l o) (sym of_b)
-          (OrdersLevel-front level f (level_list t v x level) (level_list t v y level) o orders))
-    ]
+    InStep-orders level _ _ _ _ o (in-step (λ front left. MayFollow t left) t v a b x y level (λ front left may. lists-follow t v front left level valid may) h) orders
 
 -- ---- keys
 
@@ -92,31 +104,20 @@ keys-left t s a b x y valid of_a of_b h =
 
 -- ---- safe texts
 
-safe-follow : (t : ElementTable) (front left : List ℕ) → MayFollow t left → IsSafe (front ++ left) → IsSafe left
-safe-follow t front left may safe =
-    elim may [
-      | inl none ↦ subst IsSafe (sym none) safe_none
-      | inr some ↦ subst IsSafe (sym some.same) (IsSafe-back t front some.later some.c (IsCut-from t some.c some.cut) (subst (λ l. IsSafe (front ++ l)) some.same safe))
-    ]
+pub left-safe : (Follows : List ℕ → List ℕ → Type 0) (a b x y : List ℕ) → AreLeft Follows a b x y → IsSafe a → IsSafe b → IsSafe x × IsSafe y
+left-safe Follows a b x y h safe_a safe_b = (IsSafe-rest h.front x (rw (← h.first) safe_a), IsSafe-rest h.front y (rw (← h.second) safe_b))
 
-pub left-safe : (t : ElementTable) (a b x y : List ℕ) → AreWithoutFront t a b x y → IsSafe a → IsSafe b → IsSafe x × IsSafe y
-left-safe t a b x y h safe_a safe_b =
-    elim h.follow [
-      | inl none ↦ (subst IsSafe (h.first ∙ ap (λ f. f ++ x) none) safe_a, subst IsSafe (h.second ∙ ap (λ f. f ++ y) none) safe_b)
-      | inr both ↦ (safe-follow t h.front x both.0 (subst IsSafe h.first safe_a), safe-follow t h.front y both.1 (subst IsSafe h.second safe_b))
-    ]
+-- a text is safe from each place on
+pub safe-from : (m : ℕ) (text : List ℕ) → IsSafe text → IsSafe (drop m text)
+safe-from m text safe = IsSafe-rest (take m text) (drop m text) (rw take-append-drop safe)
 
 -- ---- equal texts
 
 -- texts that have all their bytes in common
 pub equal-texts : (t : ElementTable) (s : Settings) (a b : List ℕ) (n : ℕ) → n ≡ length a → n ≡ length b → take n a ≡ take n b → key_order (sort_key t s (chars a)) (sort_key t s (chars b)) ≡ Equal
 equal-texts t s a b n all_a all_b same =
-    let whole : (xs : List ℕ) → n ≡ length xs → take n xs ≡ xs = λ xs all. ap (λ k. take k xs) all ∙ take-length xs in
-    ap (λ x. key_order (sort_key t s (chars a)) (sort_key t s (chars x))) (sym (whole b all_b) ∙ sym same ∙ whole a all_a) ∙ order-itself (sort_key t s (chars a))
-  where
-    take-length : (xs : List ℕ) → take (length xs) xs ≡ xs
-    take-length [] = refl
-    take-length (x ∷ xs) = ap (λ l. x ∷ l) (take-length xs)
+    let equal : a ≡ b = sym (take_all n a (omega (arith, all_a))) ∙ same ∙ take_all n b (omega (arith, all_b)) in
+    rw equal (order-itself (sort_key t s (chars b)))
 
 -- ---- their bytes
 
@@ -125,8 +126,17 @@ pub left-at : (Follows : List ℕ → List ℕ → Type 0) (a b x y : List ℕ) 
     → Follows (chars (take at a)) (chars x) → Follows (chars (take at a)) (chars y) → AreLeft Follows (chars a) (chars b) (chars x) (chars y)
 left-at Follows a b x y at utf8_a utf8_b inside_a inside_b same of_a of_b may_a may_b = grind (arith, common_steps, parts-at)
 
+-- the same where both join nothing that comes before them
+pub apart-at : (t : ElementTable) (a b x y : List ℕ) (at : ℕ) → IsUtf8 a → IsUtf8 b → IsCharBoundary a at → IsCharBoundary b at → take at a ≡ take at b → x ≡ drop at a → y ≡ drop at b
+    → JoinsNothing t (chars x) → JoinsNothing t (chars y) → AreApart t (chars a) (chars b) (chars x) (chars y)
+apart-at t a b x y at utf8_a utf8_b in_a in_b same of_a of_b joins_a joins_b =
+    left-at (IsApart t) a b x y at utf8_a utf8_b in_a in_b same of_a of_b (elements-apart t _ _ joins_a) (elements-apart t _ _ joins_b)
+
 -- a character of the second text begins or ends where one of the first does, since the bytes before it are the same
 pub same-boundary : (a b : List ℕ) (at : ℕ) → IsUtf8 a → IsUtf8 b → IsCharBoundary a at → take at a ≡ take at b → IsCharBoundary b at
 same-boundary a b at utf8_a utf8_b in_a same =
     let short : at ≤ length b = omega (arith, in_a.0, ap length same, length-take at a, length-take at b) in
     IsCharBoundary-from_take b at utf8_b short (subst IsUtf8 same (IsUtf8-take a at utf8_a in_a))
+
+-- what the functions of `cut` use
+pub ruleset cuts = (common_steps, same-boundary, common-fewer, IsCharBoundary-start, elements-apart, elements-after, nil_from_length, chars-nil, encode_utf8, chars_past_char)

@@ -10,9 +10,9 @@ pub record IsOfLevel (level n : ℕ) : Type 0 where
   pub point : n < 2 ^ 24
 
 -- two lists of a level are in this order if these are the next of them, whatever comes after
-abbrev pub Decides : Option ℕ → Option ℕ → Ordering → Type 0
-Decides x y order = (level : ℕ) (xs ys later other : List ℕ) → level ≤ 5 → IfSome x (IsOfLevel level) → IfSome y (IsOfLevel level)
-    → YieldsFirst xs x later → YieldsFirst ys y other → OrdersLevel level xs ys order
+pub record Decides (x y : Option ℕ) (order : Ordering) : Type 0 where
+  pub orders : (level : ℕ) (xs ys later other : List ℕ) → level ≤ 5 → IfSome x (IsOfLevel level) → IfSome y (IsOfLevel level)
+      → YieldsFirst xs x later → YieldsFirst ys y other → OrdersLevel level xs ys order
 
 -- both lists go on, with the same number
 pub record SameNumber (x y : Option ℕ) : Type 0 where

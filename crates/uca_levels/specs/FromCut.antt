@@ -6,7 +6,7 @@ use Rattle.uca_weights.specs.Settings.{levels}
 use Rattle.uca_model.specs.LevelWeights.{level_list}
 use Rattle.uca_model.specs.DecidingLevel.{key_from, deciding_from, deciding_level}
 use Rattle.uca_model.specs.SortKey.{key_order, sort_key}
-use Rattle.uca_model.specs.Source.{SourceState, restarted, rewound}
+use Rattle.uca_model.specs.Source.{SourceState, restarted}
 use Rattle.uca_model.specs.Table.{ElementTable}
 
 -- the text was read once as a whole at most, and each further time from the cut on, the end counted as a character, each time begun by one way back
@@ -15,9 +15,13 @@ pub record ReadsFromCut (times cut : ℕ) (old new : SourceState) : Type 0 where
   pub reads : new.reads ≤ old.reads + ((length old.text + 1) + (times - 1) * (length old.text - cut + 1))
   pub rewinds : new.rewinds ≤ old.rewinds + times
 
--- the source at its mark, where this comparison set one, else at its start
+-- where a way back leads: to the mark, where this comparison set one, else to the start
+abbrev pub place_back : Bool → SourceState → ℕ
+place_back marked s = if marked then s.mark else 0
+
+-- the source after that way back
 abbrev pub goes_back : Bool → SourceState → SourceState
-goes_back marked s = if marked then rewound s else restarted s
+goes_back marked s = record (restarted s) { place = place_back marked s }
 
 -- no level before this one decided
 pub record Undecided (t : ElementTable) (s : Settings) (a b : List ℕ) (level : ℕ) : Type 0 where

@@ -5,7 +5,5 @@ pub mod FromCut
 pub mod WithoutFront
 pub mod Decides
 pub mod Streams
-pub mod CellWeights
-pub mod JoinedWeights
 pub mod FirstWeight
 pub mod Primaries

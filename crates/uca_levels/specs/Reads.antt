@@ -1,7 +1,6 @@
 -- How often a text is read.
 use Rattle.std.specs.Prelude.{◌≡◌, ℕ, ◌+◌, ◌*◌, ◌≤◌, List, length, ◌++◌}
 use Rattle.uca_model.specs.Source.{SourceState, unread}
-use Rattle.uca_model.specs.Window.{WindowState, Fits, credit}
 
 -- the text was read so many times at most, the end counted as a character, and each time begun by one way back
 pub record ReadsTimes (times : ℕ) (old new : SourceState) : Type 0 where
@@ -16,23 +15,8 @@ pub record ReadsRest (old new : SourceState) : Type 0 where
   pub reads : new.reads ≤ old.reads + (length (unread old) + 1)
   pub rewinds : new.rewinds ≡ old.rewinds
 
--- one pass over the unread characters is under way, in a window
-pub record RestUnderWay (old : SourceState) (w : WindowState) (now : SourceState) : Type 0 where
-  pub text : now.text ≡ old.text
-  pub mark : now.mark ≡ old.mark
-  pub fits : Fits w (unread now)
-  pub reads : now.reads + credit w (unread now) ≤ old.reads + (length (unread old) + 1)
-  pub rewinds : now.rewinds ≡ old.rewinds
-
 -- two lists have a front in common, and these are left of them
 pub record InStep (xs ys left right : List ℕ) : Type 0 where
   pub front : List ℕ
   pub first : xs ≡ front ++ left
   pub second : ys ≡ front ++ right
-
--- a window read on: no more calls of `next` than it was good for, and no way back
-pub record ReadsUp (w : WindowState) (old new : SourceState) : Type 0 where
-  pub text : new.text ≡ old.text
-  pub mark : new.mark ≡ old.mark
-  pub reads : new.reads ≤ old.reads + credit w (unread old)
-  pub rewinds : new.rewinds ≡ old.rewinds

@@ -1,5 +1,5 @@
 -- The weights of a level that remain: those that will be given over a source.
-use Rattle.std.specs.Prelude.{◌≡◌, false, Option, Some, None, ℕ, ◌-◌, not, ◌==◌, List, map, filter, slice_index, refl}
+use Rattle.std.specs.Prelude.{◌≡◌, false, Option, Some, None, ℕ, ◌-◌, ◌<◌, not, ◌==◌, List, map, filter, slice_index, refl}
 use Rattle.std.specs.Coded.{Coded, code_by, coded×, coded_ℕ}
 use Rattle.uca_weights.specs.declared.element.Element.{Element}
 use Rattle.uca_weights.specs.declared.settings.Variable.{Variable}
@@ -7,8 +7,8 @@ use Rattle.uca_weights.specs.VariableWeighting.{weights}
 use Rattle.uca_weights.specs.Weigher.{WeigherState, after_element, weighted_from}
 use Rattle.uca_weights.specs.Coded.{coded_weigher}
 use Rattle.uca_model.specs.Table.{ElementTable}
-use Rattle.uca_model.specs.Window.{WindowState, IsWindow, after_read}
-use Rattle.uca_model.specs.Source.{SourceState}
+use Rattle.uca_model.specs.Window.{WindowState, IsWindow, ReadsOn, after_read, credit}
+use Rattle.uca_model.specs.Source.{SourceState, GivesNext, unread}
 use Rattle.uca_match.specs.RemainingElements.{yielded_held, after_held, ElementsState, new_elements, remaining_elements, coded_elements}
 
 -- the remaining elements, what weighs them, and the level
@@ -64,3 +64,11 @@ pub record WeighsHeld (old : WeightsState) (before : SourceState) (given : Optio
 -- the weights with another window, in which a character was read, or the end
 abbrev pub read_weights : WeightsState → Option ℕ → WeightsState
 read_weights w given = record w { elements = record w.elements { window = after_read w.elements.window given } }
+
+-- it read a character of a source, or the end, and its remaining weights stayed
+pub record ReadsOne (old : WeightsState) (before : SourceState) (given : Option ℕ) (new : WeightsState) (after : SourceState) : Type 0 where
+  pub reads : ReadsOn old.elements.window before new.elements.window after
+  pub gives : GivesNext before given after
+  pub next : new ≡ read_weights old given
+  pub remaining : remaining_with_zeros new (unread after) ≡ remaining_with_zeros old (unread before)
+  pub fewer : credit new.elements.window (unread after) < credit old.elements.window (unread before)

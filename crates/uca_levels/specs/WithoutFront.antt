@@ -5,16 +5,10 @@ use Rattle.uca_model.specs.SafeCut.{is_cut}
 use Rattle.uca_model.specs.CollationElements.{elements}
 use Rattle.unicode_normalization.specs.Forms.{nfd}
 
--- a text begins with a character before which it may be cut
-pub record BeginsWithCut (t : ElementTable) (text : List ℕ) : Type 0 where
-  pub c : ℕ
-  pub later : List ℕ
-  pub same : text ≡ c ∷ later
-  pub cut : is_cut t c ≡ true
-
--- a text may follow any other, and keeps its elements: it is empty, or begins with such a character
+-- a text may follow any other, and keeps its elements: it is empty, or begins with a character before which it may be cut
 abbrev pub MayFollow : ElementTable → List ℕ → Type 0
-MayFollow t text = (text ≡ []) ⊎ BeginsWithCut t text
+MayFollow t [] = Unit {0}
+MayFollow t (c ∷ later) = is_cut t c ≡ true
 
 -- these are left of two texts after a front that they have in common, and both follow it so if there is one
 pub record AreLeft (Follows : List ℕ → List ℕ → Type 0) (a b left_a left_b : List ℕ) : Type 0 where

@@ -1,4 +1,6 @@
-ghost use Rattle.std.specs.Prelude.{◌≡◌, [], ◌∷◌, ◌<◌, ◌≤◌, ◌^◌, List, false, true, chars, length, IfErr, IfNone, IfOk, IfSome};
+#![tactic(auto, using(crate::proofs::PrimarySteps::characters))]
+
+ghost use Rattle.std.specs.Prelude.{◌≡◌, [], ◌∷◌, ◌<◌, ◌≤◌, ◌^◌, List, false, true, chars, length, IfErr, IfOk, IfSome};
 ghost use Rattle.uca_weights.specs.declared.element.Element.{Element};
 ghost use Rattle.uca_model.specs.LevelWeights.{level_list};
 ghost use Rattle.uca_model.specs.SafeText.{IsSafe};
@@ -25,8 +27,7 @@ pub(crate) struct CellWeights<'t> {
 }
 
 impl<'t> CellWeights<'t> {
-    ghost use Rattle.uca_levels.specs.CellWeights.{cell_elements_left, cell_weights_left, SameKind};
-    ghost use Rattle.uca_levels.specs.Streams.{weight_before, weights_from};
+    ghost use Rattle.uca_levels.specs.Streams.{cell_elements_left, cell_weights_left, SameKind, weight_before, weights_from};
 
     /// The weights of a text, of which none was given yet.
     pub(crate) fn new(t: &'t Table, v: Variable, level: u8, text: &'t str) -> CellWeights<'t>
@@ -108,13 +109,11 @@ impl<'t> CellWeights<'t> {
 }
 
 impl<'t> WeightStream for CellWeights<'t> {
-    ghost use Rattle.uca_levels.specs.CellWeights.{cell_weights_left};
+    ghost use Rattle.uca_levels.specs.Streams.{cell_weights_left};
 
     ghost level = { λ w. w.level };
 
     ghost left = { cell_weights_left };
-
-    ghost stops = { λ _. Unit {0} };
 
     #[inline(always)]
     fn next_weight(&mut self) -> Result<Option<u16>, NotAlone> {

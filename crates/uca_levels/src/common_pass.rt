@@ -1,10 +1,10 @@
-ghost use Rattle.std.specs.Prelude.{◌≡◌, ℕ, List, ◌<◌, Bool, true, false};
+ghost use Rattle.std.specs.Prelude.{◌≡◌, ◌<◌, true, false};
+ghost use Rattle.uca_weights.specs.declared.settings.Variable.{Variable};
 ghost use Rattle.uca_model.specs.Source.{SourceState, unread};
 ghost use Rattle.uca_model.specs.Table.{IsTable};
 ghost use Rattle.uca_model.specs.Window.{Fits};
-ghost use Rattle.uca_match.specs.RemainingElements.{is_asking};
-ghost use Rattle.uca_levels.specs.FirstWeight.{PartAt};
-ghost use Rattle.uca_levels.specs.InCommon.{AreMarked, InCommon, Parted, ReadsOnce, work_left};
+ghost use Rattle.uca_levels.specs.FromCut.{ReadsFromCut, place_back};
+ghost use Rattle.uca_levels.specs.InCommon.{InCommon, Parted, work_left};
 ghost use Rattle.uca_model.specs.LevelWeights.{level_list};
 ghost use Rattle.uca_model.specs.DecidingLevel.{OrdersLevel};
 ghost use Rattle.uca_model.specs.SafeCut.{cut_of};
@@ -34,12 +34,10 @@ fn goes_on<'t, S: Source, T: Source>(
     requires same { left.old ≡ right.old }
     requires fits_a { Fits left.old.elements.window (unread (S.state a.old)) }
     requires fits_b { Fits right.old.elements.window (unread (T.state b.old)) }
-    ensures on { (was wus : SourceState) (xs ys : List ℕ) → InCommon t.now was wus xs ys left.old right.old marked.old (S.state a.old) (T.state b.old) → result ≡ true
-        → InCommon t.now was wus xs ys left.new right.new marked.new (S.state a.new) (T.state b.new) × (work_left left.new (S.state a.new) < work_left left.old (S.state a.old)) }
-    ensures parts { (was wus : SourceState) (xs ys : List ℕ) → InCommon t.now was wus xs ys left.old right.old marked.old (S.state a.old) (T.state b.old) → result ≡ false
-        → Parted t.now was wus xs ys left.new right.new marked.new (S.state a.new) (T.state b.new) }
-    ensures differ { (was wus : SourceState) (xs ys : List ℕ) → InCommon t.now was wus xs ys left.old right.old marked.old (S.state a.old) (T.state b.old) → result ≡ false
-        → PartAt was wus read.new.0 read.new.1 }
+    ensures on { (v : Variable) (was wus : SourceState) → InCommon t.now v was wus left.old right.old marked.old (S.state a.old) (T.state b.old) → result ≡ true
+        → InCommon t.now v was wus left.new right.new marked.new (S.state a.new) (T.state b.new) × (work_left left.new (S.state a.new) < work_left left.old (S.state a.old)) }
+    ensures parts { (v : Variable) (was wus : SourceState) → InCommon t.now v was wus left.old right.old marked.old (S.state a.old) (T.state b.old) → result ≡ false
+        → Parted t.now v was wus left.new right.new marked.new (S.state a.new) (T.state b.new) read.new.0 read.new.1 }
 {
     if !left.wants() {
         let _weight = left.next_of_all(a);
@@ -66,24 +64,25 @@ fn goes_on<'t, S: Source, T: Source>(
     }
 }
 
-/// The order of two texts at the first level. Their sources are at the start. Each is read once, and has its mark at
-/// the safe cut of the texts, if the second result says that marks were set. Where none were, the cut is the start.
+/// The order of two texts at the first level. Each is read once, from its start. If the second result says that marks were set, each
+/// source has its mark at the safe cut of the texts. Where none were, the cut is the start.
 pub(crate) fn first_order<S: Source, T: Source>(
     t: &Table,
     v: Variable,
     a: &mut S,
     b: &mut T,
 ) -> (Ordering, bool)
-    requires start_a { (S.state a.old).place ≡ 0 }
-    requires start_b { (T.state b.old).place ≡ 0 }
     requires safe_a { IsSafe (S.state a.old).text }
     requires safe_b { IsSafe (T.state b.old).text }
     ensures order { OrdersLevel 1 (level_list t.now v (S.state a.old).text 1) (level_list t.now v (T.state b.old).text 1) result.0 }
-    ensures marks { AreMarked result.1 (cut_of t.now (S.state a.old).text (T.state b.old).text) (S.state a.new) (T.state b.new) }
-    ensures reads_a { ReadsOnce (S.state a.old) (S.state a.new) }
-    ensures reads_b { ReadsOnce (T.state b.old) (T.state b.new) }
+    ensures back_a { place_back result.1 (S.state a.new) ≡ cut_of t.now (S.state a.old).text (T.state b.old).text }
+    ensures back_b { place_back result.1 (T.state b.new) ≡ cut_of t.now (S.state a.old).text (T.state b.old).text }
+    ensures reads_a { ReadsFromCut 1 (cut_of t.now (S.state a.old).text (T.state b.old).text) (S.state a.old) (S.state a.new) }
+    ensures reads_b { ReadsFromCut 1 (cut_of t.now (S.state a.old).text (T.state b.old).text) (T.state b.old) (T.state b.new) }
     ensures valid { IsTable t.now }
 {
+    a.restart();
+    b.restart();
     let _longest = t.longest();
     let mut left = Weights::new(t, v, 1);
     let mut right = Weights::new(t, v, 1);

@@ -36,8 +36,6 @@ pub fn compare_sources<S: Source, T: Source>(
     ensures cut_b { ReadsFromCut (deciding_level t.now s (S.state a.old).text (T.state b.old).text) (cut_of t.now (S.state a.old).text (T.state b.old).text) (T.state b.old) (T.state b.new) }
 {
     let last = s.levels();
-    a.restart();
-    b.restart();
     let (first, marked) = first_order(t, s.weighting, a, b);
     if first.is_ne() {
         return first;

@@ -1,7 +1,8 @@
+#![tactic(auto, using(crate::proofs::WithoutFront::cuts))]
+
 ghost use Rattle.std.specs.Prelude.{◌≡◌, IsTrue, chars, length, take, ◌+◌, ◌*◌, ◌≤◌, ◌++◌};
 ghost use Rattle.std.specs.Str.{IsCharBoundary};
 ghost use Rattle.std.specs.Simd.Lanes.{chunk};
-ghost use Rattle.uca_model.specs.SafeCut.{is_cut};
 ghost use Rattle.uca_levels.specs.WithoutFront.{AreApart, AreWithoutFront, IsApart, MayFollow};
 
 use std::simd::prelude::*;

@@ -2,36 +2,35 @@ ghost use Rattle.std.specs.Prelude.{IfSome};
 ghost use Rattle.uca_model.specs.Table.{IsTable};
 ghost use Rattle.uca_levels.specs.FirstWeight.{BringsWeight, OrderTexts};
 
+use crate::decided::{decided, widened};
 use std::cmp::Ordering;
 use uca_table::Table;
 use uca_weights::{Variable, Weigher};
 use unicode_normalization::Form;
 use unicode_normalization::char::decomposition;
 
-// The primary weight that a character has in each text, where nothing around it can change it.
-fn first_weight(t: &Table, v: Variable, c: char) -> Option<u16>
+// The primary weight that a character has in each text, where nothing around it can change it, or that a text ends and has none.
+fn first_weight(t: &Table, v: Variable, x: Option<char>) -> Option<Option<u16>>
     requires { IsTable t.now }
-    ensures { IfSome result (λ weight. BringsWeight t.now v c weight) }
+    ensures { IfSome result (BringsWeight t.now v x) }
 {
+    let Some(c) = x else {
+        return Some(None);
+    };
     let mut room = [c; 3];
     let points = decomposition(c, Form::Nfd, &mut room);
-    if points.is_empty() {
+    let (starter, _marks) = points.split_first()?;
+    if !t.safe_starter(*starter) {
         return None;
     }
-    let starter = points[0];
-    if !t.safe_starter(starter) {
-        return None;
-    }
-    let elements = t.always_alone(starter)?;
-    let Some((first, _others)) = elements.split_first() else {
-        return None;
-    };
+    let elements = t.always_alone(*starter)?;
+    let (first, _others) = elements.split_first()?;
     let mut weigher = Weigher::new(v);
     let weight = weigher.weigh_at(*first, 1);
     if weight == 0 {
         return None;
     }
-    Some(weight)
+    Some(Some(weight))
 }
 
 /// The order at the first level of two texts with a common front, after which they go on with these characters or end.
@@ -45,23 +44,7 @@ pub(crate) fn order_by_first(
     requires { IsTable t.now }
     ensures { IfSome result (λ order. OrderTexts t.now v x y order) }
 {
-    match (x, y) {
-        (Some(c), Some(d)) => {
-            let left = first_weight(t, v, c)?;
-            let right = first_weight(t, v, d)?;
-            if left == right {
-                return None;
-            }
-            Some(left.cmp(&right))
-        }
-        (None, Some(d)) => {
-            let _right = first_weight(t, v, d)?;
-            Some(Ordering::Less)
-        }
-        (Some(c), None) => {
-            let _left = first_weight(t, v, c)?;
-            Some(Ordering::Greater)
-        }
-        (None, None) => Some(Ordering::Equal),
-    }
+    let left = first_weight(t, v, x)?;
+    let right = first_weight(t, v, y)?;
+    decided(widened(left), widened(right))
 }

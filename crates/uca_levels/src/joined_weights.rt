@@ -1,9 +1,7 @@
-ghost use Rattle.std.specs.Prelude.{◌≡◌, [], ◌∷◌, ◌<◌, ◌≤◌, ◌^◌, IfErr, IfNone, IfOk, IfSome, IsOk, OnOk, chars, length};
+ghost use Rattle.std.specs.Prelude.{◌≡◌, [], ◌∷◌, ◌<◌, ◌≤◌, ◌^◌, IfErr, IfNone, IfSome, OnOk, length};
 ghost use Rattle.std.specs.Option.{ForSome};
 ghost use Rattle.uca_match.specs.Yields.{YieldsFirst};
-ghost use Rattle.uca_levels.specs.CellWeights.{cell_weights_left};
 ghost use Rattle.uca_levels.specs.Decides.{IsOfLevel};
-ghost use Rattle.uca_levels.specs.Streams.{given_before};
 
 use crate::cell_weights::CellWeights;
 use crate::stream::{NotAlone, WeightStream};
@@ -32,7 +30,7 @@ pub(crate) struct JoinedWeights<'t> {
 }
 
 impl<'t> JoinedWeights<'t> {
-    ghost use Rattle.uca_levels.specs.JoinedWeights.{held_back, held_elements, weights_left};
+    ghost use Rattle.uca_levels.specs.Streams.{cell_weights_left, given_before, held_back, held_elements, weights_left};
 
     /// A weight that was given already, if there is one, and then those that are left of a text.
     pub(crate) fn after(cells: CellWeights<'t>, given: Option<u16>) -> JoinedWeights<'t>
@@ -102,14 +100,17 @@ impl<'t> JoinedWeights<'t> {
         self.cells.rest = rest;
         Ok(())
     }
+}
 
-    /// The next weight, or `None` at the end. `NotAlone`: many characters join each other next.
-    pub(crate) fn next(&mut self) -> Result<Option<u16>, NotAlone>
-        ensures yields { IfOk result (λ given. YieldsFirst (weights_left self.old) given (weights_left self.new)) }
-        ensures weight { IfOk result (λ given. IfSome given (IsOfLevel self.old.cells.level)) }
-        ensures stays { IfErr result (λ _. weights_left self.new ≡ weights_left self.old) }
-        ensures level { self.new.cells.level ≡ self.old.cells.level }
-    {
+impl<'t> WeightStream for JoinedWeights<'t> {
+    ghost use Rattle.uca_levels.specs.Streams.{weights_left};
+
+    ghost level = { λ w. w.cells.level };
+
+    ghost left = { weights_left };
+
+    /// `NotAlone`: many characters join each other next.
+    fn next_weight(&mut self) -> Result<Option<u16>, NotAlone> {
         if let Some(weight) = self.given.take() {
             return Ok(Some(weight));
         }
@@ -122,19 +123,5 @@ impl<'t> JoinedWeights<'t> {
                 Err(NotAlone) => self.join()?,
             }
         }
-    }
-}
-
-impl<'t> WeightStream for JoinedWeights<'t> {
-    ghost use Rattle.uca_levels.specs.JoinedWeights.{weights_left};
-
-    ghost level = { λ w. w.cells.level };
-
-    ghost left = { weights_left };
-
-    ghost stops = { λ _. Unit {0} };
-
-    fn next_weight(&mut self) -> Result<Option<u16>, NotAlone> {
-        self.next()
     }
 }

@@ -1,5 +1,7 @@
 //! Primary weights of characters that stand alone and have at most one: by these most comparisons are decided.
-ghost use Rattle.std.specs.Prelude.{◌≡◌, ℕ, List, [], ◌∷◌, ◌<◌, ◌≤◌, chars, drop, length, take, IfErr, IfSome, OnSome, MatchResult};
+#![tactic(auto, using(crate::proofs::PrimarySteps::characters, crate::proofs::StreamLemmas::steps))]
+
+ghost use Rattle.std.specs.Prelude.{◌≡◌, ℕ, List, [], ◌∷◌, ◌<◌, chars, drop, length, take, IfErr, IfSome, OnSome, MatchResult};
 ghost use Rattle.std.specs.Str.{IsCharBoundary};
 ghost use Rattle.uca_weights.specs.VariableWeighting.{weighted};
 ghost use Rattle.uca_model.specs.DecidingLevel.{OrdersLevel};

@@ -1,4 +1,6 @@
-ghost use Rattle.std.specs.Prelude.{◌≡◌, ◌⊎◌, ◌≤◌, List, ℕ, IfErr, IfOk, IfSome, MatchResult};
+#![tactic(auto, using(crate::proofs::StreamLemmas::steps))]
+
+ghost use Rattle.std.specs.Prelude.{◌≡◌, ◌≤◌, List, ℕ, IfErr, IfOk, IfSome, MatchResult};
 ghost use Rattle.uca_match.specs.Yields.{YieldsFirst};
 ghost use Rattle.uca_model.specs.DecidingLevel.{OrdersLevel};
 ghost use Rattle.uca_levels.specs.Decides.{IsOfLevel};
@@ -20,16 +22,11 @@ pub(crate) trait WeightStream {
     /// The weights that were not given yet.
     ghost left: { Self → List ℕ };
 
-    /// What is so where it cannot tell its next weight.
-    ghost stops: { Self → Type 0 };
-
     /// The next weight, or `None` at the end. `NotAlone`: this way of reading cannot tell, and nothing was given.
     fn next_weight(&mut self) -> Result<Option<u16>, NotAlone>
         ensures yields { MatchResult result (λ given. YieldsFirst (left self.old) given (left self.new)) (λ _. left self.new ≡ left self.old) }
         ensures weight { IfOk result (λ given. IfSome given (IsOfLevel (level self.old))) }
-        ensures stops { IfErr result (λ _. stops self.old) }
-        ensures level { level self.new ≡ level self.old }
-        ensures kind { stops self.new → stops self.old };
+        ensures level { level self.new ≡ level self.old };
 }
 
 /// One of two streams could not tell its next weight.
@@ -53,7 +50,6 @@ pub(crate) fn order_of<L: WeightStream, R: WeightStream>(
         (λ stop. InStep (L.left left.old) (R.left right.old) (given_before stop.given (L.left left.new)) (R.left right.new)) }
     ensures given { IfErr result (λ stop. IfSome stop.given (IsOfLevel (L.level left.old))) }
     ensures levels { (L.level left.new ≡ L.level left.old) × (R.level right.new ≡ R.level right.old) }
-    ensures stops { IfErr result (λ _. L.stops left.old ⊎ R.stops right.old) }
 {
     loop {
         let x = match left.next_weight() {

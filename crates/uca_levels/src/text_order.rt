@@ -1,13 +1,10 @@
-ghost use Rattle.std.specs.Prelude.{◌≡◌, ◌<◌, ◌≤◌, ◌^◌, IfErr, IfOk, IfSome, MatchResult, chars, take};
-ghost use Rattle.std.specs.Str.{IsCharBoundary};
+ghost use Rattle.std.specs.Prelude.{◌≡◌, ◌<◌, ◌≤◌, ◌^◌, IfSome, chars, take};
 ghost use Rattle.uca_model.specs.LevelWeights.{level_list};
 ghost use Rattle.uca_model.specs.DecidingLevel.{OrdersLevel};
 ghost use Rattle.uca_model.specs.SafeText.{IsSafe};
 ghost use Rattle.uca_model.specs.SortKey.{key_order, sort_key};
 ghost use Rattle.uca_window.specs.Passage.{text_of};
-ghost use Rattle.uca_levels.specs.CellWeights.{cell_weights_left};
-ghost use Rattle.uca_levels.specs.Decides.{IsOfLevel};
-ghost use Rattle.uca_levels.specs.Streams.{given_before};
+ghost use Rattle.uca_levels.specs.Streams.{cell_weights_left, given_before};
 
 use crate::cell_weights::CellWeights;
 use crate::comparison::compare_sources;
@@ -30,10 +27,7 @@ fn order_of_joined(left: CellWeights, right: CellWeights, given: Option<u16>) ->
 {
     let mut left = JoinedWeights::after(left, given);
     let mut right = JoinedWeights::after(right, None);
-    match order_of(&mut left, &mut right) {
-        Ok(order) => Some(order),
-        Err(_) => None,
-    }
+    order_of(&mut left, &mut right).ok()
 }
 
 // The order of two texts at a level of weights, as far as their characters stand alone, and then as they are joined. `None`: many

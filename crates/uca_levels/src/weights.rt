@@ -2,12 +2,12 @@ ghost use Rattle.std.specs.Prelude.{◌≡◌, ℕ, List, true, false, ◌+◌, 
 ghost use Rattle.uca_weights.specs.declared.limits.TheConstants.{MAX_LOOKAHEAD};
 ghost use Rattle.uca_model.specs.LevelWeights.{level_list};
 ghost use Rattle.uca_model.specs.SafeText.{IsSafe};
-ghost use Rattle.uca_model.specs.Source.{GivesNext, unread};
+ghost use Rattle.uca_model.specs.Source.{unread};
 ghost use Rattle.uca_model.specs.Table.{longest};
-ghost use Rattle.uca_model.specs.Window.{Fits, ReadsOn, credit};
+ghost use Rattle.uca_model.specs.Window.{Fits};
 ghost use Rattle.uca_match.specs.Yields.{Yields};
 ghost use Rattle.uca_match.specs.RemainingElements.{is_asking};
-ghost use Rattle.uca_levels.specs.RemainingWeights.{new_weights, remaining_with_zeros, remaining_weights, window_of_weights, WeighsHeld, read_weights};
+ghost use Rattle.uca_levels.specs.RemainingWeights.{new_weights, remaining_with_zeros, remaining_weights, window_of_weights, ReadsOne, WeighsHeld};
 
 use std::marker::Model;
 use uca_match::Elements;
@@ -67,11 +67,7 @@ impl<'t> Weights<'t> {
     pub(crate) fn read<S: Source>(&mut self, source: &mut S) -> Option<char>
         requires wants { is_asking self.old.elements ≡ true }
         requires fits { Fits self.old.elements.window (unread (S.state source.old)) }
-        ensures reads { ReadsOn self.old.elements.window (S.state source.old) self.new.elements.window (S.state source.new) }
-        ensures given { GivesNext (S.state source.old) result (S.state source.new) }
-        ensures next { self.new ≡ read_weights self.old result }
-        ensures remaining { remaining_with_zeros self.new (unread (S.state source.new)) ≡ remaining_with_zeros self.old (unread (S.state source.old)) }
-        ensures fewer { credit self.new.elements.window (unread (S.state source.new)) < credit self.old.elements.window (unread (S.state source.old)) }
+        ensures { ReadsOne self.old (S.state source.old) result self.new (S.state source.new) }
     {
         self.elements.read(source)
     }

@@ -1,8 +1,6 @@
 pub mod WindowMatches
-pub mod RemainingLemmas
 pub mod KeyLemmas
-pub mod MatchesLemmas
-pub mod FoundLemmas
 pub mod CompletenessLemmas
 pub mod TextLemmas
-pub mod OneBackLemmas
+pub mod RemainingLemmas
+pub mod FoundLemmas

@@ -17,6 +17,7 @@ use unicode_normalization::char::{canonical_combining_class, decomposition};
 /// A text that ends in `c` is not complete where `ch` is a key of other primary weights. Where it cannot tell, it returns `false`: where
 /// the last starter is neither first nor last in some key, and where a nonstarter after it has a primary weight. The empty
 /// text is complete. It does not allocate.
+#[tactic(auto, using(crate::proofs::CompletenessLemmas::completing))]
 pub fn is_complete(t: &Table, p: &Passage) -> bool
     ensures { result ≡ is_complete t.now (text_of p.now) }
 {
@@ -32,6 +33,7 @@ pub fn is_complete(t: &Table, p: &Passage) -> bool
 }
 
 /// What comes before the last character of a text, and the character.
+#[tactic(auto, using(crate::proofs::CompletenessLemmas::splitting))]
 pub fn split_last(text: &str) -> Option<(&str, char)>
     ensures some { IfSome result (λ r. chars text.now ≡ chars r.0.now ++ r.1 ∷ []) }
     ensures utf8 { IfSome result (λ r. IsUtf8 r.0.now) }
@@ -43,7 +45,7 @@ pub fn split_last(text: &str) -> Option<(&str, char)>
 }
 
 // Whether a text that ends in these code points is complete, or `None` where that depends on what comes before them.
-#[tactic(auto, using(crate::proofs::CompletenessLemmas::ends_starter, crate::proofs::CompletenessLemmas::ends_heard, crate::proofs::CompletenessLemmas::ends_silent))]
+#[tactic(auto, using(crate::proofs::CompletenessLemmas::ending))]
 fn ends_complete(t: &Table, points: &[char]) -> Option<bool>
     ensures { (before : List ℕ) → is_complete_from t.now (reverse points.now ++ before) ≡ unwrap_or result (is_complete_from t.now before) }
 {

@@ -22,6 +22,7 @@ use uca_window::{Passage, Source, Window};
 
 /// The collation elements of a text (UTS #10, sections 7.1 and 7.2, steps S1 and S2). The empty text needs no
 /// allocation. `AllocError`: an allocation was refused.
+#[tactic(auto, using(crate::proofs::TextLemmas::texts))]
 pub fn elements_of(alloc: Global, t: &Table, p: &Passage) -> Result<Vec<Element>, AllocError>
     ensures value { IfOk result (λ v. v.items ≡ elements t.now (nfd (text_of p.now))) }
     ensures empty { bytes_of p.now ≡ [] → IsOk result }

@@ -23,12 +23,14 @@ pub trait Keys {
 impl Keys for Table {
     ghost keys = { key_set };
 
+    #[tactic(auto, using(crate::proofs::KeyLemmas::of_table))]
     fn has(&self, key: &[char]) -> bool {
         // Shows that each key of the table is valid.
         let _longest = self.longest();
         self.get(key).is_some()
     }
 
+    #[tactic(auto, using(crate::proofs::KeyLemmas::of_table))]
     fn longest(&self) -> usize {
         self.longest()
     }

@@ -97,6 +97,7 @@ fn match_front<K: Keys>(keys: &K, text: &mut [char]) -> Match
 
 // Appends the matches of a text in NFD, one after the other (UTS #10, 7.2, step S2). Each match is put in order within
 // the text, and nothing after its nonstarters is moved.
+#[tactic(auto, using(crate::proofs::KeyLemmas::matched))]
 fn push_matches<K: Keys>(
     all: &mut Vec<Match>,
     keys: &K,

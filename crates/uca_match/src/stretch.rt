@@ -14,6 +14,7 @@ use uca_window::points::{ROOM, push_decomposed};
 
 /// Whether a text joins nothing before it.
 #[inline(always)]
+#[tactic(auto, using(crate::proofs::TextLemmas::texts))]
 pub fn joins_nothing(t: &Table, text: &str) -> bool
     ensures { IsTrue result → JoinsNothing t.now (chars text.now) }
 {
@@ -26,6 +27,7 @@ pub fn joins_nothing(t: &Table, text: &str) -> bool
 /// Whether a text may be cut between a character and what is after it, whatever comes before the character: its two parts then
 /// have their collation elements independently (UTS #10, section 7.2). `false`: that is not known.
 #[inline(always)]
+#[tactic(auto, using(crate::proofs::TextLemmas::cutting))]
 pub fn may_cut_after(t: &Table, c: char, after: &str) -> bool
     ensures { IsTrue result → (front : List ℕ) → elements t.now (nfd ((front ++ c ∷ []) ++ chars after.now)) ≡ elements t.now (nfd (front ++ c ∷ [])) ++ elements t.now (nfd (chars after.now)) }
 {
@@ -37,6 +39,7 @@ pub fn may_cut_after(t: &Table, c: char, after: &str) -> bool
 
 // Reads the first characters of a text, up to the next place at which the text may be cut, into points in NFD. Returns the text
 // after them. `None`: they have more than `MAX_LOOKAHEAD` points, or nearly so.
+#[tactic(auto, using(crate::proofs::TextLemmas::reading))]
 fn read_stretch<'t>(t: &Table, text: &'t str, points: &mut ArrayVec<char, ROOM>) -> Option<&'t str>
     requires none { points.old.items ≡ [] }
     requires safe { IsSafe (chars text.now) }
@@ -60,38 +63,16 @@ fn read_stretch<'t>(t: &Table, text: &'t str, points: &mut ArrayVec<char, ROOM>)
     None
 }
 
-// Puts elements into room at a place, and returns the place after them. Letters with a mark have two, and most syllables of Hangul three.
+/// Puts elements into room at a place, and returns the place after them. `None`: they do not fit. Most characters have one, letters
+/// with a mark two, and most syllables of Hangul three.
 #[inline(always)]
-fn put_elements(elements: &[Element], room: &mut [Element], at: usize) -> usize
-    requires { at + length elements.now ≤ length room.old }
-    ensures elements { take result room.new ≡ take at room.old ++ elements.now }
-    ensures place { result ≡ at + length elements.now }
-    ensures size { length room.new ≡ length room.old }
-{
-    if let [first, second] = elements {
-        room[at] = *first;
-        room[at + 1] = *second;
-        return at + 2;
-    }
-    if let [first, second, third] = elements {
-        room[at] = *first;
-        room[at + 1] = *second;
-        room[at + 2] = *third;
-        return at + 3;
-    }
-    let end = at + elements.len();
-    room[at..end].copy_from_slice(elements);
-    end
-}
-
-/// Puts elements into room at a place, and returns the place after them. `None`: they do not fit. Most characters have one.
-#[inline(always)]
+#[tactic(auto, using(crate::proofs::TextLemmas::putting))]
 pub(crate) fn put_fitting(elements: &[Element], room: &mut [Element], at: usize) -> Option<usize>
     requires { at ≤ length room.old }
     ensures elements { IfSome result (λ end. take end room.new ≡ take at room.old ++ elements.now) }
     ensures place { IfSome result (λ end. end ≡ at + length elements.now) }
     ensures within { IfSome result (λ end. end ≤ length room.old) }
-    ensures none { IfNone result (take at room.new ≡ take at room.old) }
+    ensures kept { take at room.new ≡ take at room.old }
     ensures fits { IfNone result (length room.old < at + length elements.now) }
     ensures size { length room.new ≡ length room.old }
 {
@@ -105,7 +86,20 @@ pub(crate) fn put_fitting(elements: &[Element], room: &mut [Element], at: usize)
     if elements.len() > room.len() - at {
         return None;
     }
-    Some(put_elements(elements, room, at))
+    if let [first, second] = elements {
+        room[at] = *first;
+        room[at + 1] = *second;
+        return Some(at + 2);
+    }
+    if let [first, second, third] = elements {
+        room[at] = *first;
+        room[at + 1] = *second;
+        room[at + 2] = *third;
+        return Some(at + 3);
+    }
+    let end = at + elements.len();
+    room[at..end].copy_from_slice(elements);
+    Some(end)
 }
 
 // Puts the elements of a match into room at a place: those that the table has for it, or else the implicit ones of its first code
@@ -123,7 +117,7 @@ fn put_match(
     ensures elements { IfSome result (λ end. take end room.new ≡ take at room.old ++ elements_or_implicit t.now matched.now) }
     ensures later { IfSome result (λ end. at ≤ end) }
     ensures within { IfSome result (λ end. end ≤ length room.old) }
-    ensures none { IfNone result (take at room.new ≡ take at room.old) }
+    ensures kept { take at room.new ≡ take at room.old }
     ensures size { length room.new ≡ length room.old }
 {
     match found {
@@ -133,12 +127,13 @@ fn put_match(
 }
 
 // Puts the elements of points in NFD into room from a place on, match after match (UTS #10, 7.2, step S2). `None`: they do not fit.
+#[tactic(auto, using(crate::proofs::TextLemmas::putting))]
 fn put_matches(t: &Table, points: &mut [char], room: &mut [Element], from: usize) -> Option<usize>
     requires within { from ≤ length room.old }
     ensures elements { IfSome result (λ end. take end room.new ≡ take from room.old ++ elements t.now points.old) }
     ensures later { IfSome result (λ end. from ≤ end) }
     ensures within { IfSome result (λ end. end ≤ length room.old) }
-    ensures none { IfNone result (take from room.new ≡ take from room.old) }
+    ensures kept { take from room.new ≡ take from room.old }
     ensures size { length room.new ≡ length room.old }
 {
     let mut at = from;
@@ -157,6 +152,7 @@ fn put_matches(t: &Table, points: &mut [char], room: &mut [Element], from: usize
 
 // Puts the implicit elements of the first character of a text into room at a place, where no text after it changes them. Returns the
 // place after them, and the text after that character. `None`: that is not known, or they do not fit.
+#[tactic(auto, using(crate::proofs::TextLemmas::texts))]
 fn put_implicit<'t>(
     t: &Table,
     text: &'t str,

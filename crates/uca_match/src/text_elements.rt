@@ -20,6 +20,7 @@ pub const ANY_TEXT: u8 = 2;
 // The rest of a text from one character earlier on, and where the elements of that character begin, which end at a place. `None`: they
 // are not known.
 #[inline(never)]
+#[tactic(auto, using(crate::proofs::TextLemmas::going_back))]
 fn one_back<'t>(t: &Table, text: &'t str, rest: &str, at: usize) -> Option<(usize, &'t str)>
     requires { StandsIn text.now rest.now }
     ensures stands { IfSome result (λ r. StandsIn text.now r.1.now) }
@@ -37,6 +38,7 @@ fn one_back<'t>(t: &Table, text: &'t str, rest: &str, at: usize) -> Option<(usiz
 // once: whether it stands alone is seen at the next one. Where it does not, which is rare, this goes back to it: then the loop keeps
 // nothing for that.
 #[inline(always)]
+#[tactic(auto, using(crate::proofs::TextLemmas::going_back))]
 fn put_alone<'t>(t: &Table, text: &'t str, room: &mut [Element], from: usize) -> (usize, &'t str)
     requires within { from ≤ length room.old }
     requires safe { IsSafe (chars text.now) }
@@ -143,6 +145,7 @@ impl<'t> TextElements<'t> {
     }
 
     /// Puts the next elements into room, from its front on, and returns how many: none only where none is left.
+    #[tactic(auto, using(crate::proofs::TextLemmas::texts))]
     pub fn read(&mut self, room: &mut [Element]) -> usize
         requires { 0 < length room.old }
         ensures left { elements_left self.old ≡ take result room.new ++ elements_left self.new }

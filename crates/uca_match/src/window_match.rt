@@ -7,7 +7,7 @@ ghost use Rattle.uca_table.specs.Walk.{path_of, table_of_walk};
 ghost use Rattle.uca_match.specs.WindowMatch.{TakesNonstarters, TakesMatch, TakesHeld, EndsHeld};
 ghost use Rattle.uca_match.specs.Found.{IsFound, points_of};
 
-use uca_table::matching::{higher, longest_match, takes};
+use uca_table::matching::{longest_match, takes};
 use uca_table::{Table, Walk};
 use uca_window::{Source, Window};
 use unicode_normalization::char::canonical_combining_class;
@@ -42,7 +42,7 @@ fn take_nonstarters(walk: &mut Walk<'_>, window: &mut Window, start: usize)
         if takes(walk, high, nonstarter) {
             window.remove(at);
         } else {
-            high = higher(high, class);
+            high = high.max(class);
             at += 1;
         }
     }

@@ -6,7 +6,6 @@ use Rattle.std.proofs.lemmas.List.Concat.{flat_map-append}
 use Rattle.std.specs.declared.cmp.Ordering.{Ordering}
 use Rattle.std.specs.declared.cmp.Ordering.TheVariants.{Less, Equal, Greater}
 use Rattle.std.specs.Ordering.{nat_cmp, ordering_then, eq_by_cmp, is_eq}
-use Rattle.std.proofs.lemmas.Map.Lookups.{exact_unsigned}
 use Rattle.unicode_normalization.specs.Forms.{nfd}
 use Rattle.uca_weights.specs.declared.settings.Settings.{Settings}
 use Rattle.uca_weights.specs.declared.settings.Strength.{Strength}
@@ -20,7 +19,7 @@ use Rattle.uca_model.specs.Laws.{AreWeights, AreCodePoints}
 use Rattle.uca_model.specs.LevelWeights.{level_list}
 use Rattle.uca_model.specs.DecidingLevel.{list_order, bytes_at, key_from, deciding_from, deciding_level, OrdersLevel}
 use Rattle.uca_model.proofs.WeightLemmas.{HasWeights}
-use Rattle.uca_model.proofs.OrderLemmas.{two_bytes, then_assoc, level_order, last_order, ends_first, ends_last, high}
+use Rattle.uca_model.proofs.OrderLemmas.{two_bytes, then_assoc, level_order, last_order, high}
 
 -- ---- a key as its levels, one after the other
 
@@ -191,55 +190,6 @@ OrdersLevel-front level front xs ys o h =
           ∙ order-front (bytes_at level front) (bytes_at level xs ++ 0 ∷ 0 ∷ a) (bytes_at level ys ++ 0 ∷ 0 ∷ b)
           ∙ h.next inside a b;
     }
-
--- both lists end
-pub OrdersLevel-ends : (level : ℕ) → OrdersLevel level [] [] Equal
-OrdersLevel-ends level =
-    elim (cases_Bool (level == 5)) [
-      | inl five ↦ record { list = refl; last = ap₂ key_order (cond-true _ _ _ five) (cond-true _ _ _ five); next = λ _ a b. ap₂ (λ u v. key_order (u ++ 0 ∷ 0 ∷ a) (v ++ 0 ∷ 0 ∷ b)) (cond-true _ _ _ five) (cond-true _ _ _ five) }
-      | inr other ↦ record { list = refl; last = ap₂ key_order (cond-false _ _ _ other) (cond-false _ _ _ other); next = λ _ a b. ap₂ (λ u v. key_order (u ++ 0 ∷ 0 ∷ a) (v ++ 0 ∷ 0 ∷ b)) (cond-false _ _ _ other) (cond-false _ _ _ other) }
-    ]
-
-module _ (level : ℕ) (weights : level < 5) where
-  -- one list ends
-  pub OrdersLevel-shorter : (y : ℕ) (ys : List ℕ) → 0 < y → y < 65536 → OrdersLevel level [] (y ∷ ys) Less
-  OrdersLevel-shorter y ys some small =
-      record {
-        list = refl;
-        last = ap₂ key_order (at_weights level [] weights) (at_weights level (y ∷ ys) weights);
-        next = λ _ a b.
-            let rest = key_order a (flat_map weight_bytes ys ++ 0 ∷ 0 ∷ b) in
-            ap₂ (λ u v. key_order (u ++ 0 ∷ 0 ∷ a) (v ++ 0 ∷ 0 ∷ b)) (at_weights level [] weights) (at_weights level (y ∷ ys) weights)
-            ∙ ap (λ h. ordering_then (nat_cmp 0 h) (ordering_then (nat_cmp 0 (y % 256)) rest)) (high y small)
-            ∙ then_assoc (nat_cmp 0 (y / 256)) (nat_cmp 0 (y % 256)) rest ∙ ap (λ o. ordering_then o rest) (ends_first y some);
-      }
-
-  pub OrdersLevel-longer : (x : ℕ) (xs : List ℕ) → 0 < x → x < 65536 → OrdersLevel level (x ∷ xs) [] Greater
-  OrdersLevel-longer x xs some small =
-      record {
-        list = refl;
-        last = ap₂ key_order (at_weights level (x ∷ xs) weights) (at_weights level [] weights);
-        next = λ _ a b.
-            let rest = key_order (flat_map weight_bytes xs ++ 0 ∷ 0 ∷ a) b in
-            ap₂ (λ u v. key_order (u ++ 0 ∷ 0 ∷ a) (v ++ 0 ∷ 0 ∷ b)) (at_weights level (x ∷ xs) weights) (at_weights level [] weights)
-            ∙ ap (λ h. ordering_then (nat_cmp h 0) (ordering_then (nat_cmp (x % 256) 0) rest)) (high x small)
-            ∙ then_assoc (nat_cmp (x / 256) 0) (nat_cmp (x % 256) 0) rest ∙ ap (λ o. ordering_then o rest) (ends_last x some);
-      }
-
-  -- two weights differ
-  pub OrdersLevel-differ : (x y : ℕ) (xs ys : List ℕ) → (x ≡ y → ⊥) → x < 65536 → y < 65536 → OrdersLevel level (x ∷ xs) (y ∷ ys) (nat_cmp x y)
-  OrdersLevel-differ x y xs ys other small low =
-      let decides : (p : Ordering) → ordering_then (nat_cmp x y) p ≡ nat_cmp x y = λ p. then_decides (nat_cmp x y) p (λ e. other (exact_unsigned x y e)) in
-      record {
-        list = sym (decides (list_order xs ys));
-        last =
-            ap₂ key_order (at_weights level (x ∷ xs) weights) (at_weights level (y ∷ ys) weights)
-            ∙ weight_first x y (flat_map weight_bytes xs) (flat_map weight_bytes ys) small low ∙ decides _;
-        next = λ _ a b.
-            ap₂ (λ u v. key_order (u ++ 0 ∷ 0 ∷ a) (v ++ 0 ∷ 0 ∷ b)) (at_weights level (x ∷ xs) weights) (at_weights level (y ∷ ys) weights)
-            ∙ weight_first x y (flat_map weight_bytes xs ++ 0 ∷ 0 ∷ a) (flat_map weight_bytes ys ++ 0 ∷ 0 ∷ b) small low
-            ∙ decides _ ∙ sym (decides _);
-      }
 
 -- ---- the deciding level
 

@@ -378,22 +378,6 @@ level_list-cut t v p x c valid cut level =
           ∙ sym (ap₂ (λ a b. a ++ b) (cond-false _ _ _ weights) (cond-false _ _ _ weights))
     ]
 
--- what follows a cut is safe text
-pub IsSafe-back : (t : ElementTable) (p x : List ℕ) (c : ℕ) → IsCut t c → IsSafe (p ++ c ∷ x) → IsSafe (c ∷ x)
-IsSafe-back t p x c cut safe =
-    let class : ccc cut.s ≤ 0 = is_starter-true cut.s cut.safe.starter in
-    let back = nfd-first x c cut.s cut.others cut.parts class in
-    let later = canonical_order (cut.others ++ flat_map decompose_canonical x) in
-    let whole : longest_run (nfd (p ++ c ∷ x)) ≡ max (longest_run (nfd p)) (longest_run_after (run_after 0 (nfd p)) (cut.s ∷ later)) =
-    ap longest_run (nfd-cut_text p x c cut.s cut.others cut.parts class ∙ ap (λ l. nfd p ++ l) back) ∙ runs-append 0 (nfd p) (cut.s ∷ later) in
-    let starts : (n : ℕ) → longest_run_after n (cut.s ∷ later) ≡ max n (longest_run_after 0 later) = λ n. cond-false (not (is_starter cut.s)) _ _ (ap not cut.safe.starter) in
-    let own : longest_run (nfd (c ∷ x)) ≡ max 0 (longest_run_after 0 later) = ap longest_run back ∙ starts 0 in
-    let P : ℕ → Type 0 = λ d. length (nfd (d ∷ [])) ≤ MAX_DECOMPOSITION in
-    record {
-      runs = omega (arith, safe.runs, starts (run_after 0 (nfd p)));
-      short = subst (λ l. All P l) (drop_at p (c ∷ x) (length p) refl) (All-drop P (length p) (p ++ c ∷ x) safe.short);
-    }
-
 -- ---- where a character may be cut before
 
 not_apart : (t : ElementTable) (c : ℕ) → is_starter c ≡ false → is_safe_starter t c ≡ false

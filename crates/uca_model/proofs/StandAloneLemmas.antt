@@ -375,21 +375,6 @@ joining-most t (s ∷ ds) = go (is_starter s) (continues t s) where
   go true false = omega arith
   go false b = omega arith
 
--- the last code point
-pub ends_in_starter-last : (ds : List ℕ) → 0 < length ds → ends_in_starter ds ≡ is_starter (get_or ds (length ds - 1) 0)
-ends_in_starter-last [] h = absurd (omega arith)
-ends_in_starter-last (x ∷ []) h = refl
-ends_in_starter-last (x ∷ y ∷ ds) h =
-    let last : suc (suc (length ds)) - 1 ≡ suc (suc (length ds) - 1) = omega arith in
-    ends_in_starter-last (y ∷ ds) (omega arith) ∙ sym (ap (λ (n : ℕ). is_starter (get_or (x ∷ y ∷ ds) n 0)) last)
-
-pub ends_all_matches-last : (t : ElementTable) (ds : List ℕ) → 0 < length ds → ends_all_matches t ds ≡ (is_starter (get_or ds (length ds - 1) 0) && ends_matches t (get_or ds (length ds - 1) 0))
-ends_all_matches-last t [] h = absurd (omega arith)
-ends_all_matches-last t (x ∷ []) h = refl
-ends_all_matches-last t (x ∷ y ∷ ds) h =
-    let last : suc (suc (length ds)) - 1 ≡ suc (suc (length ds) - 1) = omega arith in
-    ends_all_matches-last t (y ∷ ds) (omega arith) ∙ sym (ap (λ (n : ℕ). is_starter (get_or (x ∷ y ∷ ds) n 0) && ends_matches t (get_or (x ∷ y ∷ ds) n 0)) last)
-
 -- ---- a single code point
 
 one_point : (key : List ℕ → Bool) (p : ℕ) → (step key (p ∷ [])).matched.code_points ≡ p ∷ []

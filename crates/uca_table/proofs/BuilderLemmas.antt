@@ -1,16 +1,12 @@
 -- What an insertion returns.
-use Rattle.std.proofs.Common.{◌≡◌, ℕ, ◌≤◌, Bool, cond, List, length, Some, None, Result, Ok, Err, OnOk, OnErr, arith}
-use Rattle.std.proofs.lemmas.Bool.{ne_eqb, le-ltb}
-use Rattle.uca_weights.specs.declared.element.Element.{Element}
-use Rattle.uca_weights.specs.declared.limits.TheConstants.{MAX_KEY, MAX_ELEMENTS}
-use Rattle.uca_model.specs.Table.{ElementTable, is_key}
-use Rattle.uca_table.specs.declared.fault.InsertFault.TheVariants.{Repeated}
-use Rattle.uca_table.specs.Builder.{insert_fault}
-use Rattle.std.proofs.lemmas.Grind.{common_steps}
+use Rattle.uca_table.proofs.Common.{◌≡◌, ℕ, ◌≤◌, List, length, Result, Ok, Err, OnOk, OnErr, arith, ne_eqb, le-ltb, entries, entries-from_sorted, get-entries, Element, MAX_KEY, MAX_ELEMENTS, ElementTable, common_steps}
+use Rattle.uca_table.specs.Builder.{insert_fault, known_fault}
+use Rattle.uca_table.proofs.EntryLemmas.{from_sorted-put}
+use Rattle.uca_table.proofs.RangeLemmas.{ranges-put}
 
 -- within the limits a repeated key is the only fault
-pub fault_within : (t : ElementTable) (key : List ℕ) (es : List Element) (b : Bool) → 1 ≤ length key → length key ≤ MAX_KEY → 1 ≤ length es → length es ≤ MAX_ELEMENTS → is_key t key ≡ b → insert_fault t key es ≡ cond b (Some Repeated) None
-fault_within t key es b some few some_es few_es known = grind (arith, common_steps, ne_eqb, le-ltb)
+pub fault_within : (t : ElementTable) (key : List ℕ) (es : List Element) → 1 ≤ length key → length key ≤ MAX_KEY → 1 ≤ length es → length es ≤ MAX_ELEMENTS → insert_fault t key es ≡ known_fault (entries t.entries) key
+fault_within t key es some few some_es few_es = grind (arith, common_steps, ne_eqb, le-ltb, get-entries)
 
 -- a fact of an `Ok` turned into another
 pub on_ok : {A E : Type 0} (P Q : Type 0) (r : Result A E) → (P → Q) → OnOk r P → OnOk r Q
@@ -26,3 +22,7 @@ on_err (Err e) p = p
 pub either_way : {A E : Type 0} (P Q C : Type 0) (r : Result A E) → OnOk r P → OnErr r Q → (P → C) → (Q → C) → C
 either_way P Q C (Ok x) p q f g = f p
 either_way P Q C (Err e) p q f g = g q
+
+pub ruleset inserting = (common_steps, fault_within, entries-from_sorted, from_sorted-put)
+
+pub ruleset adding = (common_steps, ranges-put, either_way)

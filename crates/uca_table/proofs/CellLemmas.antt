@@ -1,27 +1,11 @@
 -- Cells of characters, and texts that go character by character where the elements stand alone.
-use Rattle.std.proofs.Common.{Bool, ◌≡◌, ℕ, ◌+◌, ◌-◌, ◌/◌, ◌≤◌, ◌<◌, true, false, not, ◌||◌, ◌&&◌, cond, List, [], ◌∷◌, ◌++◌, length, take, drop, get_or, set, refl, sym, ap, ap₂, subst, ◌∙◌, arith, inl, inr, append_assoc, append-nil, length-append}
-use Rattle.std.proofs.lemmas.Bool.{le-leb, cases_eq, cases_lt, or_parts}
-use Rattle.std.specs.List.{list_any}
-use Rattle.std.specs.FinMap.{entries}
-use Rattle.std.proofs.lemmas.List.{get_or-set_same, get_or-set_other, length-set, take-append-le, drop-append-le, length-drop, take-append-drop, drop_more, drop-drop, drop_all, drop_at, take_all}
-use Rattle.std.specs.Prelude.{Result, Ok, Err, Option, Some, None, IfSome}
-use Rattle.std.specs.Result.{OnOk, is_ok}
+use Rattle.uca_table.proofs.Common.{◌≡◌, ℕ, ◌+◌, ◌/◌, ◌≤◌, ◌<◌, true, false, cond, List, [], ◌∷◌, ◌++◌, length, take, drop, get_or, set, refl, sym, ap, subst, ◌∙◌, arith, inl, inr, append_assoc, append-nil, length-append, le-leb, cases_Bool, cases_eq, cases_lt, not-true, on_ok_weaker, list_any, entries, nil_from_length, get_or_read, get_or-set_same, get_or-set_other, length-set, take-append-le, drop-append-le, length-drop, take-append-drop, drop_more, drop-drop, drop_all, drop_at, take_all, Result, Ok, Err, OnOk, nfd, Element, ElementTable, elements, implicit, is_first, is_longer_from, bearing_of, joining, bearing, IsApart, apart-alone, apart-before, apart-end, elements_none, elements-one, elements-unknown, nfd-single, joining-most, Blocks, Marks, IsBlocks, place, IsCell, AreCells, Grows, unknown, HoldsLeads, IsLeadWeight, Untouched, common_steps}
+use Rattle.uca_model.specs.StandAlone.{begins, leads}
+use Rattle.std.specs.Result.{is_ok}
 use Rattle.unicode_normalization.specs.Decompose.{decompose_canonical}
-use Rattle.unicode_normalization.specs.Forms.{nfd}
 use Rattle.unicode_normalization.specs.Order.{is_starter}
-use Rattle.uca_weights.specs.declared.element.Element.{Element}
-use Rattle.uca_model.specs.Table.{ElementTable}
-use Rattle.uca_model.specs.CollationElements.{elements}
-use Rattle.uca_model.specs.ImplicitWeights.{implicit}
-use Rattle.uca_model.specs.StandAlone.{is_first, is_longer_from, begins, leads, ends_matches, bearing_of, stands_alone, joining, bearing}
-use Rattle.uca_model.proofs.StandAloneLemmas.{apart-alone, apart-before, apart-end, elements_none, elements-unknown, nfd-single, joining-most}
 use Rattle.uca_table.specs.declared.characters.Cell.{Cell}
-use Rattle.uca_table.specs.Cells.{IsCell, AreCells, Grows, unknown}
-use Rattle.uca_table.specs.Marks.{IsIndex, place}
-use Rattle.uca_table.specs.declared.marks.Marks.{Marks}
 use Rattle.uca_table.proofs.MarkLemmas.{same_point}
-use Rattle.uca_keys.proofs.PathLemmas.{first_same}
-use Rattle.std.proofs.lemmas.Grind.{common_steps}
 
 -- ---- cells
 
@@ -32,44 +16,76 @@ drop-old old more new e = ap (drop (length old)) e ∙ drop_at old more (length 
 pub taken-fresh : (old more new : List Element) (start count : ℕ) → new ≡ old ++ more → start ≡ length old → start + count ≡ length new → take count (drop start new) ≡ more
 taken-fresh old more new start count e at end = grind (arith, common_steps, length-append, drop-old, take_all)
 
--- a cell stays sound where more elements follow
-pub IsCell-grown : (t : ElementTable) (es more : List Element) (c : ℕ) (cell : Cell) → Grows es more → IsCell t es c cell → IsCell t more c cell
-IsCell-grown t es more c cell grows h =
-    let size : length more ≡ length (es ++ drop (length es) more) = ap length grows in
-    let both : length (es ++ drop (length es) more) ≡ length es + length (drop (length es) more) = length-append es (drop (length es) more) in
-    record {
-      joining = h.joining;
-      bearing = h.bearing;
-      cut = h.cut;
-      within = omega (arith, h.within);
-      elements = λ some.
-          ap (λ l. take cell.count (drop cell.start l)) grows
-          ∙ ap (take cell.count) (drop-append-le cell.start es (drop (length es) more) (omega (arith, h.within)))
-          ∙ take-append-le cell.count (drop cell.start es) (drop (length es) more) (few h.within) ∙ h.elements some;
-      one = h.one;
-      lead = h.lead;
-    } where
-      few : cell.start + cell.count ≤ length es → cell.count ≤ length (drop cell.start es)
-      few within = let n : length (drop cell.start es) ≡ length es - cell.start = length-drop cell.start es in omega arith
+-- what lies among the elements so far stays where more follow
+taken-grown : (es more : List Element) (start count : ℕ) → Grows es more → start + count ≤ length es → take count (drop start more) ≡ take count (drop start es)
+taken-grown es more start count grows within =
+    ap (λ l. take count (drop start l)) grows ∙ ap (take count) (drop-append-le start es (drop (length es) more) (omega arith))
+    ∙ take-append-le count (drop start es) (drop (length es) more) (omega (arith, length-drop start es))
 
--- all cells stay sound where more elements follow
-pub AreCells-grown : (t : ElementTable) (es more : List Element) (blocks : List ℕ) (cells : List Cell) → Grows es more → AreCells t es blocks cells → AreCells t more blocks cells
-AreCells-grown t es more blocks cells grows h = record { all = h.all; within = h.within; each = λ c within. IsCell-grown t es more c (get_or cells (place blocks c) unknown) grows (h.each c within) }
+-- and so a cell stays sound
+IsCell-grown : (t : ElementTable) (es more : List Element) (c : ℕ) (cell : Cell) → Grows es more → IsCell t es c cell → IsCell t more c cell
+IsCell-grown t es more c cell grows h = record {
+  joining = h.joining;
+  bearing = h.bearing;
+  cut = h.cut;
+  within = omega (arith, h.within, ap length grows, length-append es (drop (length es) more));
+  one = h.one;
+  lead = h.lead;
+  elements = λ some. taken-grown es more cell.start cell.count grows h.within ∙ h.elements some;
+}
 
--- and they stay so with one more cell at the place of its character
-pub AreCells-put : (t : ElementTable) (es : List Element) (blocks : List ℕ) (ms : List Marks) (cells : List Cell) (c at : ℕ) (cell : Cell) → IsIndex blocks ms → c / 128 < 8704 → 0 < get_or blocks (c / 128) 0 → at ≡ place blocks c
-    → IsCell t es c cell → AreCells t es blocks cells → AreCells t es blocks (set cells at cell)
-AreCells-put t es blocks ms cells c at cell index inside own is here old = record { all = old.all; within = λ b lt. omega (arith, old.within b lt, length-set cells at cell); each = each } where
+-- and all cells where more elements follow, with one more cell at the place of its character
+pub AreCells-put : (t : ElementTable) (es more : List Element) (x : Blocks Marks) (cells : List Cell) (c at : ℕ) (cell : Cell) → IsBlocks Untouched x → c / 128 < 8704 → 0 < get_or x.numbers.items (c / 128) 0 → at ≡ place x.numbers.items c → Grows es more
+    → IsCell t more c cell → AreCells t es x.numbers.items cells → AreCells t more x.numbers.items (set cells at cell)
+AreCells-put t es more x cells c at cell are inside own is grows here old = record { all = old.all; within = λ b lt. omega (arith, old.within b lt, length-set cells at cell); each = each } where
   within : at < length cells
   within = omega (arith, is, old.within (c / 128) inside)
 
-  each : (d : ℕ) → d / 128 < 8704 → IsCell t es d (get_or (set cells at cell) (place blocks d) unknown)
-  each d in_d = elim (cases_eq (place blocks d) at) [
-    | inl same ↦
-        let one : d ≡ c = same_point blocks ms c d index inside in_d own (same ∙ is) in
-        subst (λ k. IsCell t es d (get_or (set cells at cell) k unknown)) (sym same)
-        (subst (IsCell t es d) (sym (get_or-set_same cells at cell unknown within)) (subst (λ p. IsCell t es p cell) (sym one) here))
-    | inr other ↦ subst (IsCell t es d) (sym (get_or-set_other cells at (place blocks d) cell unknown other)) (old.each d in_d)
+  each : (d : ℕ) → IsCell t more d (get_or (set cells at cell) (place x.numbers.items d) unknown)
+  each d = elim (cases_eq (place x.numbers.items d) at) [
+    | inl same ↦ let one : d ≡ c = same_point Untouched x c d are own (same ∙ is) in rw (same, get_or-set_same cells at cell unknown within, one) here
+    | inr other ↦ rw (get_or-set_other cells at (place x.numbers.items d) cell unknown other) (IsCell-grown t es more d (get_or cells (place x.numbers.items d) unknown) grows (old.each d))
+  ]
+
+-- one more code point after others bears what it does by itself, unless one of them leads a key
+pub bearing-more : (t : ElementTable) (xs : List ℕ) (p : ℕ) → 0 < bearing_of t xs → bearing_of t (xs ++ p ∷ []) ≡ bearing_of t (p ∷ [])
+bearing-more t [] p bears = refl
+bearing-more t (x ∷ []) p bears = grind (arith, common_steps, cases_Bool (leads t x))
+bearing-more t (x ∷ y ∷ xs) p bears = grind (arith, common_steps, cases_Bool (leads t x), bearing-more t (y ∷ xs) p)
+
+-- ---- leads
+
+-- one more weight of the first characters
+pub leads-put : (t : ElementTable) (ws : List ℕ) (p w : ℕ) → p < length ws → HoldsLeads t ws → (0 < w → IsLeadWeight t p w) → HoldsLeads t (set ws p w)
+leads-put t ws p w within old own = record { size = length-set ws p w ∙ old.size; each = each } where
+  each : (c : ℕ) → 0 < get_or (set ws p w) c 0 → IsLeadWeight t c (get_or (set ws p w) c 0)
+  each c = elim (cases_eq c p) [
+    | inl same ↦ rw (same, get_or-set_same ws p w 0 within) own
+    | inr other ↦ rw (get_or-set_other ws p c w 0 other) (old.each c)
+  ]
+
+-- ---- texts
+
+-- elements of a character, where the text after it joins no more than it bears
+pub alone-before : (t : ElementTable) (c : ℕ) (after : List ℕ) (es : List Element) (most : ℕ) → es ≡ elements t (nfd (c ∷ [])) → most ≤ bearing t c → ((n : ℕ) (x : List ℕ) → after ≡ n ∷ x → joining t n ≤ most) → es ++ elements t (nfd after) ≡ elements t (nfd (c ∷ after))
+alone-before t c [] es most are bears joins = ap (λ l. l ++ elements t (nfd [])) are ∙ sym (apart-alone t c [] refl)
+alone-before t c (n ∷ x) es most are bears joins =
+    let fits : joining t n ≤ bearing t c = omega (arith, joins n x refl, bears) in
+    ap (λ l. l ++ elements t (nfd (n ∷ x))) are ∙ sym (apart-alone t c (n ∷ x) (le-leb (joining t n) (bearing t c) fits))
+
+-- any text may follow what bears as much as a text can join
+pub alone-by : (t : ElementTable) (c : ℕ) (after : List ℕ) (es : List Element) (most : ℕ) → es ≡ elements t (nfd (c ∷ [])) → most ≤ bearing t c → (most < 2 → (n : ℕ) (x : List ℕ) → after ≡ n ∷ x → joining t n ≤ most) → es ++ elements t (nfd after) ≡ elements t (nfd (c ∷ after))
+alone-by t c after es most are bears joins = alone-before t c after es most are bears (λ n x e. let any : joining t n ≤ 2 = joining-most t (decompose_canonical n) in elim (cases_lt most 2) [
+  | inl less ↦ joins less n x e
+  | inr more ↦ omega (arith, any, more)
+])
+
+pub run-apart : (t : ElementTable) (text : List ℕ) (n : ℕ) → n ≤ length text → (n < length text → joining t (get_or text n 0) ≤ 0) → elements t (nfd (take n text)) ++ elements t (nfd (drop n text)) ≡ elements t (nfd text)
+run-apart t text n within fresh = sym apart ∙ ap (λ l. elements t (nfd l)) (take-append-drop n text) where
+  apart : IsApart t (take n text) (drop n text)
+  apart = elim (cases_lt n (length text)) [
+    | inl before ↦ subst (IsApart t (take n text)) (sym (drop_more text n 0 before)) (apart-before t (take n text) (drop (n + 1) text) (get_or text n 0) (fresh before))
+    | inr past ↦ subst (IsApart t (take n text)) (sym (drop_all n text past)) (apart-end t (take n text))
   ]
 
 -- ---- a character without key
@@ -81,86 +97,30 @@ longer-none p (x ∷ y ∷ key) h = h
 
 none-longer : (p : ℕ) (es : List (List ℕ × List Element)) → list_any (λ e. is_first p e.0) es ≡ false → list_any (λ e. is_longer_from p e.0) es ≡ false
 none-longer p [] h = refl
-none-longer p (e ∷ es) h =
-    let parts = or_parts (is_first p e.0) (list_any (λ e. is_first p e.0) es) h in
-    ap₂ (λ a b. a || b) (longer-none p e.0 parts.0) (none-longer p es parts.1)
+none-longer p (e ∷ es) h = grind (arith, common_steps, longer-none, none-longer p es)
 
-leads-none : (t : ElementTable) (p : ℕ) → begins t p ≡ false → leads t p ≡ false
+bears-all : (t : ElementTable) (p : ℕ) → begins t p ≡ false → is_starter p ≡ true → 2 ≤ bearing_of t (p ∷ [])
 unfolding begins leads
-leads-none t p none = none-longer p (entries t.entries) none
-
-bears-all : (t : ElementTable) (p : ℕ) → leads t p ≡ false → is_starter p ≡ true → 2 ≤ bearing_of t (p ∷ [])
-bears-all t p none starter =
-    let e : bearing_of t (p ∷ []) ≡ cond (ends_matches t p) 3 2 = ap₂ (λ a b. cond (not a && true) (cond (b && ends_matches t p) 3 (cond b 2 1)) 0) none starter in
-    either (ends_matches t p) e where
-      either : (b : Bool) → bearing_of t (p ∷ []) ≡ cond b 3 2 → 2 ≤ bearing_of t (p ∷ [])
-      either true e = omega (arith, e)
-      either false e = omega (arith, e)
+bears-all t p none starter = let longer : leads t p ≡ false = none-longer p (entries t.entries) none in grind (arith, common_steps, longer)
 
 -- a starter without key that is its own NFD stands alone, with its implicit elements
 pub implicit-alone : (t : ElementTable) (c : ℕ) (after : List ℕ) (es : List Element) → begins t c ≡ false → decompose_canonical c ≡ c ∷ [] → is_starter c ≡ true → es ≡ implicit t c → es ++ elements t (nfd after) ≡ elements t (nfd (c ∷ after))
 implicit-alone t c after es none own starter is =
-    ap (λ l. l ++ elements t (nfd after)) (is ∙ sym (elements-unknown t c none) ∙ ap (elements t) (sym (nfd-single c c own))) ∙ sym (apart-alone t c after (alone after)) where
-      bears : 2 ≤ bearing t c
-      bears = let same : bearing t c ≡ bearing_of t (c ∷ []) = ap (bearing_of t) own in omega (arith, same, bears-all t c (leads-none t c none) starter)
+    let bears : bearing t c ≡ bearing_of t (c ∷ []) = ap (bearing_of t) own in
+    alone-by t c after es 2 (is ∙ sym (elements-unknown t c none) ∙ ap (elements t) (sym (nfd-single c c own))) (omega (arith, bears, bears-all t c none starter)) (λ few n x e. absurd (omega (arith, few)))
 
-      alone : (x : List ℕ) → stands_alone t c x ≡ true
-      alone [] = refl
-      alone (n ∷ x) = let most : joining t n ≤ 2 = joining-most t (decompose_canonical n) in le-leb (joining t n) (bearing t c) (omega (arith, bears))
-
--- ---- texts
-
--- what holds of a value that was given, where more follows from it
-pub given-more : {T : Type 0} {P Q : T → Type 0} (given : Option T) → IfSome given P → ((x : T) → P x → Q x) → IfSome given Q
-given-more None holds more = tt
-given-more (Some x) holds more = more x holds
-
--- elements of a character, where the text after it joins no more than it bears
-pub alone-before : (t : ElementTable) (c : ℕ) (after : List ℕ) (es : List Element) (most : ℕ) → es ≡ elements t (nfd (c ∷ [])) → most ≤ bearing t c → ((n : ℕ) (x : List ℕ) → after ≡ n ∷ x → joining t n ≤ most) → es ++ elements t (nfd after) ≡ elements t (nfd (c ∷ after))
-alone-before t c [] es most are bears joins = ap (λ l. l ++ elements t (nfd [])) are ∙ sym (apart-alone t c [] refl)
-alone-before t c (n ∷ x) es most are bears joins =
-    let fits : joining t n ≤ bearing t c = omega (arith, joins n x refl, bears) in
-    ap (λ l. l ++ elements t (nfd (n ∷ x))) are ∙ sym (apart-alone t c (n ∷ x) (le-leb (joining t n) (bearing t c) fits))
-
--- the same of the first character of a text
-pub alone-first : (t : ElementTable) (text : List ℕ) (es : List Element) (most : ℕ) → 0 < length text → es ≡ elements t (nfd (get_or text 0 0 ∷ [])) → most ≤ bearing t (get_or text 0 0) → (1 < length text → joining t (get_or text 1 0) ≤ most)
-    → es ++ elements t (nfd (drop 1 text)) ≡ elements t (nfd text)
-alone-first t [] es most some are bears joins = absurd (omega (arith, some))
-alone-first t (c ∷ []) es most some are bears joins = alone-before t c [] es most are bears (λ n x e. absurd (omega (arith, ap length e)))
-alone-first t (c ∷ n ∷ x) es most some are bears joins = alone-before t c (n ∷ x) es most are bears (λ m y e. subst (λ z. joining t z ≤ most) (first_same n m x y e) (joins (omega arith)))
-
-pub run-apart : (t : ElementTable) (text : List ℕ) (n : ℕ) → n ≤ length text → (n < length text → joining t (get_or text n 0) ≤ 0) → elements t (nfd (take n text)) ++ elements t (nfd (drop n text)) ≡ elements t (nfd text)
-run-apart t text n within fresh = elim (cases_lt n (length text)) [
-  | inl before ↦
-      let first : drop n text ≡ get_or text n 0 ∷ drop (n + 1) text = drop_more text n 0 before in
-      ap (λ l. elements t (nfd (take n text)) ++ elements t (nfd l)) first
-      ∙ sym (apart-before t (take n text) (drop (n + 1) text) (get_or text n 0) (fresh before))
-      ∙ ap (λ l. elements t (nfd (take n text ++ l))) (sym first) ∙ ap (λ l. elements t (nfd l)) (take-append-drop n text)
-  | inr past ↦
-      let none : drop n text ≡ [] = drop_all n text past in
-      ap (λ l. elements t (nfd (take n text)) ++ elements t (nfd l)) none ∙ sym (apart-end t (take n text))
-      ∙ ap (λ l. elements t (nfd (take n text ++ l))) (sym none) ∙ ap (λ l. elements t (nfd l)) (take-append-drop n text)
-]
-
--- one step further in a text
-pub text-further : (t : ElementTable) (text : List ℕ) (at n : ℕ) (out es whole : List Element) → out ++ elements t (nfd (drop at text)) ≡ whole → es ++ elements t (nfd (drop n (drop at text))) ≡ elements t (nfd (drop at text))
-    → (out ++ es) ++ elements t (nfd (drop (at + n) text)) ≡ whole
-text-further t text at n out es whole same step = grind (arith, common_steps, drop-drop, append_assoc)
-
-pub text-done : (t : ElementTable) (text : List ℕ) (at : ℕ) (out whole : List Element) → length text ≤ at → out ++ elements t (nfd (drop at text)) ≡ whole → out ≡ whole
-text-done t text at out whole past same =
-    sym (append-nil out) ∙ ap (λ l. out ++ l) (sym none) ∙ same where
-      none : elements t (nfd (drop at text)) ≡ []
-      none = ap (λ l. elements t (nfd l)) (drop_all at text past) ∙ elements_none t
-
--- ---- a single code point
-
-pub single-points : (ds : List ℕ) (p : ℕ) → length ds ≡ 1 → p ≡ get_or ds 0 p → ds ≡ p ∷ []
-single-points [] p h e = absurd (omega arith)
-single-points (x ∷ []) p h e = ap (λ y. y ∷ []) (sym e)
-single-points (x ∷ y ∷ ds) p h e = absurd (omega arith)
+-- ---- what is appended
 
 -- what was appended, where memory was not refused
 pub pushed-ok : {E : Type 0} (r : Result (Unit {0}) E) (old new more other : List Element) → new ≡ cond (is_ok r) (old ++ more) old → more ≡ other → OnOk r (new ≡ old ++ other)
 pushed-ok (Ok x) old new more other e same = e ∙ ap (λ l. old ++ l) same
 pushed-ok (Err x) old new more other e same = tt
+
+pub ruleset singles = (common_steps, not-true, pushed-ok, on_ok_weaker, elements-one, elements-unknown)
+
+-- texts character by character
+pub ruleset texts = (common_steps, append_assoc, append-nil, nil_from_length, elements_none)
+
+pub ruleset runs = (common_steps, get_or_read, run-apart)
+
+pub ruleset alone_by_implicit = (common_steps, implicit-alone)

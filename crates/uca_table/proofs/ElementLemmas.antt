@@ -1,13 +1,8 @@
 -- The elements of a text match after match, where each match was put in order within the text.
-use Rattle.std.proofs.Common.{◌≡◌, ℕ, ◌+◌, ◌-◌, ◌≤◌, ◌<◌, List, ◌++◌, length, take, drop, ap₂, arith, append_assoc, append-nil}
-use Rattle.std.proofs.lemmas.List.{drop-drop, take_rest, drop_all, length-drop}
+use Rattle.uca_table.proofs.Common.{◌≡◌, ℕ, ◌+◌, ◌-◌, ◌≤◌, ◌<◌, List, ◌++◌, length, take, drop, ap₂, arith, append_assoc, append-nil, drop-drop, take_rest, drop_all, length-drop, Element, ElementTable, is_key, step, elements, elements_or_implicit, common_steps}
 use borrow.Rule.Slice.PartMut.{put_mid}
-use Rattle.uca_weights.specs.declared.element.Element.{Element}
-use Rattle.uca_model.specs.Table.{ElementTable, is_key}
-use Rattle.uca_model.specs.CollationElements.{step, elements, elements_or_implicit}
 use Rattle.uca_model.proofs.RewritingLemmas.{elements_parts, elements_empty}
-use Rattle.uca_table.proofs.MovedForward.{rewritten-rest}
-use Rattle.std.proofs.lemmas.Grind.{common_steps}
+use Rattle.uca_table.proofs.MovedForward.{rewritten-rest, rewritten-length}
 
 -- the match that was put to the front of what is left
 pub match_again : (text new : List ℕ) (at n : ℕ) → at < length text → take (at + n - at) (drop at (put_mid at (length text - at) text new)) ≡ take n new
@@ -22,3 +17,5 @@ elements-further t text new at n out whole within same matched rest = grind (ari
 -- nothing is left
 pub elements-done : (t : ElementTable) (text : List ℕ) (at : ℕ) (out whole : List Element) → length text ≤ at → out ++ elements t (drop at text) ≡ whole → out ≡ whole
 elements-done t text at out whole past same = grind (arith, common_steps, drop_all, append-nil, elements_empty)
+
+pub ruleset matched = (common_steps, take_rest, length-drop, rewritten-length, elements-further)

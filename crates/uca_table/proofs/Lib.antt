@@ -1,11 +1,7 @@
+pub mod Common
 pub mod EntryLemmas
-pub mod SearchLemmas
 pub mod BuilderLemmas
-pub mod RangeInsertion
-pub mod ExtentLemmas
-pub mod RangeMapLemmas
-pub mod RangeSearchLemmas
-pub mod PutLemmas
+pub mod RangeLemmas
 pub mod BoundsLemmas
 pub mod MatchLemmas
 pub mod MovedForward
@@ -13,11 +9,5 @@ pub mod ElementLemmas
 pub mod CellLemmas
 pub mod IdeographLemmas
 pub mod WalkLemmas
-pub mod SingleLemmas
 pub mod EntryMapLemmas
-pub mod NodeLemmas
-pub mod AscendingLemmas
-pub mod KeyLemmas
-pub mod PrimaryLemmas
 pub mod MarkLemmas
-pub mod LeadLemmas

@@ -1,25 +1,16 @@
 -- Where the code points are after one was moved forward.
-use Rattle.std.proofs.Common.{◌≡◌, ℕ, ◌+◌, ◌-◌, ◌≤◌, ◌<◌, List, [], ◌∷◌, ◌++◌, length, take, drop, get_or, sym, ap, ◌∙◌, arith, append-nil}
-use Rattle.std.proofs.lemmas.List.{length-take-le, length-drop, length-append, length_push, take_at, drop_at, drop-drop, take-append-drop, take_more, drop_all, get_or-drop}
+use Rattle.uca_table.proofs.Common.{◌≡◌, ℕ, ◌+◌, ◌-◌, ◌≤◌, ◌<◌, List, [], ◌∷◌, ◌++◌, length, take, drop, get_or, sym, ap, ◌∙◌, arith, append-nil, length-take-le, length-drop, length-append, length_push, take_at, drop_at, drop-drop, take-append-drop, take_more, drop_all, get_or-drop, brought_forward, passed_over, common_steps}
 use borrow.Rule.Slice.PartMut.{put_mid}
-use Rattle.uca_table.specs.Running.{brought_forward, passed_over}
-use Rattle.std.proofs.lemmas.Grind.{common_steps}
 
 module _ (text : List ℕ) (to from : ℕ) (ordered : to ≤ from) (within : from < length text) where
-  abbrev front : List ℕ
-  front = take to text ++ get_or text from 0 ∷ []
-
-  long_front : length front ≡ to + 1
-  long_front = let n : length (take to text) ≡ to = length-take-le to text (omega arith) in length_push (take to text) (get_or text from 0) ∙ ap (λ k. k + 1) n
-
-  long_between : length (passed_over text to from) ≡ from - to
-  long_between = let n : length (drop to text) ≡ length text - to = length-drop to text in length-take-le (from - to) (drop to text) (omega arith)
-
   pub brought-front : take (to + 1) (brought_forward text to from) ≡ take to text ++ get_or text from 0 ∷ []
-  brought-front = take_at front _ (to + 1) long_front
+  brought-front = grind (arith, common_steps, take_at, length_push, length-take-le)
 
   brought-after : drop (to + 1) (brought_forward text to from) ≡ passed_over text to from ++ drop (from + 1) text
-  brought-after = drop_at front _ (to + 1) long_front
+  brought-after = grind (arith, common_steps, drop_at, length_push, length-take-le)
+
+  long_between : length (passed_over text to from) ≡ from - to
+  long_between = grind (arith, common_steps, length-drop, length-take-le)
 
   pub brought-between : passed_over (brought_forward text to from) (to + 1) (from + 1) ≡ passed_over text to from
   brought-between = grind (arith, common_steps, brought-after, take_at, long_between)

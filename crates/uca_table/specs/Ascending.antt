@@ -1,16 +1,30 @@
--- Entries that come in the order of their keys.
-use Rattle.std.specs.Prelude.{◌≡◌, ℕ, T, Bool, false, ◌==◌, nat_lt, List, length, Option, Some, None, is_some, if◌then◌else◌}
-use Rattle.std.specs.FinMap.{FinMap, contains_key, entries, find, is_sorted}
+-- Entries in the order of their keys, and the tables that they make.
+use Rattle.std.specs.Prelude.{ℕ, T, max, List, [], length, fold, Bool, ◌==◌, nat_lt, Option, Some, None, if◌then◌else◌}
 use Rattle.std.specs.List.{AllByRecursion, list_any}
-use Rattle.std.specs.Ordering.{is_eq, is_lt}
-use Rattle.std.specs.declared.cmp.Ordering.{Ordering}
-use Rattle.std.specs.declared.cmp.Ordering.TheVariants.{Greater}
+use Rattle.std.specs.FinMap.{from_sorted, is_sorted, FinMap, contains_key, entries}
 use Rattle.uca_weights.specs.declared.element.Element.{Element}
+use Rattle.uca_weights.specs.declared.range.Range.{Range}
+use Rattle.uca_model.specs.Table.{ElementTable, key_cmp, IsEntry, AreRanges}
+use Rattle.uca_model.specs.Ranges.{AreByFirst}
+use Rattle.std.specs.Ordering.{is_lt}
 use Rattle.uca_weights.specs.declared.limits.TheConstants.{MAX_KEY, MAX_ELEMENTS}
-use Rattle.uca_model.specs.Table.{key_cmp, IsEntry}
-use Rattle.uca_table.specs.Place.{BelongsAt}
 use Rattle.uca_table.specs.declared.fault.AppendFault.{AppendFault}
 use Rattle.uca_table.specs.declared.fault.AppendFault.TheVariants.{EmptyKey, KeyTooLong, NoElement, TooManyElements, OutOfOrder, Repeated, OutOfMemory}
+
+-- the table of entries whose keys rise, without further ideographs
+abbrev pub table_of : List (List ℕ × List Element) → List Range → ElementTable
+table_of es rs = record { entries = from_sorted {R = key_cmp} es; ranges = rs; ideographs = [] }
+
+-- the length of the longest key, 1 where there is none
+abbrev pub longest_of : List (List ℕ × List Element) → ℕ
+longest_of es = fold (λ n e. max n (length e.0)) 1 es
+
+-- the keys rise, and all is as in a table
+pub record AreStored (es : List (List ℕ × List Element)) (rs : List Range) : Type 0 where
+  pub sorted : T (is_sorted key_cmp es)
+  pub entries : AllByRecursion IsEntry es
+  pub ranges : AreRanges rs
+  pub by_first : AreByFirst rs
 
 -- the keys rise, and each entry is as in a table
 pub record AreAscending (es : List (List ℕ × List Element)) : Type 0 where
@@ -34,16 +48,5 @@ append_fault m key elements =
 
 -- the fault of the arguments that a call reported; an allocation failure is not one
 abbrev pub reported_append_fault : AppendFault → Option AppendFault
-reported_append_fault EmptyKey = Some EmptyKey
-reported_append_fault KeyTooLong = Some KeyTooLong
-reported_append_fault NoElement = Some NoElement
-reported_append_fault TooManyElements = Some TooManyElements
-reported_append_fault OutOfOrder = Some OutOfOrder
-reported_append_fault Repeated = Some Repeated
 reported_append_fault OutOfMemory = None
-
--- how a key compares with that of the last of some entries; where there are none, it is greater
-pub record IsOrder (o : Ordering) (key : List ℕ) (es : List (List ℕ × List Element)) : Type 0 where
-  pub greater : has_greater es key ≡ is_lt o
-  pub same : is_lt o ≡ false → is_some (find key_cmp key es) ≡ is_eq o
-  pub after : o ≡ Greater → BelongsAt key es (length es)
+reported_append_fault fault = Some fault

@@ -29,12 +29,8 @@ known_fault es key = if is_some (find key_cmp key es) then Some Repeated else No
 
 -- the fault of the arguments that a call reported; an allocation failure is not one
 abbrev pub reported_fault : InsertFault → Option InsertFault
-reported_fault EmptyKey = Some EmptyKey
-reported_fault KeyTooLong = Some KeyTooLong
-reported_fault NoElement = Some NoElement
-reported_fault TooManyElements = Some TooManyElements
-reported_fault Repeated = Some Repeated
 reported_fault OutOfMemory = None
+reported_fault fault = Some fault
 
 -- the table with one more range, by its first code point
 abbrev pub with_range : ElementTable → Range → ElementTable

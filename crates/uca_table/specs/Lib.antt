@@ -1,5 +1,4 @@
-pub mod Stored
-pub mod Place
+pub mod Ascending
 pub mod Coded
 pub mod Builder
 pub mod Extents
@@ -8,9 +7,8 @@ pub mod Running
 pub mod Cells
 pub mod Characters
 pub mod Lead
+pub mod Blocks
 pub mod Marks
 pub mod Fronts
 pub mod Walk
-pub mod SingleMap
 pub mod EntryMap
-pub mod Ascending

@@ -1,8 +1,10 @@
 //! Entries that come in the order of a table, so that each is appended.
-ghost use Rattle.std.specs.Prelude.{◌≡◌, ◌<◌, length, IfOk, OnOk, OnErr, MatchResult, None, T};
-ghost use Rattle.std.specs.FinMap.{empty, insert, is_sorted};
+ghost use Rattle.std.specs.Prelude.{◌≡◌, IfOk, OnOk, OnErr, MatchResult, None, List};
+ghost use Rattle.std.specs.FinMap.{empty, insert, FinMap, from_sorted};
+ghost use Rattle.uca_table.specs.Ascending.{append_fault, reported_append_fault, AreAscending, longest_of};
+ghost use Rattle.uca_weights.specs.declared.element.Element.{Element};
 ghost use Rattle.uca_model.specs.Table.{key_cmp};
-ghost use Rattle.uca_table.specs.Ascending.{IsOrder, append_fault, reported_append_fault};
+ghost use Rattle.uca_table.specs.Coded.{coded_map};
 
 use crate::builder::{show_elements, show_key};
 use crate::fault::AppendFault;
@@ -21,14 +23,6 @@ pub struct AscendingEntries {
 }
 
 impl Model for AscendingEntries {
-    ghost use Rattle.std.specs.Prelude.{◌≡◌, List};
-    ghost use Rattle.std.specs.FinMap.{FinMap, from_sorted};
-    ghost use Rattle.uca_weights.specs.declared.element.Element.{Element};
-    ghost use Rattle.uca_model.specs.Table.{key_cmp};
-    ghost use Rattle.uca_table.specs.Ascending.{AreAscending};
-    ghost use Rattle.uca_table.specs.Coded.{coded_map};
-    ghost use Rattle.uca_table.specs.Stored.{longest_of};
-
     ghost Value = { FinMap key_cmp (List Element) };
 
     ghost coded = { coded_map };
@@ -40,6 +34,7 @@ impl Model for AscendingEntries {
 
 impl AscendingEntries {
     /// No entries.
+    #[tactic(auto, using(crate::proofs::EntryLemmas::from_sorted_none))]
     pub fn new(alloc: Global) -> AscendingEntries
         ensures { result ≡ empty }
     {
@@ -51,6 +46,7 @@ impl AscendingEntries {
 
     /// Appends a key of 1 to `MAX_KEY` code points, which comes after all others, with 1 to `MAX_ELEMENTS` collation
     /// elements (UTS #10, section 3). On a fault the entries stay as they are.
+    #[tactic(auto, using(crate::proofs::EntryLemmas::pushing))]
     pub fn push(&mut self, key: &[char], elements: &[Element]) -> Result<(), AppendFault>
         ensures ok { OnOk result (self.new ≡ insert self.old key.now elements.now) }
         ensures err { OnErr result (self.new ≡ self.old) }
@@ -70,14 +66,14 @@ impl AscendingEntries {
         }
         show_key(key);
         show_elements(elements);
-        match order_after(&self.entries, key) {
-            Ordering::Greater => match self.entries.push(key, elements) {
-                Ok(()) => {
-                    self.longest_key = self.longest_key.max(key.len());
-                    Ok(())
-                }
-                Err(_) => Err(AppendFault::OutOfMemory),
-            },
+        match key.cmp(self.entries.last()) {
+            Ordering::Greater => {
+                self.entries
+                    .push(key, elements)
+                    .map_err(|_| AppendFault::OutOfMemory)?;
+                self.longest_key = self.longest_key.max(key.len());
+                Ok(())
+            }
             Ordering::Equal => Err(AppendFault::Repeated),
             Ordering::Less => Err(AppendFault::OutOfOrder),
         }
@@ -89,13 +85,4 @@ impl AscendingEntries {
     {
         other.with_entries(alloc, self.entries, self.longest_key)
     }
-}
-
-/// How a key compares with that of the last of some entries; where there are none, it is greater.
-fn order_after(entries: &Nodes, key: &[char]) -> Ordering
-    requires sorted { T (is_sorted key_cmp entries.now) }
-    requires some { 0 < length key.now }
-    ensures { IsOrder result key.now entries.now }
-{
-    key.cmp(entries.last())
 }

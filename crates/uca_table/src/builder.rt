@@ -1,7 +1,10 @@
 ghost use Rattle.std.specs.Prelude.{◌≡◌, [], OnOk, OnErr, IfOk, MatchResult, All, None};
 ghost use Rattle.std.specs.Char.{IsScalar};
 ghost use Rattle.std.specs.FinMap.{empty};
-ghost use Rattle.uca_model.specs.Table.{IsElement};
+ghost use Rattle.uca_model.specs.Table.{IsElement, ElementTable, with_entry};
+ghost use Rattle.uca_table.specs.Ascending.{AreStored, table_of};
+ghost use Rattle.uca_table.specs.Coded.{coded_table};
+ghost use Rattle.uca_table.specs.Builder.{insert_fault, reported_fault, with_range, range_fault, reported_range_fault};
 
 use crate::entry_map::EntryMap;
 use crate::fault::{FinishFault, InsertFault, RangeFault};
@@ -20,10 +23,6 @@ pub struct TableBuilder {
 }
 
 impl Model for TableBuilder {
-    ghost use Rattle.uca_model.specs.Table.{ElementTable};
-    ghost use Rattle.uca_table.specs.Stored.{AreStored, table_of};
-    ghost use Rattle.uca_table.specs.Coded.{coded_table};
-
     ghost Value = { ElementTable };
 
     ghost coded = { coded_table };
@@ -34,10 +33,8 @@ impl Model for TableBuilder {
 }
 
 impl TableBuilder {
-    ghost use Rattle.uca_model.specs.Table.{ElementTable, with_entry};
-    ghost use Rattle.uca_table.specs.Builder.{insert_fault, reported_fault, with_range, range_fault, reported_range_fault};
-
     /// A builder with no entries and no ranges.
+    #[tactic(auto, using(crate::proofs::EntryLemmas::from_sorted_none))]
     pub fn new(alloc: Global) -> TableBuilder
         ensures { result ≡ record { entries = empty; ranges = []; ideographs = [] } }
     {
@@ -50,6 +47,7 @@ impl TableBuilder {
 
     /// Adds a key of 1 to `MAX_KEY` code points, which the builder doesn't have yet, with 1 to `MAX_ELEMENTS`
     /// collation elements (UTS #10, section 3). On a fault the builder stays as it is.
+    #[tactic(auto, using(crate::proofs::BuilderLemmas::inserting))]
     pub fn insert(&mut self, key: &[char], elements: &[Element]) -> Result<(), InsertFault>
         ensures ok { OnOk result (self.new ≡ with_entry self.old key.now elements.now) }
         ensures err { OnErr result (self.new ≡ self.old) }
@@ -74,6 +72,7 @@ impl TableBuilder {
 
     /// Adds the range from `first` to `last`, both inclusive. An assigned code point in it that has no key
     /// gets `base` as its first implicit weight (UTS #10, section 10.1.3). On a fault the builder stays as it is.
+    #[tactic(auto, using(crate::proofs::BuilderLemmas::adding))]
     pub fn add_implicit(&mut self, first: char, last: char, base: u16) -> Result<(), RangeFault>
         ensures ok { OnOk result (self.new ≡ with_range self.old (record { first = first; last = last; base = base })) }
         ensures err { OnErr result (self.new ≡ self.old) }
@@ -98,7 +97,6 @@ impl TableBuilder {
         let Ok(range_room) = Vec::with_capacity(self.alloc, self.ranges.len()) else {
             return Err(FinishFault { builder: self });
         };
-        let longest_key = self.entries.longest_key();
         let Ok(keys) = entries.finish(self.alloc) else {
             return Err(FinishFault { builder: self });
         };
@@ -106,7 +104,7 @@ impl TableBuilder {
             keys,
             ranges: self.ranges.finish(range_room),
             ideographs: Vec::new(self.alloc),
-            longest_key,
+            longest_key: self.entries.longest_key(),
             cells: None,
         };
         // The entries have been copied, and take more than what is kept about characters.

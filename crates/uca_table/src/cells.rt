@@ -1,19 +1,19 @@
-ghost use Rattle.std.specs.Prelude.{◌≡◌, true, ◌+◌, ◌/◌, ◌∷◌, ◌++◌, [], ◌<◌, ◌≤◌, ℕ, List, not, length, take, drop, get_or, if◌then◌else◌, IfOk, IfSome, OnOk, IsTrue};
-ghost use Rattle.std.specs.List.{list_all};
+ghost use Rattle.std.specs.Prelude.{◌≡◌, true, ◌+◌, ◌/◌, ◌∷◌, ◌++◌, [], ◌<◌, ◌≤◌, ℕ, List, length, take, drop, get_or, IfOk, IfSome, OnOk, IsTrue};
 ghost use Rattle.unicode_normalization.specs.Decompose.{decompose_canonical};
 ghost use Rattle.unicode_normalization.specs.Forms.{nfd};
 ghost use Rattle.unicode_normalization.specs.Order.{is_starter};
 ghost use Rattle.uca_model.specs.CollationElements.{elements};
 ghost use Rattle.uca_model.specs.SafeCut.{begins_apart};
-ghost use Rattle.uca_model.specs.StandAlone.{leads, joining_of, bearing_of, ends_all_matches, ends_in_starter};
-ghost use Rattle.uca_table.specs.Cells.{IsCell, HoldsCells, HoldsCharacters, Grows, unknown};
+ghost use Rattle.uca_model.specs.StandAlone.{joining_of, bearing_of};
+ghost use Rattle.uca_table.specs.Cells.{IsCell, HoldsCells, HoldsCharacters, Grows};
 ghost use Rattle.uca_table.specs.Lead.{HoldsLeads, IsLead, IsLeadWeight, first_of};
 ghost use Rattle.uca_table.specs.Characters.{table_of_characters};
-ghost use Rattle.uca_table.specs.Marks.{HoldsMarks, marks};
+ghost use Rattle.uca_table.specs.Marks.{HoldsMarks};
 
+use crate::blocks::{BLOCK, BLOCKS};
 use crate::characters::{Cell, Characters};
 use crate::collation::{push_found, push_matches};
-use crate::marks::{BLOCK, BLOCKS, MarkTable, Marks};
+use crate::marks::{MarkTable, filled};
 use crate::table::Table;
 use std::alloc::{AllocError, Global};
 use uca_weights::Element;
@@ -60,20 +60,12 @@ const NO_ELEMENT: Element = Element {
 /// a code point share one block.
 #[derive(Drop)]
 pub struct Cells {
-    marks: MarkTable,
+    pub(crate) marks: MarkTable,
     // At the places of the marks.
     cells: Vec<Cell>,
     elements: Vec<Element>,
     // The primary weights by which the first characters may be read alone, or 0. They lie close together, and one look tells them.
     leads: Vec<u16>,
-}
-
-/// This many cells of characters about which nothing is known.
-fn unknown(alloc: Global, n: usize) -> Result<Vec<Cell>, AllocError>
-    ensures size { IfOk result (λ v. length v.items ≡ n) }
-    ensures unknown { IfOk result (λ v. (i : ℕ) → get_or v.items i unknown ≡ unknown) }
-{
-    vec![in alloc; UNKNOWN; n]
 }
 
 fn is_starter(c: char) -> bool
@@ -87,127 +79,63 @@ fn is_own_nfd(c: char) -> bool
     ensures { IsTrue result → (decompose_canonical c ≡ c ∷ []) × (is_starter c ≡ true) }
 {
     let mut room = ['\0'; 3];
-    let points = decomposition(c, Form::Nfd, &mut room);
-    if points.len() != 1 {
+    let [p] = decomposition(c, Form::Nfd, &mut room) else {
         return false;
-    }
-    if points[0] != c {
-        return false;
-    }
-    is_starter(c)
+    };
+    *p == c && is_starter(c)
 }
 
-// Whether no code point begins a key of two or more.
-fn is_plain(t: &Table, marks: &MarkTable, points: &[char]) -> bool
+// How a code point that is a decomposition by itself joins other text. Its cell says nothing else.
+fn joins_of_one(t: &Table, marks: &MarkTable, p: char) -> Cell
     requires { HoldsMarks t.now marks.now }
-    ensures { IsTrue result → list_all (λ p. not (leads t.now p)) points.now ≡ true }
+    ensures joining { (later : List ℕ) → joining_of t.now (p ∷ later) ≤ result.joining }
+    ensures bearing { result.bearing ≤ bearing_of t.now (p ∷ []) }
+    ensures cut { (later : List ℕ) → IsTrue result.cut → begins_apart t.now (p ∷ later) ≡ true }
 {
-    for p in points {
-        if marks.get(*p).leads {
-            return false;
-        }
-    }
-    true
-}
-
-fn ends_in_starter(points: &[char]) -> bool
-    ensures { result ≡ ends_in_starter points.now }
-{
-    if points.is_empty() {
-        return false;
-    }
-    is_starter(points[points.len() - 1])
-}
-
-// Whether the last code point is a starter after which no match goes on that began before it.
-fn ends_all_matches(t: &Table, marks: &MarkTable, points: &[char]) -> bool
-    requires { HoldsMarks t.now marks.now }
-    ensures { IsTrue result → ends_all_matches t.now points.now ≡ true }
-{
-    if points.is_empty() {
-        return false;
-    }
-    let last = points[points.len() - 1];
-    is_starter(last) && marks.get(last).ends
-}
-
-// How a character joins other text. `points` are its decomposition.
-#[derive(Clone, Copy)]
-struct Joins {
-    joining: u8,
-    bearing: u8,
-    cut: bool,
-}
-
-// Which joining a code point bears after it, at least, where it is a decomposition by itself.
-fn bearing_of_one(p: char, starter: bool, known: Marks) -> u8
-    requires { starter ≡ is_starter p }
-    ensures { (t : _) → known ≡ marks t p → result ≤ bearing_of t (p ∷ []) }
-{
-    if known.leads {
-        0
-    } else if !starter {
-        1
-    } else if known.ends {
-        3
-    } else {
-        2
+    let starter = is_starter(p);
+    let known = marks.get(p);
+    Cell {
+        joining: if !starter {
+            2
+        } else if known.continues {
+            1
+        } else {
+            0
+        },
+        bearing: if known.leads {
+            0
+        } else if !starter {
+            1
+        } else if known.ends {
+            3
+        } else {
+            2
+        },
+        cut: starter && known.apart,
+        ..UNKNOWN
     }
 }
 
-// Which joining code points bear after them, at least.
-fn bearing_of(t: &Table, marks: &MarkTable, points: &[char]) -> u8
-    requires { HoldsMarks t.now marks.now }
-    ensures { result ≤ bearing_of t.now points.now }
-{
-    if !is_plain(t, marks, points) {
-        return 0;
-    }
-    if ends_all_matches(t, marks, points) {
-        return 3;
-    }
-    if ends_in_starter(points) { 2 } else { 1 }
-}
-
-// How the character joins other text whose decomposition this is. Its first code point is looked up once.
-fn joins_of(t: &Table, marks: &MarkTable, points: &[char]) -> Joins
+// How a character joins other text. `points` are its decomposition: it joins as the first does, and bears what the last does, unless
+// one of them leads a key.
+fn joins_of(t: &Table, marks: &MarkTable, points: &[char]) -> Cell
     requires { HoldsMarks t.now marks.now }
     ensures joining { joining_of t.now points.now ≤ result.joining }
     ensures bearing { result.bearing ≤ bearing_of t.now points.now }
     ensures cut { IsTrue result.cut → begins_apart t.now points.now ≡ true }
 {
-    if points.is_empty() {
-        return Joins {
-            joining: 2,
-            bearing: 0,
-            cut: false,
-        };
+    let Some((first, _)) = points.split_first() else {
+        return UNKNOWN;
+    };
+    let joins = joins_of_one(t, marks, *first);
+    let mut bearing = joins.bearing;
+    for at in 1..points.len() {
+        if bearing == 0 {
+            continue;
+        }
+        bearing = joins_of_one(t, marks, points[at]).bearing;
     }
-    let first = points[0];
-    let starter = is_starter(first);
-    let known = marks.get(first);
-    Joins {
-        joining: joining_of_first(starter, known),
-        bearing: if points.len() == 1 {
-            bearing_of_one(first, starter, known)
-        } else {
-            bearing_of(t, marks, points)
-        },
-        cut: starter && known.apart,
-    }
-}
-
-// How code points may join the text before them, at most, by what is known of the first.
-fn joining_of_first(starter: bool, known: Marks) -> u8
-    ensures { result ≡ (if starter then (if known.continues then 1 else 0) else 2) }
-{
-    if !starter {
-        2
-    } else if known.continues {
-        1
-    } else {
-        0
-    }
+    Cell { bearing, ..joins }
 }
 
 // Where elements lie from `start` on, as numbers that fit in a cell; no elements where they do not fit.
@@ -232,6 +160,7 @@ struct Buffers {
 }
 
 // Appends the elements of a single code point. For `near` see `Table::get_near`.
+#[tactic(auto, using(crate::proofs::CellLemmas::singles))]
 fn push_single(
     out: &mut Vec<Element>,
     t: &Table,
@@ -261,18 +190,10 @@ impl Cells {
         requires cells { HoldsCells t.now self.old }
         requires points { points.now ≡ decompose_canonical c }
         ensures elements { OnOk result (self.new.elements.items ≡ self.old.elements.items ++ elements t.now (nfd (c ∷ []))) }
-        ensures cells { OnOk result (self.new.cells.items ≡ self.old.cells.items) }
-        ensures blocks { OnOk result (self.new.marks.blocks.items ≡ self.old.marks.blocks.items) }
-        ensures marks { OnOk result (self.new.marks.marks.items ≡ self.old.marks.marks.items) }
+        ensures others { OnOk result (self.new ≡ record self.old { elements = self.new.elements }) }
     {
-        if points.len() == 1 {
-            return push_single(
-                &mut self.elements,
-                t,
-                &self.marks,
-                points[0],
-                &mut buffers.near,
-            );
+        if let [p] = points {
+            return push_single(&mut self.elements, t, &self.marks, *p, &mut buffers.near);
         }
         buffers.elements.clear();
         push_text(alloc, &mut buffers.elements, t, self, points)?;
@@ -304,9 +225,7 @@ impl Cells {
     ) -> Result<Cell, AllocError>
         requires { HoldsCells t.now self.old }
         ensures cell { IfOk result (λ cell. IsCell t.now self.new.elements.items c cell) }
-        ensures cells { OnOk result (self.new.cells.items ≡ self.old.cells.items) }
-        ensures blocks { OnOk result (self.new.marks.blocks.items ≡ self.old.marks.blocks.items) }
-        ensures marks { OnOk result (self.new.marks.marks.items ≡ self.old.marks.marks.items) }
+        ensures others { OnOk result (self.new ≡ record self.old { elements = self.new.elements }) }
         ensures grows { OnOk result (Grows self.old.elements.items self.new.elements.items) }
     {
         let mut room = ['\0'; 3];
@@ -320,29 +239,8 @@ impl Cells {
             element,
             start,
             count,
-            joining: joins.joining,
-            bearing: joins.bearing,
-            cut: joins.cut,
+            ..joins
         })
-    }
-
-    // Makes the cell of a character whose block has its own.
-    fn fill(
-        &mut self,
-        alloc: Global,
-        t: &Table,
-        c: char,
-        buffers: &mut Buffers,
-    ) -> Result<(), AllocError>
-        requires cells { HoldsCells t.now self.old }
-        requires own { 0 < get_or self.old.marks.blocks.items (c / 128) 0 }
-        ensures cells { OnOk result (HoldsCells t.now self.new) }
-        ensures blocks { OnOk result (self.new.marks.blocks.items ≡ self.old.marks.blocks.items) }
-    {
-        let cell = self.cell_of(alloc, t, c, buffers)?;
-        let at = self.marks.place(c);
-        self.cells[at] = cell;
-        Ok(())
     }
 
     // Makes the cells of a block of characters that has its own.
@@ -355,14 +253,17 @@ impl Cells {
     ) -> Result<(), AllocError>
         requires cells { HoldsCells t.now self.old }
         requires within { block < 8704 }
-        requires own { 0 < get_or self.old.marks.blocks.items block 0 }
+        requires own { 0 < get_or self.old.marks.blocks.numbers.items block 0 }
         ensures { OnOk result (HoldsCells t.now self.new) }
     {
         let first = block * BLOCK as u32;
         for point in first..first + BLOCK as u32 {
-            if let Some(c) = char::from_u32(point) {
-                self.fill(alloc, t, c, buffers)?;
-            }
+            let Some(c) = char::from_u32(point) else {
+                continue;
+            };
+            let cell = self.cell_of(alloc, t, c, buffers)?;
+            let at = self.marks.blocks.place(c);
+            self.cells[at] = cell;
         }
         Ok(())
     }
@@ -378,7 +279,7 @@ impl Cells {
         };
         let mut left = LIMIT / BLOCK + FEW_BLOCKS + t.keys.len() / NODES_OF_A_BLOCK;
         for block in 0..BLOCKS {
-            if left > 0 && self.marks.has_own(block as usize) {
+            if left > 0 && self.marks.blocks.has_own(block as usize) {
                 self.fill_block(alloc, t, block, &mut buffers)?;
                 left -= 1;
             }
@@ -392,7 +293,7 @@ impl Cells {
         ensures { IfOk result (λ leads. HoldsLeads t.now leads.items) }
     {
         let known = self.characters(t);
-        let mut leads = vec![in alloc; 0; LEADS]?;
+        let mut leads = filled(alloc, 0, LEADS)?;
         for point in 0..LEADS {
             leads[point] = known.lead_weight(point as u32);
         }
@@ -409,7 +310,7 @@ impl Cells {
             LIMIT
         };
         let marks = MarkTable::new(alloc, t, limit / BLOCK)?;
-        let cells = unknown(alloc, marks.marks.len())?;
+        let cells = vec![in alloc; UNKNOWN; marks.blocks.items.len()]?;
         let mut made = Cells {
             marks,
             cells,
@@ -427,7 +328,12 @@ impl Cells {
         requires { HoldsCells t.now self.now }
         ensures { table_of_characters result ≡ t.now }
     {
-        Characters::new(t, &self.marks.blocks, &self.cells, &self.elements)
+        Characters {
+            table: t,
+            blocks: &self.marks.blocks.numbers,
+            cells: &self.cells,
+            elements: &self.elements,
+        }
     }
 
     /// The primary weight by which a character may be read alone. `None`: that is not known.
@@ -446,15 +352,8 @@ impl Cells {
         }
     }
 
-    /// What the keys of a table say about a code point.
-    pub(crate) fn marks(&self, t: &Table, c: char) -> Marks
-        requires { HoldsCells t.now self.now }
-        ensures { result ≡ marks t.now c }
-    {
-        self.marks.get(c)
-    }
-
     /// The implicit elements of a character with which no key begins and that is a starter and its own NFD.
+    #[tactic(auto, using(crate::proofs::CellLemmas::alone_by_implicit))]
     pub(crate) fn implicit_alone(&self, t: &Table, c: char) -> Option<[Element; 2]>
         requires cells { HoldsCells t.now self.now }
         ensures { IfSome result (λ es. (after : List ℕ) → es ++ elements t.now (nfd after) ≡ elements t.now (nfd (c ∷ after))) }
@@ -494,30 +393,30 @@ pub(crate) fn push_run(
     push_matches(out, t, points)
 }
 
-// Appends the elements of the first characters of a text, one or more, whatever they are, and returns how many.
-fn push_others(
+// Appends the elements of the first characters of a text, one or more, whatever they are, and returns the others.
+fn push_others<'t>(
     points: &mut Vec<char>,
     out: &mut Vec<Element>,
     t: &Table,
     cells: &Cells,
-    text: &[char],
-) -> Result<usize, AllocError>
+    text: &'t [char],
+) -> Result<&'t [char], AllocError>
     requires some { 0 < length text.now }
     requires cells { HoldsCells t.now cells.now }
-    ensures some { IfOk result (λ n. 0 < n) }
-    ensures within { IfOk result (λ n. n ≤ length text.now) }
-    ensures elements { IfOk result (λ n. out.new.items ++ elements t.now (nfd (drop n text.now)) ≡ out.old.items ++ elements t.now (nfd text.now)) }
+    ensures some { IfOk result (λ rest. length rest.now < length text.now) }
+    ensures elements { IfOk result (λ rest. out.new.items ++ elements t.now (nfd rest.now) ≡ out.old.items ++ elements t.now (nfd text.now)) }
 {
     if let Some(elements) = cells.implicit_alone(t, text[0]) {
         out.extend_from_slice(&elements)?;
-        return Ok(1);
+        return Ok(&text[1..]);
     }
     let n = cells.characters(t).run_len(text);
     push_run(points, out, t, &text[..n])?;
-    Ok(n)
+    Ok(&text[n..])
 }
 
 /// Appends the elements of a text. A character whose elements stand alone takes those of its cell.
+#[tactic(auto, using(crate::proofs::CellLemmas::texts))]
 pub(crate) fn push_text(
     alloc: Global,
     out: &mut Vec<Element>,
@@ -530,18 +429,15 @@ pub(crate) fn push_text(
 {
     let known = cells.characters(t);
     let mut points = Vec::new(alloc);
-    let mut at = 0;
-    'characters: while at < text.len() {
-        match known.alone(&text[at..]) {
+    let mut rest = text;
+    'characters: while let Some((c, after)) = rest.split_first() {
+        rest = match known.alone(*c, after) {
             Some(elements) => {
                 push_few(out, elements)?;
-                at += 1;
+                after
             }
-            None => {
-                let n = push_others(&mut points, out, t, cells, &text[at..])?;
-                at += n;
-            }
-        }
+            None => push_others(&mut points, out, t, cells, rest)?,
+        };
     }
     Ok(())
 }

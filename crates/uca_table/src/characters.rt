@@ -1,11 +1,11 @@
-ghost use Rattle.std.specs.Prelude.{◌≡◌, ◌+◌, ◌∷◌, ◌++◌, [], ◌<◌, ◌≤◌, ℕ, List, true, length, take, drop, chars, slice_index, IfSome, IsTrue};
+ghost use Rattle.std.specs.Prelude.{◌≡◌, ◌+◌, ◌∷◌, ◌++◌, [], ◌<◌, ◌≤◌, ℕ, List, true, length, take, drop, chars, IfSome, IsTrue};
 ghost use Rattle.unicode_normalization.specs.Forms.{nfd};
 ghost use Rattle.uca_model.specs.CollationElements.{elements};
 ghost use Rattle.uca_model.specs.SafeCut.{is_cut};
 ghost use Rattle.uca_model.specs.StandAlone.{joining, bearing};
 ghost use Rattle.uca_table.specs.Cells.{IsCell, AreCells};
 
-use crate::marks::BLOCK;
+use crate::blocks::BLOCK;
 use crate::table::Table;
 use uca_weights::Element;
 
@@ -41,37 +41,18 @@ pub struct Character<'t> {
 /// What is known of the characters of a table, for look-ups: these are what most of the reading of a text takes.
 #[derive(Clone, Copy)]
 pub struct Characters<'t> {
-    table: &'t Table,
+    pub(crate) table: &'t Table,
     // Of each block of code points, the number of its block of cells.
-    blocks: &'t [u16],
-    cells: &'t [Cell],
+    pub(crate) blocks: &'t [u16],
+    pub(crate) cells: &'t [Cell],
     // The elements of all cells.
-    elements: &'t [Element],
+    pub(crate) elements: &'t [Element],
     ghost sound: { AreCells table.now elements.now blocks.now cells.now },
 }
 
 impl<'t> Characters<'t> {
     ghost use Rattle.uca_table.specs.Characters.{IsCharacter, table_of_characters};
     ghost use Rattle.uca_table.specs.Lead.{IsLead, IsLeadWeight};
-
-    /// What these cells say. They are at the places of the marks.
-    #[inline(always)]
-    pub(crate) fn new(
-        table: &'t Table,
-        blocks: &'t [u16],
-        cells: &'t [Cell],
-        elements: &'t [Element],
-    ) -> Characters<'t>
-        requires { AreCells table.now elements.now blocks.now cells.now }
-        ensures { table_of_characters result ≡ table.now }
-    {
-        Characters {
-            table,
-            blocks,
-            cells,
-            elements,
-        }
-    }
 
     // The cell of a character. Neither index is checked when this runs: every block of code points has a block of cells.
     #[inline(always)]
@@ -84,9 +65,9 @@ impl<'t> Characters<'t> {
 
     // The elements of a character by itself. `None`: they are not known.
     #[inline(always)]
-    fn elements_of(&self, cell: &'t Cell) -> Option<&'t [Element]>
-        requires { cell.now.start + cell.now.count ≤ length self.now.elements.now }
-        ensures { IfSome result (λ es. (c : ℕ) → IsCell self.now.table.now self.now.elements.now c cell.now → es.now ≡ elements self.now.table.now (nfd (c ∷ []))) }
+    fn elements_of(&self, c: char, cell: &'t Cell) -> Option<&'t [Element]>
+        requires { IsCell self.now.table.now self.now.elements.now c cell.now }
+        ensures { IfSome result (λ es. es.now ≡ elements self.now.table.now (nfd (c ∷ []))) }
     {
         if cell.count == 1 {
             return Some(&cell.element);
@@ -106,11 +87,11 @@ impl<'t> Characters<'t> {
         self.cell(c).joining
     }
 
-    // How the character at a place joins what comes before it, at most; not at all at the end of the text.
-    fn joining_at(&self, text: &[char], at: usize) -> u8
-        ensures { at < length text.now → joining self.now.table.now (slice_index text.now at) ≤ result }
+    // How characters join what comes before them, at most; not at all where there are none.
+    fn joining_of_characters(&self, text: &[char]) -> u8
+        ensures { (c : ℕ) (later : List ℕ) → text.now ≡ c ∷ later → joining self.now.table.now c ≤ result }
     {
-        match text.get(at) {
+        match text.first() {
             Some(c) => self.joining(*c),
             None => 0,
         }
@@ -161,22 +142,20 @@ impl<'t> Characters<'t> {
             return None;
         }
         Some(Character {
-            elements: self.elements_of(cell)?,
+            elements: self.elements_of(c, cell)?,
             bearing: cell.bearing,
         })
     }
 
-    /// The elements of the first character of a text, where they stand alone. The next one is looked up only where they may depend on
-    /// it.
-    pub(crate) fn alone(&self, text: &[char]) -> Option<&'t [Element]>
-        requires { 0 < length text.now }
-        ensures { IfSome result (λ es. es.now ++ elements (table_of_characters self.now) (nfd (drop 1 text.now)) ≡ elements (table_of_characters self.now) (nfd text.now)) }
+    /// The elements of a character before others, where they stand alone. The next one is looked up only where they may depend on it.
+    pub(crate) fn alone(&self, c: char, after: &[char]) -> Option<&'t [Element]>
+        ensures { IfSome result (λ es. es.now ++ elements (table_of_characters self.now) (nfd after.now) ≡ elements (table_of_characters self.now) (nfd (c ∷ after.now))) }
     {
-        let cell = self.cell(text[0]);
-        if cell.bearing < 2 && self.joining_at(text, 1) > cell.bearing {
+        let cell = self.cell(c);
+        if cell.bearing < 2 && self.joining_of_characters(after) > cell.bearing {
             return None;
         }
-        self.elements_of(cell)
+        self.elements_of(c, cell)
     }
 
     /// The elements of a character before other text, where they stand alone. That text is looked at only where they may depend on it.
@@ -191,7 +170,7 @@ impl<'t> Characters<'t> {
         if cell.bearing < 2 && self.joining_of_text(after) > cell.bearing {
             return None;
         }
-        self.elements_of(cell)
+        self.elements_of(c, cell)
     }
 
     /// The first element of a character, where it has a primary weight and no other has. The character joins nothing before it, and
@@ -231,10 +210,11 @@ impl<'t> Characters<'t> {
         if cell.bearing < 2 {
             return None;
         }
-        self.elements_of(cell)
+        self.elements_of(c, cell)
     }
 
     /// How many characters of a text come before the next that joins nothing.
+    #[tactic(auto, using(crate::proofs::CellLemmas::runs))]
     pub(crate) fn run_len(&self, text: &[char]) -> usize
         requires { 0 < length text.now }
         ensures some { 0 < result }
@@ -242,7 +222,7 @@ impl<'t> Characters<'t> {
         ensures apart { elements (table_of_characters self.now) (nfd (take result text.now)) ++ elements (table_of_characters self.now) (nfd (drop result text.now)) ≡ elements (table_of_characters self.now) (nfd text.now) }
     {
         for at in 1..text.len() {
-            if self.joining_at(text, at) == 0 {
+            if self.joins_nothing(text[at]) {
                 return at;
             }
         }

@@ -30,6 +30,7 @@ pub(crate) fn push_found(
 
 // Appends the elements of a text in NFD, match after match (UTS #10, 7.2, step S2). Each match is put in order
 // within the text, and nothing after its nonstarters is moved.
+#[tactic(auto, using(crate::proofs::ElementLemmas::matched))]
 pub(crate) fn push_matches(
     out: &mut Vec<Element>,
     t: &Table,

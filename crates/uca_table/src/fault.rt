@@ -3,63 +3,51 @@ use thiserror::Error;
 
 /// Why an entry wasn't inserted. The first cause that holds, in the order here, is reported.
 #[derive(Clone, Copy, Debug, PartialEq, Eq, Error)]
+#[error("{:?}", self)]
 pub enum InsertFault {
     /// The key has no code point.
-    #[error("EmptyKey")]
     EmptyKey,
     /// The key has more than `MAX_KEY` code points.
-    #[error("KeyTooLong")]
     KeyTooLong,
     /// There is no collation element.
-    #[error("NoElement")]
     NoElement,
     /// There are more than `MAX_ELEMENTS` collation elements.
-    #[error("TooManyElements")]
     TooManyElements,
     /// The table already has the key.
-    #[error("Repeated")]
     Repeated,
     /// An allocation failed.
-    #[error("OutOfMemory")]
     OutOfMemory,
 }
 
 /// Why an entry wasn't appended to others in key order. The first cause that holds, in the order here, is reported.
 #[derive(Clone, Copy, Debug, PartialEq, Eq, Error)]
+#[error("{:?}", self)]
 pub enum AppendFault {
     /// The key has no code point.
-    #[error("EmptyKey")]
     EmptyKey,
     /// The key has more than `MAX_KEY` code points.
-    #[error("KeyTooLong")]
     KeyTooLong,
     /// There is no collation element.
-    #[error("NoElement")]
     NoElement,
     /// There are more than `MAX_ELEMENTS` collation elements.
-    #[error("TooManyElements")]
     TooManyElements,
     /// A greater key was appended earlier.
-    #[error("OutOfOrder")]
     OutOfOrder,
     /// The key is the last that was appended.
-    #[error("Repeated")]
     Repeated,
     /// An allocation failed.
-    #[error("OutOfMemory")]
     OutOfMemory,
 }
 
 /// Why a range of implicit weights, or of ideographs, wasn't added.
 #[derive(Clone, Copy, Debug, PartialEq, Eq, Error)]
+#[error("{:?}", self)]
 pub enum RangeFault {
     /// The range ends before it begins, or shares a code point with an earlier one of its kind. A range of implicit
     /// weights: its base is below 8000h, or with the other ranges of its base it spans more than 8000h code points. A
     /// range of ideographs: it shares a code point with the standard's list.
-    #[error("BadRange")]
     BadRange,
     /// An allocation failed.
-    #[error("OutOfMemory")]
     OutOfMemory,
 }
 

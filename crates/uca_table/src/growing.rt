@@ -53,6 +53,7 @@ impl<'t> Growing for Walk<'t> {
     }
 
     #[inline(always)]
+    #[tactic(auto, using(crate::proofs::WalkLemmas::no_key_beyond))]
     fn append(&mut self, c: char) -> bool {
         self.step(c)
     }

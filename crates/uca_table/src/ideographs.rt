@@ -1,7 +1,7 @@
 //! Ranges of unified ideographs besides those of the standard's list (UTS #10, section 10.1.3).
 ghost use Rattle.std.specs.Prelude.{◌≡◌, ◌≤◌, length, None, MatchResult, OnErr, OnOk};
 ghost use Rattle.std.specs.List.{insert, list_any};
-ghost use Rattle.uca_model.specs.UnifiedIdeographs.{AreIdeographs, is_added_ideograph, is_listed_ideograph, repeats_listed, shares_with};
+ghost use Rattle.uca_model.specs.UnifiedIdeographs.{AreIdeographs, is_added_ideograph, is_listed_ideograph, repeats_listed};
 ghost use Rattle.uca_model.specs.AddedIdeographs.{are_bad_ideographs, put_ideographs, shares};
 ghost use Rattle.uca_table.specs.Builder.{ideographs_fault, reported_range_fault};
 
@@ -46,38 +46,20 @@ pub(crate) fn is_added(added: &[Ideographs], c: char) -> bool
         .any(|range| range.first <= c && c <= range.last)
 }
 
-/// Whether some code point of a range lies between two others, inclusive.
-fn shares_with(range: Ideographs, pair: (char, char)) -> bool
-    ensures { result ≡ shares_with range pair }
-{
-    range.first <= pair.1 && pair.0 <= range.last
-}
-
-fn shares_with_any(range: Ideographs, pairs: &[(char, char)]) -> bool
-    ensures { result ≡ list_any (shares_with range) pairs.now }
-{
-    pairs.iter().any(|pair| shares_with(range, *pair))
-}
-
 /// Whether some code point of a range is in the list.
 fn repeats_listed(range: Ideographs) -> bool
     ensures { result ≡ repeats_listed range }
 {
-    shares_with_any(range, LISTED.as_slice())
-}
-
-/// Whether some code point lies in both ranges.
-fn shares(range: Ideographs, other: Ideographs) -> bool
-    ensures { result ≡ shares range other }
-{
-    range.first <= other.last && other.first <= range.last
+    LISTED
+        .iter()
+        .any(|pair| range.first <= pair.1 && pair.0 <= range.last)
 }
 
 /// Whether some code point lies in a range and in one of others.
 fn shares_any(range: Ideographs, others: &[Ideographs]) -> bool
     ensures { result ≡ list_any (shares range) others.now }
 {
-    others.iter().any(|other| shares(range, *other))
+    others.iter().any(|other| range.first <= other.last && other.first <= range.last)
 }
 
 /// Whether a range conflicts with others.
@@ -101,6 +83,7 @@ fn place_of(added: &[Ideographs], range: Ideographs) -> usize
 }
 
 /// Puts a range before the first one that begins above it. On a fault the ranges stay as they are.
+#[tactic(auto, using(crate::proofs::IdeographLemmas::putting))]
 pub(crate) fn add(added: &mut Vec<Ideographs>, range: Ideographs) -> Result<(), RangeFault>
     requires { AreIdeographs added.old.items }
     ensures ok { OnOk result (added.new.items ≡ put_ideographs range added.old.items) }

@@ -1,6 +1,6 @@
 ghost use Rattle.std.specs.Prelude.{◌≡◌};
 ghost use Rattle.uca_model.specs.Table.{AreRanges};
-ghost use Rattle.uca_model.specs.ImplicitWeights.{implicit_over, in_some, core_blocks, pair, is_unified_ideograph, is_assigned, two_parts_base};
+ghost use Rattle.uca_model.specs.ImplicitWeights.{implicit_over, pair, two_parts_base};
 ghost use Rattle.uca_model.specs.Ranges.{AreByFirst};
 
 use crate::ideographs::{is_added, is_listed};
@@ -17,7 +17,7 @@ pub(crate) fn implicit(ranges: &Ranges, added: &[Ideographs], c: char) -> [Eleme
 {
     // Few code points lie in a range, so only those need a look-up of the general category.
     if let Some(range) = ranges.range_of(c) {
-        if is_assigned(c) {
+        if GeneralCategory::for_char(c) != GeneralCategory::Unassigned {
             let lowest = ranges.lowest_first(range);
             return pair(range.base, (c as u32 - lowest as u32 + 0x8000) as u16);
         }
@@ -29,38 +29,19 @@ pub(crate) fn implicit(ranges: &Ranges, added: &[Ideographs], c: char) -> [Eleme
     )
 }
 
-/// Whether Unicode assigns a character to the code point.
-fn is_assigned(c: char) -> bool
-    ensures { result ≡ is_assigned c }
-{
-    GeneralCategory::for_char(c) != GeneralCategory::Unassigned
-}
-
 /// The base of the first weight of a code point in no range.
 fn base_in_two_parts(added: &[Ideographs], c: char) -> u32
     ensures { result ≡ two_parts_base added.now c }
 {
-    if !is_unified_ideograph(added, c) {
-        0xFBC0
-    } else if is_in_core_block(c) {
+    if !is_listed(c) && !is_added(added, c) {
+        return 0xFBC0;
+    }
+    // CJK Unified Ideographs and CJK Compatibility Ideographs.
+    if matches!(c, '\u{4E00}'..='\u{9FFF}' | '\u{F900}'..='\u{FAFF}') {
         0xFB40
     } else {
         0xFB80
     }
-}
-
-/// Whether the code point lies in CJK Unified Ideographs or in CJK Compatibility Ideographs.
-fn is_in_core_block(c: char) -> bool
-    ensures { result ≡ in_some core_blocks c }
-{
-    matches!(c, '\u{4E00}'..='\u{9FFF}' | '\u{F900}'..='\u{FAFF}')
-}
-
-/// Whether the code point is a unified ideograph, of the list or of the added ranges.
-fn is_unified_ideograph(added: &[Ideographs], c: char) -> bool
-    ensures { result ≡ is_unified_ideograph added.now c }
-{
-    is_listed(c) || is_added(added, c)
 }
 
 /// The two elements of a code point without a key, `[.AAAA.0020.0002][.BBBB.0000.0000]`.

@@ -8,13 +8,13 @@
 #![tactic(auto)]
 
 pub mod ascending;
+mod blocks;
 pub mod builder;
 pub mod cells;
 pub mod characters;
 mod collation;
 mod debug;
 mod entry_map;
-mod extent;
 pub mod fault;
 pub mod growing;
 mod ideographs;

@@ -1,4 +1,4 @@
-ghost use Rattle.std.specs.Prelude.{◌≡◌, ◌+◌, ◌-◌, ◌<◌, ◌≤◌, ◌&&◌, ◌++◌, ◌∷◌, [], cond, nat_lt, max, length, take, drop, option_copied, IfSome};
+ghost use Rattle.std.specs.Prelude.{◌≡◌, ◌+◌, ◌-◌, ◌<◌, ◌≤◌, ◌&&◌, ◌++◌, ◌∷◌, [], cond, nat_lt, length, take, drop, option_copied, IfSome};
 ghost use Rattle.unicode.specs.CanonicalCombiningClass.{canonical_combining_class};
 ghost use Rattle.uca_model.specs.Table.{elements_at, is_key};
 ghost use Rattle.uca_model.specs.Match.{longest_match, discontiguous_match, took};
@@ -41,21 +41,11 @@ pub fn takes<P: Growing>(points: &mut P, high: u8, nonstarter: char) -> bool
         return false;
     }
     let mut longer = points.same();
-    if !longer.append(nonstarter) {
-        return false;
-    }
-    if !longer.is_found() {
+    if !longer.append(nonstarter) || !longer.is_found() {
         return false;
     }
     *points = longer;
     true
-}
-
-/// The greater of two numbers.
-pub fn higher(a: u8, b: u8) -> u8
-    ensures { result ≡ max a b }
-{
-    if a < b { b } else { a }
 }
 
 // Moves the code point at `from` to `to`, before those that were there.
@@ -70,6 +60,7 @@ fn bring_forward(text: &mut [char], to: usize, from: usize)
 /// Moves those nonstarters forward to the first `start` code points that make longer keys with them, and returns how
 /// many code points the match then has (UTS #10, 7.2, steps S2.1.1 to S2.1.3). Those that were passed over follow it
 /// in the order that they had. The match is appended to its start.
+#[tactic(auto, using(crate::proofs::MatchLemmas::extending))]
 pub fn extend<P: Growing>(matched: &mut P, text: &mut [char], start: usize) -> usize
     requires within { start ≤ length text.old }
     requires path { P.path matched.old ≡ take start text.old }
@@ -90,12 +81,12 @@ pub fn extend<P: Growing>(matched: &mut P, text: &mut [char], start: usize) -> u
         if class == 0 {
             return end;
         }
-        if takes(matched, high, nonstarter) {
-            bring_forward(text, end, at);
-            end += 1;
-        } else {
-            high = higher(high, class);
+        if !takes(matched, high, nonstarter) {
+            high = high.max(class);
+            continue;
         }
+        bring_forward(text, end, at);
+        end += 1;
     }
     end
 }
@@ -129,9 +120,8 @@ pub fn match_front<'t>(t: &'t Table, text: &mut [char]) -> Matched<'t>
             elements: None,
         };
     }
-    let len = extend(&mut walk, text, n);
     Matched {
-        len,
+        len: extend(&mut walk, text, n),
         elements: walk.elements(),
     }
 }

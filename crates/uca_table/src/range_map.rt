@@ -1,14 +1,17 @@
-ghost use Rattle.std.specs.Prelude.{◌≡◌, ◌≤◌, ◌-◌, [], false, OnOk, OnErr, IfErr, length, vec_capacity};
-ghost use Rattle.std.specs.BTreeMap.{btree_map_len};
+ghost use Rattle.std.specs.Prelude.{◌≡◌, ◌≤◌, ◌-◌, [], false, OnOk, OnErr, IfErr, length, vec_capacity, List};
 ghost use Rattle.std.specs.List.{list_any};
-ghost use Rattle.std.specs.Map.{values_of};
 ghost use Rattle.uca_model.specs.Table.{AreRanges};
 ghost use Rattle.uca_model.specs.ImplicitWeights.{lowest_first};
 ghost use Rattle.uca_model.specs.Ranges.{shares, highest_last, is_bad_range, put_range, AreByFirst};
+ghost use Rattle.std.specs.BTreeMap.{get};
+ghost use Rattle.std.specs.Map.{values_of};
+ghost use Rattle.std.specs.Ordering.{nat_cmp};
+ghost use Rattle.uca_weights.specs.declared.range.Range.{Range};
+ghost use Rattle.uca_table.specs.Coded.{coded_ranges};
+ghost use Rattle.uca_table.specs.Extents.{AreByLast, AreExtents};
 
-use crate::extent::{Extent, restore, widen, widened};
 use crate::fault::RangeFault;
-use crate::ranges::Ranges;
+use crate::ranges::{Extent, Ranges, widened};
 use std::alloc::Global;
 use std::collections::BTreeMap;
 use std::marker::Model;
@@ -24,14 +27,6 @@ pub(crate) struct RangeMap {
 }
 
 impl Model for RangeMap {
-    ghost use Rattle.std.specs.Prelude.{List};
-    ghost use Rattle.std.specs.BTreeMap.{get};
-    ghost use Rattle.std.specs.Map.{values_of};
-    ghost use Rattle.std.specs.Ordering.{nat_cmp};
-    ghost use Rattle.uca_weights.specs.declared.range.Range.{Range};
-    ghost use Rattle.uca_table.specs.Coded.{coded_ranges};
-    ghost use Rattle.uca_table.specs.Extents.{AreByLast, AreExtents};
-
     ghost Value = { List Range };
 
     ghost coded = { coded_ranges };
@@ -64,17 +59,14 @@ impl RangeMap {
         requires { AreByFirst self.now }
         ensures { result ≡ is_bad_range self.now range }
     {
-        if range.first > range.last || range.base < 0x8000 {
-            return true;
-        }
-        if self.shares_with_any(range) {
-            return true;
-        }
-        self.span_with(range) > 0x7FFF
+        range.first > range.last
+            || range.base < 0x8000
+            || self.shares_with_any(range)
+            || self.span_with(range) > 0x7FFF
     }
 
     /// Whether a range shares a code point with one of these. The first that doesn't end below it decides.
-    #[tactic(auto, using(crate::proofs::RangeMapLemmas::shares_first, crate::proofs::RangeMapLemmas::first_begins))]
+    #[tactic(auto, using(crate::proofs::RangeLemmas::shares_first, crate::proofs::RangeLemmas::first_begins))]
     fn shares_with_any(&self, range: Range) -> bool
         requires { AreByFirst self.now }
         ensures { result ≡ list_any (shares range) self.now }
@@ -86,6 +78,7 @@ impl RangeMap {
     }
 
     /// How far the last code point of a range and of all of its base lies after the first one.
+    #[tactic(auto, using(crate::proofs::RangeLemmas::extents))]
     fn span_with(&self, range: Range) -> u32
         ensures { result ≡ highest_last self.now range.base range.last - lowest_first self.now range.base range.first }
     {
@@ -101,11 +94,15 @@ impl RangeMap {
         ensures err { OnErr result (self.new ≡ self.old) }
         ensures memory { IfErr result (λ f. f ≡ RangeFault.OutOfMemory) }
     {
-        let was = widen(&mut self.extents, range)?;
-        match self.by_last.insert(range.last, range) {
+        let extent = widened(&self.extents, range);
+        if let Err(_) = self.by_last.insert(range.last, range) {
+            return Err(RangeFault::OutOfMemory);
+        }
+        match self.extents.insert(range.base, extent) {
             Ok(_) => Ok(()),
             Err(_) => {
-                restore(&mut self.extents, range.base, was);
+                // No other range ends there.
+                self.by_last.remove(&range.last);
                 Err(RangeFault::OutOfMemory)
             }
         }
@@ -117,21 +114,13 @@ impl RangeMap {
         requires room { length self ≤ vec_capacity room }
         ensures { result ≡ self }
     {
+        let mut by_first = room;
+        for (_, range) in self.by_last {
+            by_first.push_reserved(range);
+        }
         Ranges {
-            by_first: move_ranges(self.by_last, room),
+            by_first,
             extents: self.extents,
         }
     }
-}
-
-/// Moves the ranges of a map into a vector with capacity for them.
-fn move_ranges(from: BTreeMap<char, Range>, mut room: Vec<Range>) -> Vec<Range>
-    requires empty { length room.items ≡ 0 }
-    requires room { btree_map_len from ≤ vec_capacity room }
-    ensures { result.items ≡ values_of from.entries }
-{
-    for (_, range) in from {
-        room.push_reserved(range);
-    }
-    room
 }

@@ -2,11 +2,25 @@ ghost use Rattle.std.specs.Prelude.{◌≡◌, ℕ, List, ◌≤◌, ◌<◌, �
 ghost use Rattle.unicode_normalization.specs.Forms.{nfd};
 ghost use Rattle.uca_model.specs.CollationElements.{elements};
 ghost use Rattle.uca_model.specs.StandAlone.{joining, bearing};
+ghost use Rattle.std.specs.Option.{ForSome};
+ghost use Rattle.uca_model.specs.Table.{ElementTable, with_ideographs, IsElement, IsTable, elements_at, key_cmp, longest};
+ghost use Rattle.uca_model.specs.UnifiedIdeographs.{AreIdeographs};
+ghost use Rattle.uca_table.specs.Ascending.{AreStored, table_of, longest_of, AreAscending};
+ghost use Rattle.uca_table.specs.Cells.{HoldsCharacters};
+ghost use Rattle.uca_table.specs.Coded.{coded_table};
+ghost use Rattle.uca_keys.specs.Paths.{entries_of};
+ghost use Rattle.uca_weights.specs.declared.limits.TheConstants.{MAX_KEY, MAX_ELEMENTS};
+ghost use Rattle.uca_table.specs.Lead.{IsLead, IsLeadWeight};
+ghost use Rattle.uca_table.specs.Builder.{ideographs_fault, reported_range_fault, with_more_ideographs};
+ghost use Rattle.uca_model.specs.ImplicitWeights.{implicit};
+ghost use Rattle.uca_model.specs.Prefix.{is_closed, is_silent};
+ghost use Rattle.uca_model.specs.SafeCut.{is_cut, is_safe_starter};
+ghost use Rattle.std.specs.FinMap.{entries, from_sorted};
+ghost use Rattle.uca_model.specs.Ranges.{AreByFirst};
 
 use crate::cells::{Cells, push_run, push_text};
 use crate::characters::{Character, Characters};
 use crate::fault::RangeFault;
-use crate::marks::Marks;
 use crate::ranges::Ranges;
 use crate::walk::Walk;
 use crate::{ideographs, implicit_weights, scan};
@@ -29,15 +43,6 @@ pub struct Table {
 }
 
 impl Model for Table {
-    ghost use Rattle.std.specs.Prelude.{◌≡◌};
-    ghost use Rattle.std.specs.Option.{ForSome};
-    ghost use Rattle.uca_model.specs.Table.{ElementTable, with_ideographs};
-    ghost use Rattle.uca_model.specs.UnifiedIdeographs.{AreIdeographs};
-    ghost use Rattle.uca_table.specs.Stored.{AreStored, table_of, longest_of};
-    ghost use Rattle.uca_table.specs.Cells.{HoldsCharacters};
-    ghost use Rattle.uca_table.specs.Coded.{coded_table};
-    ghost use Rattle.uca_keys.specs.Paths.{entries_of};
-
     ghost Value = { ElementTable };
 
     ghost coded = { coded_table };
@@ -48,20 +53,7 @@ impl Model for Table {
 }
 
 impl Table {
-    ghost use Rattle.uca_weights.specs.declared.limits.TheConstants.{MAX_KEY, MAX_ELEMENTS};
-    ghost use Rattle.uca_model.specs.Table.{ElementTable, IsElement, IsTable, elements_at, key_cmp, longest, with_ideographs};
-    ghost use Rattle.uca_model.specs.UnifiedIdeographs.{AreIdeographs};
     ghost use Rattle.uca_table.specs.Characters.{IsCharacter, table_of_characters};
-    ghost use Rattle.uca_table.specs.Lead.{IsLead, IsLeadWeight};
-    ghost use Rattle.uca_table.specs.Marks.{marks};
-    ghost use Rattle.uca_table.specs.Builder.{ideographs_fault, reported_range_fault, with_more_ideographs};
-    ghost use Rattle.uca_model.specs.ImplicitWeights.{implicit};
-    ghost use Rattle.uca_model.specs.Prefix.{is_closed, is_silent};
-    ghost use Rattle.uca_model.specs.SafeCut.{is_cut, is_safe_starter};
-    ghost use Rattle.std.specs.FinMap.{entries, from_sorted};
-    ghost use Rattle.uca_table.specs.Ascending.{AreAscending};
-    ghost use Rattle.uca_table.specs.Stored.{longest_of};
-    ghost use Rattle.uca_model.specs.Ranges.{AreByFirst};
     ghost use Rattle.uca_table.specs.Walk.{path_of, table_of_walk};
 
     /// The collation elements of a key, 1 to `MAX_ELEMENTS` of them (UTS #10, section 3). `None`: it is no key.
@@ -84,6 +76,7 @@ impl Table {
     }
 
     /// A walk along the keys that has not been stepped yet.
+    #[tactic(auto, using(crate::proofs::EntryLemmas::stored))]
     pub fn walk(&self) -> Walk<'_>
         ensures table { table_of_walk result ≡ self.now }
         ensures path { path_of result ≡ [] }
@@ -92,6 +85,7 @@ impl Table {
     }
 
     /// The length of the longest key in code points, or 1 where there is no key.
+    #[tactic(auto, using(crate::proofs::EntryLemmas::limits))]
     pub fn longest(&self) -> usize
         ensures value { result ≡ longest self.now }
         ensures valid { IsTable self.now }
@@ -109,6 +103,7 @@ impl Table {
     }
 
     /// The entries by key order: by code points, a proper prefix first.
+    #[tactic(auto, using(crate::proofs::EntryLemmas::stored))]
     pub fn entries(&self) -> Entries<'_>
         ensures value { result ≡ entries self.now.entries }
         ensures few { length (entries self.now.entries) < 2 ^ 64 }
@@ -117,6 +112,7 @@ impl Table {
     }
 
     /// A walk along the entries by key order, before the first one.
+    #[tactic(auto, using(crate::proofs::EntryLemmas::stored))]
     pub(crate) fn cursor(&self) -> Cursor<'_>
         ensures { result.coming ≡ entries self.now.entries }
     {
@@ -134,13 +130,10 @@ impl Table {
         requires longest { longest_key ≡ longest_of entries }
         ensures { IfOk result (λ t. t ≡ record { entries = from_sorted {R = key_cmp} entries; ranges = self.now.ranges; ideographs = self.now.ideographs }) }
     {
-        let ranges = self.ranges.try_clone(alloc)?;
-        let ideographs = self.ideographs.as_slice().to_vec(alloc)?;
-        let keys = entries.finish(alloc)?;
         let table = Table {
-            keys,
-            ranges,
-            ideographs,
+            ranges: self.ranges.try_clone(alloc)?,
+            ideographs: self.ideographs.as_slice().to_vec(alloc)?,
+            keys: entries.finish(alloc)?,
             longest_key,
             cells: None,
         };
@@ -215,12 +208,11 @@ impl Table {
     }
 
     /// The table with cells, where memory is not refused for them.
-    pub(crate) fn prepared(self, alloc: Global) -> Table
+    pub(crate) fn prepared(mut self, alloc: Global) -> Table
         ensures { result ≡ self }
     {
-        let mut table = self;
-        let _known = table.prepare(alloc);
-        table
+        let _known = self.prepare(alloc);
+        self
     }
 
     /// Frees what is kept about single characters, by which texts are read fast. A table that is only tailored does without it.
@@ -230,25 +222,12 @@ impl Table {
         self.cells = None;
     }
 
-    /// What the keys say about a code point. `None`: that is not known.
-    pub(crate) fn marks(&self, c: char) -> Option<Marks>
-        ensures { IfSome result (λ m. m ≡ marks self.now c) }
-    {
-        match &self.cells {
-            Some(cells) => Some(cells.marks(self, c)),
-            None => None,
-        }
-    }
-
     /// What is known about single characters, for the many look-ups of a text. It does not allocate. `None`: nothing is known.
     #[inline(always)]
     pub fn characters(&self) -> Option<Characters<'_>>
         ensures { IfSome result (λ known. table_of_characters known ≡ self.now) }
     {
-        match &self.cells {
-            Some(cells) => Some(cells.characters(self)),
-            None => None,
-        }
+        Some(self.cells.as_ref()?.characters(self))
     }
 
     /// Whether a character joins nothing before it, so that a text that ends before it and one that begins with
@@ -257,10 +236,8 @@ impl Table {
     pub fn joins_nothing(&self, c: char) -> bool
         ensures { IsTrue result → joining self.now c ≡ 0 }
     {
-        match self.characters() {
-            Some(characters) => characters.joins_nothing(c),
-            None => false,
-        }
+        self.characters()
+            .is_some_and(|characters| characters.joins_nothing(c))
     }
 
     /// Whether a text after a character has its collation elements by itself, whatever comes before the character (UTS #10,
@@ -269,10 +246,8 @@ impl Table {
     pub fn bears_all(&self, c: char) -> bool
         ensures { IsTrue result → 3 ≤ bearing self.now c }
     {
-        match self.characters() {
-            Some(characters) => characters.bears_all(c),
-            None => false,
-        }
+        self.characters()
+            .is_some_and(|characters| characters.bears_all(c))
     }
 
     /// The collation elements of a character after text that bears so much after it, and what the character bears (UTS #10, section
@@ -313,10 +288,7 @@ impl Table {
         ensures weight { IfSome result (IsLeadWeight self.now c) }
         ensures some { IfSome result (λ w. 0 < w) }
     {
-        match &self.cells {
-            Some(cells) => cells.lead_weight(self, c),
-            None => None,
-        }
+        self.cells.as_ref()?.lead_weight(self, c)
     }
 
     /// The collation elements of a character, where no text after it changes them (UTS #10, section 7.2). It does not
@@ -332,10 +304,7 @@ impl Table {
     pub fn implicit_alone(&self, c: char) -> Option<[Element; 2]>
         ensures { IfSome result (λ es. (after : List ℕ) → es ++ elements self.now (nfd after) ≡ elements self.now (nfd (c ∷ after))) }
     {
-        match &self.cells {
-            Some(cells) => cells.implicit_alone(self, c),
-            None => None,
-        }
+        self.cells.as_ref()?.implicit_alone(self, c)
     }
 
     /// Appends the collation elements of a text (UTS #10, sections 7.1 and 7.2, steps S1 and S2).

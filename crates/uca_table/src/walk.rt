@@ -36,7 +36,7 @@ fn show_table(t: &Table)
 }
 
 impl<'t> Walk<'t> {
-    ghost use Rattle.uca_weights.specs.declared.limits.TheConstants.{MAX_KEY, MAX_ELEMENTS};
+    ghost use Rattle.uca_weights.specs.declared.limits.TheConstants.{MAX_ELEMENTS};
     ghost use Rattle.uca_model.specs.Table.{IsElement, elements_at};
     ghost use Rattle.uca_table.specs.Walk.{path_of, table_of_walk};
 
@@ -56,7 +56,7 @@ impl<'t> Walk<'t> {
 
     /// Steps along one more code point, if some key begins with the path and it, and returns whether one does. Otherwise
     /// the walk stays as it is.
-    #[tactic(auto, using(crate::proofs::KeyLemmas::begins_short, std::proofs::lemmas::List::length_push))]
+    #[tactic(auto, using(crate::proofs::EntryLemmas::begins_short, std::proofs::lemmas::List::length_push))]
     pub fn step(&mut self, c: char) -> bool
         ensures answers { result ≡ begins_key (table_of_walk self.old) (path_of self.old ++ c ∷ []) }
         ensures path { path_of self.new ≡ cond result (path_of self.old ++ c ∷ []) (path_of self.old) }

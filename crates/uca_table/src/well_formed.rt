@@ -1,8 +1,8 @@
 ghost use Rattle.std.specs.Prelude.{◌≡◌, ◌&&◌, not, fold, map};
 ghost use Rattle.std.specs.List.{list_any};
 ghost use Rattle.uca_weights.specs.Element.{is_variable};
-ghost use Rattle.uca_model.specs.WellFormed.{all_elements, broken, is_broken, is_marked_in_vain, lacks_its_front, skips_a_level, wf5};
-ghost use Rattle.uca_table.specs.Bounds.{bounded, condition_of, is_against, is_below, is_inside, unbounded};
+ghost use Rattle.uca_model.specs.WellFormed.{all_elements, broken, is_broken, lacks_its_front, wf5};
+ghost use Rattle.uca_table.specs.Bounds.{bounded, condition_of, is_against, unbounded};
 
 use crate::table::Table;
 use arrayvec::ArrayVec;
@@ -12,24 +12,20 @@ use unicode_normalization::char::canonical_combining_class;
 
 /// A condition of well-formedness (UTS #10, section 5).
 #[derive(Clone, Copy, Debug, Default, PartialEq, Eq, Error)]
+#[error("{:?}", self)]
 pub enum WellFormed {
     /// Where a weight is not zero, neither is the one at the next level. Elements with a primary weight of 8000 or more
     /// are exempt.
-    #[error("WF1")]
     #[default]
     WF1,
     /// A secondary weight without a primary one is above all secondary weights with one, and a tertiary weight without
     /// the others is above all tertiary weights with one of them.
-    #[error("WF2")]
     WF2,
     /// What is marked as variable has a primary weight.
-    #[error("WF3")]
     WF3,
     /// No primary weight of another element lies between those of variable elements.
-    #[error("WF4")]
     WF4,
     /// A key of more than two code points that ends in a nonstarter is also a key without it.
-    #[error("WF5")]
     WF5,
 }
 
@@ -70,7 +66,7 @@ fn is_broken(t: &Table, bounds: Bounds, condition: WellFormed) -> bool
 }
 
 /// The weights of a table's elements that its other elements have to keep apart from.
-#[derive(Clone, Copy)]
+#[derive(Clone, Copy, Default)]
 struct Bounds {
     // The highest secondary weight of elements with a primary one.
     secondary: u16,
@@ -88,47 +84,19 @@ impl Bounds {
         ensures { result ≡ bounded self e }
     {
         let mut bounds = self;
-        if e.l1 != 0 && e.l2 > bounds.secondary {
-            bounds.secondary = e.l2;
+        if e.l1 != 0 {
+            bounds.secondary = bounds.secondary.max(e.l2);
         }
-        if (e.l1 != 0 || e.l2 != 0) && e.l3 > bounds.tertiary {
-            bounds.tertiary = e.l3;
+        if e.l1 != 0 || e.l2 != 0 {
+            bounds.tertiary = bounds.tertiary.max(e.l3);
         }
         if is_variable(e) {
             if bounds.lowest == 0 || e.l1 < bounds.lowest {
                 bounds.lowest = e.l1;
             }
-            if e.l1 > bounds.highest {
-                bounds.highest = e.l1;
-            }
+            bounds.highest = bounds.highest.max(e.l1);
         }
         bounds
-    }
-
-    // The bounds with those of more elements.
-    fn with_all(self, elements: &[Element]) -> Bounds
-        ensures { result ≡ fold bounded self elements.now }
-    {
-        let mut bounds = self;
-        for e in elements {
-            bounds = bounds.with(*e);
-        }
-        bounds
-    }
-
-    // A weight of the element has none at the levels before it, and is not above all that have one.
-    fn has_below(self, e: Element) -> bool
-        ensures { result ≡ is_below self e }
-    {
-        (e.l1 == 0 && e.l2 != 0 && e.l2 <= self.secondary)
-            || (e.l1 == 0 && e.l2 == 0 && e.l3 != 0 && e.l3 <= self.tertiary)
-    }
-
-    // The element is not variable, and lies between some that are.
-    fn has_inside(self, e: Element) -> bool
-        ensures { result ≡ is_inside self e }
-    {
-        !is_variable(e) && self.lowest != 0 && self.lowest <= e.l1 && e.l1 <= self.highest
     }
 
     // The element breaks one of the first four conditions.
@@ -136,10 +104,19 @@ impl Bounds {
         ensures { result ≡ is_against self condition e }
     {
         match condition {
-            WellFormed::WF1 => skips_a_level(e),
-            WellFormed::WF2 => self.has_below(e),
-            WellFormed::WF3 => is_marked_in_vain(e),
-            WellFormed::WF4 => self.has_inside(e),
+            WellFormed::WF1 => {
+                e.l1 < 0x8000 && ((e.l1 != 0 && e.l2 == 0) || (e.l2 != 0 && e.l3 == 0))
+            }
+            // A weight that has none at the levels before it is not above all that have one.
+            WellFormed::WF2 => {
+                (e.l1 == 0 && e.l2 != 0 && e.l2 <= self.secondary)
+                    || (e.l1 == 0 && e.l2 == 0 && e.l3 != 0 && e.l3 <= self.tertiary)
+            }
+            WellFormed::WF3 => e.starred && e.l1 == 0,
+            // It lies between two variable ones.
+            WellFormed::WF4 => {
+                !is_variable(e) && self.lowest != 0 && self.lowest <= e.l1 && e.l1 <= self.highest
+            }
             WellFormed::WF5 => false,
         }
     }
@@ -151,30 +128,13 @@ fn is_variable(e: Element) -> bool
     e.starred && e.l1 != 0
 }
 
-fn skips_a_level(e: Element) -> bool
-    ensures { result ≡ skips_a_level e }
-{
-    e.l1 < 0x8000 && ((e.l1 != 0 && e.l2 == 0) || (e.l2 != 0 && e.l3 == 0))
-}
-
-fn is_marked_in_vain(e: Element) -> bool
-    ensures { result ≡ is_marked_in_vain e }
-{
-    e.starred && e.l1 == 0
-}
-
 // The bounds of all elements of the table.
 fn bounds_of(t: &Table) -> Bounds
     ensures { result ≡ fold bounded unbounded (all_elements t.now) }
 {
-    let mut bounds = Bounds {
-        secondary: 0,
-        tertiary: 0,
-        lowest: 0,
-        highest: 0,
-    };
+    let mut bounds = Bounds::default();
     for (_, elements) in t.entries() {
-        bounds = bounds.with_all(elements);
+        bounds = elements.iter().fold(bounds, |bounds, e| bounds.with(*e));
     }
     bounds
 }

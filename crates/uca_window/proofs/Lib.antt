@@ -1,17 +1,6 @@
 pub mod RunScan
 pub mod SourceLemmas
-pub mod RunLemmas
 pub mod FormLemmas
-pub mod PlacedPoints
-pub mod SegmentLemmas
 pub mod WindowCalls
-pub mod FillingLemmas
 pub mod PassedCharacters
-pub mod PassedRuns
-pub mod PassedBytes
-pub mod PassedLanes
-pub mod AddedMarks
-pub mod SkippedRuns
-pub mod AsciiTexts
 pub mod Utf8Lanes
-pub mod Utf8Steps

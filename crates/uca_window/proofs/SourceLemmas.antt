@@ -3,7 +3,8 @@ use Rattle.std.proofs.Math.Seq.{take-append_seam, drop-append_seam}
 use Rattle.std.proofs.Common.{◌<◌, ◌≤◌, ◌++◌, take, suc, encode_utf8, length-append, append_assoc, ◌≡◌, ℕ, ◌+◌, ◌-◌, List, [], ◌∷◌, Option, Some, None, length, drop, chars, IsUtf8, MatchOption, refl, sym, ap, subst, ◌∙◌, arith}
 use Rattle.std.proofs.lemmas.List.{nil_from_length, drop-drop, take-append-drop, length-take, length-drop}
 use Rattle.std.specs.Str.Iter.{chars_steps_back}
-use Rattle.std.proofs.lemmas.Str.{chars-append}
+use Rattle.std.specs.Str.{IsCharBoundary}
+use Rattle.std.proofs.lemmas.Str.{chars-append, IsCharBoundary-from_take, IsUtf8-drop}
 use Rattle.std.specs.Str.Iter.{chars_rest, chars_steps}
 use Rattle.std.specs.declared.str.Chars.{Chars}
 use Rattle.std.proofs.lemmas.Str.{chars_past_char, chars-nil, IsUtf8-past_char}
@@ -12,78 +13,45 @@ use Rattle.uca_io.specs.Counts.{one_more}
 use Rattle.uca_window.specs.PassageSource.{state_at, Follows, StandsIn}
 use Rattle.std.proofs.lemmas.Grind.{common_steps}
 
--- what a call of `next` says about the characters that were left and are left
-abbrev GivesChar : List ℕ → Option ℕ → List ℕ → Type 0
-GivesChar left given rest = MatchOption given ((left ≡ []) × (rest ≡ left)) (λ c. left ≡ c ∷ rest)
-
--- the iterator over the bytes of a text gives its characters
-gives_char : (s t : Chars) (given : Option ℕ) → IsUtf8 (chars_rest s) → chars_steps s given t → GivesChar (chars (chars_rest s)) given (chars (chars_rest t))
-gives_char s t None text h = (ap chars (nil_from_length _ h.0.0) ∙ chars-nil, ap (λ u. chars (chars_rest u)) h.0.1)
-gives_char s t (Some c) text h = chars_past_char _ _ c text h.0
-
--- and leaves a text
-utf8_after : (s t : Chars) (given : Option ℕ) → IsUtf8 (chars_rest s) → chars_steps s given t → IsUtf8 (chars_rest t)
-utf8_after s t None text h = subst (λ u. IsUtf8 (chars_rest u)) (sym h.0.1) text
-utf8_after s t (Some c) text h = IsUtf8-past_char _ _ c text h.0
-
--- one character less is left, so the place is one further on
-place-next : (text left : List ℕ) (c : ℕ) (rest : List ℕ) → Follows text left → left ≡ c ∷ rest → length text - length rest ≡ (length text - length left) + 1
-place-next text left c rest h e = omega (arith, h.within, ap length e)
-
--- what is left after a character follows in the text
-follows-next : (text left : List ℕ) (c : ℕ) (rest : List ℕ) → Follows text left → left ≡ c ∷ rest → Follows text rest
-follows-next text left c rest h e =
+-- what is left after the first of what was left follows too
+follows-after : (text left front rest : List ℕ) → Follows text left → left ≡ front ++ rest → Follows text rest
+follows-after text left front rest h e =
+    let size : length left ≡ length front + length rest = ap length e ∙ length-append front rest in
+    let further : length text - length rest ≡ (length text - length left) + length front = omega (arith, h.within) in
     record {
-      within = omega (arith, h.within, ap length e);
+      within = omega (arith, h.within);
       follows =
-          ap (λ n. drop n text) (place-next text left c rest h e)
-          ∙ sym (drop-drop 1 (length text - length left) text) ∙ ap (drop 1) (h.follows ∙ e);
+          ap (λ n. drop n text) further ∙ sym (drop-drop (length front) (length text - length left) text)
+          ∙ ap (drop (length front)) (h.follows ∙ e) ∙ drop-append_seam front rest;
     }
-
--- the same after a call that may have met the end
-follows-given : (text left rest : List ℕ) (given : Option ℕ) → Follows text left → GivesChar left given rest → Follows text rest
-follows-given text left rest None h g = subst (Follows text) (sym g.1) h
-follows-given text left rest (Some c) h g = follows-next text left c rest h g
-
--- what the source states of the call
-next-given : (text left rest : List ℕ) (given : Option ℕ) → Follows text left → GivesChar left given rest
-    → MatchOption given ((drop (length text - length left) text ≡ []) × (length text - length rest ≡ length text - length left))
-    (λ c. (drop (length text - length left) text ≡ c ∷ drop (length text - length rest) text) × (length text - length rest ≡ (length text - length left) + 1))
-next-given text left rest None h g = (h.follows ∙ g.0, ap (λ l. length text - length l) g.1)
-next-given text left rest (Some c) h g =
-    (h.follows ∙ g ∙ ap (λ l. c ∷ l) (sym (follows-next text left c rest h g).follows), place-next text left c rest h g)
-
--- the bytes that are left after a call
-bytes-given : (text : List ℕ) (s t : Chars) (given : Option ℕ) → length (chars_rest s) ≤ length text → drop (length text - length (chars_rest s)) text ≡ chars_rest s → chars_steps s given t
-    → (length (chars_rest t) ≤ length text) × (drop (length text - length (chars_rest t)) text ≡ chars_rest t)
-bytes-given text s t None short bytes h = subst (λ u. (length (chars_rest u) ≤ length text) × (drop (length text - length (chars_rest u)) text ≡ chars_rest u)) (sym h.0.1) (short, bytes)
-bytes-given text s t (Some c) short bytes h =
-    let e : chars_rest s ≡ encode_utf8 c ++ chars_rest t = h.0 in
-    let size : length (chars_rest s) ≡ length (encode_utf8 c) + length (chars_rest t) = ap length e ∙ length-append (encode_utf8 c) (chars_rest t) in
-    let further : length text - length (chars_rest t) ≡ (length text - length (chars_rest s)) + length (encode_utf8 c) = omega (arith, short, size) in
-    (omega (arith, short, size), ap (λ n. drop n text) further ∙ sym (drop-drop (length (encode_utf8 c)) (length text - length (chars_rest s)) text) ∙ ap (drop (length (encode_utf8 c))) (bytes ∙ e) ∙ drop-append_seam (encode_utf8 c) (chars_rest t))
 
 -- the iterator after a call
 pub stands_next : (text : List ℕ) (s t : Chars) (given : Option ℕ) → StandsIn text (chars_rest s) → chars_steps s given t → StandsIn text (chars_rest t)
-stands_next text s t given h step =
+stands_next text s t None h step = subst (λ u. StandsIn text (chars_rest u)) (sym step.0.1) h
+stands_next text s t (Some c) h step =
+    let bytes = follows-after text (chars_rest s) (encode_utf8 c) (chars_rest t) (record { within = h.short; follows = h.bytes }) step.0 in
     record {
-      utf8 = utf8_after s t given h.utf8 step;
-      short = (bytes-given text s t given h.short h.bytes step).0;
-      bytes = (bytes-given text s t given h.short h.bytes step).1;
-      follows = follows-given _ _ _ given h.follows (gives_char s t given h.utf8 step);
+      utf8 = IsUtf8-past_char _ _ c h.utf8 step.0;
+      short = bytes.within;
+      bytes = bytes.follows;
+      follows = follows-after (chars text) (chars (chars_rest s)) (c ∷ []) (chars (chars_rest t)) h.follows (chars_past_char _ _ c h.utf8 step.0);
     }
+
+-- what the source states of the call
+value-next : (text : List ℕ) (s t : Chars) (given : Option ℕ) → StandsIn text (chars_rest s) → chars_steps s given t
+    → MatchOption given ((drop (length (chars text) - length (chars (chars_rest s))) (chars text) ≡ []) × (length (chars text) - length (chars (chars_rest t)) ≡ length (chars text) - length (chars (chars_rest s))))
+    (λ c. (drop (length (chars text) - length (chars (chars_rest s))) (chars text) ≡ c ∷ drop (length (chars text) - length (chars (chars_rest t))) (chars text)) × (length (chars text) - length (chars (chars_rest t)) ≡ (length (chars text) - length (chars (chars_rest s))) + 1))
+value-next text s t None h step =
+    (h.follows.follows ∙ ap chars (nil_from_length _ step.0.0) ∙ chars-nil, ap (λ u. length (chars text) - length (chars (chars_rest u))) step.0.1)
+value-next text s t (Some c) h step =
+    let is : chars (chars_rest s) ≡ c ∷ chars (chars_rest t) = chars_past_char _ _ c h.utf8 step.0 in
+    (h.follows.follows ∙ is ∙ ap (λ l. c ∷ l) (sym (stands_next text s t (Some c) h step).follows.follows), omega (arith, h.follows.within, ap length is))
 
 -- a call of the source, of which the iterator gave the next character
 pub gives_next : (text : List ℕ) (s t : Chars) (marked : List ℕ) (given : Option ℕ) (reads rewinds count : ℕ) → StandsIn text (chars_rest s) → chars_steps s given t → count ≡ one_more reads
     → GivesNext (state_at (chars text) (chars (chars_rest s)) marked reads rewinds) given (state_at (chars text) (chars (chars_rest t)) marked count rewinds)
 gives_next text s t marked given reads rewinds count h step counts =
-    record {
-      text = refl;
-      value = next-given _ _ _ given h.follows (gives_char s t given h.utf8 step);
-      mark = refl;
-      reads = counts;
-      rewinds = refl;
-    }
+    record { text = refl; value = value-next text s t given h step; mark = refl; reads = counts; rewinds = refl }
 
 -- ---- one character back
 
@@ -125,3 +93,17 @@ stands_back text rest front h utf8 back =
       bytes = ap (λ n. drop n text) at;
       follows = follows-bytes text front (drop (length front) text) (sym (take-append-drop (length front) text) ∙ ap (λ l. l ++ drop (length front) text) h.first) utf8;
     }
+
+-- a cut one character earlier
+pub record IsCutBack (text rest front : List ℕ) : Type 0 where
+  pub boundary : IsCharBoundary text (length front)
+  pub stands : StandsIn text (drop (length front) text)
+  pub one_more : length (chars (drop (length front) text)) ≡ length (chars rest) + 1
+
+pub cut_back : (text rest : List ℕ) (s t : Chars) (given : Option ℕ) (front : List ℕ) → StandsIn text rest → length (chars rest) < length (chars text) → chars_rest s ≡ take (length text - length rest) text → chars_steps_back s given t
+    → front ≡ chars_rest t → IsUtf8 text → IsUtf8 front → IsCutBack text rest front
+cut_back text rest s t given front stands some e h is utf8 before =
+    let back : StepsBack text rest front = subst (StepsBack text rest) (sym is) (steps_back text rest s t given stands some e h) in
+    let boundary = IsCharBoundary-from_take text (length front) utf8 back.within (subst IsUtf8 (sym back.first) before) in
+    let left = IsUtf8-drop text (length front) utf8 boundary in
+    record { boundary = boundary; stands = stands_back text rest front back before left; one_more = back.one_more left }

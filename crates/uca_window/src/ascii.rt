@@ -18,6 +18,7 @@ const WIDE: usize = 16;
 
 /// Which bytes of a block are not ASCII, each as a bit.
 #[inline(always)]
+#[tactic(auto, using(crate::proofs::Utf8Lanes::lane_steps))]
 fn others<const N: usize>(block: Simd<u8, N>) -> u64
     requires { N ≤ 64 }
     ensures { result ≡ mask_l (map (nat_le 0x80) block.entry) }

@@ -7,6 +7,7 @@ use std::alloc::{AllocError, Global};
 use unicode_normalization::slice;
 
 // The characters of a text.
+#[tactic(auto, using(std::proofs::lemmas::Str::chars_from_encodes))]
 pub(crate) fn chars_of(alloc: Global, text: &str) -> Result<Vec<char>, AllocError>
     ensures { IfOk result (λ v. v.items ≡ chars text.now) }
 {

@@ -252,6 +252,7 @@ fn run_after_char(count: usize, c: char) -> Option<usize>
 }
 
 /// How many nonstarters there are in a row at the end of the code points, unless some run is too long.
+#[tactic(auto, using(crate::proofs::RunScan::run_steps))]
 fn run_through(count: usize, points: &[char]) -> Option<usize>
     requires { count ≤ MAX_RUN }
     ensures count { IfSome result (λ n. n ≡ run_after count points.now) }

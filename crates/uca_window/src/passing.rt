@@ -116,10 +116,9 @@ fn passed_in(bytes: &[u8], at: usize) -> usize
 }
 
 /// How many bytes of a text come before the first that is a stop.
+#[tactic(auto, using(crate::proofs::PassedCharacters::passing_steps))]
 fn passed_len(bytes: &[u8]) -> usize
-    ensures within { result ≤ length bytes.now }
-    ensures passed { (k : ℕ) → k < result → is_stop (slice_index bytes.now k) ≡ false }
-    ensures stop { result < length bytes.now → is_stop (slice_index bytes.now result) ≡ true }
+    ensures { result ≡ prefix_len (λ b. not (is_stop b)) bytes.now }
 {
     // In scripts whose characters are not passed, most characters begin with a stop: no block is looked at for them.
     if !bytes.is_empty() && is_stop(bytes[0]) {
@@ -128,10 +127,10 @@ fn passed_len(bytes: &[u8]) -> usize
     let mut at = 0;
     while at + LANES <= bytes.len() {
         let passed = passed_in(bytes, at);
-        at += passed;
         if passed < LANES {
-            return at;
+            return at + passed;
         }
+        at += LANES;
     }
     while at < bytes.len() {
         if is_stop(bytes[at]) {
@@ -236,6 +235,7 @@ fn none_dense_at(bytes: &[u8], at: usize) -> bool
 /// Whether no byte of a text of one to three blocks is dense. Most texts that are longer than [`STRIDE`] are that short, and such
 /// a byte is rare.
 #[inline(always)]
+#[tactic(auto, using(crate::proofs::RunScan::counted_steps))]
 pub(crate) fn none_dense(bytes: &[u8]) -> bool
     requires some { LANES ≤ length bytes.now }
     requires few { length bytes.now ≤ 3 * LANES }

@@ -37,6 +37,7 @@ pub fn push_decomposed(points: &mut ArrayVec<char, ROOM>, closed: usize, c: char
 }
 
 // Puts a starter at the end of points in canonical order, where it closes the segment before it.
+#[tactic(auto, using(crate::proofs::FormLemmas::push_steps))]
 fn push_starter(points: &mut ArrayVec<char, ROOM>, point: char) -> usize
     requires room { array_vec_len points.old < ROOM }
     requires ordered { is_ordered points.old.items ≡ true }

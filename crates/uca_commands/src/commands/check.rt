@@ -1,6 +1,5 @@
-ghost use Rattle.std.specs.Prelude.{◌≡◌, ◌≤◌, ◌+◌, ◌++◌, ◌∷◌, [], length, decimal, IfErr, IfOk, MatchResult};
+ghost use Rattle.std.specs.Prelude.{◌≡◌, ◌≤◌, ◌+◌, ◌++◌, ◌∷◌, [], length, decimal, IfErr, IfOk};
 ghost use Rattle.uca_weights.specs.declared.limits.TheConstants.{MAX_INPUT};
-ghost use Rattle.uca_io.specs.Writer.{WritesAll, WritesFront};
 ghost use Rattle.uca_model.specs.Lines.{line_feed};
 ghost use Rattle.uca_model.specs.TestFile.{failure_text, report_text};
 ghost use Rattle.uca_commands.specs.Commands.{Does, Fails, check_command};
@@ -11,7 +10,7 @@ use arrayvec::ArrayVec;
 use itoa::Buffer;
 use uca_conform::{Conformance, conform};
 use uca_table::Table;
-use uca_weights::{Reader, Settings, WriteFault, Writer, write_whole};
+use uca_weights::{Reader, Settings, Writer, write_whole};
 
 /// A buffer for a report: three names, and numbers of at most twenty digits.
 const REPORT: usize = 96;
@@ -61,15 +60,6 @@ fn report_text(report: Conformance) -> ArrayVec<u8, REPORT>
     text
 }
 
-/// Writes the three numbers, each as a line.
-fn write_report<W: Writer>(report: Conformance, w: &mut W) -> Result<(), WriteFault>
-    ensures { MatchResult result
-        (λ _. WritesAll (W.state w.old) (W.state w.new) (report_text (report_in report)))
-        (WritesFront (W.state w.old) (W.state w.new) (report_text (report_in report))) }
-{
-    write_whole(w, report_text(report).as_slice())
-}
-
 /// Reads a test file, and writes how a table sorts it. Returns the exit status: 1 where a line fails, and otherwise 0. It does not
 /// allocate.
 pub fn run<I: Reader, W: Writer>(
@@ -87,6 +77,6 @@ pub fn run<I: Reader, W: Writer>(
     ensures calls { I.calls input.new ≤ I.calls input.old + (MAX_INPUT + 1) }
 {
     let report = conform(t, s, input)?;
-    write_report(report, output)?;
+    write_whole(output, report_text(report).as_slice())?;
     Ok(u8::from(report.first_failure.is_some()))
 }

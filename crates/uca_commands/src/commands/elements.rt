@@ -26,6 +26,5 @@ pub fn run<I: Reader, W: Writer>(
     ensures calls { I.calls input.new ≤ I.calls input.old + (MAX_INPUT + 1) }
 {
     let bytes = read_text_lines(alloc, input)?;
-    write_lines(alloc, LineForm::Elements, t, s, &bytes, output)?;
-    Ok(0)
+    write_lines(alloc, LineForm::Elements, t, s, &bytes, output)
 }

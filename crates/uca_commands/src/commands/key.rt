@@ -32,8 +32,7 @@ pub fn run<I: Reader, W: Writer>(
     ensures calls { I.calls input.new ≤ I.calls input.old + (MAX_INPUT + 1) }
 {
     let bytes = read_text_lines(alloc, input)?;
-    write_lines(alloc, LineForm::Key, t, s, &bytes, output)?;
-    Ok(0)
+    write_lines(alloc, LineForm::Key, t, s, &bytes, output)
 }
 
 /// Writes the sort key of the one line of an input, which was checked. It does not allocate.

@@ -1,17 +1,17 @@
-ghost use Rattle.std.specs.Prelude.{◌≡◌, ◌+◌, ◌*◌, ◌^◌, ◌<◌, ◌≤◌, length, flat_map, map, IfOk, MatchResult, OnOk, ℕ, List, [], IfErr};
-ghost use Rattle.uca_io.specs.OutputBuffer.{accepted, Accepts, FailsPartway};
-ghost use Rattle.uca_io.specs.Writer.{WritesAll, WritesFront};
-ghost use Rattle.uca_model.specs.WellFormed.{lint_output};
+ghost use Rattle.std.specs.Prelude.{◌≡◌, ◌*◌, ◌≤◌, length, flat_map, map, IfErr, IfOk};
 ghost use Rattle.uca_table.specs.Bounds.{condition_of};
-ghost use Rattle.uca_commands.specs.Commands.{lint_status, Does, Fails, lint_command};
+ghost use Rattle.uca_commands.specs.Commands.{Does, Fails, lint_command};
 ghost use Rattle.uca_commands.specs.Sending.{finding_line};
 ghost use Rattle.uca_io.specs.Reader.{ReaderState};
 ghost use Rattle.uca_weights.specs.declared.settings.Settings.{Settings};
 
 use crate::faults::CliFault;
-use uca_io::OutputBuffer;
+use arrayvec::ArrayVec;
 use uca_table::{Table, WellFormed, lint};
-use uca_weights::{WriteFault, Writer};
+use uca_weights::{Writer, write_whole};
+
+/// A buffer for the lines of all five conditions.
+const FINDINGS: usize = 20;
 
 /// The line of a condition that a table breaks.
 fn finding(condition: WellFormed) -> &'static [u8]
@@ -27,37 +27,16 @@ fn finding(condition: WellFormed) -> &'static [u8]
     }
 }
 
-/// Writes the lines of some conditions to a buffer.
-fn send_findings<W: Writer>(
-    w: &mut W,
-    out: &mut OutputBuffer,
-    broken: &[WellFormed],
-) -> Result<(), WriteFault>
-    requires { accepted out.old + 4 * length broken.now < 2 ^ 128 }
-    ensures sends { MatchResult result
-        (λ _. Accepts (W.state w.old) out.old (W.state w.new) out.new (flat_map finding_line (map condition_of broken.now)))
-        (λ f. FailsPartway (W.state w.old) out.old (W.state w.new) (flat_map finding_line (map condition_of broken.now)) f) }
-    ensures small { OnOk result (accepted out.new ≤ accepted out.old + 4 * length broken.now) }
+/// The lines of some conditions, each four bytes long.
+fn findings_text(broken: &[WellFormed]) -> ArrayVec<u8, FINDINGS>
+    requires { 4 * length broken.now ≤ 20 }
+    ensures { result.items ≡ flat_map finding_line (map condition_of broken.now) }
 {
+    let mut text: ArrayVec<u8, FINDINGS> = ArrayVec::new();
     for condition in broken {
-        out.write(w, finding(*condition))?;
+        text.try_extend_from_slice(finding(*condition)).unwrap();
     }
-    Ok(())
-}
-
-/// Writes which conditions a table breaks, each as a line, and returns 1 where there are any.
-pub(crate) fn write_findings<W: Writer>(t: &Table, w: &mut W) -> Result<u8, WriteFault>
-    ensures writes { MatchResult result
-        (λ _. WritesAll (W.state w.old) (W.state w.new) (lint_output t.now))
-        (WritesFront (W.state w.old) (W.state w.new) (lint_output t.now)) }
-    ensures status { IfOk result (λ status. status ≡ lint_status t.now) }
-{
-    let found = lint(t);
-    let broken = found.as_slice();
-    let mut out = OutputBuffer::new();
-    send_findings(w, &mut out, broken)?;
-    out.flush(w)?;
-    Ok(u8::from(!broken.is_empty()))
+    text
 }
 
 /// Writes which conditions the table breaks. It has no input. Returns the exit status: 1 where there are any, and otherwise 0.
@@ -69,5 +48,8 @@ pub fn run<W: Writer>(t: &Table, output: &mut W) -> Result<u8, CliFault>
         (record { input = input; output = W.state output.old })
         (record { input = input; output = W.state output.new })) }
 {
-    Ok(write_findings(t, output)?)
+    let found = lint(t);
+    let broken = found.as_slice();
+    write_whole(output, findings_text(broken).as_slice())?;
+    Ok(u8::from(!broken.is_empty()))
 }

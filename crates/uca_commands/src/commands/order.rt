@@ -1,11 +1,11 @@
 ghost use Rattle.std.specs.Prelude.{◌≡◌, ◌+◌, ◌^◌, ◌<◌, ◌≤◌, ◌++◌, ◌∷◌, [], length, map, All, IfOk, OnOk, MatchResult, IfErr};
+ghost use Rattle.std.specs.List.{range_with_len};
 ghost use Rattle.uca_io.specs.OutputBuffer.{accepted, Accepts, FailsPartway};
 ghost use Rattle.uca_io.specs.Writer.{WritesAll, WritesFront};
 ghost use Rattle.uca_weights.specs.declared.limits.TheConstants.{MAX_INPUT};
 ghost use Rattle.uca_model.specs.Lines.{line_feed, lines_of, IsTextLine};
 ghost use Rattle.uca_model.specs.OrderOutput.{text_of_lines};
-ghost use Rattle.uca_commands.specs.KeyPieces.{pieces};
-ghost use Rattle.uca_commands.specs.KeyedLines.{key_of, line_of};
+ghost use Rattle.uca_commands.specs.KeyedLines.{line_of, numbered};
 ghost use Rattle.uca_commands.specs.LinePlaces.{line_at};
 ghost use Rattle.uca_commands.specs.Ordering.{AreKeys, Orders, RefusesOrder, StopsInOrder, WritesInOrder};
 ghost use Rattle.uca_commands.specs.Commands.{Does, Fails, order_command};
@@ -33,7 +33,8 @@ struct LineKeys {
 /// Where the lines of an input lie.
 fn line_places(alloc: Global, bytes: &[u8]) -> Result<Vec<LinePlace>, AllocError>
     requires { length bytes.now ≤ MAX_INPUT }
-    ensures { IfOk result (λ v. map (line_at bytes.now) v.items ≡ lines_of bytes.now) }
+    ensures lines { IfOk result (λ v. map (line_at bytes.now) v.items ≡ lines_of bytes.now) }
+    ensures few { IfOk result (λ v. length v.items ≤ length bytes.now) }
 {
     let mut places = Vec::new(alloc);
     let mut left = bytes;
@@ -74,14 +75,12 @@ fn keys_of(
     Ok(keys)
 }
 
-/// The lines of an input, each with its key, in the order that they have.
-fn keyed_lines(alloc: Global, of: &KeyedLines<'_>) -> Result<Vec<KeyedLine>, AllocError>
-    requires { length of.now.ends.now ≡ length of.now.places.now }
-    ensures keys { IfOk result (λ v. map (key_of of.now) v.items ≡ pieces of.now.ends.now of.now.keys.now 0) }
-    ensures lines { IfOk result (λ v. map (line_of of.now) v.items ≡ map (line_at of.now.input.now) of.now.places.now) }
+/// As many lines, numbered from 0.
+fn numbered_lines(alloc: Global, count: usize) -> Result<Vec<KeyedLine>, AllocError>
+    ensures { IfOk result (λ v. v.items ≡ map numbered (range_with_len 0 count)) }
 {
-    let mut lines = Vec::with_capacity(alloc, of.places.len())?;
-    for number in 0..of.places.len() {
+    let mut lines = Vec::with_capacity(alloc, count)?;
+    for number in 0..count {
         lines.push(KeyedLine { front: 0, number })?;
     }
     Ok(lines)
@@ -106,10 +105,9 @@ fn send_bytes<W: Writer>(w: &mut W, out: &mut OutputBlock, bytes: &[u8]) -> Resu
 /// Writes a line to a block of output, with LF.
 fn send_line<W: Writer>(w: &mut W, out: &mut OutputBlock, line: &[u8]) -> Result<(), WriteFault>
     requires { accepted out.old < 2 ^ 127 }
-    ensures sends { MatchResult result
+    ensures { MatchResult result
         (λ _. Accepts (W.state w.old) out.old (W.state w.new) out.new (line.now ++ line_feed ∷ []))
         (λ f. FailsPartway (W.state w.old) out.old (W.state w.new) (line.now ++ line_feed ∷ []) f) }
-    ensures small { OnOk result (accepted out.new < accepted out.old + 2 ^ 70) }
 {
     send_bytes(w, out, line)?;
     out.write(w, b"\n")
@@ -151,15 +149,16 @@ pub fn write_in_order<W: Writer>(
     if bytes.is_empty() {
         return Ok(0);
     }
-    let places = line_places(alloc, bytes)?;
-    let keys = keys_of(alloc, t, s, bytes, &places)?;
+    let places_kept = line_places(alloc, bytes)?;
+    let places = places_kept.as_slice();
+    let keys = keys_of(alloc, t, s, bytes, places)?;
     let of = KeyedLines {
         input: bytes,
-        places: &places,
+        places,
         keys: &keys.bytes,
         ends: &keys.ends,
     };
-    let mut sorted = keyed_lines(alloc, &of)?;
+    let mut sorted = numbered_lines(alloc, places.len())?;
     let lines = sorted.as_mut_slice();
     sort_lines(alloc, &of, lines)?;
     write_keyed(&of, lines, w)?;

@@ -1,11 +1,11 @@
-use Rattle.std.proofs.Common.{◌≡◌, ℕ, ◌<◌, drop, get_or, map}
-use Rattle.uca_commands.specs.KeyFronts.{IsFront}
-use Rattle.uca_commands.specs.KeyedLines.{key_of, keyed}
-use Rattle.uca_commands.specs.declared.keyed_line.KeyedLine.{KeyedLine}
+use Rattle.std.proofs.Common.{◌≡◌, map}
+use Rattle.std.specs.List.{AllWithin}
+use Rattle.uca_commands.specs.KeyedLines.{number_of}
+use Rattle.uca_commands.specs.LineSorting.{ShowsFront}
 use Rattle.uca_commands.proofs.line_sort.take_fronts.Given as goal
 
 abbrev pub invariant-loop-at : goal.invariant-loop-at
 invariant-loop-at l = record {
-  same : map (keyed l.of) l.lines ≡ map (keyed l.of) l.initial.lines;
-  fronts : (k : ℕ) (d : KeyedLine) → k < l.at → IsFront 8 (drop l.depth (key_of l.of (get_or l.lines k d))) (get_or l.lines k d).front;
+  same : map number_of l.lines ≡ map number_of l.initial.lines;
+  fronts : AllWithin (ShowsFront l.of l.depth) l.lines 0 l.at;
 }

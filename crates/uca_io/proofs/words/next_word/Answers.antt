@@ -1,17 +1,16 @@
 use Rattle.std.proofs.Common.{◌≡◌, ◌<◌, ◌≤◌, ◌∷◌, ◌++◌, length, take, take-append-drop, arith, sym, subst, ap, ◌∙◌, List, ℕ}
-use Rattle.std.proofs.lemmas.List.{length-take}
+use Rattle.std.proofs.lemmas.List.{length-take, nil_from_length}
 use Rattle.std.proofs.lemmas.Bool.Decides.{nat_tests}
 use Rattle.std.specs.List.{position_or_len}
 use Rattle.uca_io.specs.Words.{words, is_blank}
-use Rattle.uca_io.proofs.WordLemmas.{words-skip, words-first, skip-first, length-skip, nil_from_empty}
+use Rattle.uca_io.proofs.WordLemmas.{words-skip, words-first, skip-first, length-skip}
 use Rattle.uca_io.proofs.words.next_word.Goals as goal
 
 pub returns-then-is_empty-clause-words : goal.returns-then-is_empty-clause-words
 returns-then-is_empty-clause-words c =
     let text = c.args.text.now in
     let rest = c.skip_blanks-rest.result.now in
-    let none : length rest ≤ 0 = grind (arith, nat_tests) in
-    sym (words-skip text) ∙ ap words (sym c.skip_blanks-rest.ensures ∙ nil_from_empty rest none)
+    sym (words-skip text) ∙ ap words (sym c.skip_blanks-rest.ensures ∙ nil_from_length rest (grind (arith, nat_tests)))
 
 pub returns-clause-words : goal.returns-clause-words
 returns-clause-words c =

@@ -1,5 +1,4 @@
-use Rattle.std.proofs.Common.{◌≡◌, ◌≤◌, length, take}
-use Rattle.uca_model.specs.Prefix.{end_of_prefix}
+use Rattle.uca_key.proofs.Common.{◌≡◌, ◌≤◌, length, take, end_of_prefix}
 use Rattle.uca_key.proofs.bounds.end_of_prefix.Given as goal
 
 abbrev pub invariant-loop-n : goal.invariant-loop-n

@@ -1,14 +1,8 @@
-use Rattle.std.proofs.Common.{rules, arith, ◌≡◌, []}
-use Rattle.std.proofs.lemmas.List.{nil_from_length}
-use Rattle.std.proofs.lemmas.Str.{chars-nil}
-use Rattle.unicode_normalization.proofs.FormsLemmas.{normalize-nil}
-use Rattle.uca_weights.specs.Settings.{levels}
-use Rattle.uca_weights.specs.declared.settings.Settings.{Settings}
+use Rattle.uca_key.proofs.Common.{rules, arith, ◌≡◌, [], nil_from_length, chars-nil, levels, Settings, ElementTable, common_steps}
 use Rattle.uca_model.specs.CollationElements.{matches_within}
 use Rattle.uca_model.specs.SortKey.{sort_key}
-use Rattle.uca_model.specs.Table.{ElementTable}
+use Rattle.unicode_normalization.proofs.FormsLemmas.{normalize-nil}
 use Rattle.uca_key.proofs.keys.key_of.Goals as goal
-use Rattle.std.proofs.lemmas.Grind.{common_steps}
 
 -- the key of no text at one level
 no_key : (t : ElementTable) (s : Settings) → levels s.strength ≡ 1 → sort_key t s [] ≡ []

@@ -1,8 +1,4 @@
-use Rattle.std.proofs.Common.{rules, arith, sym, subst, ap, ◌∙◌}
-use Rattle.std.proofs.lemmas.List.{take_more}
-use Rattle.uca_model.specs.SortKey.{level_bytes}
-use Rattle.uca_key.specs.Placing.{PutsAt}
-use Rattle.uca_key.specs.Weighing.{all_own}
+use Rattle.uca_key.proofs.Common.{rules, arith, sym, subst, ap, ◌∙◌, take_more, level_bytes, PutsAt, all_own}
 use Rattle.uca_key.proofs.PlacingLemmas.{PutsAt-more}
 use Rattle.uca_key.proofs.WeighingLemmas.{own_bytes-both}
 use Rattle.uca_key.proofs.level_bytes.put_each.Goals as goal

@@ -1,7 +1,4 @@
-use Rattle.std.proofs.Common.{take, ◌+◌, ◌-◌, ◌*◌, ◌≤◌, length}
-use Rattle.uca_model.specs.SortKey.{level_bytes}
-use Rattle.uca_key.specs.Placing.{PutsAt}
-use Rattle.uca_key.specs.Weighing.{all_own}
+use Rattle.uca_key.proofs.Common.{take, ◌+◌, ◌-◌, ◌*◌, ◌≤◌, length, level_bytes, PutsAt, all_own}
 use Rattle.uca_key.proofs.level_bytes.put_each.Given as goal
 
 -- the bytes of the elements so far are put, and those of the others fit

@@ -1,4 +1,4 @@
-use Rattle.std.proofs.Common.{rules}
+use Rattle.uca_key.proofs.Common.{rules}
 use Rattle.uca_key.proofs.PlacingLemmas.{PutsAt-pair}
 use Rattle.uca_key.proofs.level_bytes.put_pair.Goals as goal
 

@@ -1,7 +1,4 @@
-use Rattle.std.proofs.Common.{take}
-use Rattle.uca_model.specs.SortKey.{level_bytes}
-use Rattle.uca_key.specs.Placing.{PutsAt}
-use Rattle.uca_key.specs.Weighing.{all_own}
+use Rattle.uca_key.proofs.Common.{take, level_bytes, PutsAt, all_own}
 use Rattle.uca_key.proofs.level_bytes.put_some_level.Given as goal
 
 -- the bytes of the elements so far are put

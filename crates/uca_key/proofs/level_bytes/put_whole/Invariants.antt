@@ -1,7 +1,4 @@
-use Rattle.std.proofs.Common.{◌+◌, ◌*◌, ◌≤◌, length}
-use Rattle.uca_model.specs.SortKey.{level_bytes}
-use Rattle.uca_key.specs.Placing.{IsPutting}
-use Rattle.uca_key.specs.Weighing.{all_own}
+use Rattle.uca_key.proofs.Common.{◌+◌, ◌*◌, ◌≤◌, length, level_bytes, IsPutting, all_own}
 use Rattle.uca_key.proofs.level_bytes.put_whole.Given as goal
 
 -- the bytes of some elements are put, and those of the others fit

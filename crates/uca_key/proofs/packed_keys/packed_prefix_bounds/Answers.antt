@@ -1,7 +1,5 @@
-use Rattle.std.proofs.Common.{All, chars, sym, ap, subst, ◌∙◌}
-use Rattle.std.specs.Char.{IsScalar}
+use Rattle.uca_key.proofs.Common.{All, chars, sym, ap, subst, ◌∙◌, IsScalar, end_of_prefix}
 use Rattle.uca_levels.proofs.WithoutFront.{scalars-text}
-use Rattle.uca_model.specs.Prefix.{end_of_prefix}
 use Rattle.uca_window.specs.Passage.{text_of}
 use Rattle.uca_key.proofs.PackedBounds.{packed_exactly, packed_longer}
 use Rattle.uca_key.proofs.packed_keys.packed_prefix_bounds.Goals as goal

@@ -1,8 +1,4 @@
-use Rattle.std.proofs.Common.{◌≡◌, ◌+◌, ◌-◌, ◌≤◌, chars, length}
-use Rattle.unicode_normalization.specs.Forms.{nfd}
-use Rattle.uca_key.specs.Pieces.{weights_of}
-use Rattle.uca_key.specs.Placing.{IsPutting}
-use Rattle.uca_key.specs.PackedKey.{later_levels}
+use Rattle.uca_key.proofs.Common.{◌+◌, ◌-◌, ◌≤◌, chars, nfd, weights_of, IsPutting, later_levels}
 use Rattle.uca_key.proofs.packed_levels.put_blank_levels.Given as goal
 
 -- the levels up to one were put
@@ -10,7 +6,6 @@ abbrev pub invariant-levels : goal.invariant-levels
 invariant-levels l = record {
   first : 1 ≤ l.level;
   last : l.level ≤ l.last;
-  size : length l.out ≡ length l.fn.out;
   putting : IsPutting l.fn.at l.fn.out l.next l.out (later_levels (l.last - 1) 2 (weights_of l.reading) (nfd (chars l.reading.text.now))) (later_levels (l.last - l.level) (l.level + 1) (weights_of l.reading) (nfd (chars l.reading.text.now)));
 }
 

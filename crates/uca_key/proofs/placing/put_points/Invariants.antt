@@ -1,10 +1,6 @@
-use Rattle.std.proofs.Common.{◌≡◌, length, flat_map}
-use Rattle.uca_model.specs.LevelWeights.{level_list}
-use Rattle.uca_model.specs.DecidingLevel.{bytes_at}
-use Rattle.uca_model.specs.SortKey.{code_point_bytes}
+use Rattle.uca_key.proofs.Common.{◌≡◌, length, flat_map, level_list, bytes_at, code_point_bytes, IsPutting}
 use Rattle.uca_model.specs.Source.{unread}
 use Rattle.uca_model.specs.Window.{Fits, rest_of}
-use Rattle.uca_key.specs.Placing.{IsPutting}
 use Rattle.uca_key.proofs.placing.put_points.Given as goal
 
 abbrev pub invariant-each : goal.invariant-each

@@ -1,6 +1,4 @@
-use Rattle.std.proofs.Common.{◌==◌, ◌&&◌, ◌∙◌, ℕ, List, map, sym, ap, arith, w32}
-use Rattle.std.proofs.lemmas.Simd.{bitmask_splat}
-use Rattle.std.specs.Simd.Lanes.{mask_l}
+use Rattle.uca_key.proofs.Common.{◌==◌, ◌&&◌, ◌∙◌, ℕ, List, map, sym, ap, arith, w32, bitmask_splat, mask_l}
 use Rattle.uca_key.proofs.MaskLemmas.{nothing-asked}
 use Rattle.uca_key.proofs.runs.blanks.Goals as goal
 

@@ -1,4 +1,4 @@
-use Rattle.std.proofs.Common.{arith}
+use Rattle.uca_key.proofs.Common.{arith}
 use Rattle.uca_key.proofs.MaskLemmas.{low-zeros}
 use Rattle.uca_key.proofs.runs.count_run.Goals as goal
 

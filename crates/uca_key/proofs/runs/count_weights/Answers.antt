@@ -1,5 +1,4 @@
-use Rattle.std.proofs.Common.{◌≤◌, ◌%◌, ℕ, count_ones, sym, subst, arith}
-use Rattle.std.proofs.lemmas.Nat.{one_shl}
+use Rattle.uca_key.proofs.Common.{◌≤◌, ◌%◌, ℕ, count_ones, sym, subst, arith, one_shl}
 use Rattle.uca_key.proofs.MaskLemmas.{ones-few}
 use Rattle.uca_key.proofs.runs.count_weights.Goals as goal
 

@@ -1,5 +1,4 @@
-use Rattle.std.proofs.Common.{arith}
-use Rattle.std.proofs.lemmas.Bool.Decides.{nat_tests}
+use Rattle.uca_key.proofs.Common.{arith, nat_tests}
 use Rattle.uca_key.proofs.MaskLemmas.{low-zeros}
 use Rattle.uca_key.proofs.runs.is_one_run.Goals as goal
 

@@ -1,9 +1,6 @@
-use Rattle.std.proofs.Common.{arith, Bool}
-use Rattle.uca_weights.specs.declared.settings.Variable.TheVariants.{NonIgnorable}
-use Rattle.uca_key.specs.Runs.{is_blank}
+use Rattle.uca_key.proofs.Common.{arith, Bool, NonIgnorable, is_blank, common_steps}
 use Rattle.uca_key.proofs.MaskLemmas.{blank-second, blank-third, blanks-fewer, parts-marked}
 use Rattle.uca_key.proofs.runs.later_marks.Goals as goal
-use Rattle.std.proofs.lemmas.Grind.{common_steps}
 
 pub overflow_sub-result : goal.overflow_sub-result
 overflow_sub-result c =
@@ -15,8 +12,5 @@ overflow_sub-result-2 c =
     let asked : Bool = c.args.asked in let masks = c.later_masks-second.ensures in
     blanks-fewer NonIgnorable 3 (is_blank asked) c.args.elements.now _ _ (blank-third NonIgnorable asked) (masks.third NonIgnorable) masks.none
 
-pub returns-clause-second : goal.returns-clause-second
-returns-clause-second c v = grind (arith, common_steps, parts-marked, blank-second)
-
-pub returns-clause-third : goal.returns-clause-third
-returns-clause-third c v = grind (arith, common_steps, parts-marked, blank-third)
+pub returns : goal.returns
+returns c = record { second = λ v. grind (arith, common_steps, parts-marked, blank-second); third = λ v. grind (arith, common_steps, parts-marked, blank-third) }

@@ -1,14 +1,6 @@
-use Rattle.std.proofs.Common.{◌==◌, ◌&&◌, Bool, ap, not, ◌+◌, ◌*◌, ◌-◌, ◌^◌, ◌≤◌, ◌<◌, ℕ, List, drop, refl, arith}
-use Rattle.std.proofs.lemmas.List.{length-drop}
-use Rattle.uca_weights.specs.declared.element.Element.{Element}
-use Rattle.uca_weights.specs.declared.settings.Variable.TheVariants.{NonIgnorable}
-use Rattle.uca_key.specs.Runs.{is_blank, is_other}
-use Rattle.uca_key.proofs.MaskLemmas.{blank-weights, block, mask-lanes, mask-none, mask-small}
+use Rattle.uca_key.proofs.Common.{◌==◌, ◌&&◌, Bool, ap, not, ◌+◌, ◌*◌, ◌≤◌, ℕ, List, refl, arith, Element, NonIgnorable, is_blank, is_other}
+use Rattle.uca_key.proofs.MaskLemmas.{blank-weights, block, mask-fits, mask-lanes, mask-room}
 use Rattle.uca_key.proofs.runs.later_masks.Goals as goal
-use Rattle.std.proofs.lemmas.Grind.{common_steps}
-
-pub each-init : goal.each-init
-each-init c = grind (arith, common_steps, mask-none)
 
 pub each-preserved : goal.each-preserved
 each-preserved c =
@@ -23,49 +15,25 @@ each-preserved c =
     }
 
 pub overflow_mul-second : goal.overflow_mul-second
-overflow_mul-second c =
-    let es : List Element = c.args.elements.now in let i = c.each.invariant in
-    let small : c.each.second < 2 ^ 48 = mask-small (is_other NonIgnorable 2) (drop c.each.n es) c.each.second 48 (omega (arith, length-drop c.each.n es, c.requires.few, block c.each.n c.each-test.true i.whole)) (i.second NonIgnorable) in
-    record { fits = omega (arith, small) }
+overflow_mul-second c = record { fits = mask-room (is_other NonIgnorable 2) c.each.n c.args.elements.now _ (block c.each.n c.each-test.true c.each.invariant.whole) c.requires.few (c.each.invariant.second NonIgnorable) }
 
 pub overflow_add-second : goal.overflow_add-second
 overflow_add-second c =
-    let es : List Element = c.args.elements.now in let i = c.each.invariant in
-    let some : 16 ≤ c.each.n = block c.each.n c.each-test.true i.whole in
-    record {
-      fits =
-          mask-small (is_other NonIgnorable 2) (drop (c.each.n - 16) es) _ 64 (omega (arith, length-drop (c.each.n - 16) es, c.requires.few))
-          (mask-lanes (is_other NonIgnorable 2) (λ e. e.l2) (λ (w : ℕ). not (w == 32)) (λ e. refl) c.each.n es c.each.second c.second_others.result _ some i.within (i.second NonIgnorable) c.later_weights_at-weights.ensures.second c.second_others.ensures);
-    }
+    let some : 16 ≤ c.each.n = block c.each.n c.each-test.true c.each.invariant.whole in
+    record { fits = mask-fits (is_other NonIgnorable 2) (λ e. e.l2) (λ (w : ℕ). not (w == 32)) (λ e. refl) c.each.n c.args.elements.now c.each.second _ _ some c.each.invariant.within c.requires.few (c.each.invariant.second NonIgnorable) c.later_weights_at-weights.ensures.second c.second_others.ensures }
 
 pub overflow_mul-third : goal.overflow_mul-third
-overflow_mul-third c =
-    let es : List Element = c.args.elements.now in let i = c.each.invariant in
-    let small : c.each.third < 2 ^ 48 = mask-small (is_other NonIgnorable 3) (drop c.each.n es) c.each.third 48 (omega (arith, length-drop c.each.n es, c.requires.few, block c.each.n c.each-test.true i.whole)) (i.third NonIgnorable) in
-    record { fits = omega (arith, small) }
+overflow_mul-third c = record { fits = mask-room (is_other NonIgnorable 3) c.each.n c.args.elements.now _ (block c.each.n c.each-test.true c.each.invariant.whole) c.requires.few (c.each.invariant.third NonIgnorable) }
 
 pub overflow_add-third : goal.overflow_add-third
 overflow_add-third c =
-    let es : List Element = c.args.elements.now in let i = c.each.invariant in
-    let some : 16 ≤ c.each.n = block c.each.n c.each-test.true i.whole in
-    record {
-      fits =
-          mask-small (is_other NonIgnorable 3) (drop (c.each.n - 16) es) _ 64 (omega (arith, length-drop (c.each.n - 16) es, c.requires.few))
-          (mask-lanes (is_other NonIgnorable 3) (λ e. e.l3) (λ (w : ℕ). not (w == 2)) (λ e. refl) c.each.n es c.each.third c.third_others.result _ some i.within (i.third NonIgnorable) c.later_weights_at-weights.ensures.third c.third_others.ensures);
-    }
+    let some : 16 ≤ c.each.n = block c.each.n c.each-test.true c.each.invariant.whole in
+    record { fits = mask-fits (is_other NonIgnorable 3) (λ e. e.l3) (λ (w : ℕ). not (w == 2)) (λ e. refl) c.each.n c.args.elements.now c.each.third _ _ some c.each.invariant.within c.requires.few (c.each.invariant.third NonIgnorable) c.later_weights_at-weights.ensures.third c.third_others.ensures }
 
 pub overflow_mul-none : goal.overflow_mul-none
-overflow_mul-none c =
-    let es : List Element = c.args.elements.now in let i = c.each.invariant in
-    let small : c.each.none < 2 ^ 48 = mask-small (is_blank c.args.asked) (drop c.each.n es) c.each.none 48 (omega (arith, length-drop c.each.n es, c.requires.few, block c.each.n c.each-test.true i.whole)) i.none in
-    record { fits = omega (arith, small) }
+overflow_mul-none c = record { fits = mask-room (is_blank c.args.asked) c.each.n c.args.elements.now _ (block c.each.n c.each-test.true c.each.invariant.whole) c.requires.few c.each.invariant.none }
 
 pub overflow_add-none : goal.overflow_add-none
 overflow_add-none c =
-    let asked : Bool = c.args.asked in let es : List Element = c.args.elements.now in let i = c.each.invariant in
-    let some : 16 ≤ c.each.n = block c.each.n c.each-test.true i.whole in
-    record {
-      fits =
-          mask-small (is_blank asked) (drop (c.each.n - 16) es) _ 64 (omega (arith, length-drop (c.each.n - 16) es, c.requires.few))
-          (mask-lanes (is_blank asked) (λ e. e.l2 + 65536 * e.l3) (λ (w : ℕ). asked && (w == 0)) (λ e. ap (λ b. asked && b) (blank-weights e.l2 e.l3)) c.each.n es c.each.none c.blanks.result _ some i.within i.none c.later_weights_at-weights.ensures.both c.blanks.ensures);
-    }
+    let some : 16 ≤ c.each.n = block c.each.n c.each-test.true c.each.invariant.whole in
+    record { fits = mask-fits (is_blank c.args.asked) (λ e. e.l2 + 65536 * e.l3) (λ (w : ℕ). c.args.asked && (w == 0)) (λ e. ap (λ b. c.args.asked && b) (blank-weights e.l2 e.l3)) c.each.n c.args.elements.now c.each.none _ _ some c.each.invariant.within c.requires.few c.each.invariant.none c.later_weights_at-weights.ensures.both c.blanks.ensures }

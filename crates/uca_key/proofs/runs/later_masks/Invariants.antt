@@ -1,7 +1,4 @@
-use Rattle.std.proofs.Common.{◌≡◌, ◌%◌, ◌≤◌, drop, length, map}
-use Rattle.std.specs.Simd.Lanes.{mask_l}
-use Rattle.uca_weights.specs.declared.settings.Variable.{Variable}
-use Rattle.uca_key.specs.Runs.{is_blank, is_other}
+use Rattle.uca_key.proofs.Common.{◌≡◌, ◌%◌, ◌≤◌, drop, length, map, mask_l, Variable, is_blank, is_other}
 use Rattle.uca_key.proofs.runs.later_masks.Given as goal
 
 -- the masks of the blocks that were looked at, from the last

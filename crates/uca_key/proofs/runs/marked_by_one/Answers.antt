@@ -1,4 +1,4 @@
-use Rattle.std.proofs.Common.{refl}
+use Rattle.uca_key.proofs.Common.{refl}
 use Rattle.uca_key.proofs.MaskLemmas.{others-marked}
 use Rattle.uca_key.proofs.runs.marked_by_one.Goals as goal
 

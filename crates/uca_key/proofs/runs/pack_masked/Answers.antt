@@ -1,13 +1,6 @@
-use Rattle.std.proofs.Common.{◌≡◌, ◌==◌, false, ℕ, ◌+◌, not, List, [], ◌∷◌, ◌++◌, ◌<◌, drop, filter, length, take, subst, sym, ap, ◌∙◌, arith}
-use Rattle.std.proofs.lemmas.List.{drop-drop, length-drop}
-use Rattle.uca_weights.specs.declared.element.Element.{Element}
-use Rattle.uca_weights.specs.declared.settings.Variable.{Variable}
-use Rattle.uca_model.specs.LevelWeights.{level_weights}
-use Rattle.uca_key.specs.PackedKey.{common_weight, runs_after}
-use Rattle.uca_key.specs.Runs.{AreMarked}
-use Rattle.uca_key.specs.Weighing.{all_own}
+use Rattle.uca_key.proofs.Common.{◌≡◌, ◌==◌, false, ℕ, ◌+◌, not, List, [], ◌∷◌, ◌++◌, ◌<◌, drop, filter, length, take, subst, sym, ap, ◌∙◌, arith, drop_all, drop-drop, Element, Variable, level_weights, common_weight, runs_after, AreMarked, all_own}
 use Rattle.uca_key.proofs.PlacingLemmas.{beyond-more}
-use Rattle.uca_key.proofs.MaskLemmas.{blank, none-left, marked-after, run-counted}
+use Rattle.uca_key.proofs.MaskLemmas.{blank, marked-after, run-counted}
 use Rattle.uca_key.proofs.RunsLemmas.{weights-one}
 use Rattle.uca_key.proofs.runs.pack_masked.Goals as goal
 
@@ -17,7 +10,7 @@ returns-then-n-left-clause-bytes c =
     let v : Variable = c.args.v in let level : ℕ = c.args.level in let i = c.runs.invariant in
     let left : List Element = c.runs.left.now in let n : ℕ = length left in let run = c.count_run-n.ensures in
     let count : ℕ = c.count_weights.result in
-    let none : drop n left ≡ [] = none-left (drop n left) (omega (arith, length-drop n left)) in
+    let none : drop n left ≡ [] = drop_all n left (omega arith) in
     let put : List ℕ → List ℕ = λ l. take c.runs.packed.at c.runs.key ++ l in
     λ ws.
     ap (λ es. put (runs_after (common_weight level) (c.runs.packed.run + count) (level_weights level (all_own v es) ++ ws))) (sym none)
@@ -38,8 +31,7 @@ runs-preserved c =
     let weights : List Element → List ℕ = λ es. level_weights level (all_own v es) in
     let put : List ℕ → List ℕ = λ l. take c.runs.packed.at c.runs.key ++ l in
     let own : List ℕ = filter (λ (x : ℕ). not (x == 0)) (w ∷ []) in
-    let puts : (ws : List ℕ) → take c.pack_weight-packed.result.at c.pack_weight-packed.new.key ++ runs_after (common_weight level) c.pack_weight-packed.result.run ws ≡ put (runs_after (common_weight level) run (own ++ ws)) =
-    subst (λ (m : ℕ). (ws : List ℕ) → take c.pack_weight-packed.result.at c.pack_weight-packed.new.key ++ runs_after m c.pack_weight-packed.result.run ws ≡ put (runs_after m run (own ++ ws))) c.common_weight-common.ensures.value packed.bytes in
+    let puts = rw c.common_weight-common.ensures.value at packed.bytes in
     let counted = c.count_run-n.ensures in
     record {
       few = row.few;
@@ -47,7 +39,6 @@ runs-preserved c =
       small = omega (arith, i.small, whole, c.split_at-in-runs.ensures.back_len);
       within = omega (arith, row.within, row.some, packed.within, i.within, whole, c.split_at-in-runs.ensures.back_len);
       stays = beyond-more _ _ _ _ _ _ (beyond-more _ _ _ _ _ _ i.stays packed.stays) row.stays;
-      size = row.size ∙ packed.size ∙ i.size;
       same = λ ws.
           ap (λ (es : List Element). take c.pack_row-row.result.packed.at c.pack_row-row.new.key ++ runs_after (common_weight level) c.pack_row-row.result.packed.run (weights es ++ ws)) c.split_at-in-runs.ensures.back
           ∙ row.bytes ws

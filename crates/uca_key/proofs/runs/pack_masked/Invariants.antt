@@ -1,9 +1,4 @@
-use Rattle.std.proofs.Common.{◌≡◌, ◌+◌, ◌*◌, ◌<◌, ◌≤◌, ◌++◌, ℕ, List, length, take}
-use Rattle.uca_model.specs.LevelWeights.{level_weights}
-use Rattle.uca_key.specs.PackedKey.{common_weight, runs_after}
-use Rattle.uca_key.specs.Placing.{StaysBeyond}
-use Rattle.uca_key.specs.Runs.{AreMarked}
-use Rattle.uca_key.specs.Weighing.{all_own}
+use Rattle.uca_key.proofs.Common.{◌≡◌, ◌+◌, ◌*◌, ◌<◌, ◌≤◌, ◌++◌, ℕ, List, length, take, level_weights, common_weight, runs_after, StaysBeyond, AreMarked, all_own}
 use Rattle.uca_key.proofs.runs.pack_masked.Given as goal
 
 -- what is packed, what is left and what follows are packed as all is
@@ -14,7 +9,6 @@ invariant-runs l = record {
   small : length l.left ≤ 64;
   within : l.packed.at + 4 * length l.left ≤ l.fn.before.at + 4 * length l.elements;
   stays : StaysBeyond l.fn.before.at l.packed.at l.fn.key l.key;
-  size : length l.key ≡ length l.fn.key;
   same : (ws : List ℕ) → take l.packed.at l.key ++ runs_after (common_weight l.level) l.packed.run (level_weights l.level (all_own l.v l.left) ++ ws) ≡ take l.fn.before.at l.fn.key ++ runs_after (common_weight l.level) l.fn.before.run (level_weights l.level (all_own l.v l.elements) ++ ws);
 }
 

@@ -1,8 +1,4 @@
-use Rattle.std.proofs.Common.{◌≡◌, ◌==◌, ◌+◌, ◌++◌, ◌∷◌, [], ◌∙◌, false, List, ℕ, drop, filter, not, sym, ap, subst, take, arith}
-use Rattle.uca_model.specs.LevelWeights.{level_weights}
-use Rattle.uca_weights.specs.declared.element.Element.{Element}
-use Rattle.uca_key.specs.PackedKey.{common_weight, runs_after}
-use Rattle.uca_key.specs.Weighing.{all_own}
+use Rattle.uca_key.proofs.Common.{◌+◌, ◌++◌, ◌∙◌, false, List, ℕ, drop, sym, ap, take, arith, level_weights, Element, common_weight, runs_after, all_own}
 use Rattle.uca_key.proofs.PlacingLemmas.{beyond-more}
 use Rattle.uca_key.proofs.RunsLemmas.{weights-one}
 use Rattle.uca_key.proofs.runs.pack_row.Goals as goal
@@ -13,14 +9,12 @@ each-preserved c =
     let es : List Element = c.args.elements.now in let n : ℕ = c.each.n in let w : ℕ = c.own_weight-weight.result in
     let other : Element = record { starred = false; l1 = 0; l2 = 0; l3 = 0 } in
     let put : List ℕ → List ℕ = λ l. take c.each.packed.at c.each.key ++ l in
-    let puts : (ws : List ℕ) → take c.pack_weight-packed.result.at c.pack_weight-packed.new.key ++ runs_after (common_weight level) c.pack_weight-packed.result.run ws ≡ put (runs_after (common_weight level) c.each.packed.run (filter (λ (x : ℕ). not (x == 0)) (w ∷ []) ++ ws)) =
-    subst (λ (m : ℕ). (ws : List ℕ) → take c.pack_weight-packed.result.at c.pack_weight-packed.new.key ++ runs_after m c.pack_weight-packed.result.run ws ≡ put (runs_after m c.each.packed.run (filter (λ (x : ℕ). not (x == 0)) (w ∷ []) ++ ws))) c.common_weight-common.ensures.value packed.bytes in
+    let puts = rw c.common_weight-common.ensures.value at packed.bytes in
     record {
       few = packed.few;
       some = omega (arith, c.each-test.true);
       within = omega (arith, i.within, packed.within);
       stays = beyond-more _ _ _ _ _ _ i.stays packed.stays;
-      size = packed.size ∙ i.size;
       same = λ ws.
           puts (level_weights level (all_own v (drop (n + 1) es)) ++ ws)
           ∙ ap (λ l. put (runs_after (common_weight level) c.each.packed.run l)) (sym (weights-one v level n w es other ws (omega (arith, c.each-test.true)) c.own_weight-weight.ensures)) ∙ i.same ws;

@@ -1,8 +1,4 @@
-use Rattle.std.proofs.Common.{◌≡◌, ◌+◌, ◌*◌, ◌-◌, ◌<◌, ◌≤◌, ◌++◌, ℕ, List, drop, length, take}
-use Rattle.uca_model.specs.LevelWeights.{level_weights}
-use Rattle.uca_key.specs.PackedKey.{common_weight, runs_after}
-use Rattle.uca_key.specs.Placing.{StaysBeyond}
-use Rattle.uca_key.specs.Weighing.{all_own}
+use Rattle.uca_key.proofs.Common.{◌≡◌, ◌+◌, ◌*◌, ◌-◌, ◌<◌, ◌≤◌, ◌++◌, ℕ, List, drop, length, take, level_weights, common_weight, runs_after, StaysBeyond, all_own}
 use Rattle.uca_key.proofs.runs.pack_row.Given as goal
 
 -- what is packed, what is left and what follows are packed as all is
@@ -12,7 +8,6 @@ invariant-each l = record {
   some : l.n ≤ length l.elements;
   within : l.packed.at ≤ l.fn.before.at + 4 * l.n;
   stays : StaysBeyond l.fn.before.at l.packed.at l.fn.key l.key;
-  size : length l.key ≡ length l.fn.key;
   same : (ws : List ℕ) → take l.packed.at l.key ++ runs_after (common_weight l.level) l.packed.run (level_weights l.level (all_own l.v (drop l.n l.elements)) ++ ws) ≡ take l.fn.before.at l.fn.key ++ runs_after (common_weight l.level) l.fn.before.run (level_weights l.level (all_own l.v l.elements) ++ ws);
 }
 

@@ -1,10 +1,4 @@
-use Rattle.std.proofs.Common.{ap₂, ◌≡◌, ◌≤◌, ℕ, List, ◌++◌, length, take, subst, sym, ap, ◌∙◌, arith, append_assoc, take-append-drop}
-use Rattle.uca_weights.specs.declared.element.Element.{Element}
-use Rattle.uca_weights.specs.declared.settings.Variable.{Variable}
-use Rattle.uca_model.specs.LevelWeights.{level_weights}
-use Rattle.uca_key.specs.PackedKey.{common_weight, runs_after}
-use Rattle.uca_key.specs.Runs.{AreMarked}
-use Rattle.uca_key.specs.Weighing.{all_own}
+use Rattle.uca_key.proofs.Common.{ap₂, ◌≡◌, ◌≤◌, ℕ, List, ◌++◌, length, take, subst, sym, ap, ◌∙◌, arith, append_assoc, take-append-drop, Element, Variable, level_weights, common_weight, runs_after, AreMarked, all_own}
 use Rattle.uca_key.proofs.MaskLemmas.{marked-front}
 use Rattle.uca_key.proofs.PlacingLemmas.{beyond-more}
 use Rattle.uca_key.proofs.WeighingLemmas.{own_weights-both}
@@ -34,6 +28,5 @@ pieces-preserved c =
       marked = c.marked_by_one-mask.ensures;
       within = omega (arith, packed.within, i.within, ap length parts);
       stays = beyond-more _ _ _ _ _ _ i.stays packed.stays;
-      size = packed.size ∙ i.size;
       same = λ ws. packed.bytes (weights rest ++ ws) ∙ sym (ap put (both ws)) ∙ i.same ws;
     }

@@ -1,9 +1,4 @@
-use Rattle.std.proofs.Common.{ap₂, ◌≡◌, ◌^◌, ◌<◌, ◌++◌, ℕ, List, length, sym, ap, ◌∙◌, arith, append_assoc, take-append-drop}
-use Rattle.std.proofs.lemmas.List.{map-append}
-use Rattle.uca_weights.specs.declared.element.Element.{Element}
-use Rattle.uca_model.specs.LevelWeights.{level_weights}
-use Rattle.uca_key.specs.PackedKey.{common_weight, runs_after}
-use Rattle.uca_key.specs.Weighing.{all_own, own_weights}
+use Rattle.uca_key.proofs.Common.{ap₂, ◌≡◌, ◌^◌, ◌<◌, ◌++◌, ℕ, List, length, sym, ap, ◌∙◌, arith, append_assoc, take-append-drop, map-append, Element, level_weights, common_weight, runs_after, all_own, own_weights}
 use Rattle.uca_key.proofs.PlacingLemmas.{IsPutting-more, IsPutting-size}
 use Rattle.uca_key.proofs.WeighingLemmas.{level_weights-append}
 use Rattle.uca_key.proofs.runs.put_elements.Goals as goal
@@ -16,7 +11,6 @@ pieces-preserved c =
     let parts : left ≡ piece ++ rest = sym (ap₂ (λ a b. a ++ b) c.split_at.ensures.front c.split_at.ensures.back ∙ take-append-drop c.min.result left) in
     record {
       few = c.pack-packed.ensures.few;
-      size = c.put_bytes.auto.out ∙ i.size;
       putting = λ at front whole ws h.
           let now = i.putting at front whole ws h in
           let small : length front < 2 ^ 64 = omega (arith, IsPutting-size _ _ _ _ _ _ h, c.requires.size) in

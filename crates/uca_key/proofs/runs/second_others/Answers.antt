@@ -1,7 +1,4 @@
-use Rattle.std.proofs.Common.{◌≡◌, ◌%◌, ◌^◌, ℕ, cond, List, map, replicate, ap, ◌∙◌, arith, bit_and, w32}
-use Rattle.std.proofs.lemmas.List.{length-map}
-use Rattle.std.proofs.lemmas.Nat.{and_mask}
-use Rattle.std.proofs.lemmas.Simd.{bitmask_splat, zip2_splat}
+use Rattle.uca_key.proofs.Common.{◌≡◌, ◌%◌, ◌^◌, ℕ, cond, List, map, replicate, ap, ◌∙◌, arith, bit_and, w32, length-map, and_mask, bitmask_splat, zip2_splat}
 use lib.Lanes.{zip2, mask_l, top}
 use Rattle.uca_key.proofs.MaskLemmas.{differ, map-same}
 use Rattle.uca_key.proofs.runs.second_others.Goals as goal

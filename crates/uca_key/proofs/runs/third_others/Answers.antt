@@ -1,6 +1,4 @@
-use Rattle.std.proofs.Common.{◌≡◌, ◌%◌, ◌/◌, ◌^◌, ℕ, cond, List, map, replicate, ap, ◌∙◌, arith, w32}
-use Rattle.std.proofs.lemmas.List.{length-map}
-use Rattle.std.proofs.lemmas.Simd.{bitmask_splat, zip2_splat}
+use Rattle.uca_key.proofs.Common.{◌≡◌, ◌%◌, ◌/◌, ◌^◌, ℕ, cond, List, map, replicate, ap, ◌∙◌, arith, w32, length-map, bitmask_splat, zip2_splat}
 use lib.Lanes.{zip2, mask_l, top}
 use Rattle.uca_key.proofs.MaskLemmas.{differ}
 use Rattle.uca_key.proofs.runs.third_others.Goals as goal

@@ -1,18 +1,8 @@
-use Rattle.std.proofs.Common.{◌≡◌, ◌^◌, ◌≤◌, ◌++◌, ℕ, List, length, take, drop, ap₂, sym, ap, ◌∙◌, arith, take-append-drop}
-use Rattle.std.proofs.lemmas.List.{length-take}
-use Rattle.uca_weights.specs.declared.element.Element.{Element}
-use Rattle.uca_weights.specs.declared.settings.Variable.{Variable}
-use Rattle.uca_model.specs.SortKey.{level_bytes}
-use Rattle.uca_key.specs.Placing.{PutsAt}
-use Rattle.uca_key.specs.Weighing.{all_own}
-use Rattle.uca_key.proofs.KeyPieces.{IsSending-start, IsSending-room, IsSending-more, IsSending-stops}
+use Rattle.uca_key.proofs.Common.{◌≡◌, ◌^◌, ◌≤◌, ◌++◌, ℕ, List, length, take, drop, ap₂, sym, ap, ◌∙◌, arith, take-append-drop, err_from_is_err_and, length-take, Element, Variable, level_bytes, PutsAt, all_own}
+use Rattle.uca_key.proofs.KeyPieces.{IsSending-room, IsSending-more, IsSending-stops}
 use Rattle.uca_key.proofs.PlacingLemmas.{FrontPut, front-put}
 use Rattle.uca_key.proofs.WeighingLemmas.{level_few, own_bytes-both}
 use Rattle.uca_key.proofs.streaming.send_elements.Goals as goal
-use Rattle.std.proofs.lemmas.Grind.{common_steps}
-
-pub pieces-init : goal.pieces-init
-pieces-init g c = grind (arith, common_steps, IsSending-start)
 
 -- a piece of what is left, and its bytes
 module _ (v : Variable) (level k : ℕ) (left piece rest : List Element) (bytes after : List ℕ) (size : ℕ) (most : k ≤ 64) (front : piece ≡ take k left) (back : rest ≡ drop k left) (long : length bytes ≡ 128)
@@ -49,11 +39,12 @@ write-requires g c =
     let long = short _ _ _ _ _ _ _ _ _ k c.split_at.ensures.front c.split_at.ensures.back c.pieces.invariant.bytes c.put_level-size.ensures in
     (omega arith, (long, IsSending-room _ _ _ _ _ _ c.pieces.invariant.sending _ _ (2 ^ 128) here c.requires.count))
 
-pub returns-in-Err : goal.returns-in-Err
-returns-in-Err g c =
+pub returns-in_err-write : goal.returns-in_err-write
+returns-in_err-write g c =
+    let p = err_from_is_err_and c.from_residual.result c.from_residual.ensures.1 in
     let k : c.min.result ≤ 64 = omega (arith, c.min.ensures) in
     let here = split _ _ _ _ _ _ _ _ _ k c.split_at.ensures.front c.split_at.ensures.back c.pieces.invariant.bytes c.put_level-size.ensures in
-    IsSending-stops _ _ _ _ _ _ c.pieces.invariant.sending _ _ _ _ here c.in-Err.ensures.all
+    rw (p.1, p.2) (IsSending-stops _ _ _ _ _ _ c.pieces.invariant.sending _ _ _ _ here c.in_err-write.ensures.all)
 
 pub pieces-preserved : goal.pieces-preserved
 pieces-preserved g c =
@@ -61,5 +52,5 @@ pieces-preserved g c =
     let here = split _ _ _ _ _ _ _ _ _ k c.split_at.ensures.front c.split_at.ensures.back c.pieces.invariant.bytes c.put_level-size.ensures in
     record {
       bytes = c.put_level-size.auto.out ∙ c.pieces.invariant.bytes;
-      sending = IsSending-more _ _ _ _ _ _ c.pieces.invariant.sending _ _ _ _ here c.in-Ok.ensures.all;
+      sending = IsSending-more _ _ _ _ _ _ c.pieces.invariant.sending _ _ _ _ here c.in_ok-write.ensures.all;
     }

@@ -1,6 +1,4 @@
-use Rattle.std.proofs.Common.{◌≡◌, length}
-use Rattle.uca_model.specs.SortKey.{level_bytes}
-use Rattle.uca_key.specs.Weighing.{all_own}
+use Rattle.uca_key.proofs.Common.{◌≡◌, length, level_bytes, all_own}
 use Rattle.uca_key.proofs.KeyPieces.{IsSending}
 use Rattle.uca_key.proofs.streaming.send_elements.Given as goal
 

@@ -1,12 +1,5 @@
-use Rattle.std.proofs.Common.{◌≡◌, ◌+◌, ◌<◌, ◌++◌, ℕ, List, length, take, drop, get_or, set, sym, ap, ◌∙◌, arith, append_assoc}
-use Rattle.std.proofs.lemmas.List.{drop-drop, drop-set-lt, drop_all, take_all, drop_more, length-set, map-append, take_more_set}
-use Rattle.uca_weights.specs.declared.element.Element.{Element}
-use Rattle.uca_weights.specs.declared.settings.Variable.{Variable}
-use Rattle.uca_weights.specs.VariableWeighting.{weights}
-use Rattle.uca_weights.specs.Weigher.{WeigherState, after_element, weighted_from}
-use Rattle.uca_key.specs.Weighing.{all_own, own_weights}
+use Rattle.uca_key.proofs.Common.{◌≡◌, ◌+◌, ◌<◌, ◌++◌, ℕ, List, length, take, drop, get_or, set, sym, ap, ◌∙◌, arith, append_assoc, drop-drop, drop-set-lt, drop_all, take_all, drop_more, length-set, map-append, take_more_set, Element, Variable, weights, WeigherState, after_element, weighted_from, all_own, own_weights, common_steps}
 use Rattle.uca_key.proofs.weighing.weigh_each.Goals as goal
-use Rattle.std.proofs.lemmas.Grind.{common_steps}
 
 -- the elements after the next one
 after-next : (n : ℕ) (now old : List Element) → drop n now ≡ drop n old → drop (n + 1) now ≡ drop (n + 1) old

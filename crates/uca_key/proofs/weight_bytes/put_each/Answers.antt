@@ -1,11 +1,6 @@
-use Rattle.std.proofs.Common.{◌∙◌, List, ℕ, arith, subst, sym}
-use Rattle.uca_key.specs.Placing.{StaysBeyond}
+use Rattle.uca_key.proofs.Common.{◌∙◌, List, ℕ, arith, subst, sym, StaysBeyond}
 use Rattle.uca_key.proofs.PlacingLemmas.{beyond-more, stays-beyond}
 use Rattle.uca_key.proofs.weight_bytes.put_each.Goals as goal
-use Rattle.std.proofs.lemmas.Grind.{common_steps}
-
-pub each-init : goal.each-init
-each-init c = grind (arith, common_steps, stays-beyond)
 
 pub each-preserved : goal.each-preserved
 each-preserved c =
@@ -15,7 +10,6 @@ each-preserved c =
       within = omega (arith, next.within, kept.within, i.within);
       some = omega (arith, next.inside);
       stays = beyond-more _ _ _ _ _ _ (beyond-more _ _ _ _ _ _ i.stays kept.stays) (stays-beyond _ _ _ _ next.stays);
-      size = next.size ∙ kept.size ∙ i.size;
       same = λ ws. next.bytes ws ∙ kept.bytes ws ∙ i.same ws;
     }
 

@@ -1,10 +1,4 @@
-use Rattle.std.proofs.Common.{ap₂, ◌≡◌, ◌^◌, ◌<◌, ◌++◌, ℕ, List, length, sym, ap, ◌∙◌, arith, append_assoc, take-append-drop}
-use Rattle.uca_weights.specs.declared.element.Element.{Element}
-use Rattle.uca_weights.specs.VariableWeighting.{weighted}
-use Rattle.uca_model.specs.LevelWeights.{level_weights}
-use Rattle.uca_key.specs.PrimaryCode.{primary_level}
-use Rattle.uca_key.specs.Reach.{state_of}
-use Rattle.uca_key.specs.Weighing.{all_own}
+use Rattle.uca_key.proofs.Common.{ap₂, ◌≡◌, ◌^◌, ◌<◌, ◌++◌, ℕ, List, length, sym, ap, ◌∙◌, arith, append_assoc, take-append-drop, Element, weighted, level_weights, primary_level, state_of, all_own}
 use Rattle.uca_key.proofs.PlacingLemmas.{IsPutting-more, IsPutting-size}
 use Rattle.uca_key.proofs.WeighingLemmas.{first_weights-own, own_weights-both}
 use Rattle.uca_key.proofs.weight_bytes.put_elements.Goals as goal
@@ -17,8 +11,7 @@ pieces-preserved c =
     let parts : left ≡ piece ++ rest = sym (ap₂ (λ a b. a ++ b) c.split_at.ensures.front c.split_at.ensures.back ∙ take-append-drop c.min.result left) in
     record {
       window = c.put_weights-all.ensures.window;
-      size = c.put_bytes.auto.out ∙ i.size;
-      bytes = c.put_weights-all.ensures.size ∙ i.bytes;
+      bytes = c.put_weights-all.auto.key ∙ i.bytes;
       putting = λ at front whole ws h.
           let now = i.putting at front whole ws h in
           let small : length front < 2 ^ 64 = omega (arith, IsPutting-size _ _ _ _ _ _ h, c.requires.size) in

@@ -1,8 +1,4 @@
-use Rattle.std.proofs.Common.{◌++◌, ◌∷◌, List, ℕ, [], ap, ◌∙◌, append-nil, refl}
-use Rattle.uca_model.specs.LevelWeights.{level_weights}
-use Rattle.uca_key.specs.PrimaryCode.{primary_level, start}
-use Rattle.uca_key.specs.Reach.{state_of}
-use Rattle.uca_key.specs.Weighing.{all_own}
+use Rattle.uca_key.proofs.Common.{◌++◌, ◌∷◌, List, ℕ, [], ap, ◌∙◌, append-nil, refl, level_weights, primary_level, start, state_of, all_own}
 use Rattle.uca_key.proofs.PlacingLemmas.{IsPutting-start, IsPutting-more, IsPutting-ends}
 use Rattle.uca_key.proofs.weight_bytes.put_in_pieces.Goals as goal
 

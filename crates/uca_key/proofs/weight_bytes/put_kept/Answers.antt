@@ -1,5 +1,4 @@
-use Rattle.std.proofs.Common.{◌∙◌, List, ℕ, arith, subst, sym}
-use Rattle.uca_key.specs.Placing.{StaysBeyond}
+use Rattle.uca_key.proofs.Common.{◌∙◌, List, ℕ, arith, subst, sym, StaysBeyond}
 use Rattle.uca_key.proofs.PlacingLemmas.{beyond-more, stays-beyond}
 use Rattle.uca_key.proofs.weight_bytes.put_kept.Goals as goal
 
@@ -11,7 +10,6 @@ runs-preserved c =
       more = omega (arith, pair.more, short.more, i.more);
       some = pair.some;
       stays = beyond-more _ _ _ _ _ _ (beyond-more _ _ _ _ _ _ i.stays short.stays) (stays-beyond _ _ _ _ pair.stays);
-      size = pair.size ∙ short.size ∙ i.size;
       same = λ ws. pair.bytes ws ∙ short.bytes ws ∙ i.same ws;
     }
 

@@ -1,9 +1,4 @@
-use Rattle.std.proofs.Common.{◌==◌, ◌≤◌, ◌+◌, false, ◌∷◌, ◌++◌, [], ◌∙◌, List, ℕ, not, length, sym, ap, take, drop, filter, arith}
-use Rattle.uca_weights.specs.declared.element.Element.{Element}
-use Rattle.uca_weights.specs.VariableWeighting.{weighted}
-use Rattle.uca_model.specs.LevelWeights.{level_weights}
-use Rattle.uca_key.specs.PrimaryCode.{primary_level}
-use Rattle.uca_key.specs.Reach.{state_of}
+use Rattle.uca_key.proofs.Common.{◌==◌, ◌≤◌, ◌+◌, false, ◌∷◌, ◌++◌, [], ◌∙◌, List, ℕ, not, length, sym, ap, take, drop, filter, arith, Element, weighted, level_weights, primary_level, state_of}
 use Rattle.uca_key.proofs.WeighingLemmas.{primary-one}
 use Rattle.uca_key.proofs.weight_bytes.put_pair_of.Goals as goal
 

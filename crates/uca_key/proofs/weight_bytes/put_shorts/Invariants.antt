@@ -1,9 +1,4 @@
-use Rattle.std.proofs.Common.{◌≡◌, ◌+◌, ◌-◌, drop, ◌≤◌, ◌++◌, ℕ, List, length, take}
-use Rattle.uca_weights.specs.VariableWeighting.{weighted}
-use Rattle.uca_model.specs.LevelWeights.{level_weights}
-use Rattle.uca_key.specs.PrimaryCode.{primary_level}
-use Rattle.uca_key.specs.Placing.{StaysBeyond}
-use Rattle.uca_key.specs.Reach.{state_of}
+use Rattle.uca_key.proofs.Common.{◌≡◌, ◌+◌, ◌-◌, drop, ◌≤◌, ◌++◌, ℕ, List, length, take, weighted, level_weights, primary_level, StaysBeyond, state_of}
 use Rattle.uca_key.proofs.weight_bytes.put_shorts.Given as goal
 
 -- what is put, what is left and what follows are put as all is
@@ -13,7 +8,6 @@ invariant-each l = record {
   some : l.n ≤ length l.elements;
   within : l.at + l.fn.from ≤ l.fn.before.at + l.n;
   stays : StaysBeyond l.fn.before.at l.at l.fn.key l.key;
-  size : length l.key ≡ length l.fn.key;
   same : (ws : List ℕ) → take l.at l.key ++ primary_level l.code (state_of l.fn.before.reach) (level_weights 1 (weighted l.v (drop l.n l.elements)) ++ ws) ≡ take l.fn.before.at l.fn.key ++ primary_level l.code (state_of l.fn.before.reach) (level_weights 1 (weighted l.v (drop l.fn.from l.elements)) ++ ws);
 }
 

@@ -1,9 +1,4 @@
-use Rattle.std.proofs.Common.{◌++◌, List, ℕ, false, drop, take, sym, ap, ◌∙◌, arith}
-use Rattle.uca_weights.specs.declared.element.Element.{Element}
-use Rattle.uca_weights.specs.VariableWeighting.{weighted}
-use Rattle.uca_model.specs.LevelWeights.{level_weights}
-use Rattle.uca_key.specs.PrimaryCode.{primary_level}
-use Rattle.uca_key.specs.Reach.{state_of}
+use Rattle.uca_key.proofs.Common.{◌++◌, List, ℕ, false, drop, take, sym, ap, ◌∙◌, arith, Element, weighted, level_weights, primary_level, state_of}
 use Rattle.uca_key.proofs.WeighingLemmas.{primary-one}
 use Rattle.uca_key.proofs.weight_bytes.put_start.Goals as goal
 

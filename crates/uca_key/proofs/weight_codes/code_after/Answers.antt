@@ -1,4 +1,4 @@
-use Rattle.std.proofs.Common.{refl, sym, ◌∙◌}
+use Rattle.uca_key.proofs.Common.{refl, sym, ◌∙◌}
 use Rattle.uca_key.proofs.NextCodes.{next-code, next-slot, same-code}
 use Rattle.uca_key.proofs.weight_codes.code_after.Goals as goal
 

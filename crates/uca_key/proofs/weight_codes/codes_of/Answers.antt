@@ -1,4 +1,4 @@
-use Rattle.std.proofs.Common.{◌∷◌, [], ◌+◌, ap, arith, length, length-append, sym, ◌∙◌}
+use Rattle.uca_key.proofs.Common.{◌∷◌, [], ◌+◌, ap, arith, length, length-append, sym, ◌∙◌}
 use Rattle.uca_key.proofs.NextCodes.{codes-more, no-codes}
 use Rattle.uca_key.proofs.PackedSlots.{slot-zero}
 use Rattle.uca_key.proofs.weight_codes.codes_of.Goals as goal

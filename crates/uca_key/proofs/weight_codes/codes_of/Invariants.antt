@@ -1,6 +1,4 @@
-use Rattle.std.proofs.Common.{◌≡◌, ◌+◌, ◌≤◌, length}
-use Rattle.uca_key.specs.PrimaryCode.{PrimaryCode}
-use Rattle.uca_key.specs.WeightCodes.{AreCodes, IsCodeOf, IsMadeOf}
+use Rattle.uca_key.proofs.Common.{◌≡◌, ◌+◌, ◌≤◌, length, PrimaryCode, AreCodes, IsCodeOf, IsMadeOf}
 use Rattle.uca_key.proofs.weight_codes.codes_of.Given as goal
 
 abbrev pub invariant-loop-w : goal.invariant-loop-w

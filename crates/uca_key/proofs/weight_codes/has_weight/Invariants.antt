@@ -1,5 +1,4 @@
-use Rattle.std.proofs.Common.{◌≡◌, ◌==◌, take}
-use Rattle.std.specs.List.{list_any}
+use Rattle.uca_key.proofs.Common.{◌≡◌, ◌==◌, take, list_any}
 use Rattle.uca_key.proofs.weight_codes.has_weight.Given as goal
 
 abbrev pub invariant-loop-weight : goal.invariant-loop-weight

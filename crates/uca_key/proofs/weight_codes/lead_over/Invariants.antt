@@ -1,6 +1,4 @@
-use Rattle.std.proofs.Common.{◌≡◌, ◌+◌, ◌*◌, ◌≤◌, take}
-use Rattle.std.specs.List.{sum_by}
-use Rattle.uca_key.specs.PrimaryCode.{page_of, past}
+use Rattle.uca_key.proofs.Common.{◌≡◌, ◌+◌, ◌*◌, ◌≤◌, take, sum_by, page_of, past}
 use Rattle.uca_key.proofs.weight_codes.lead_over.Given as goal
 
 abbrev pub invariant-loop-single : goal.invariant-loop-single

@@ -1,5 +1,4 @@
-use Rattle.std.proofs.Common.{◌≡◌, ◌<◌, ◌≤◌, ◌-◌, get_or, take}
-use Rattle.uca_key.specs.WeightCodes.{greatest}
+use Rattle.uca_key.proofs.Common.{◌≡◌, ◌<◌, ◌≤◌, ◌-◌, get_or, take, greatest}
 use Rattle.uca_key.proofs.weight_codes.number_of_greatest.Given as goal
 
 abbrev pub invariant-loop-anchor : goal.invariant-loop-anchor

@@ -1,5 +1,4 @@
-use Rattle.std.proofs.Common.{[], chars, ◌∙◌}
-use Rattle.std.proofs.lemmas.Str.{chars-nil}
+use Rattle.uca_key.proofs.Common.{[], chars, ◌∙◌, chars-nil}
 use Rattle.uca_key.proofs.CodeSteps.{alone-primary}
 use Rattle.uca_key.proofs.weight_codes.primary_of.Goals as goal
 

@@ -1,6 +1,4 @@
-use Rattle.std.proofs.Common.{◌≡◌, ◌-◌, ◌++◌, map}
-use Rattle.std.specs.List.{range_with_len}
-use Rattle.uca_key.specs.PrimaryCode.{primary_of}
+use Rattle.uca_key.proofs.Common.{◌≡◌, ◌-◌, ◌++◌, map, range_with_len, primary_of}
 use Rattle.uca_key.proofs.weight_codes.push_range.Given as goal
 
 abbrev pub invariant-loop-point : goal.invariant-loop-point

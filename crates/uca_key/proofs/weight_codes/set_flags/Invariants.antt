@@ -1,5 +1,4 @@
-use Rattle.std.proofs.Common.{◌≡◌, ◌<◌, ◌==◌, ◌||◌, ℕ, false, get_or, length, take}
-use Rattle.std.specs.List.{list_any}
+use Rattle.uca_key.proofs.Common.{◌≡◌, ◌<◌, ◌==◌, ◌||◌, ℕ, false, get_or, length, take, list_any}
 use Rattle.uca_key.proofs.weight_codes.set_flags.Given as goal
 
 abbrev pub invariant-loop-weight : goal.invariant-loop-weight

@@ -1,5 +1,4 @@
-use Rattle.std.proofs.Common.{◌≡◌, map, take}
-use Rattle.uca_key.specs.PrimaryCode.{primary_of}
+use Rattle.uca_key.proofs.Common.{◌≡◌, map, take, primary_of}
 use Rattle.uca_key.proofs.weight_codes.weights_of.Given as goal
 
 abbrev pub invariant-loop-c : goal.invariant-loop-c

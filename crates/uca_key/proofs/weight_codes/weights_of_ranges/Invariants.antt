@@ -1,5 +1,4 @@
-use Rattle.std.proofs.Common.{◌≡◌, map, take}
-use Rattle.uca_key.specs.PrimaryCode.{points_of_ranges, primary_of}
+use Rattle.uca_key.proofs.Common.{◌≡◌, map, take, points_of_ranges, primary_of}
 use Rattle.uca_key.proofs.weight_codes.weights_of_ranges.Given as goal
 
 abbrev pub invariant-loop-first : goal.invariant-loop-first

@@ -1,5 +1,4 @@
-use Rattle.std.proofs.Common.{ℕ, List, subst, sym}
-use Rattle.uca_key.specs.WeightCodes.{AreShort}
+use Rattle.uca_key.proofs.Common.{ℕ, List, subst, sym, AreShort}
 use Rattle.uca_key.proofs.windows.window_at.Goals as goal
 
 pub put_all-requires-clause-short : goal.put_all-requires-clause-short

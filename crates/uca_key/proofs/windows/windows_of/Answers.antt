@@ -1,7 +1,4 @@
-use Rattle.std.proofs.Common.{◌≡◌, ◌+◌, ◌<◌, ◌∷◌, ◌++◌, [], ◌∙◌, List, ℕ, ap, arith, get_or, length, length-append}
-use Rattle.std.proofs.lemmas.Bool.{cases_lt}
-use Rattle.std.proofs.lemmas.Grind.{common_steps}
-use Rattle.uca_key.specs.WeightCodes.{IsWindow}
+use Rattle.uca_key.proofs.Common.{◌≡◌, ◌+◌, ◌<◌, ◌∷◌, ◌++◌, [], ◌∙◌, List, ℕ, ap, arith, get_or, length, length-append, cases_lt, common_steps, IsWindow}
 use Rattle.uca_key.specs.declared.windows.Window.{Window}
 use Rattle.uca_key.proofs.windows.windows_of.Goals as goal
 

@@ -1,5 +1,4 @@
-use Rattle.std.proofs.Common.{◌≡◌, ◌<◌, ℕ, get_or, length}
-use Rattle.uca_key.specs.WeightCodes.{IsWindow}
+use Rattle.uca_key.proofs.Common.{◌≡◌, ◌<◌, ℕ, get_or, length, IsWindow}
 use Rattle.uca_key.specs.declared.windows.Window.{Window}
 use Rattle.uca_key.proofs.windows.windows_of.Given as goal
 

@@ -1,4 +1,4 @@
-use Rattle.std.proofs.Common.{◌≡◌, ◌-◌, ◌≤◌, length, take}
+use Rattle.uca_keys.proofs.Common.{◌≡◌, ◌-◌, ◌≤◌, length, take}
 use Rattle.uca_keys.proofs.nodes.common_len.Given as goal
 
 abbrev pub invariant-loop-at : goal.invariant-loop-at

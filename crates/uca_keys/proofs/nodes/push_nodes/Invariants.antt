@@ -1,5 +1,4 @@
-use Rattle.std.proofs.Common.{◌≡◌, ◌+◌, ◌-◌, ◌≤◌, ◌++◌, drop, length, vec_len, vec_capacity}
-use Rattle.uca_keys.specs.Nodes.{nodes_of}
+use Rattle.uca_keys.proofs.Common.{◌≡◌, ◌+◌, ◌-◌, ◌≤◌, ◌++◌, drop, length, vec_len, vec_capacity, nodes_of}
 use Rattle.uca_keys.proofs.nodes.push_nodes.Given as goal
 
 abbrev pub invariant-loop-depth : goal.invariant-loop-depth

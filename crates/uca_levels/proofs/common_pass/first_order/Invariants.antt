@@ -1,12 +1,9 @@
 use Rattle.uca_levels.specs.InCommon.{InCommon, work_left}
-use Rattle.uca_levels.specs.RemainingWeights.{new_weights, remaining_with_zeros}
 use Rattle.uca_levels.proofs.common_pass.first_order.Given as goal
 
 -- all characters so far were the same
 abbrev pub invariant-loop : goal.invariant-loop
-invariant-loop g l =
-    InCommon l.t (g.S.Source.state l.fn.a) (g.T.Source.state l.fn.b) (remaining_with_zeros (new_weights l.t l.fn.v 1) (g.S.Source.state l.fn.a).text) (remaining_with_zeros (new_weights l.t l.fn.v 1) (g.T.Source.state l.fn.b).text)
-    l.left l.right l.marked (g.S.Source.state l.a) (g.T.Source.state l.b)
+invariant-loop g l = InCommon l.t l.fn.v (g.S.Source.state l.fn.a) (g.T.Source.state l.fn.b) l.left l.right l.marked (g.S.Source.state l.a) (g.T.Source.state l.b)
 
 abbrev pub decreases-loop : goal.decreases-loop
 decreases-loop g l = work_left l.left (g.S.Source.state l.a)

@@ -1,16 +1,11 @@
-use Rattle.std.proofs.Common.{◌≡◌, [], ◌∷◌, arith, subst, sym}
-use Rattle.unicode_normalization.specs.Forms.{nfd}
-use Rattle.uca_model.specs.CollationElements.{elements}
-use Rattle.uca_table.specs.Lead.{first_of}
-use Rattle.uca_levels.specs.Primaries.{primary_of}
+use Rattle.std.proofs.Common.{arith}
 use Rattle.uca_levels.proofs.PrimarySteps.{first-weight, lead-weight}
 use Rattle.uca_levels.proofs.primaries.lead_primary.Goals as goal
 
 pub returns-in-Some-clause-own : goal.returns-in-Some-clause-own
 returns-in-Some-clause-own c = λ rest.
     let is = c.in-Some.ensures.weight in
-    let weight : c.in-Some.weight ≡ primary_of c.args.v (first_of (elements c.args.t.now (nfd (c.args.c ∷ [])))) = subst (λ v. c.in-Some.weight ≡ primary_of v (first_of (elements c.args.t.now (nfd (c.args.c ∷ []))))) (sym c.in-NonIgnorable.is) is.weight in
-    first-weight c.args.t.now c.args.v c.args.c c.in-Some.weight rest _ (is.alone rest) (lead-weight c.args.v _ _ is.lead weight) (λ none. omega (arith, none, c.in-Some.ensures.some))
+    first-weight c.args.t.now c.args.v c.args.c c.in-Some.weight rest _ (is.alone rest) (lead-weight c.args.v _ _ is.lead (rw c.in-NonIgnorable.is is.weight)) (λ none. omega (arith, none, c.in-Some.ensures.some))
 
 pub returns-else-weight-eq0-clause-own : goal.returns-else-weight-eq0-clause-own
 returns-else-weight-eq0-clause-own c = λ rest.

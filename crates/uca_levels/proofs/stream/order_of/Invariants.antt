@@ -6,8 +6,6 @@ abbrev pub invariant-loop-x : goal.invariant-loop-x
 invariant-loop-x g l = record {
   level_a : g.L.WeightStream.level l.left ≡ g.L.WeightStream.level l.fn.left;
   level_b : g.R.WeightStream.level l.right ≡ g.R.WeightStream.level l.fn.right;
-  stops_a : g.L.WeightStream.stops l.left → g.L.WeightStream.stops l.fn.left;
-  stops_b : g.R.WeightStream.stops l.right → g.R.WeightStream.stops l.fn.right;
   lists : InStep (g.L.WeightStream.left l.fn.left) (g.R.WeightStream.left l.fn.right) (g.L.WeightStream.left l.left) (g.R.WeightStream.left l.right);
 }
 

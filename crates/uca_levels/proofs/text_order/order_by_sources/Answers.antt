@@ -5,10 +5,10 @@ use Rattle.uca_levels.proofs.WithoutFront.{keys-left, left-safe, scalars-text}
 use Rattle.uca_levels.proofs.text_order.order_by_sources.Goals as goal
 
 pub of_safe-requires : goal.of_safe-requires
-of_safe-requires c = (left-safe c.args.t.now (chars c.args.a.now) (chars c.args.b.now) _ _ c.without_front.ensures c.requires.safe_a c.requires.safe_b).0
+of_safe-requires c = (left-safe _ _ _ _ _ c.without_front.ensures c.requires.safe_a c.requires.safe_b).0
 
 pub of_safe-requires-2 : goal.of_safe-requires-2
-of_safe-requires-2 c = (left-safe c.args.t.now (chars c.args.a.now) (chars c.args.b.now) _ _ c.without_front.ensures c.requires.safe_a c.requires.safe_b).1
+of_safe-requires-2 c = (left-safe _ _ _ _ _ c.without_front.ensures c.requires.safe_a c.requires.safe_b).1
 
 pub returns : goal.returns
 returns c =

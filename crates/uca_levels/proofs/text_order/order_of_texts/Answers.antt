@@ -1,5 +1,4 @@
-use Rattle.std.proofs.Common.{arith, ◌≤◌, chars, sym, ◌∙◌}
-use Rattle.uca_weights.specs.Settings.{levels}
+use Rattle.std.proofs.Common.{arith, chars, sym, ◌∙◌}
 use Rattle.uca_model.proofs.LevelLemmas.{levels-within}
 use Rattle.uca_levels.proofs.ReadsLemmas.{from_ne}
 use Rattle.uca_levels.proofs.LevelsFromCut.{undecided-first, decided-here}
@@ -12,5 +11,4 @@ returns-then-common-b c = grind (arith, common_steps, equal-texts)
 
 pub returns-then-is_ne : goal.returns-then-is_ne
 returns-then-is_ne c =
-    let some : 1 ≤ levels c.args.s.strength = (levels-within c.args.s.strength).0 in
-    sym (decided-here c.args.t.now c.args.s (chars c.args.a.now) (chars c.args.b.now) 1 _ (undecided-first c.args.t.now c.args.s (chars c.args.a.now) (chars c.args.b.now)) some c.in-Some.ensures (from_ne _ (sym c.is_ne.ensures ∙ c.if-is_ne.true))).0
+    sym (decided-here c.args.t.now c.args.s (chars c.args.a.now) (chars c.args.b.now) 1 _ (undecided-first c.args.t.now c.args.s (chars c.args.a.now) (chars c.args.b.now)) (levels-within c.args.s.strength).0 c.in-Some.ensures (from_ne _ (sym c.is_ne.ensures ∙ c.if-is_ne.true))).0

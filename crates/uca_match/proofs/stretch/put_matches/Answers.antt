@@ -7,9 +7,9 @@ use Rattle.uca_table.proofs.ElementLemmas.{elements-further, elements-done}
 use Rattle.uca_match.proofs.TextLemmas.{kept-before}
 use Rattle.uca_match.proofs.stretch.put_matches.Goals as goal
 
-pub returns-in_default-clause-none : goal.returns-in_default-clause-none
-returns-in_default-clause-none c =
-    sym (take-take c.args.from c.matches.at c.put_match.new.room c.matches.invariant.later) ∙ ap (take c.args.from) c.in_default.ensures.none
+pub returns-in_default-clause-kept : goal.returns-in_default-clause-kept
+returns-in_default-clause-kept c =
+    sym (take-take c.args.from c.matches.at c.put_match.new.room c.matches.invariant.later) ∙ ap (take c.args.from) c.put_match.ensures.kept
     ∙ take-take c.args.from c.matches.at c.matches.room c.matches.invariant.later ∙ c.matches.invariant.kept
 
 pub matches-preserved : goal.matches-preserved

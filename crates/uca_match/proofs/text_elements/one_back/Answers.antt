@@ -1,14 +1,7 @@
 use Rattle.std.proofs.Common.{◌≡◌, ◌-◌, ◌++◌, chars, encode_utf8, length, take, sym, ap, ◌∙◌, arith}
-use Rattle.std.proofs.lemmas.Str.{IsCharBoundary-from_drop}
-use Rattle.uca_match.proofs.OneBackLemmas.{stands-back}
+use Rattle.uca_match.proofs.TextLemmas.{stands-back}
 use Rattle.uca_match.proofs.text_elements.one_back.Goals as goal
 use Rattle.std.proofs.lemmas.Grind.{common_steps}
-
-pub split_at-requires : goal.split_at-requires
-split_at-requires c = grind (arith, common_steps, IsCharBoundary-from_drop)
-
-pub split_at-requires-2 : goal.split_at-requires-2
-split_at-requires-2 c = grind (arith, common_steps, encode_utf8, stands-back)
 
 pub returns-clause-stands : goal.returns-clause-stands
 returns-clause-stands c = grind (arith, common_steps, encode_utf8, stands-back)

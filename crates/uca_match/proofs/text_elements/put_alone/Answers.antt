@@ -1,14 +1,12 @@
-use Rattle.std.proofs.Common.{rules, ◌≡◌, ◌≤◌, ℕ, List, [], ◌∷◌, ◌++◌, chars, encode_utf8, length, take, Some, sym, ap, subst, ◌∙◌, arith, append_assoc, get_or}
+use Rattle.std.proofs.Common.{◌≡◌, ◌≤◌, ℕ, List, ◌∷◌, ◌++◌, chars, encode_utf8, length, take, Some, sym, ap, subst, ◌∙◌, arith, append_assoc, get_or}
 use Rattle.std.proofs.lemmas.Str.{chars_past_char}
 use Rattle.unicode_normalization.specs.Forms.{nfd}
 use Rattle.uca_weights.specs.declared.element.Element.{Element}
 use Rattle.uca_model.specs.CollationElements.{elements}
-use Rattle.uca_model.specs.SafeText.{IsSafe}
 use Rattle.uca_model.specs.StandAlone.{joining}
 use Rattle.uca_table.specs.Characters.{IsCharacter}
 use Rattle.uca_table.proofs.CellLemmas.{alone-before}
-use Rattle.uca_match.proofs.TextLemmas.{IsSafe-rest, kept-before}
-use Rattle.uca_match.proofs.OneBackLemmas.{stands-safe}
+use Rattle.uca_match.proofs.TextLemmas.{kept-before}
 use Rattle.uca_window.specs.PassageSource.{StandsIn}
 use Rattle.uca_window.proofs.SourceLemmas.{stands_next}
 use Rattle.uca_match.proofs.text_elements.put_alone.Goals as goal
@@ -35,15 +33,11 @@ characters-preserved c =
         is = record { c = c.in-Some-next.c; same = first; ends = omega (arith, put.place, ap length is.elements) };
         stands = i.stands;
         later = i.later;
-        same = ap (λ l. l ++ of (chars rest)) (kept-before c.characters.at c.characters.at c.in-Some-put_fitting.next c.put_fitting.new.room c.characters.room character.elements.now (omega arith) i.within (omega (arith, put.place)) put.elements) ∙ settled;
+        same = ap (λ l. l ++ of (chars rest)) put.kept ∙ settled;
       };
       kept = kept-before c.args.from c.characters.at c.in-Some-put_fitting.next c.put_fitting.new.room c.characters.room character.elements.now i.later i.within (omega (arith, put.place, i.later)) put.elements ∙ i.kept;
       later = omega (arith, put.place, i.later);
-      within = search (arith, rules, put.place, put.size);
+      within = grind (arith, common_steps);
       size = put.size ∙ i.size;
       stands = subst (StandsIn c.args.text.now) (sym c.as_str-rest.ensures) (stands_next c.args.text.now c.chars-left.result c.next.new.self (Some c.in-Some-next.c) (subst (StandsIn c.args.text.now) (sym c.chars-left.ensures.rest) i.stands) c.in-Some-next.ensures.steps);
-      safe = IsSafe-rest (c.in-Some-next.c ∷ []) (chars after) (subst IsSafe first i.safe);
     }
-
-pub returns-in-Some-one_back-clause-safe : goal.returns-in-Some-one_back-clause-safe
-returns-in-Some-one_back-clause-safe c = grind (arith, common_steps, stands-safe)

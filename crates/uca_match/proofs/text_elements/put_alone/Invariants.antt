@@ -1,10 +1,9 @@
 use Rattle.std.proofs.Common.{◌≡◌, ◌∷◌, ◌<◌, ◌≤◌, ◌++◌, ℕ, List, chars, length, take}
 use Rattle.unicode_normalization.specs.Forms.{nfd}
 use Rattle.uca_model.specs.CollationElements.{elements}
-use Rattle.uca_model.specs.SafeText.{IsSafe}
 use Rattle.uca_model.specs.StandAlone.{joining}
 use Rattle.uca_window.specs.PassageSource.{StandsIn}
-use Rattle.uca_match.proofs.OneBackLemmas.{IsSettled}
+use Rattle.uca_match.proofs.TextLemmas.{IsSettled}
 use Rattle.uca_match.proofs.text_elements.put_alone.Given as goal
 
 -- the elements up to the place, and those of what is left from there, are those of all, if what comes next joins no more than the character before it
@@ -18,7 +17,6 @@ invariant-characters l = record {
   within : l.at ≤ length l.room;
   size : length l.room ≡ length l.fn.room;
   stands : StandsIn l.text l.rest;
-  safe : IsSafe (chars l.rest);
 }
 
 abbrev pub decreases-characters : goal.decreases-characters

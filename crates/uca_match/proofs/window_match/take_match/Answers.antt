@@ -1,4 +1,4 @@
-use Rattle.std.proofs.Common.{◌≡◌, ◌≤◌, ◌<◌, ◌∷◌, [], length, take, get_or, true, sym, ap, ap₂, subst, ◌∙◌, arith, take-take}
+use Rattle.std.proofs.Common.{◌≡◌, ◌≤◌, ◌<◌, ◌∷◌, [], length, take, get_or, sym, ap, ap₂, subst, ◌∙◌, arith, take-take}
 use Rattle.std.proofs.lemmas.List.{length-take-le}
 use Rattle.uca_model.specs.Table.{is_key}
 use Rattle.uca_model.specs.Match.{longest_match, longest_match_len}

@@ -41,10 +41,10 @@ loop-at-preserved c =
     let stays : path_of c.takes.new.points ≡ path_of c.loop-at.walk = c.takes.ensures.path ∙ ap (λ b. cond b (path_of c.loop-at.walk ++ x ∷ []) (path_of c.loop-at.walk)) c.if-takes.false in
     record {
       taking =
-          subst (λ p. IsTaking (is_key t) c.args.start (path_of c.args.walk.now) c.args.window.now p c.loop-at.window (c.loop-at.at + 1) c.higher-high.result) (sym stays)
+          subst (λ p. IsTaking (is_key t) c.args.start (path_of c.args.walk.now) c.args.window.now p c.loop-at.window (c.loop-at.at + 1) c.max-high.result) (sym stays)
           (IsTaking-passes (is_key t) c.args.start (path_of c.args.walk.now) c.args.window.now (path_of c.loop-at.walk) c.loop-at.window c.loop-at.at c.loop-at.high c.loop-at.invariant.taking c.closed.ensures.valid c.closed.ensures.front
-          x c.canonical_combining_class-class.result c.higher-high.result c.takes.result (omega (arith, c.loop-at-test.true, c.closed.ensures.value)) (c.index-points-at.is ∙ ap (λ l. get_or l c.loop-at.at x) c.points.ensures.value)
-          c.canonical_combining_class-class.ensures c.if-class-eq0.false tested c.if-takes.false c.higher-high.ensures);
+          x c.canonical_combining_class-class.result c.max-high.result c.takes.result (omega (arith, c.loop-at-test.true, c.closed.ensures.value)) (c.index-points-at.is ∙ ap (λ l. get_or l c.loop-at.at x) c.points.ensures.value)
+          c.canonical_combining_class-class.ensures c.if-class-eq0.false tested c.if-takes.false c.max-high.ensures);
       table = c.takes.ensures.set ∙ c.loop-at.invariant.table;
       longer = omega (arith, c.loop-at.invariant.longer, ap length stays);
       key = λ h. ap (is_key t) stays ∙ c.loop-at.invariant.key h;

@@ -1,6 +1,4 @@
-use Rattle.std.proofs.Common.{ℕ, ◌<◌, slice_index_or}
-use Rattle.uca_weights.specs.declared.element.Element.{Element}
-use Rattle.uca_model.specs.Table.{IsElement}
+use Rattle.uca_table.proofs.Common.{ℕ, ◌<◌, slice_index_or, Element, IsElement}
 use Rattle.uca_table.proofs.builder.show_elements.Given as goal
 
 abbrev pub invariant-loop-element : goal.invariant-loop-element

@@ -1,5 +1,4 @@
-use Rattle.std.proofs.Common.{ℕ, ◌<◌, slice_index_or}
-use Rattle.std.specs.Char.{IsScalar}
+use Rattle.uca_table.proofs.Common.{ℕ, ◌<◌, slice_index_or, IsScalar}
 use Rattle.uca_table.proofs.builder.show_key.Given as goal
 
 abbrev pub invariant-loop-c : goal.invariant-loop-c

@@ -1,5 +1,4 @@
-use Rattle.std.proofs.Common.{◌≡◌, ◌≤◌, ◌<◌, ◌-◌, ◌++◌, length, drop}
-use Rattle.uca_model.specs.CollationElements.{elements}
+use Rattle.uca_table.proofs.Common.{◌≡◌, ◌≤◌, ◌<◌, ◌-◌, ◌++◌, length, drop, elements}
 use Rattle.uca_table.proofs.collation.push_matches.Given as goal
 
 abbrev pub invariant-matches : goal.invariant-matches

@@ -1,16 +1,8 @@
-use Rattle.std.proofs.Common.{◌≡◌, ◌-◌, ◌≤◌, ◌∷◌, [], List, ℕ, max}
-use Rattle.uca_weights.specs.declared.element.Element.{Element}
-use Rattle.uca_table.specs.EntryMap.{AreBelow}
-use Rattle.uca_table.specs.SingleMap.{place_at, with_points}
+use Rattle.uca_table.proofs.Common.{◌-◌, ◌++◌, map, AreAhead, entry_in, place_at, points_from}
 use Rattle.uca_table.proofs.entry_map.push_singles.Given as goal
 
 abbrev pub invariant-loop-point : goal.invariant-loop-point
-invariant-loop-point l = record {
-  after : l.from ≤ l.point;
-  within : l.point ≤ max l.from l.end;
-  below : AreBelow (l.point ∷ []) l.entries;
-  pushed : (base : List (List ℕ × List Element)) → l.fn.entries ≡ with_points (place_at l.singles) l.elements l.from base → l.entries ≡ with_points (place_at l.singles) l.elements l.point base;
-}
+invariant-loop-point l = AreAhead l.elements l.entries (points_from (place_at l.singles) l.point (l.end - l.point)) (l.fn.entries ++ map (entry_in l.elements) (points_from (place_at l.singles) l.from (l.end - l.from)))
 
 abbrev pub decreases-loop-point : goal.decreases-loop-point
 decreases-loop-point l = l.end - l.point

@@ -1,5 +1,4 @@
-use Rattle.std.proofs.Common.{◌≡◌, take}
-use Rattle.uca_table.specs.Running.{IsExtending}
+use Rattle.uca_table.proofs.Common.{◌≡◌, take, IsExtending}
 use Rattle.uca_table.proofs.matching.extend.Given as goal
 
 abbrev pub invariant-loop-at : goal.invariant-loop-at

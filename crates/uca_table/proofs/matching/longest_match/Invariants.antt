@@ -1,5 +1,4 @@
-use Rattle.std.proofs.Common.{◌≡◌, take}
-use Rattle.uca_model.specs.Match.{greatest}
+use Rattle.uca_table.proofs.Common.{◌≡◌, take, greatest}
 use Rattle.uca_table.proofs.matching.longest_match.Given as goal
 
 abbrev pub invariant-loop-c : goal.invariant-loop-c

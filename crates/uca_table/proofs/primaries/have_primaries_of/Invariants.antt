@@ -1,12 +1,8 @@
-use Rattle.std.proofs.Common.{◌≡◌, ◌≤◌, ◌-◌, length, drop}
-use Rattle.uca_model.specs.Prefix.{have_primaries_of}
+use Rattle.uca_table.proofs.Common.{◌≡◌, length, have_primaries_of}
 use Rattle.uca_table.proofs.primaries.have_primaries_of.Given as goal
 
-abbrev pub invariant-loop-at : goal.invariant-loop-at
-invariant-loop-at l = record {
-  within : l.at ≤ length l.own;
-  same : have_primaries_of (drop l.at l.own) (drop l.at l.elements) ≡ have_primaries_of l.own l.elements;
-}
+abbrev pub invariant-loop-first : goal.invariant-loop-first
+invariant-loop-first l = have_primaries_of l.firsts l.left ≡ have_primaries_of l.own l.elements
 
-abbrev pub decreases-loop-at : goal.decreases-loop-at
-decreases-loop-at l = length l.own - l.at
+abbrev pub decreases-loop-first : goal.decreases-loop-first
+decreases-loop-first l = length l.firsts

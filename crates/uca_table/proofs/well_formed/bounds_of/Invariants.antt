@@ -1,6 +1,4 @@
-use Rattle.std.proofs.Common.{◌≡◌, fold, flat_map}
-use Rattle.uca_model.specs.WellFormed.{all_elements}
-use Rattle.uca_table.specs.Bounds.{bounded, unbounded}
+use Rattle.uca_table.proofs.Common.{◌≡◌, fold, flat_map, all_elements, bounded, unbounded}
 use Rattle.uca_table.proofs.well_formed.bounds_of.Given as goal
 
 abbrev pub invariant-loop-elements : goal.invariant-loop-elements

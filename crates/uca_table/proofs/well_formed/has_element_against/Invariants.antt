@@ -1,7 +1,4 @@
-use Rattle.std.proofs.Common.{◌≡◌, flat_map}
-use Rattle.std.specs.List.{list_any}
-use Rattle.uca_model.specs.WellFormed.{all_elements}
-use Rattle.uca_table.specs.Bounds.{is_against}
+use Rattle.uca_table.proofs.Common.{◌≡◌, flat_map, list_any, all_elements, is_against}
 use Rattle.uca_table.proofs.well_formed.has_element_against.Given as goal
 
 abbrev pub invariant-loop-elements : goal.invariant-loop-elements

@@ -1,7 +1,4 @@
-use Rattle.std.proofs.Common.{◌≡◌}
-use Rattle.std.specs.List.{list_any}
-use Rattle.std.specs.FinMap.{entries}
-use Rattle.uca_model.specs.WellFormed.{lacks_its_front}
+use Rattle.uca_table.proofs.Common.{◌≡◌, list_any, entries, lacks_its_front}
 use Rattle.uca_table.proofs.well_formed.has_key_without_front.Given as goal
 
 abbrev pub invariant-loop-key : goal.invariant-loop-key

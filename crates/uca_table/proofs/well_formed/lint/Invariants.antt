@@ -1,6 +1,4 @@
-use Rattle.std.proofs.Common.{◌≡◌, ◌≤◌, ◌++◌, [], ◌∷◌, length, map, drop, flat_map, cond}
-use Rattle.uca_model.specs.WellFormed.{is_broken, broken}
-use Rattle.uca_table.specs.Bounds.{condition_of}
+use Rattle.uca_table.proofs.Common.{◌≡◌, ◌≤◌, ◌++◌, [], ◌∷◌, length, map, drop, flat_map, cond, is_broken, broken, condition_of}
 use Rattle.uca_table.proofs.well_formed.lint.Given as goal
 
 abbrev pub invariant-loop-condition : goal.invariant-loop-condition

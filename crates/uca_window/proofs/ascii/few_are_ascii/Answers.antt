@@ -1,5 +1,5 @@
 use Rattle.std.proofs.Common.{arith}
-use Rattle.uca_window.proofs.AsciiTexts.{all_ascii}
+use Rattle.uca_window.proofs.RunScan.{all_ascii}
 use Rattle.uca_window.proofs.ascii.few_are_ascii.Goals as goal
 
 pub returns : goal.returns

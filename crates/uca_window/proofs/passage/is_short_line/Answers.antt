@@ -1,5 +1,5 @@
 use Rattle.std.proofs.Common.{arith}
-use Rattle.uca_window.proofs.AddedMarks.{short_safe}
+use Rattle.uca_window.proofs.RunScan.{short_safe}
 use Rattle.uca_window.proofs.passage.is_short_line.Goals as goal
 
 pub returns-then-bytes-le-SHORT : goal.returns-then-bytes-le-SHORT

@@ -1,4 +1,4 @@
-use Rattle.uca_window.proofs.AsciiTexts.{ascii_line}
+use Rattle.uca_window.proofs.RunScan.{ascii_line}
 use Rattle.uca_window.proofs.passage.is_text_line.Goals as goal
 
 pub returns-then-is_ascii : goal.returns-then-is_ascii

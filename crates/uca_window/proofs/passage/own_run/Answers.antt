@@ -1,5 +1,5 @@
 use Rattle.std.proofs.Common.{◌∙◌}
-use Rattle.uca_window.proofs.PassedRuns.{fits_alone, own}
+use Rattle.uca_window.proofs.RunScan.{fits_alone, own}
 use Rattle.uca_window.proofs.passage.own_run.Goals as goal
 
 pub returns : goal.returns

@@ -1,4 +1,4 @@
-use Rattle.std.proofs.Common.{refl, arith, rules}
+use Rattle.std.proofs.Common.{refl, arith}
 use Rattle.uca_window.proofs.RunScan.{latin_ends, latin_fits}
 use Rattle.uca_window.proofs.passage.run_after_char.Goals as goal
 
@@ -7,6 +7,3 @@ returns-then-c-lt192-clause-count c = (omega arith, latin_ends c.args.count c.ar
 
 pub returns-then-c-lt192-clause-fits : goal.returns-then-c-lt192-clause-fits
 returns-then-c-lt192-clause-fits c = (λ _. latin_fits c.args.count c.args.c c.requires c.if-c-lt192.true, λ _. refl)
-
-pub returns-clause-count : goal.returns-clause-count
-returns-clause-count c = search rules

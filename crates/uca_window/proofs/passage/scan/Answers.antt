@@ -1,6 +1,5 @@
 use Rattle.std.proofs.Common.{arith, refl}
-use Rattle.uca_window.proofs.RunScan.{passed_start, passed_over}
-use Rattle.uca_window.proofs.SkippedRuns.{passed_skip, utf8_left, skips_shorter, safe_end}
+use Rattle.uca_window.proofs.RunScan.{passed_start, passed_over, passed_skip, utf8_left, skips_shorter, safe_end}
 use Rattle.uca_window.proofs.passage.scan.Goals as goal
 use Rattle.std.proofs.lemmas.Grind.{common_steps}
 

@@ -1,4 +1,4 @@
-use Rattle.std.proofs.Common.{◌≡◌, ◌+◌, ◌-◌, ◌≤◌, length, take}
+use Rattle.std.proofs.Common.{◌≡◌, ◌+◌, ◌-◌, ◌≤◌, length, drop}
 use Rattle.uca_window.specs.Passing.{added_by}
 use Rattle.uca_window.specs.declared.passing.TheConstants.{STRIDE}
 use Rattle.uca_window.proofs.passing.adds_few_by.Given as goal
@@ -7,7 +7,7 @@ abbrev pub invariant-each : goal.invariant-each
 invariant-each l = record {
   end : l.last + 32 ≡ length l.bytes;
   within : l.at ≤ l.last;
-  counted : added_by l.coarsely (take l.at l.bytes) ≤ l.count;
+  counted : added_by l.coarsely l.bytes ≤ l.count + added_by l.coarsely (drop l.at l.bytes);
   few : l.count ≤ STRIDE;
 }
 

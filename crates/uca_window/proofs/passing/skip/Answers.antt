@@ -1,5 +1,5 @@
 use Rattle.std.proofs.Common.{◌++◌, ◌-◌, arith, refl, sym, ap, ◌∙◌, encode_utf8}
-use Rattle.uca_window.proofs.SkippedRuns.{skips_at}
+use Rattle.uca_window.proofs.RunScan.{skips_at}
 use Rattle.uca_window.proofs.passing.skip.Goals as goal
 
 pub returns-then-is_passed : goal.returns-then-is_passed

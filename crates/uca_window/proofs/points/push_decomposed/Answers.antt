@@ -3,7 +3,7 @@ use Rattle.unicode_normalization.specs.Order.{is_ordered}
 use Rattle.unicode_normalization.proofs.OrderLemmas.{is_ordered-canonical_order}
 use Rattle.unicode_normalization.proofs.FormsLemmas.{class-latin}
 use Rattle.uca_window.proofs.RunScan.{latin_parts}
-use Rattle.uca_window.proofs.PlacedPoints.{order-more, order-none, length-ordered}
+use Rattle.uca_window.proofs.FormLemmas.{order-more, order-none, length-ordered}
 use Rattle.uca_window.proofs.points.push_decomposed.Goals as goal
 use Rattle.std.proofs.lemmas.Grind.{common_steps}
 

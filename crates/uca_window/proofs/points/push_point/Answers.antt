@@ -1,7 +1,6 @@
 use Rattle.std.proofs.Common.{◌≡◌, ◌++◌, ◌∷◌, [], arith}
 use Rattle.unicode_normalization.specs.Order.{canonical_order}
-use Rattle.uca_window.proofs.PlacedPoints.{order-placed}
-use Rattle.uca_window.proofs.SegmentLemmas.{IsOpen-mark}
+use Rattle.uca_window.proofs.FormLemmas.{order-placed, IsOpen-mark}
 use Rattle.uca_window.proofs.points.push_point.Goals as goal
 use Rattle.std.proofs.lemmas.Grind.{common_steps}
 

@@ -1,8 +1,7 @@
 use Rattle.std.proofs.Common.{ℕ, ◌<◌, ◌∙◌, sym, cond, ◌==◌, ◌||◌, nat_le, nat_lt, get_or, arith}
 use Rattle.std.proofs.lemmas.Simd.{zip2_of_maps}
 use Rattle.uca_window.specs.Utf8.{is_one_of}
-use Rattle.uca_window.proofs.PassedLanes.{hit, at_most, below, less}
-use Rattle.uca_window.proofs.Utf8Lanes.{lanes_of, lane_fits, left, right, either, just_one, chosen, none_passes, continues_is, begins_is}
+use Rattle.uca_window.proofs.Utf8Lanes.{hit, at_most, below, less, lanes_of, lane_fits, left, right, either, just_one, chosen, none_passes, continues_is, begins_is}
 use Rattle.uca_window.proofs.utf8.are_fine_after.Goals as goal
 
 pub returns : goal.returns

@@ -1,7 +1,7 @@
 use Rattle.std.proofs.Common.{◌≡◌, ◌+◌, ◌-◌, ◌≤◌, ◌<◌, get_or, sym, ap, ◌∙◌, arith}
 use Rattle.std.proofs.lemmas.Simd.{get_or-chunk}
 use Rattle.uca_window.specs.Utf8.{is_fault}
-use Rattle.uca_window.proofs.Utf8Steps.{behind, behind_two}
+use Rattle.uca_window.proofs.Utf8Lanes.{behind, behind_two}
 use Rattle.uca_window.proofs.utf8.are_fine_at.Goals as goal
 
 pub returns : goal.returns

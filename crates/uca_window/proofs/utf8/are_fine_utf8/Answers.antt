@@ -1,6 +1,6 @@
 use Rattle.std.proofs.Common.{arith}
 use Rattle.std.proofs.lemmas.Bool.{and_parts}
-use Rattle.uca_window.proofs.Utf8Steps.{fine_utf8}
+use Rattle.uca_window.proofs.Utf8Lanes.{fine_utf8}
 use Rattle.uca_window.proofs.utf8.are_fine_utf8.Goals as goal
 
 pub returns-then-bytes : goal.returns-then-bytes

@@ -1,7 +1,6 @@
 use Rattle.std.proofs.Common.{ℕ, ◌<◌, ◌∙◌, sym, ◌||◌, nat_le, get_or, arith}
 use Rattle.uca_window.specs.Utf8.{is_one_of}
-use Rattle.uca_window.proofs.PassedLanes.{at_most, below, less}
-use Rattle.uca_window.proofs.Utf8Lanes.{lanes_of, lane_fits, left, right, either, just_one, none_passes, continues_is, begins_two_is}
+use Rattle.uca_window.proofs.Utf8Lanes.{at_most, below, less, lanes_of, lane_fits, left, right, either, just_one, none_passes, continues_is, begins_two_is}
 use Rattle.uca_window.proofs.utf8.are_paired_after.Goals as goal
 
 pub returns : goal.returns

@@ -1,12 +1,8 @@
-use Rattle.std.proofs.Common.{◌≡◌, ℕ, ◌+◌, ◌-◌, ◌<◌, ◌≤◌, List, length, get_or, sym, ap, ◌∙◌, arith, inl, inr}
-use Rattle.std.proofs.lemmas.Bool.{cases_lt, and_parts}
+use Rattle.std.proofs.Common.{◌≡◌, ◌+◌, ◌-◌, ◌<◌, length, get_or, sym, ap, ◌∙◌, arith}
+use Rattle.std.proofs.lemmas.Bool.{and_parts}
 use Rattle.uca_window.specs.Utf8.{is_unpaired, ArePaired}
-use Rattle.uca_window.proofs.Utf8Steps.{short_utf8}
+use Rattle.uca_window.proofs.Utf8Lanes.{joined, short_utf8}
 use Rattle.uca_window.proofs.utf8.few_are_paired.Goals as goal
-
--- two blocks in a row, or two that have bytes in common
-both_blocks : (bytes : List ℕ) (last : ℕ) → last + 8 ≡ length bytes → last ≤ 9 → ArePaired 1 9 bytes → ArePaired last (last + 8) bytes → ArePaired 1 (length bytes) bytes
-both_blocks bytes last end near a b k from to = elim (cases_lt k 9) [ inl front ↦ a k from front | inr back ↦ b k (omega arith) (omega arith) ]
 
 pub returns : goal.returns
 returns c = λ told.
@@ -31,4 +27,4 @@ returns c = λ told.
     let b = c.two_blocks-block.ensures.back i near ∙ ap (λ j. get_or bytes j 0) here in
     let z = c.two_blocks-before.ensures.back i near ∙ ap (λ j. get_or bytes j 0) back in
     sym (λ j. is_unpaired (z j) (b j)) ∙ unpaired (8 + i) (omega (arith, near)) in
-    short_utf8 bytes (omega (arith, some)) (both_blocks bytes last (omega (arith, some)) (omega (arith, c.requires.few)) front rear) (c.are_ends_paired.ensures parts.0)
+    short_utf8 bytes (omega (arith, some)) (λ k from to. joined _ 1 9 last (last + 8) (omega (arith, c.requires.few)) front rear k from (omega (arith, some, to))) (c.are_ends_paired.ensures parts.0)

@@ -1,24 +1,8 @@
 -- `none` owns nothing beside its allocator.
-use Rattle.std.proofs.Common.{List, [], ◌∷◌, ◌++◌, refl, sym, subst}
-use Rattle.std.specs.Prelude.{None}
-use mir.Val.{Val}
-use base.Logic.{SProp, ent, emp, id⊢}
-use base.Fml.{ftrue}
-use prog.Wp.{WpFn}
-use types.Kit.{‵, raw, ◌⊛◌, ◌$◌, ◌∵◌, !, qed, keep, drop, split, fsplit, fjoin, suffices, join, done}
-use types.Run.{lit, no_more, and_then, returns, enter}
-use types.ByLocal.{alloc_all, pass_all, free_all, look_at, get, sets}
-use types.Part.{agg}
-use contract.Running.{tables}
-use denote.Exit.{yes}
-use denote.RattleType.{owns}
-use denote.RawPtr.{null_ptr}
-use denote.Signature.{Slot, types_at, plain}
-use denote.Steps.{nothing}
-use denote.Triple.Walked.{says, Stays, stay_dropped, walk_of, ends_at, Goes-dropped}
-use Rattle.core.proofs.alloc.Calls.{handle_tells}
-use Rattle.std.proofs.raw_atomic.Walks.{proved_at}
-use Rattle.uca_handle.proofs.HandleValues.{Z, al, made_none, none_good, none_in}
+use Rattle.uca_handle.proofs.Steps.{List, [], ◌∷◌, ◌++◌, refl, sym, subst, None, Val, SProp, ent, emp, id⊢, ftrue, WpFn, ‵, raw, ◌⊛◌, ◌$◌, ◌∵◌, !, qed, keep, drop, split, fsplit, fjoin, suffices, join, done, no_more, and_then, returns, enter, alloc_all, pass_all, free_all, look_at, get, sets, agg, tables, yes, owns, null_ptr, ptr_val, Slot, types_at, plain, nothing, says, Stays, stay_dropped, walk_of, ends_at, Goes-dropped, handle_tells, proved_at, Z, LZ, ghosts}
+use Rattle.std.proofs.Common.{lit<}
+use types.Run.{lit}
+use Rattle.uca_handle.proofs.Parts.{both, both_good, handled, owned_in}
 use Rattle.uca_handle.specs.contracts.handle.Handle.none.{ended, clauses}
 use Rattle.uca_handle.specs.contracts.handle.Handle.none.Key.{name as #self}
 use Rattle.uca_handle.proofs.handle.Handle.none.Statement.{statement}
@@ -36,10 +20,10 @@ none_spec 𝓤 𝓛 𝓜 𝓡 wired =
     proved_at 𝓛 ended hs c 𝓜 𝓡 (Goes-dropped 𝓛 0 From yes (λ κs x f. refl), tt) #self fn (code.unfolded 𝓤 H 𝓜 𝓡 wired) (λ z are.
     let a = z.0.3.0 in let Post : Val → SProp 𝓤 = (walk_of 𝓛 ended hs c).post z in let Run : List Val → SProp 𝓤 = λ ws. WpFn 𝓤 H 𝓣.C 𝓣.Λ fn ws Post in
     qed 𝓛 ((‵ ftrue ⊛ ‵ (owns (types_at ended.signature.params z.0.0) z.0.3 z.0.4)) ∷ raw (emp 𝓤) ∷ []) ∵ split ! $ drop ! $ fsplit ! $
-    handle_tells al ! a z.0.4.0 (λ h ws fits.
+    handle_tells (handled Z LZ ghosts) ! a z.0.4.0 (λ h ws fits.
     suffices ! (Run (h ∷ [])) (subst (λ (us : List Val). ent 𝓤 (Run (h ∷ [])) (Run us)) (sym (λ i. ws i ++ [])) (id⊢ 𝓤 (Run (h ∷ [])))) $
     enter ! 𝓣.C 𝓣.Λ fn (h ∷ []) Post $ alloc_all ! (λ l. pass_all ! refl (fits, tt) $
-    sets ! (agg ! (and_then ! (lit ! tt) (and_then ! (get ! refl) (no_more !)))) refl (none_good h fits) $
-    returns ! (look_at ! 0 refl) $ free_all ! refl $ keep ! (0 ∷ []) $ none_in ! h a $
-    suffices ! _ (ends_at 𝓛 ended hs c z (made_none h) (record { at = null_ptr; alloc = a; table = None }) (tt, tt) (tt, tt)) $ says ! refl $
+    sets ! (agg ! (and_then ! (lit ! tt) (and_then ! (get ! refl) (no_more !)))) refl (both_good Z (ptr_val null_ptr) h (record { fits = lit< tt }) fits) $
+    returns ! (look_at ! 0 refl) $ free_all ! refl $ keep ! (0 ∷ []) $ nothing ! $ owned_in Z ! null_ptr h a ftrue $
+    suffices ! _ (ends_at 𝓛 ended hs c z (both (ptr_val null_ptr) h) (record { at = null_ptr; alloc = a; table = None }) (tt, tt) (tt, tt)) $ says ! refl $
     nothing ! $ nothing ! $ fjoin ! $ join ! $ nothing ! $ join ! $ done !)))

@@ -1,32 +1,15 @@
 -- `of` moves two fields, and what they own goes with them.
-use Rattle.std.proofs.Common.{List, [], ◌∷◌, ◌++◌, refl, sym, subst}
-use Rattle.std.specs.Prelude.{Some}
-use mir.Val.{Val, vptr}
-use base.Logic.{SProp, ent, emp, id⊢}
-use base.Fml.{ftrue}
-use prog.Wp.{WpFn}
-use types.Kit.{‵, raw, ◌⊛◌, ◌$◌, ◌∵◌, !, qed, keep, drop, split, fsplit, fjoin, suffices, join, done}
-use types.Run.{stop, fld, of_opd, no_more, and_then, returns, enter}
-use types.ByLocal.{alloc_all, pass_all, free_all, look_at, get, get_in, sets}
-use types.Part.{agg, sub, whole}
-use contract.Running.{tables}
-use denote.Exit.{yes}
-use denote.RattleType.{owns}
-use denote.RawPtr.{block_ptr}
-use denote.Signature.{Slot, types_at, plain}
-use denote.Steps.{nothing}
-use denote.Triple.Walked.{says, Stays, stay_dropped, walk_of, ends_at, Goes-dropped}
-use Rattle.std.proofs.raw_atomic.Walks.{proved_at}
-use Rattle.std.specs.contracts.impls.GlobalAllocator.TheImpl.{ghosts}
-use Rattle.uca_handle.proofs.Values.{both, Loose, loose_good, loose_out}
-use Rattle.uca_handle.proofs.HandleValues.{R, Z, LZ, handle_in}
+use Rattle.uca_handle.proofs.Steps.{List, [], ◌∷◌, ◌++◌, refl, sym, subst, Some, Val, vptr, SProp, ent, emp, id⊢, ftrue, WpFn, ‵, raw, ◌⊛◌, ◌$◌, ◌∵◌, !, qed, keep, drop, split, fsplit, fjoin, suffices, join, done, stop, fld, of_opd, no_more, and_then, returns, enter, alloc_all, pass_all, free_all, look_at, get, get_in, sets, agg, sub, whole, tables, yes, owns, block_ptr, Slot, types_at, plain, nothing, says, Stays, stay_dropped, walk_of, ends_at, Goes-dropped, proved_at, ghosts, Z, LZ, box_owns}
+use Rattle.uca_handle.specs.Held.{counted}
+use Rattle.uca_handle.specs.contracts.loose.Loose.{the_row as Loose}
+use Rattle.uca_handle.proofs.Parts.{both, both_good, owned_in, owned_out}
 use Rattle.uca_handle.specs.contracts.handle.Handle.of.{ended, clauses}
 use Rattle.uca_handle.specs.contracts.handle.Handle.of.Key.{name as #self}
 use Rattle.uca_handle.proofs.handle.Handle.of.Statement.{statement}
 use Rattle.uca_handle.proofs.handle.Handle.of.Code as code
 
 abbrev From : Slot 0
-From = plain (λ _. Loose R Z LZ ghosts)
+From = plain (λ _. Loose counted Z ghosts)
 
 abbrev hs : Stays ended.signature.params ended.kept
 hs = (stay_dropped From yes, tt)
@@ -37,12 +20,12 @@ of_spec 𝓤 𝓛 𝓜 𝓡 wired =
     proved_at 𝓛 ended hs c 𝓜 𝓡 (Goes-dropped 𝓛 0 From yes (λ κs x f. refl), tt) #self fn (code.unfolded 𝓤 H 𝓜 𝓡 wired) (λ z are.
     let v = z.0.3.0 in let a = v.alloc in let Post : Val → SProp 𝓤 = (walk_of 𝓛 ended hs c).post z in let Run : List Val → SProp 𝓤 = λ ws. WpFn 𝓤 H 𝓣.C 𝓣.Λ fn ws Post in
     qed 𝓛 ((‵ ftrue ⊛ ‵ (owns (types_at ended.signature.params z.0.0) z.0.3 z.0.4)) ∷ raw (emp 𝓤) ∷ []) ∵ split ! $ drop ! $ fsplit ! $
-    loose_out R Z LZ ghosts ! v z.0.4.0 (λ b o h e ws fits.
-    let w : Val = both (vptr b o) h in let typed = loose_good R Z LZ ghosts b o h fits in
+    owned_out Z ! counted LZ ghosts v.at a v.value z.0.4.0 (λ b o h e ws fits.
+    let w : Val = both (vptr b o) h in let typed = both_good Z (vptr b o) h tt fits in
     suffices ! (Run (w ∷ [])) (subst (λ (us : List Val). ent 𝓤 (Run (w ∷ [])) (Run us)) (sym (λ i. ws i ++ [])) (id⊢ 𝓤 (Run (w ∷ [])))) $
     enter ! 𝓣.C 𝓣.Λ fn (w ∷ []) Post $ alloc_all ! (λ l. pass_all ! refl (typed, tt) $
     sets ! (of_opd ! (get_in ! (fld ! refl (stop !)) (sub ! 0 refl (whole !)))) refl (tt, tt) $ sets ! (of_opd ! (get_in ! (fld ! refl (stop !)) (sub ! 1 refl (whole !)))) refl fits $
     sets ! (of_opd ! (get ! refl)) refl (tt, tt) $ sets ! (agg ! (and_then ! (get ! refl) (and_then ! (get ! refl) (no_more !)))) refl typed $
-    returns ! (look_at ! 0 refl) $ free_all ! refl $ keep ! (0 ∷ 1 ∷ []) $ handle_in ! b o h a v.value $
+    returns ! (look_at ! 0 refl) $ free_all ! refl $ keep ! (0 ∷ 1 ∷ []) $ owned_in Z ! (block_ptr b o) h a (box_owns (ghosts.dealloc_token a) counted (block_ptr b o) v.value) $
     suffices ! _ (ends_at 𝓛 ended hs c z w (record { at = block_ptr b o; alloc = a; table = Some v.value }) (tt, tt) (tt, tt)) $ says ! refl $
     nothing ! $ nothing ! $ fjoin ! $ join ! $ nothing ! $ join ! $ done !)))

@@ -1,7 +1,5 @@
-use Rattle.std.proofs.Common.{◌≡◌, ◌<◌, ◌+◌, ◌-◌, ◌%◌, ◌&&◌, ℕ, nat_lt, nat_le, arith}
-use Rattle.std.proofs.lemmas.Bool.{cases_lt, le-leb, lt-leb, lt-ltb, le-ltb}
+use Rattle.uca_key.proofs.Common.{◌≡◌, ◌<◌, ◌+◌, ◌-◌, ◌%◌, ◌&&◌, ℕ, nat_lt, nat_le, arith, cases_lt, le-leb, lt-leb, lt-ltb, le-ltb, common_steps}
 use Rattle.uca_key.proofs.windows.Window.has_slot.Goals as goal
-use Rattle.std.proofs.lemmas.Grind.{common_steps}
 
 -- one test in place of two, since a difference below zero is far above a window
 one-test : (x f : ℕ) → x < 65536 → f < 65536 → nat_lt ((x + (4294967296 - f)) % 4294967296) 119 ≡ (nat_le f x && nat_lt x (f + 119))

@@ -1,6 +1,4 @@
-use Rattle.std.proofs.Common.{◌≡◌, ◌≤◌, [], length, take}
-use Rattle.uca_weights.specs.declared.limits.TheConstants.{MAX_KEY}
-use Rattle.uca_keys.specs.Nodes.{AreFull, AreNext, entries_after}
+use Rattle.uca_keys.proofs.Common.{◌≡◌, ◌≤◌, [], length, take, MAX_KEY, AreFull, AreNext, entries_after}
 use Rattle.uca_keys.proofs.cursor.Cursor.advance.Given as goal
 
 abbrev pub invariant-loop-node : goal.invariant-loop-node

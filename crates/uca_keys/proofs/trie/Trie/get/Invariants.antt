@@ -1,5 +1,4 @@
-use Rattle.std.proofs.Common.{◌≡◌, ◌≤◌, length, take}
-use Rattle.uca_keys.specs.Paths.{path_at}
+use Rattle.uca_keys.proofs.Common.{◌≡◌, ◌≤◌, length, take, path_at}
 use Rattle.uca_keys.proofs.trie.Trie.get.Given as goal
 
 abbrev pub invariant-loop-c : goal.invariant-loop-c

@@ -1,5 +1,5 @@
 use Rattle.std.proofs.Common.{◌≡◌, ◌≤◌, ◌+◌, length}
-use Rattle.uca_levels.specs.CellWeights.{cell_elements_left, cell_weights_left, SameKind}
+use Rattle.uca_levels.specs.Streams.{cell_elements_left, cell_weights_left, SameKind}
 use Rattle.uca_levels.proofs.cell_weights.CellWeights.next.Given as goal
 
 abbrev pub invariant-loop-first : goal.invariant-loop-first

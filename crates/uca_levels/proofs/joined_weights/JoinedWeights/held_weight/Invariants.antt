@@ -1,5 +1,5 @@
 use Rattle.std.proofs.Common.{◌≡◌, length}
-use Rattle.uca_levels.specs.JoinedWeights.{held_back, held_elements}
+use Rattle.uca_levels.specs.Streams.{held_back, held_elements}
 use Rattle.uca_levels.proofs.joined_weights.JoinedWeights.held_weight.Given as goal
 
 abbrev pub invariant-held : goal.invariant-held

@@ -1,4 +1,4 @@
-use Rattle.uca_table.specs.Cells.{HoldsCells}
+use Rattle.uca_table.proofs.Common.{HoldsCells}
 use Rattle.uca_table.proofs.cells.Cells.fill_blocks.Given as goal
 
 abbrev pub invariant-loop-block : goal.invariant-loop-block

@@ -1,10 +1,9 @@
-use Rattle.std.proofs.Common.{rules, subst, ◌<◌, length}
-use Rattle.uca_table.specs.Lead.{IsLeadWeight}
-use Rattle.uca_table.proofs.LeadLemmas.{leads-none, leads-put}
+use Rattle.uca_table.proofs.Common.{rules, arith, subst, ◌<◌, length, IsLeadWeight}
+use Rattle.uca_table.proofs.CellLemmas.{leads-put}
 use Rattle.uca_table.proofs.cells.Cells.leads_of.Goals as goal
 
 pub loop-point-init : goal.loop-point-init
-loop-point-init c = leads-none c.args.t.now c.in_ok-leads.leads.items (search rules)
+loop-point-init c = record { size = c.in_ok-leads.ensures.size; each = λ p some. absurd (omega (arith, some, c.in_ok-leads.ensures.each p)) }
 
 pub loop-point-preserved : goal.loop-point-preserved
 loop-point-preserved c =

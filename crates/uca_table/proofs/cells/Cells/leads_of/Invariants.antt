@@ -1,4 +1,4 @@
-use Rattle.uca_table.specs.Lead.{HoldsLeads}
+use Rattle.uca_table.proofs.Common.{HoldsLeads}
 use Rattle.uca_table.proofs.cells.Cells.leads_of.Given as goal
 
 abbrev pub invariant-loop-point : goal.invariant-loop-point

@@ -1,4 +1,4 @@
-use Rattle.uca_table.specs.Marks.{HoldsMarks}
+use Rattle.uca_table.proofs.Common.{HoldsMarks}
 use Rattle.uca_table.proofs.marks.MarkTable.own_up_to.Given as goal
 
 abbrev pub invariant-loop-block : goal.invariant-loop-block

@@ -1,6 +1,4 @@
-use Rattle.std.proofs.Common.{ap, sym, ◌∙◌, ◌++◌, ◌∷◌, []}
-use Rattle.uca_keys.specs.Fronts.{begins_entry}
-use Rattle.uca_table.specs.Walk.{path_of}
+use Rattle.uca_table.proofs.Common.{ap, sym, ◌∙◌, ◌++◌, ◌∷◌, [], begins_entry, path_of}
 use Rattle.uca_table.proofs.walk.Walk.is_leaf.Goals as goal
 
 pub returns : goal.returns

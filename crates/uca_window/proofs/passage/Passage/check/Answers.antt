@@ -2,7 +2,7 @@ use Rattle.std.proofs.Common.{◌≡◌, true, false, ◌+◌, ◌≤◌, subst,
 use Rattle.std.specs.List.{count_by}
 use Rattle.uca_weights.specs.declared.limits.TheConstants.{MAX_RUN}
 use Rattle.uca_window.specs.Passing.{added_by, is_dense}
-use Rattle.uca_window.proofs.AddedMarks.{short_safe, medium_safe, light_safe}
+use Rattle.uca_window.proofs.RunScan.{short_safe, medium_safe, light_safe}
 use Rattle.uca_window.proofs.passage.Passage.check.Goals as goal
 
 pub of_safe-requires : goal.of_safe-requires

@@ -2,7 +2,7 @@ use Rattle.std.proofs.Common.{sym, subst}
 use Rattle.std.specs.Str.{chars}
 use Rattle.std.proofs.lemmas.Str.{IsUtf8-from_ascii}
 use Rattle.uca_model.specs.SafeText.{IsSafe}
-use Rattle.uca_window.proofs.AsciiTexts.{ascii_safe}
+use Rattle.uca_window.proofs.RunScan.{ascii_safe}
 use Rattle.uca_window.proofs.passage.Passage.of_ascii.Goals as goal
 
 pub from_utf8_unchecked-requires : goal.from_utf8_unchecked-requires

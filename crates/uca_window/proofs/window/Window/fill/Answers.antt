@@ -1,6 +1,5 @@
 use Rattle.std.proofs.Common.{arith, sym, subst, ◌∙◌, rules}
-use Rattle.uca_window.proofs.WindowCalls.{closed-end}
-use Rattle.uca_window.proofs.FillingLemmas.{IsFilling, IsFilling-read, IsFilling-holds, IsFilling-asked}
+use Rattle.uca_window.proofs.WindowCalls.{closed-end, IsFilling, IsFilling-read, IsFilling-holds, IsFilling-asked}
 use Rattle.uca_window.proofs.window.Window.fill.Goals as goal
 use Rattle.std.proofs.lemmas.Grind.{common_steps}
 

@@ -1,7 +1,7 @@
 use Rattle.std.proofs.Common.{◌≡◌, false}
 use Rattle.uca_model.specs.Source.{unread}
 use Rattle.uca_model.specs.Window.{is_wanting, credit, rest_of, ReadsOn}
-use Rattle.uca_window.proofs.FillingLemmas.{IsFilling}
+use Rattle.uca_window.proofs.WindowCalls.{IsFilling}
 use Rattle.uca_window.proofs.window.Window.fill.Given as goal
 
 -- it has read on while it wanted a character, the rest is as it was, and it was left as it was if enough was closed

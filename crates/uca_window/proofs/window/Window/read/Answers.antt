@@ -19,7 +19,7 @@ invariant_of-self g c =
     let fits : Fits w (c.in-Some.c ∷ unread (g.S.Source.state c.next-given.new.self)) = subst (Fits w) given.value.0 (subst (λ v. Fits v (unread (g.S.Source.state c.args.source.now))) (sym c.self.view_is) c.requires.fits) in
     let few : w.closed < w.longest = (wants-few w (ap is_wanting c.self.view_is ∙ c.requires.wants)).0 in
     let runs : w.ended ≡ false = (wants-few w (ap is_wanting c.self.view_is ∙ c.requires.wants)).1 in
-    (Steps-char w c.in-Some.c _ _ _ c.self.invariant fits few runs c.push_decomposed-self-inside.ensures.points c.push_decomposed-self-inside.ensures.segments).window
+    (Steps-char w c.in-Some.c _ _ _ c.self.invariant fits few runs c.push_decomposed-self-inside.ensures.points c.push_decomposed-self-inside.ensures.segments).0
 
 pub returns-in-Some-clause-valid : goal.returns-in-Some-clause-valid
 returns-in-Some-clause-valid g c = invariant_of-self g c
