@@ -72,6 +72,35 @@ fn assert_orders(rt: &impl Abort, t: &Table, rows: &[OrderRow]) {
     }
 }
 
+/// A letter with the first primary weight of ideographs alone, and two with weights about that of a second one.
+const LETTERS_LIKE_IDEOGRAPHS: &[u8] = b"\
+@version 1.0.0
+0061 ; [.FB40.0020.0002]
+0062 ; [.CE01.0020.0002]
+0063 ; [.1000.0020.0002]
+";
+
+#[rattlefmt::skip]
+const BY_TWO_WEIGHTS: [OrderRow; 9] = [
+    ("\u{4E00}", "\u{4E01}", Strength::Primary, Ordering::Less),
+    ("\u{4E00}b", "\u{4E01}", Strength::Primary, Ordering::Less),
+    ("c\u{4E01}", "c\u{4E00}", Strength::Primary, Ordering::Greater),
+    ("a", "\u{4E00}", Strength::Primary, Ordering::Less),
+    ("ab", "\u{4E00}", Strength::Primary, Ordering::Greater),
+    ("\u{4E01}", "ab", Strength::Primary, Ordering::Equal),
+    ("\u{4E01}", "ab", Strength::Secondary, Ordering::Less),
+    ("\u{4E02}", "ab", Strength::Primary, Ordering::Greater),
+    ("ac", "\u{4E00}", Strength::Primary, Ordering::Less),
+];
+
+#[test]
+fn ideographs_are_ordered_by_both_primary_weights(rt: HostRuntime) {
+    let t = table_from(rt.alloc(), LETTERS_LIKE_IDEOGRAPHS)
+        .ok()
+        .expect(&rt, "a table");
+    assert_orders(&rt, &t, &BY_TWO_WEIGHTS);
+}
+
 /// How often two sources were read, and how often they were rewound, in a comparison.
 #[derive(Drop)]
 struct Calls {

@@ -10,7 +10,7 @@ use crate::cell_weights::CellWeights;
 use crate::comparison::compare_sources;
 use crate::cut::{apart_after, front_of, without_front};
 use crate::joined_weights::JoinedWeights;
-use crate::primaries::{order_by_turns, order_of_primaries};
+use crate::primaries::order_by_turns;
 use crate::stream::order_of;
 use std::cmp::Ordering;
 use uca_table::Table;
@@ -85,10 +85,7 @@ fn order_at_first(
         return Some(order);
     }
     let (left_a, left_b) = apart_after(t, a, b, common);
-    match order_of_primaries(t, v, left_a, left_b) {
-        Ok(order) => Some(order),
-        Err(rest) => order_of_weights(t, v, 1, rest.a, rest.b),
-    }
+    order_of_weights(t, v, 1, left_a, left_b)
 }
 
 // The order of two texts at the first four levels, as many of them as there are. In the bytes that both begin with, the first level
